@@ -6,7 +6,7 @@ use case_text::stems_ending;
 use std::rt::{Env, Files};
 use std::{env, fs, io};
 
-fn tell_tally<R: Print>(rt: &R, name: &str, tally: Tally) -> io::Result<bool> {
+fn print_tally<R: Print>(rt: &R, name: &str, tally: Tally) -> io::Result<bool> {
     let (hold, differ) = (tally.hold, tally.differ);
     if differ > 0 {
         println!(rt; "{name}: {hold} cases hold, {differ} do not")?;
@@ -16,7 +16,7 @@ fn tell_tally<R: Print>(rt: &R, name: &str, tally: Tally) -> io::Result<bool> {
     Ok(differ == 0)
 }
 
-fn tell_fault<R: Print>(rt: &R, name: &str, fault: Fault) -> io::Result<bool> {
+fn print_fault<R: Print>(rt: &R, name: &str, fault: Fault) -> io::Result<bool> {
     match fault {
         Fault::At(line, why) => println!(rt; "{name}:{line}: {why}")?,
         Fault::OutOfMemory => println!(rt; "{name}: no memory")?,
@@ -25,7 +25,7 @@ fn tell_fault<R: Print>(rt: &R, name: &str, fault: Fault) -> io::Result<bool> {
 }
 
 /// Prints what became of a file, and tells whether all is well.
-fn tell<R: Print>(
+fn print_line<R: Print>(
     rt: &R,
     name: &str,
     report: &str,
@@ -33,8 +33,8 @@ fn tell<R: Print>(
 ) -> io::Result<bool> {
     print!(rt; "{report}")?;
     match played {
-        Ok(tally) => tell_tally(rt, name, tally),
-        Err(fault) => tell_fault(rt, name, fault),
+        Ok(tally) => print_tally(rt, name, tally),
+        Err(fault) => print_fault(rt, name, fault),
     }
 }
 
@@ -48,7 +48,7 @@ fn play<R: Files + Print + AllocGlobal>(rt: &R, name: &str) -> io::Result<bool> 
     };
     let mut report = String::new(rt.alloc());
     let played = play_text(rt.alloc(), name, text.as_str(), &mut report);
-    tell(rt, name, report.as_str(), played)
+    print_line(rt, name, report.as_str(), played)
 }
 
 /// Plays all case files of this folder. None at all is a failure.

@@ -228,7 +228,7 @@ fn are_same_words(one: &str, other: &str) -> bool {
 }
 
 /// Other answers take the place of the text, with the way in which the stream came.
-fn tell_way(text: &mut String, way: &str, answers: &str) -> Result<(), AllocError> {
+fn write_way(text: &mut String, way: &str, answers: &str) -> Result<(), AllocError> {
     text.clear();
     write!(text, "{way}: {answers}")
 }
@@ -244,7 +244,7 @@ fn try_cut<P: Play>(text: &mut String, to_head: bool, stream: &[u8]) -> Result<(
     if answers.as_str() == text.as_str() {
         return Ok(());
     }
-    tell_way(text, "cut before its last byte", answers.as_str())
+    write_way(text, "cut before its last byte", answers.as_str())
 }
 
 /// The same byte by byte, and whether the answers are the same.
@@ -255,7 +255,7 @@ fn try_bytes<P: Play>(text: &mut String, to_head: bool, stream: &[u8]) -> Result
     if answers.as_str() == text.as_str() {
         return Ok(true);
     }
-    tell_way(text, "byte by byte", answers.as_str())?;
+    write_way(text, "byte by byte", answers.as_str())?;
     Ok(false)
 }
 
@@ -267,7 +267,7 @@ fn try_late<P: Play>(text: &mut String, to_head: bool, stream: &[u8]) -> Result<
     if are_same_words(answers.as_str(), text.as_str()) {
         return Ok(());
     }
-    tell_way(text, "ended first", answers.as_str())
+    write_way(text, "ended first", answers.as_str())
 }
 
 /// Writes the answers to a stream that comes whole, or others where it comes in another way.

@@ -48,7 +48,7 @@ fn write_read(text: &mut String, config: &Config) -> Result<(), AllocError> {
 }
 
 /// Whether bytes are a table.
-fn tell(text: &mut String, table: &[u8]) -> Result<(), AllocError> {
+fn print_line(text: &mut String, table: &[u8]) -> Result<(), AllocError> {
     match Config::read(*text.allocator(), table) {
         Ok(config) => write_read(text, &config),
         Err(fault) => write_fault(text, &fault),
@@ -69,7 +69,7 @@ pub fn text_of(alloc: Global, lines: &[Line<'_>]) -> Result<Vec<u8>, Fault> {
 pub fn tables(text: &mut String, front: &[Line<'_>], case: &Case<'_>) -> Result<(), Fault> {
     let lines = lines_of(*text.allocator(), front, case)?;
     let table = text_of(*text.allocator(), lines.as_slice())?;
-    Ok(tell(text, table.as_slice())?)
+    Ok(print_line(text, table.as_slice())?)
 }
 
 /// The text of bytes in UTF-8.
@@ -95,7 +95,7 @@ fn replaced(
 }
 
 /// Whether a table with a new text in place of a part is one. The parts are those of a line.
-fn tell_changed(
+fn write_changed(
     text: &mut String,
     line: Line<'_>,
     table: &[u8],
@@ -106,7 +106,7 @@ fn tell_changed(
     let part = as_text(line, part)?;
     let new = as_text(line, new)?;
     let changed = replaced(*text.allocator(), line, table, part, new)?;
-    Ok(tell(text, changed.as_bytes())?)
+    Ok(print_line(text, changed.as_bytes())?)
 }
 
 /// Whether the front is a table with a new text in place of a part: `PART => NEW`.
@@ -118,7 +118,7 @@ pub fn changed_tables(text: &mut String, front: &[Line<'_>], case: &Case<'_>) ->
     let part = spelled(*text.allocator(), line, part)?;
     let new = spelled(*text.allocator(), line, new)?;
     let table = text_of(*text.allocator(), front)?;
-    tell_changed(
+    write_changed(
         text,
         line,
         table.as_slice(),

@@ -57,7 +57,7 @@ pub fn target_faults(text: &mut String, front: &[Line<'_>], case: &Case<'_>) -> 
 }
 
 /// What is told of a path's dot segments before its escapes are decoded and behind.
-fn dots_told(before: bool, behind: bool) -> &'static str {
+fn dots_shown(before: bool, behind: bool) -> &'static str {
     match (before, behind) {
         (true, true) => ", a dot segment",
         (false, false) => "",
@@ -74,7 +74,7 @@ fn write_path(text: &mut String, path: &[u8], found: &[u8]) -> Result<(), AllocE
     if has_bad_escape(path) {
         text.push_str(", a bad escape")?;
     }
-    text.push_str(dots_told(names_a_dot_segment(path), has_dot_segment(found)))
+    text.push_str(dots_shown(names_a_dot_segment(path), has_dot_segment(found)))
 }
 
 /// The path for the table, and what is wrong with it.

@@ -56,7 +56,7 @@ pub fn conditions_of(alloc: Global, part: &Part<'_>) -> Result<Conditions, Fault
 }
 
 /// What a 304 to these conditions says of the stored response.
-fn told(entry: &Entry, sent: &Conditions, answered: &Answered) -> &'static str {
+fn shown(entry: &Entry, sent: &Conditions, answered: &Answered) -> &'static str {
     if !has_validator(&entry.fields) {
         "no validator"
     } else if answers(entry, sent, answered) {
@@ -66,14 +66,14 @@ fn told(entry: &Entry, sent: &Conditions, answered: &Answered) -> &'static str {
     }
 }
 
-fn write_told(
+fn write_outcome(
     text: &mut String,
     entry: &Entry,
     sent: &Conditions,
     answer: &Part<'_>,
 ) -> Result<(), Fault> {
     let answered = answer_of(*text.allocator(), answer)?;
-    word(text, told(entry, sent, &answered))
+    word(text, shown(entry, sent, &answered))
 }
 
 /// Whether a 304 answers the stored response, to its own conditions or to those that are given.
@@ -88,7 +88,7 @@ pub fn validating(text: &mut String, label: Line<'_>, parts: &[Part<'_>]) -> Res
         Some(given) => conditions_of(*text.allocator(), given)?,
         None => conditions(*text.allocator(), &entry)?,
     };
-    write_told(text, &entry, &sent, answer)
+    write_outcome(text, &entry, &sent, answer)
 }
 
 fn freshened_by(

@@ -33,9 +33,9 @@ fn compared(one: &[u8], other: &[u8]) -> &'static str {
 
 /// How two entity tags compare, both ways.
 fn compared_both_ways(one: &[u8], other: &[u8]) -> &'static str {
-    let told = compared(one, other);
-    if told == compared(other, one) {
-        told
+    let shown = compared(one, other);
+    if shown == compared(other, one) {
+        shown
     } else {
         "different when they are turned"
     }

@@ -106,13 +106,13 @@ one_line : (all : List Line) (method : List ℕ) (target : Target) → is_never_
     verdict_among all numbers method target.table_path ≡ later →
     verdict_among all (cond (matches_host line.host target.key.host) (n ∷ numbers) numbers) method target.table_path ≡ cond (matches_line line method target) (verdict_by n line) later
 unfolding matches_line
-one_line all method target allowed n line numbers later stands more = by_host (cases_Bool (matches_host line.host target.key.host))
+one_line all method target allowed n line numbers later is_present more = by_host (cases_Bool (matches_host line.host target.key.host))
   where
     by_host : ((matches_host line.host target.key.host ≡ true) ⊎ (matches_host line.host target.key.host ≡ false)) →
         verdict_among all (cond (matches_host line.host target.key.host) (n ∷ numbers) numbers) method target.table_path ≡ cond (matches_line line method target) (verdict_by n line) later
     by_host (inl t) =
         ap (λ b. verdict_among all (cond b (n ∷ numbers) numbers) method target.table_path) t
-        ∙ ap (λ (o : Option Line). verdict_or n o method target.table_path (verdict_among all numbers method target.table_path)) stands
+        ∙ ap (λ (o : Option Line). verdict_or n o method target.table_path (verdict_among all numbers method target.table_path)) is_present
         ∙ ap (cond (matches_beside_host line method target.table_path) (verdict_by n line)) more
         ∙ sym (ap (λ b. cond b (verdict_by n line) later) (
         matches_one (matches_host line.host target.key.host) (is_never_allowed method) (list_any (is_any_or_same method) line.methods) (matches_path line.path target.table_path) allowed t

@@ -11,7 +11,7 @@ use Rattle.std.proofs.lemmas.Map.Text.{is_eq-slice_cmp}
 use Rattle.toml.specs.Data.{Data, Members, no_members, member, get_member, is_before, is_sorted, members_are_sorted}
 use Rattle.hx_allow.specs.LineTables.{line_fault}
 use Rattle.hx_allow.specs.Tables.{table_fault, judge_table, IsTable, ReadsAs}
-use Rattle.hx_allow.specs.Unknown.{Stands, ComesBefore, IsLeastUnknown}
+use Rattle.hx_allow.specs.Unknown.{IsPresent, ComesBefore, IsLeastUnknown}
 use Rattle.hx_allow.specs.Values.{is_known, first_unknown}
 use Rattle.hx_allow.specs.declared.faults.ConfigFault.TheVariants.{UnknownKey}
 use Rattle.hx_allow.specs.declared.values.Scope.{Scope}
@@ -28,81 +28,81 @@ same : (j k : List ℕ) → slice_cmp nat_cmp j k ≡ Equal → j ≡ k
 same j k tie = (bytes_eq-Decides j k).0 (sym (is_eq-slice_cmp j k) ∙ ap is_eq tie)
 
 -- a key that stands in the members is the first one's, or stands in the rest
-in_front : (key k : List ℕ) (d : Data) (ms : Members) → Stands key (member k d ms) → (key ≡ k) ⊎ Stands key ms
-in_front key k d ms stands = by_order (slice_cmp nat_cmp key k) refl
+in_front : (key k : List ℕ) (d : Data) (ms : Members) → IsPresent key (member k d ms) → (key ≡ k) ⊎ IsPresent key ms
+in_front key k d ms is_present = by_order (slice_cmp nat_cmp key k) refl
   where
-    by_order : (o : Ordering) → slice_cmp nat_cmp key k ≡ o → (key ≡ k) ⊎ Stands key ms
-    by_order Less is = inr (subst (λ o. IsSome (match_ordering o (get_member key ms) (Some d) (get_member key ms))) is stands)
+    by_order : (o : Ordering) → slice_cmp nat_cmp key k ≡ o → (key ≡ k) ⊎ IsPresent key ms
+    by_order Less is = inr (subst (λ o. IsSome (match_ordering o (get_member key ms) (Some d) (get_member key ms))) is is_present)
     by_order Equal is = inl (same key k is)
-    by_order Greater is = inr (subst (λ o. IsSome (match_ordering o (get_member key ms) (Some d) (get_member key ms))) is stands)
+    by_order Greater is = inr (subst (λ o. IsSome (match_ordering o (get_member key ms) (Some d) (get_member key ms))) is is_present)
 
-stands_first : (k : List ℕ) (d : Data) (ms : Members) → Stands k (member k d ms)
-stands_first k d ms = subst (λ o. IsSome (match_ordering o (get_member k ms) (Some d) (get_member k ms))) (sym (tied_itself nat_list_cmp_total k)) refl
+present_first : (k : List ℕ) (d : Data) (ms : Members) → IsPresent k (member k d ms)
+present_first k d ms = subst (λ o. IsSome (match_ordering o (get_member k ms) (Some d) (get_member k ms))) (sym (tied_itself nat_list_cmp_total k)) refl
 
-stands_later : (key k : List ℕ) (d : Data) (ms : Members) → Stands key ms → Stands key (member k d ms)
-stands_later key k d ms stands = by_order (slice_cmp nat_cmp key k)
+present_later : (key k : List ℕ) (d : Data) (ms : Members) → IsPresent key ms → IsPresent key (member k d ms)
+present_later key k d ms is_present = by_order (slice_cmp nat_cmp key k)
   where
     by_order : (o : Ordering) → IsSome (match_ordering o (get_member key ms) (Some d) (get_member key ms))
-    by_order Less = stands
+    by_order Less = is_present
     by_order Equal = refl
-    by_order Greater = stands
+    by_order Greater = is_present
 
 -- what is sorted behind a key stands behind it
-all_behind : (k : List ℕ) (ms : Members) → is_before k ms ≡ true → members_are_sorted ms ≡ true → (key : List ℕ) → Stands key ms → ComesBefore k key
-all_behind k no_members before sorted key stands = cc
-all_behind k (member l d ms) before sorted key stands =
+all_behind : (k : List ℕ) (ms : Members) → is_before k ms ≡ true → members_are_sorted ms ≡ true → (key : List ℕ) → IsPresent key ms → ComesBefore k key
+all_behind k no_members before sorted key is_present = cc
+all_behind k (member l d ms) before sorted key is_present =
     let (front, more) = and_parts (is_before l ms && is_sorted d) (members_are_sorted ms) sorted in
     let (next, here) = and_parts (is_before l ms) (is_sorted d) front in
     let first = less (slice_cmp nat_cmp k l) before in
-    elim (in_front key l d ms stands) [
+    elim (in_front key l d ms is_present) [
       | inl is ↦ subst (ComesBefore k) (sym is) first
       | inr later ↦ nat_list_cmp_total.trans k l key first (all_behind l ms next more key later)
     ]
 
-each_known : (scope : Scope) (ms : Members) (key : List ℕ) → first_unknown scope ms ≡ None → Stands key ms → is_known scope key ≡ true
-each_known scope no_members key none stands = cc
-each_known scope (member k d ms) key none stands = by_first (λ rest. each_known scope ms key rest) (is_known scope k) refl
+each_known : (scope : Scope) (ms : Members) (key : List ℕ) → first_unknown scope ms ≡ None → IsPresent key ms → is_known scope key ≡ true
+each_known scope no_members key none is_present = cc
+each_known scope (member k d ms) key none is_present = by_first (λ rest. each_known scope ms key rest) (is_known scope k) refl
   where
-    by_first : (first_unknown scope ms ≡ None → Stands key ms → is_known scope key ≡ true) → (b : Bool) → is_known scope k ≡ b → is_known scope key ≡ true
+    by_first : (first_unknown scope ms ≡ None → IsPresent key ms → is_known scope key ≡ true) → (b : Bool) → is_known scope k ≡ b → is_known scope key ≡ true
     by_first known_later false is = let bad : cond false (first_unknown scope ms) (Some k) ≡ None = subst (λ b. cond b (first_unknown scope ms) (Some k) ≡ None) is none in cc
     by_first known_later true is =
         let rest : first_unknown scope ms ≡ None = subst (λ b. cond b (first_unknown scope ms) (Some k) ≡ None) is none in
-        elim (in_front key k d ms stands) [
+        elim (in_front key k d ms is_present) [
           | inl e ↦ ap (is_known scope) e ∙ is
           | inr later ↦ known_later rest later
         ]
 
-pub none_told : (scope : Scope) (ms : Members) (key : List ℕ) → first_unknown scope ms ≡ None → Stands key ms → is_known scope key ≡ true
-none_told = each_known
+pub none_found : (scope : Scope) (ms : Members) (key : List ℕ) → first_unknown scope ms ≡ None → IsPresent key ms → is_known scope key ≡ true
+none_found = each_known
 
-same_key_told : (a b : List ℕ) → ◌≡◌ {A = Option (List ℕ)} (Some a) (Some b) → a ≡ b
-same_key_told a b e = cc
+same_key_found : (a b : List ℕ) → ◌≡◌ {A = Option (List ℕ)} (Some a) (Some b) → a ≡ b
+same_key_found a b e = cc
 
 pub first_is_least : (scope : Scope) (ms : Members) (key : List ℕ) → members_are_sorted ms ≡ true → first_unknown scope ms ≡ Some key → IsLeastUnknown scope ms key
-first_is_least scope no_members key sorted told = cc
-first_is_least scope (member k d ms) key sorted told =
+first_is_least scope no_members key sorted found_fault = cc
+first_is_least scope (member k d ms) key sorted found_fault =
     let (front, more) = and_parts (is_before k ms && is_sorted d) (members_are_sorted ms) sorted in
     let (next, here) = and_parts (is_before k ms) (is_sorted d) front in
-    by_first (λ told_later. first_is_least scope ms key more told_later) next more (is_known scope k) refl
+    by_first (λ found_later. first_is_least scope ms key more found_later) next more (is_known scope k) refl
   where
     by_first : (first_unknown scope ms ≡ Some key → IsLeastUnknown scope ms key) → is_before k ms ≡ true → members_are_sorted ms ≡ true → (b : Bool) → is_known scope k ≡ b → IsLeastUnknown scope (member k d ms) key
     by_first least_later next more true is =
-        let rest : first_unknown scope ms ≡ Some key = subst (λ b. cond b (first_unknown scope ms) (Some k) ≡ Some key) is told in
+        let rest : first_unknown scope ms ≡ Some key = subst (λ b. cond b (first_unknown scope ms) (Some k) ≡ Some key) is found_fault in
         let inside = least_later rest in
         record {
-          stands = stands_later key k d ms inside.stands;
+          is_present = present_later key k d ms inside.is_present;
           unknown = inside.unknown;
-          least = λ other stands unknown. elim (in_front other k d ms stands) [
+          least = λ other is_present unknown. elim (in_front other k d ms is_present) [
             | inl e ↦ let known : is_known scope other ≡ true = ap (is_known scope) e ∙ is in let bad = sym unknown ∙ known in cc
             | inr later ↦ inside.least other later unknown
           ];
         }
     by_first least_later next more false is =
-        let e : k ≡ key = same_key_told k key (subst (λ b. cond b (first_unknown scope ms) (Some k) ≡ Some key) is told) in
+        let e : k ≡ key = same_key_found k key (subst (λ b. cond b (first_unknown scope ms) (Some k) ≡ Some key) is found_fault) in
         record {
-          stands = subst (λ j. Stands j (member k d ms)) e (stands_first k d ms);
+          is_present = subst (λ j. IsPresent j (member k d ms)) e (present_first k d ms);
           unknown = subst (λ j. is_known scope j ≡ false) e is;
-          least = λ other stands unknown. elim (in_front other k d ms stands) [
+          least = λ other is_present unknown. elim (in_front other k d ms is_present) [
             | inl same_one ↦ inl (same_one ∙ e)
             | inr later ↦ inr (subst (λ j. ComesBefore j other) e (all_behind k ms next more other later))
           ];
@@ -114,9 +114,9 @@ not_both a b before after = let bad : Less ≡ ordering_reverse Less = sym befor
 
 one_least : (scope : Scope) (ms : Members) (a b : List ℕ) → IsLeastUnknown scope ms a → IsLeastUnknown scope ms b → a ≡ b
 one_least scope ms a b x y =
-    elim (x.least b y.stands y.unknown) [
+    elim (x.least b y.is_present y.unknown) [
       | inl e ↦ sym e
-      | inr before ↦ elim (y.least a x.stands x.unknown) [
+      | inr before ↦ elim (y.least a x.is_present x.unknown) [
         | inl e ↦ e
         | inr after ↦ absurd (not_both a b before after)
       ]
@@ -126,16 +126,16 @@ least_is_first : (scope : Scope) (ms : Members) (key : List ℕ) → members_are
 least_is_first scope ms key sorted least = by_first (first_unknown scope ms) refl
   where
     by_first : (o : Option (List ℕ)) → first_unknown scope ms ≡ o → o ≡ Some key
-    by_first None none = let bad = sym least.unknown ∙ each_known scope ms key none least.stands in cc
-    by_first (Some k) told = ap Some (one_least scope ms k key (first_is_least scope ms k sorted told) least)
+    by_first None none = let bad = sym least.unknown ∙ each_known scope ms key none least.is_present in cc
+    by_first (Some k) found_fault = ap Some (one_least scope ms k key (first_is_least scope ms k sorted found_fault) least)
 
-pub told_at_top : (t : Members) (key : List ℕ) → members_are_sorted t ≡ true → IsLeastUnknown Top t key → judge_table t ≡ Err (UnknownKey key)
+pub found_at_top : (t : Members) (key : List ℕ) → members_are_sorted t ≡ true → IsLeastUnknown Top t key → judge_table t ≡ Err (UnknownKey key)
 unfolding judge_table table_fault
-told_at_top t key sorted least = rw (least_is_first Top t key sorted least) refl
+found_at_top t key sorted least = rw (least_is_first Top t key sorted least) refl
 
-pub told_in_line : (version : TableVersion) (n : ℕ) (ms : Members) (key : List ℕ) → members_are_sorted ms ≡ true → IsLeastUnknown (Line version) ms key → line_fault version n ms ≡ Some (UnknownKey key)
+pub found_in_line : (version : TableVersion) (n : ℕ) (ms : Members) (key : List ℕ) → members_are_sorted ms ≡ true → IsLeastUnknown (Line version) ms key → line_fault version n ms ≡ Some (UnknownKey key)
 unfolding line_fault
-told_in_line version n ms key sorted least = rw (least_is_first (Line version) ms key sorted least) refl
+found_in_line version n ms key sorted least = rw (least_is_first (Line version) ms key sorted least) refl
 
-pub told_of_text : (text : List ℕ) (t : Members) (key : List ℕ) → IsTable text t → IsLeastUnknown Top t key → ReadsAs text (Err (UnknownKey key))
-told_of_text text t key is least = inl (t, is, sym (told_at_top t key (read_is_sorted text t is.2) least))
+pub found_of_text : (text : List ℕ) (t : Members) (key : List ℕ) → IsTable text t → IsLeastUnknown Top t key → ReadsAs text (Err (UnknownKey key))
+found_of_text text t key is least = inl (t, is, sym (found_at_top t key (read_is_sorted text t is.2) least))

@@ -15,9 +15,9 @@ use Rattle.hx_allow.specs.declared.values.Scope.TheVariants.{Top}
 use Rattle.hx_allow.specs.declared.values.TableVersion.{TableVersion}
 
 -- a fault that stands is not passed over
-pub none_stands : {A : Type 0} (b : Bool) (o : Option A) (x : A) → cond b (Some x) o ≡ None → (b ≡ false) × (o ≡ None)
-none_stands true o x e = cc
-none_stands false o x e = (refl, e)
+pub none_applies : {A : Type 0} (b : Bool) (o : Option A) (x : A) → cond b (Some x) o ≡ None → (b ≡ false) × (o ≡ None)
+none_applies true o x e = cc
+none_applies false o x e = (refl, e)
 
 or_later_none : (a b : Option ConfigFault) → or_later a b ≡ None → (a ≡ None) × (b ≡ None)
 or_later_none None b e = (refl, e)
@@ -42,14 +42,14 @@ no_line_fault t none = by_keys (first_unknown Top t) refl (number_fault t) refl
     by_keys (Some key) e p f = let bad : table_fault t ≡ Some (UnknownKey key) = rw e refl in cc
     by_keys None e (Some key) f =
         let is : table_fault t ≡ cond (not (is_some_and is_name (text_at (codes "name") t))) (Some BadName) (Some (BadNumber key)) = rw e (rw f refl) in
-        let name_is = none_stands (not (is_some_and is_name (text_at (codes "name") t))) (Some (BadNumber key)) BadName (sym is ∙ none) in
+        let name_is = none_applies (not (is_some_and is_name (text_at (codes "name") t))) (Some (BadNumber key)) BadName (sym is ∙ none) in
         let bad = name_is.1 in
         cc
     by_keys None e None f =
         let lines = cond (is_none (lines_at t)) (Some NoLines) (lines_fault (version_of t) 1 (unwrap_or (lines_at t) no_items)) in
         let is : table_fault t ≡ cond (not (is_some_and is_name (text_at (codes "name") t))) (Some BadName) lines = rw e (rw f refl) in
-        let name_is = none_stands (not (is_some_and is_name (text_at (codes "name") t))) lines BadName (sym is ∙ none) in
-        (none_stands (is_none (lines_at t)) (lines_fault (version_of t) 1 (unwrap_or (lines_at t) no_items)) NoLines name_is.1).1
+        let name_is = none_applies (not (is_some_and is_name (text_at (codes "name") t))) lines BadName (sym is ∙ none) in
+        (none_applies (is_none (lines_at t)) (lines_fault (version_of t) 1 (unwrap_or (lines_at t) no_items)) NoLines name_is.1).1
 
 module _ (P : Line → Type 0) (t : Members) (table : Table) (line_is : (n : ℕ) (ms : Members) → line_fault (version_of t) n ms ≡ None → P (line_of ms)) where
   by_fault : (o : Option ConfigFault) → table_fault t ≡ o → Ok table ≡ fault_or_table o t → All P table.lines

@@ -16,7 +16,7 @@ use Rattle.hx_allow.specs.Values.{first_unknown, text_at, items_at, is_some_and}
 use Rattle.hx_allow.specs.declared.faults.ConfigFault.TheVariants.{UnknownKey, BadHost, BadMethod, BadPath, BadOrigin, BadCache, BadWord}
 use Rattle.hx_allow.specs.declared.values.Scope.TheVariants.{Line}
 use Rattle.hx_allow.specs.declared.values.TableVersion.{TableVersion}
-use Rattle.hx_allow.proofs.LinesRead.{none_stands, each_line_read}
+use Rattle.hx_allow.proofs.LinesRead.{none_applies, each_line_read}
 
 matches_alike : (line : PlainLine) (method : List ℕ) (a b : Target) → a.key.host ≡ b.key.host → a.table_path ≡ b.table_path → matches_line line method a ≡ matches_line line method b
 unfolding matches_line
@@ -72,9 +72,9 @@ line_is once version n ms none = by_keys (first_unknown (Line version) ms) refl
         let path = cond (not (is_some_and is_line_path (text_at (codes "path") ms))) (Some (BadPath n)) origin in
         let methods = cond (not (is_some_and are_line_methods (items_at (codes "methods") ms))) (Some (BadMethod n)) path in
         let is : line_fault version n ms ≡ cond (not (is_some_and is_line_host (text_at (codes "host") ms))) (Some (BadHost n)) methods = rw e refl in
-        let host_is = none_stands (not (is_some_and is_line_host (text_at (codes "host") ms))) methods (BadHost n) (sym is ∙ none) in
-        let methods_are = none_stands (not (is_some_and are_line_methods (items_at (codes "methods") ms))) path (BadMethod n) host_is.1 in
-        let path_stands = none_stands (not (is_some_and is_line_path (text_at (codes "path") ms))) origin (BadPath n) methods_are.1 in
+        let host_is = none_applies (not (is_some_and is_line_host (text_at (codes "host") ms))) methods (BadHost n) (sym is ∙ none) in
+        let methods_are = none_applies (not (is_some_and are_line_methods (items_at (codes "methods") ms))) path (BadMethod n) host_is.1 in
+        let path_stands = none_applies (not (is_some_and is_line_path (text_at (codes "path") ms))) origin (BadPath n) methods_are.1 in
         path_is once (text_at (codes "path") ms) (not_false (is_some_and is_line_path (text_at (codes "path") ms)) path_stands.0)
 
 pub read_paths_are : Once → (bytes : List ℕ) (table : Table) → ReadsAs bytes (Ok table) → All IsTablePath table.lines

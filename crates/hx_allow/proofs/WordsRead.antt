@@ -15,7 +15,7 @@ use Rattle.hx_allow.specs.declared.faults.LineWord.{LineWord}
 use Rattle.hx_allow.specs.declared.faults.LineWord.TheVariants.{Lifetime, StaleIfError, SetCookie, Errors, RequestDirectives, Wait, Explain}
 use Rattle.hx_allow.specs.declared.values.Scope.TheVariants.{Line}
 use Rattle.hx_allow.specs.declared.values.TableVersion.{TableVersion}
-use Rattle.hx_allow.proofs.LinesRead.{none_stands, each_line_read}
+use Rattle.hx_allow.proofs.LinesRead.{none_applies, each_line_read}
 use Rattle.hx_allow.proofs.Versions.{plain_policy}
 
 not_false : (b : Bool) → not b ≡ false → b ≡ true
@@ -38,13 +38,13 @@ absent word ms untaken good = by_value (get_member (word_key word) ms) (has_good
 
 no_words : (ms : Members) → takes_words ms ≡ false → first_bad_word ms ≡ None → HasNoWord ms
 no_words ms untaken none =
-    let first = none_stands (not (has_good_word Lifetime ms)) _ Lifetime none in
-    let second = none_stands (not (has_good_word StaleIfError ms)) _ StaleIfError first.1 in
-    let third = none_stands (not (has_good_word SetCookie ms)) _ SetCookie second.1 in
-    let fourth = none_stands (not (has_good_word Errors ms)) _ Errors third.1 in
-    let fifth = none_stands (not (has_good_word RequestDirectives ms)) _ RequestDirectives fourth.1 in
-    let sixth = none_stands (not (has_good_word Wait ms)) _ Wait fifth.1 in
-    let seventh = none_stands (not (has_good_word Explain ms)) _ Explain sixth.1 in
+    let first = none_applies (not (has_good_word Lifetime ms)) _ Lifetime none in
+    let second = none_applies (not (has_good_word StaleIfError ms)) _ StaleIfError first.1 in
+    let third = none_applies (not (has_good_word SetCookie ms)) _ SetCookie second.1 in
+    let fourth = none_applies (not (has_good_word Errors ms)) _ Errors third.1 in
+    let fifth = none_applies (not (has_good_word RequestDirectives ms)) _ RequestDirectives fourth.1 in
+    let sixth = none_applies (not (has_good_word Wait ms)) _ Wait fifth.1 in
+    let seventh = none_applies (not (has_good_word Explain ms)) _ Explain sixth.1 in
     record {
       lifetime = absent Lifetime ms untaken (not_false (has_good_word Lifetime ms) first.0);
       stale_if_error = absent StaleIfError ms untaken (not_false (has_good_word StaleIfError ms) second.0);
@@ -84,11 +84,11 @@ takes_them version n ms none = by_keys (first_unknown (Line version) ms) refl
         let path = cond (not (is_some_and is_line_path (text_at (codes "path") ms))) (Some (BadPath n)) origin in
         let methods = cond (not (is_some_and are_line_methods (items_at (codes "methods") ms))) (Some (BadMethod n)) path in
         let is : line_fault version n ms ≡ cond (not (is_some_and is_line_host (text_at (codes "host") ms))) (Some (BadHost n)) methods = rw e refl in
-        let host_is = none_stands (not (is_some_and is_line_host (text_at (codes "host") ms))) methods (BadHost n) (sym is ∙ none) in
-        let methods_are = none_stands (not (is_some_and are_line_methods (items_at (codes "methods") ms))) path (BadMethod n) host_is.1 in
-        let path_is = none_stands (not (is_some_and is_line_path (text_at (codes "path") ms))) origin (BadPath n) methods_are.1 in
-        let origin_is = none_stands (not (is_some_and is_line_origin (text_at (codes "origin") ms))) cache (BadOrigin n) path_is.1 in
-        let cache_is = none_stands (not (is_line_cache ms)) words (BadCache n) origin_is.1 in
+        let host_is = none_applies (not (is_some_and is_line_host (text_at (codes "host") ms))) methods (BadHost n) (sym is ∙ none) in
+        let methods_are = none_applies (not (is_some_and are_line_methods (items_at (codes "methods") ms))) path (BadMethod n) host_is.1 in
+        let path_is = none_applies (not (is_some_and is_line_path (text_at (codes "path") ms))) origin (BadPath n) methods_are.1 in
+        let origin_is = none_applies (not (is_some_and is_line_origin (text_at (codes "origin") ms))) cache (BadOrigin n) path_is.1 in
+        let cache_is = none_applies (not (is_line_cache ms)) words (BadCache n) origin_is.1 in
         parts (takes_words ms) refl (none_mapped n (first_bad_word ms) cache_is.1) (not_false (is_some_and is_line_origin (text_at (codes "origin") ms)) origin_is.0)
 
 pub each_takes_them : (t : Members) (table : Table) → judge_table t ≡ Ok table → All TakesItsWords table.lines

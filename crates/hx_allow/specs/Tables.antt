@@ -120,7 +120,7 @@ ReadsAs bytes r =
     ⊎ (((t : Members) → ¬ (IsTable bytes t)) × (r ≡ Err NotToml))
 
 -- memory is taken before a fault is told only for the bytes of a key
-abbrev pub wants_memory : Option ConfigFault → Bool
-wants_memory None = true
-wants_memory (Some (UnknownKey key)) = true
-wants_memory (Some _) = false
+abbrev pub is_out_of_memory : Option ConfigFault → Bool
+is_out_of_memory None = true
+is_out_of_memory (Some (UnknownKey key)) = true
+is_out_of_memory (Some _) = false

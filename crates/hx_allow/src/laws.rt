@@ -50,7 +50,7 @@ pub fn one_verdict_for_each_table_path()
 }
 
 /// Where the lines in front have no fault, a fault of a line is told by that line's number, whatever follows.
-pub fn the_first_line_at_fault_is_told()
+pub fn the_first_line_at_fault_is_named()
     ensures { (version : TableVersion) (before : List Members) (members : Members) (after : List Members)
         (fault : Fault) → lines_fault version 1 (tables before) ≡ None → line_fault version (1 + length before) members
         ≡ Some fault → lines_fault version 1 (tables (before ++ members ∷ after)) ≡ Some fault }
@@ -79,7 +79,7 @@ pub fn version_two_reads_as_before()
 {}
 
 /// A line that has a word of the third version allows, and has its cache on.
-pub fn words_stand_where_a_line_caches()
+pub fn words_belong_where_a_line_caches()
     ensures { (t : Members) (table : Table) → judge_table t ≡ Ok table → All TakesItsWords table.lines }
 {}
 

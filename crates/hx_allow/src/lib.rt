@@ -32,13 +32,13 @@ pub use laws::{
     a_fault_of_the_second_line_has_its_number, a_table_is_read_in_one_way,
     a_table_of_two_lines_is_read, a_taken_line_never_decides, a_whole_table_is_read,
     lines_without_cache_are_read, one_verdict_for_each_table_path, table_versions,
-    the_first_line_at_fault_is_told, the_first_line_that_matches_decides,
-    version_one_reads_as_before, version_two_reads_as_before, words_stand_where_a_line_caches,
+    the_first_line_at_fault_is_named, the_first_line_that_matches_decides,
+    version_one_reads_as_before, version_two_reads_as_before, words_belong_where_a_line_caches,
 };
 pub use limits::MOST_TABLE_BYTES;
 pub use line_word_cases::{
     a_table_with_words_is_read, keys_of_words, seconds_of_a_line, texts_of_a_line, what_words_say,
-    where_words_stand,
+    where_words_belong,
 };
 pub use table_cases::{
     a_table_has_1_to_256_lines, cache_of_a_line, faults_of_a_line_in_order,
@@ -46,7 +46,7 @@ pub use table_cases::{
     versions_of_tables, what_a_line_says, what_a_table_says, which_faults_take_memory,
 };
 pub use table_laws::{
-    a_table_is_toml_within_the_limit, fewer_lines_decide_alike, the_least_unknown_key_is_told,
+    a_table_is_toml_within_the_limit, fewer_lines_decide_alike, the_least_unknown_key_is_named,
 };
 pub use verdicts::Verdict;
 pub use worked_cases::{

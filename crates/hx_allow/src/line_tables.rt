@@ -164,7 +164,7 @@ fn is_good_cache(table: &Table) -> bool
 #[tactic(auto, unfolding(crate::specs::LineTables::line_fault))]
 fn line_fault(version: TableVersion, number: u16, table: &Table) -> Option<FoundFault<'_>>
     ensures first { option_map fault_found result ≡ line_fault version number (table_view table.now) }
-    ensures told { ¬ (result ≡ Some (FoundFault.Other ConfigFault.OutOfMemory)) }
+    ensures found_fault { ¬ (result ≡ Some (FoundFault.Other ConfigFault.OutOfMemory)) }
 {
     if let Some(key) = first_unknown(Scope::Line(version), table) {
         return Some(FoundFault::UnknownKey(key));
@@ -259,7 +259,7 @@ fn line_of(alloc: Global, table: &Table) -> Result<Line, AllocError>
 
 fn item_fault(version: TableVersion, number: u16, value: &Value) -> Option<FoundFault<'_>>
     ensures first { option_map fault_found result ≡ item_fault version number (as_table (view value.now)) }
-    ensures told { ¬ (result ≡ Some (FoundFault.Other ConfigFault.OutOfMemory)) }
+    ensures found_fault { ¬ (result ≡ Some (FoundFault.Other ConfigFault.OutOfMemory)) }
 {
     match value.as_table() {
         Some(table) => line_fault(version, number, table),
@@ -271,7 +271,7 @@ fn item_fault(version: TableVersion, number: u16, value: &Value) -> Option<Found
 pub fn lines_fault(version: TableVersion, values: &[Value]) -> Option<FoundFault<'_>>
     requires { length values.now ≤ 256 }
     ensures first { option_map fault_found result ≡ lines_fault version 1 (items_view values.now) }
-    ensures told { ¬ (result ≡ Some (FoundFault.Other ConfigFault.OutOfMemory)) }
+    ensures found_fault { ¬ (result ≡ Some (FoundFault.Other ConfigFault.OutOfMemory)) }
 {
     let mut number = 1u16;
     for value in values {

@@ -88,7 +88,7 @@ pub fn texts_of_a_line()
 
 /// A line that denies or has its cache off takes no word. The words are looked at in the table's order, behind `cache`.
 #[tactic(auto, unfolding(crate::specs::LineTables::line_fault, crate::specs::LineTables::is_line_host, crate::specs::LineTables::is_line_method, crate::specs::LineTables::is_line_path, crate::specs::Addresses::is_address, hx_target::specs::Hosts::is_host, hx_target::specs::Hosts::short_number, hx_target::specs::Paths::has_dot_segment))]
-pub fn where_words_stand()
+pub fn where_words_belong()
     ensures denying { line_fault Three 2 (denying_with (number (codes "lifetime") 60 ∷ [])) ≡ Some (BadWord 2 Lifetime) }
     ensures denying_default { line_fault Three 2 (denying_with (text (codes "errors") (codes "stored") ∷ []))
         ≡ Some (BadWord 2 Errors) }

@@ -2,7 +2,7 @@
 ghost use Rattle.std.specs.Prelude.{◌≡◌, ◌≤◌, Err, IfErr, IfOk, length, true};
 ghost use Rattle.toml.specs.Errors.{IsMemory};
 ghost use Rattle.toml.specs.View.{table_view};
-ghost use Rattle.hx_allow.specs.Tables.{ReadsAs, judge_table, table_fault, wants_memory};
+ghost use Rattle.hx_allow.specs.Tables.{ReadsAs, judge_table, table_fault, is_out_of_memory};
 
 use crate::limits::MOST_TABLE_BYTES;
 use crate::tables::judge_table;
@@ -30,7 +30,7 @@ fn judge_parsed(
     ensures judged { IfOk parsed (λ table. ¬ (result ≡ Err ConfigFault.OutOfMemory)
         → result ≡ judge_table (table_view table)) }
     ensures memory_last { IfOk parsed (λ table. result ≡ Err ConfigFault.OutOfMemory
-        → wants_memory (table_fault (table_view table)) ≡ true) }
+        → is_out_of_memory (table_fault (table_view table)) ≡ true) }
     ensures no_table { IfErr parsed (λ error. ¬ (IsMemory error) → result ≡ Err ConfigFault.NotToml) }
     ensures no_memory { IfErr parsed (λ error. IsMemory error → result ≡ Err ConfigFault.OutOfMemory) }
 {

@@ -7,7 +7,7 @@ ghost use Rattle.hx_policy.specs.Words.{plain};
 ghost use Rattle.hx_allow.specs.Examples.{denying_with, line_table, many, method, number, of_items, of_pairs, reads};
 ghost use Rattle.hx_allow.specs.Examples.{origin_8081, text, top_table, with_keys};
 ghost use Rattle.hx_allow.specs.LineTables.{line_fault, line_of, lines_fault, lines_of};
-ghost use Rattle.hx_allow.specs.Tables.{judge_table, lines_at, version_of, wants_memory};
+ghost use Rattle.hx_allow.specs.Tables.{judge_table, lines_at, version_of, is_out_of_memory};
 ghost use Rattle.hx_allow.specs.declared.faults.ConfigFault.TheVariants.{UnknownKey, BadName, BadNumber, BadHost};
 ghost use Rattle.hx_allow.specs.declared.faults.ConfigFault.TheVariants.{BadMethod, BadPath, BadOrigin, NoLines};
 ghost use Rattle.hx_allow.specs.declared.faults.ConfigFault.TheVariants.{BadCache};
@@ -173,12 +173,12 @@ pub fn what_a_table_says()
 
 /// Memory is taken before a fault is told for the bytes of a key alone.
 pub fn which_faults_take_memory()
-    ensures none { wants_memory None ≡ true }
-    ensures unknown { wants_memory (Some (UnknownKey [])) ≡ true }
-    ensures name { wants_memory (Some BadName) ≡ false }
-    ensures number { wants_memory (Some (BadNumber Version)) ≡ false }
-    ensures lines { wants_memory (Some NoLines) ≡ false }
-    ensures host { wants_memory (Some (BadHost 1)) ≡ false }
+    ensures none { is_out_of_memory None ≡ true }
+    ensures unknown { is_out_of_memory (Some (UnknownKey [])) ≡ true }
+    ensures name { is_out_of_memory (Some BadName) ≡ false }
+    ensures number { is_out_of_memory (Some (BadNumber Version)) ≡ false }
+    ensures lines { is_out_of_memory (Some NoLines) ≡ false }
+    ensures host { is_out_of_memory (Some (BadHost 1)) ≡ false }
 {}
 
 /// The faults of whole texts: a key that isn't known in front of others, a path that ends with a slash, and no line.

@@ -10,7 +10,7 @@ ghost use Rattle.hx_allow.specs.Lines.{Line as PlainLine, Table};
 ghost use Rattle.hx_allow.specs.LineTables.{line_fault};
 ghost use Rattle.hx_allow.specs.Matching.{matches_line, verdict_of};
 ghost use Rattle.hx_allow.specs.Tables.{IsTable, judge_table, ReadsAs};
-ghost use Rattle.hx_allow.specs.Unknown.{Stands, IsLeastUnknown};
+ghost use Rattle.hx_allow.specs.Unknown.{IsPresent, IsLeastUnknown};
 ghost use Rattle.hx_allow.specs.Values.{is_known, first_unknown};
 ghost use Rattle.hx_allow.specs.declared.faults.ConfigFault.{ConfigFault as Fault};
 ghost use Rattle.hx_allow.specs.declared.values.Scope.{Scope};
@@ -20,10 +20,10 @@ ghost use Rattle.hx_allow.specs.declared.values.TableVersion.{TableVersion};
 /// Of several keys that aren't known the least is told, at the top before any other fault of the
 /// table, and in a line before any other of the line; where none is told each key is known. It is
 /// so for every text: the keys of each table that it writes ascend by their bytes.
-pub fn the_least_unknown_key_is_told()
+pub fn the_least_unknown_key_is_named()
     ensures found { (scope : Scope) (ms : Members) (key : List ℕ) → members_are_sorted ms ≡ true
         → first_unknown scope ms ≡ Some key → IsLeastUnknown scope ms key }
-    ensures none { (scope : Scope) (ms : Members) (key : List ℕ) → first_unknown scope ms ≡ None → Stands key ms
+    ensures none { (scope : Scope) (ms : Members) (key : List ℕ) → first_unknown scope ms ≡ None → IsPresent key ms
         → is_known scope key ≡ true }
     ensures top { (t : Members) (key : List ℕ) → members_are_sorted t ≡ true → IsLeastUnknown Top t key
         → judge_table t ≡ Err (Fault.UnknownKey key) }

@@ -7,7 +7,7 @@ ghost use Rattle.toml.specs.View.{table_view, array_view, items_view, view};
 ghost use Rattle.hx_allow.specs.Values.{is_some_and, text_at};
 ghost use Rattle.hx_allow.specs.LineTables.{fault_found};
 ghost use Rattle.hx_allow.specs.Tables.{is_name_byte, is_name, number_at, version_of, are_lines, lines_at, table_fault};
-ghost use Rattle.hx_allow.specs.Tables.{table_of, judge_table, number_fault, wants_memory};
+ghost use Rattle.hx_allow.specs.Tables.{table_of, judge_table, number_fault, is_out_of_memory};
 
 use crate::faults::FoundFault;
 use crate::host_index::HostIndex;
@@ -130,7 +130,7 @@ fn number_fault(table: &Table) -> Option<NumberKey>
 #[tactic(auto, unfolding(crate::specs::Tables::table_fault))]
 fn table_fault(table: &Table) -> Option<FoundFault<'_>>
     ensures first { option_map fault_found result ≡ table_fault (table_view table.now) }
-    ensures told { ¬ (result ≡ Some (FoundFault.Other ConfigFault.OutOfMemory)) }
+    ensures found_fault { ¬ (result ≡ Some (FoundFault.Other ConfigFault.OutOfMemory)) }
 {
     if let Some(key) = first_unknown(Scope::Top, table) {
         return Some(FoundFault::UnknownKey(key));
@@ -182,7 +182,7 @@ fn fault_of_key(copied: Result<Bytes, AllocError>) -> ConfigFault
 pub fn judge_table(alloc: Global, table: &Table) -> Result<Config, ConfigFault>
     ensures judged { ¬ (result ≡ Err ConfigFault.OutOfMemory) → result ≡ judge_table (table_view table.now) }
     ensures memory_last { result ≡ Err ConfigFault.OutOfMemory
-        → wants_memory (table_fault (table_view table.now)) ≡ true }
+        → is_out_of_memory (table_fault (table_view table.now)) ≡ true }
 {
     match table_fault(table) {
         Some(FoundFault::UnknownKey(key)) => {

@@ -81,7 +81,7 @@ pub fn keys_of_a_line()
 
 /// The text of a key is a string; a number isn't one.
 pub fn texts_are_strings()
-    ensures stands { text_at (codes "name")
+    ensures is_present { text_at (codes "name")
         (of_pairs (number (codes "capacity") 2 ∷ text (codes "name") (codes "edge") ∷ [])) ≡ Some (codes "edge") }
     ensures missing { text_at (codes "name") (of_pairs (number (codes "capacity") 2 ∷ [])) ≡ None }
     ensures a_number { text_at (codes "name") (of_pairs (number (codes "name") 2 ∷ [])) ≡ None }
@@ -358,7 +358,7 @@ pub fn which_origin_a_line_has()
 pub fn tails_of_paths()
     ensures tail { tail_of (codes "/admin") ≡ record { size = 6; last = 110 } }
     ensures root { tail_of (codes "/") ≡ record { size = 0; last = 0 } }
-    ensures stands { may_match (tail_of (codes "/admin")) (codes "/login/x") ≡ true }
+    ensures is_present { may_match (tail_of (codes "/admin")) (codes "/login/x") ≡ true }
     ensures other { may_match (tail_of (codes "/admin")) (codes "/admit") ≡ false }
     ensures short { may_match (tail_of (codes "/admin")) (codes "/a") ≡ false }
     ensures all { may_match (tail_of (codes "/")) (codes "/x") ≡ true }

@@ -80,16 +80,16 @@ closed_append max bytes w due = by_test (nat_lt max (length bytes)) refl due
         rw still
     by_test false p due = absurd due
 
-pub body_append : (max : ℕ) (told : Framing) (bytes w : List ℕ) → IsDecided (body_at max told false bytes)
-    → body_at max told false (bytes ++ w) ≡ extended_body (body_at max told false bytes) w
+pub body_append : (max : ℕ) (shown : Framing) (bytes w : List ℕ) → IsDecided (body_at max shown false bytes)
+    → body_at max shown false (bytes ++ w) ≡ extended_body (body_at max shown false bytes) w
 body_append max framing.Nothing bytes w due = refl
 body_append max (framing.Announced n) bytes w due = announced_append n bytes w due
 body_append max framing.Chunked bytes w due = chunks_append bytes w (start max) due
 body_append max framing.UntilClose bytes w due = closed_append max bytes w due
 
 -- what is decided before the stream's end is decided so at its end
-pub body_stays : (max : ℕ) (told : Framing) (bytes : List ℕ) → IsDecided (body_at max told false bytes)
-    → body_at max told false bytes ≡ body_at max told true bytes
+pub body_stays : (max : ℕ) (shown : Framing) (bytes : List ℕ) → IsDecided (body_at max shown false bytes)
+    → body_at max shown false bytes ≡ body_at max shown true bytes
 body_stays max framing.Nothing bytes due = refl
 body_stays max (framing.Announced n) bytes due = refl
 body_stays max framing.Chunked bytes due = refl
@@ -102,7 +102,7 @@ body_stays max framing.UntilClose bytes due = by_test (nat_lt max (length bytes)
 
 -- ---- a content that was begun
 
-pub begun_is : (max : ℕ) (told : Framing) (e : Bool) (bytes : List ℕ) → body_at max told e bytes ≡ body_from (begun max told) e bytes
+pub begun_is : (max : ℕ) (shown : Framing) (e : Bool) (bytes : List ℕ) → body_at max shown e bytes ≡ body_from (begun max shown) e bytes
 begun_is max framing.Nothing e bytes = refl
 begun_is max (framing.Announced n) e bytes = refl
 begun_is max framing.Chunked e bytes = refl

@@ -23,19 +23,19 @@ use Rattle.hx_framing.specs.ResponseStream as responses
 use Rattle.hx_framing.specs.ResponseStream.{IsGiven}
 use Rattle.hx_framing.proofs.HeadEnds.{head_within_bytes}
 use Rattle.hx_framing.proofs.HeadSearches.{head_some}
-use Rattle.hx_framing.proofs.HeadDecisions.{HeadOrNot, request_told, StatusHeadOrNot, response_told}
+use Rattle.hx_framing.proofs.HeadDecisions.{HeadOrNot, request_decided, StatusHeadOrNot, response_decided}
 
 -- ---- heads
 
 pub request_judged : (bytes : List ℕ) → (judged : Result Head FrameFault) × Judges bytes judged
-request_judged bytes = by_head (request_told bytes)
+request_judged bytes = by_head (request_decided bytes)
   where
     by_head : HeadOrNot bytes → (judged : Result Head FrameFault) × Judges bytes judged
     by_head (inl x) = (Ok (head_of x.0), (x.0, x.1, refl))
     by_head (inr none) = (Err (head_fault bytes), (none, refl))
 
 pub response_judged : (bytes : List ℕ) → (judged : Result StatusHead FrameFault) × status.Judges bytes judged
-response_judged bytes = by_head (response_told bytes)
+response_judged bytes = by_head (response_decided bytes)
   where
     by_head : StatusHeadOrNot bytes → (judged : Result StatusHead FrameFault) × status.Judges bytes judged
     by_head (inl x) = (Ok (status_head_of x.0), (x.0, x.1, refl))
@@ -53,7 +53,7 @@ request_read max e t bytes = by_place (head_length (take most_head_bytes bytes))
 pub request_answered : (p : Progress Request) (rest : List ℕ) → StreamSpells p.max_body p.stream p.given rest
     → (answer : Next Request) × requests.Answers p answer
 request_answered p rest spells =
-    let read = request_read p.max_body p.ended p.told rest in
+    let read = request_read p.max_body p.ended p.continue_sent rest in
     (next_of read.0, record { rest = rest; reading = read.0; spells = spells; reads = read.1; answer_is = refl })
 
 -- ---- streams of responses

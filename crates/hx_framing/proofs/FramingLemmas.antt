@@ -8,24 +8,24 @@ use Rattle.hx_framing.specs.declared.lengths.framing.Framing.{Framing}
 use Rattle.hx_framing.specs.declared.lengths.framing.Framing.TheVariants as framing
 use Rattle.hx_framing.specs.declared.heads.request_head.Head.{Head}
 use Rattle.hx_framing.specs.declared.heads.status_head.StatusHead.{StatusHead}
-use Rattle.hx_framing.specs.ContentLength.{content_length, length_told, length_up_to}
+use Rattle.hx_framing.specs.ContentLength.{content_length, length_shown, length_up_to}
 use Rattle.hx_framing.specs.Lengths.{transfer_encoding, codings, ends_in_chunks, is_only_chunked, announced, is_above, framing_or, uncoded, framing_of_only_coding, framing_of_codings, framing_of_request, framing_of_final}
-use Rattle.hx_framing.proofs.LengthTold.{absent_told}
+use Rattle.hx_framing.proofs.LengthShown.{absent_shown}
 
 -- coded, stands: which of the fields stand; zero: it is HTTP/1.0; endless, only: what the codings are
 module _ (max_body : ℕ) (neither : Framing) where
-  abbrev judged : (coded stands zero endless only : Bool) → Option ℕ → Result Framing FrameFault
-  judged coded stands zero endless only told =
-      cond (coded && stands) (Err fault.BothLengths)
-      (cond (((coded && zero) || (stands && not (is_some told))) || endless) (Err fault.Length)
+  abbrev judged : (coded represents zero endless only : Bool) → Option ℕ → Result Framing FrameFault
+  judged coded represents zero endless only shown =
+      cond (coded && represents) (Err fault.BothLengths)
+      (cond (((coded && zero) || (represents && not (is_some shown))) || endless) (Err fault.Length)
       (cond (coded && not only) (Err fault.Coding)
-      (cond (is_above max_body told) (Err fault.TooLarge) (Ok (cond coded framing.Chunked (framing_or neither told))))))
+      (cond (is_above max_body shown) (Err fault.TooLarge) (Ok (cond coded framing.Chunked (framing_or neither shown))))))
 
   -- the same without the codings
-  abbrev judged_uncoded : (coded stands zero : Bool) → Option ℕ → Option (Result Framing FrameFault)
-  judged_uncoded coded stands zero told =
-      cond (coded && stands) (Some (Err fault.BothLengths))
-      (cond (not coded) (Some (cond stands (announced (length_up_to max_body told)) (Ok neither)))
+  abbrev judged_uncoded : (coded represents zero : Bool) → Option ℕ → Option (Result Framing FrameFault)
+  judged_uncoded coded represents zero shown =
+      cond (coded && represents) (Some (Err fault.BothLengths))
+      (cond (not coded) (Some (cond represents (announced (length_up_to max_body shown)) (Ok neither)))
       (cond zero (Some (Err fault.Length)) None))
 
   above : {A : Type 0} (n : ℕ) (large small : A) → cond (nat_lt max_body n) large small ≡ cond (nat_le n max_body) small large
@@ -36,50 +36,50 @@ module _ (max_body : ℕ) (neither : Framing) where
       by_test false beyond = ap (λ b. cond b large small) (lt-ltb max_body n (leb-false n max_body beyond))
 
   -- without codings
-  by_length : (stands zero only : Bool) (told : Option ℕ) → (stands ≡ false → told ≡ None)
-      → judged false stands zero false only told ≡ cond stands (announced (length_up_to max_body told)) (Ok neither)
+  by_length : (represents zero only : Bool) (shown : Option ℕ) → (represents ≡ false → shown ≡ None)
+      → judged false represents zero false only shown ≡ cond represents (announced (length_up_to max_body shown)) (Ok neither)
   by_length true zero only None none = refl
   by_length true zero only (Some n) none = above n (Err fault.TooLarge) (Ok (framing.Announced n)) ∙ by_test (nat_le n max_body)
     where
       by_test : (t : Bool) → cond t (Ok (framing.Announced n)) (Err fault.TooLarge) ≡ announced (cond t (Ok n) (Err fault.TooLarge))
       by_test true = refl
       by_test false = refl
-  by_length false zero only told none = ap (judged false false zero false only) (none refl)
+  by_length false zero only shown none = ap (judged false false zero false only) (none refl)
 
-  by_codings : (coded stands zero endless only : Bool) (told : Option ℕ) → (stands ≡ false → told ≡ None) → (coded ≡ false → endless ≡ false)
-      → MatchOption (judged_uncoded coded stands zero told)
-      (judged coded stands zero endless only told ≡ cond endless (Err fault.Length) (cond only (Ok framing.Chunked) (Err fault.Coding)))
-      (λ r. judged coded stands zero endless only told ≡ r)
-  by_codings true true zero endless only told none ends = refl
-  by_codings true false true endless only told none ends = refl
-  by_codings true false false true only told none ends = refl
-  by_codings true false false false true told none ends = ap (judged true false false false true) (none refl)
-  by_codings true false false false false told none ends = refl
-  by_codings false stands zero endless only told none ends =
-      ap (λ e. judged false stands zero e only told) (ends refl) ∙ by_length stands zero only told none
+  by_codings : (coded represents zero endless only : Bool) (shown : Option ℕ) → (represents ≡ false → shown ≡ None) → (coded ≡ false → endless ≡ false)
+      → MatchOption (judged_uncoded coded represents zero shown)
+      (judged coded represents zero endless only shown ≡ cond endless (Err fault.Length) (cond only (Ok framing.Chunked) (Err fault.Coding)))
+      (λ r. judged coded represents zero endless only shown ≡ r)
+  by_codings true true zero endless only shown none ends = refl
+  by_codings true false true endless only shown none ends = refl
+  by_codings true false false true only shown none ends = refl
+  by_codings true false false false true shown none ends = ap (judged true false false false true) (none refl)
+  by_codings true false false false false shown none ends = refl
+  by_codings false represents zero endless only shown none ends =
+      ap (λ e. judged false represents zero e only shown) (ends refl) ∙ by_length represents zero only shown none
 
   -- the codings of a request
-  by_request : (coded stands zero ends only : Bool) (told : Option ℕ) → (stands ≡ false → told ≡ None)
-      → MatchOption (judged_uncoded coded stands zero told)
-      (judged coded stands zero (coded && not ends) only told ≡ cond ends (cond only (Ok framing.Chunked) (Err fault.Coding)) (Err fault.Length))
-      (λ r. judged coded stands zero (coded && not ends) only told ≡ r)
-  by_request true stands zero true only told none = by_codings true stands zero false only told none (λ e. refl)
-  by_request true stands zero false only told none = by_codings true stands zero true only told none (λ e. cc)
-  by_request false stands zero ends only told none = by_codings false stands zero false only told none (λ e. refl)
+  by_request : (coded represents zero ends only : Bool) (shown : Option ℕ) → (represents ≡ false → shown ≡ None)
+      → MatchOption (judged_uncoded coded represents zero shown)
+      (judged coded represents zero (coded && not ends) only shown ≡ cond ends (cond only (Ok framing.Chunked) (Err fault.Coding)) (Err fault.Length))
+      (λ r. judged coded represents zero (coded && not ends) only shown ≡ r)
+  by_request true represents zero true only shown none = by_codings true represents zero false only shown none (λ e. refl)
+  by_request true represents zero false only shown none = by_codings true represents zero true only shown none (λ e. cc)
+  by_request false represents zero ends only shown none = by_codings false represents zero false only shown none (λ e. refl)
 
 pub request-uncoded : (max_body : ℕ) (head : Head)
     → MatchOption (uncoded max_body head.minor framing.Nothing head.fields)
     (framing_of_request max_body head ≡ framing_of_codings (codings head.fields)) (λ r. framing_of_request max_body head ≡ r)
 request-uncoded max_body head =
     by_request max_body framing.Nothing (has head.fields transfer_encoding) (has head.fields content_length) (head.minor == 0)
-    (ends_in_chunks (codings head.fields)) (is_only_chunked (codings head.fields)) (length_told head.fields) (absent_told head.fields)
+    (ends_in_chunks (codings head.fields)) (is_only_chunked (codings head.fields)) (length_shown head.fields) (absent_shown head.fields)
 
 pub final-uncoded : (max_body : ℕ) (head : StatusHead)
     → MatchOption (uncoded max_body head.minor framing.UntilClose head.fields)
     (framing_of_final max_body head ≡ framing_of_only_coding (codings head.fields)) (λ r. framing_of_final max_body head ≡ r)
 final-uncoded max_body head =
     by_codings max_body framing.UntilClose (has head.fields transfer_encoding) (has head.fields content_length) (head.minor == 0)
-    false (is_only_chunked (codings head.fields)) (length_told head.fields) (absent_told head.fields) (λ e. refl)
+    false (is_only_chunked (codings head.fields)) (length_shown head.fields) (absent_shown head.fields) (λ e. refl)
 
 -- what a call found without the codings, and where they count
 module _ (whole coded : Result Framing FrameFault) where

@@ -18,14 +18,14 @@ use Rattle.hx_framing.specs.StatusHead.{IsStatusHead}
 abbrev BeginsOrNot : {A : Type 0} → Piece A → List ℕ → Type 0
 BeginsOrNot G text = Begins G text ⊎ (Begins G text → ⊥)
 
-abbrev IsTold : {A : Type 0} → Piece A → Type 0
-IsTold G = (text : List ℕ) → BeginsOrNot G text
+abbrev IsDecided : {A : Type 0} → Piece A → Type 0
+IsDecided G = (text : List ℕ) → BeginsOrNot G text
 
 first_same : (a b : ℕ) (xs ys : List ℕ) → a ∷ xs ≡ b ∷ ys → (a ≡ b) × (xs ≡ ys)
 first_same a b xs ys e = (cc, cc)
 
 -- one piece and then another
-both : {A B : Type 0} (G : Piece A) (H : Piece B) → IsDeterministic G → IsTold G → IsTold H → IsTold (Then G H)
+both : {A B : Type 0} (G : Piece A) (H : Piece B) → IsDeterministic G → IsDecided G → IsDecided H → IsDecided (Then G H)
 both {A} {B} G H det g h text = by_first (g text)
   where
     by_second : (a : A) (rest : List ℕ) → G a text rest → BeginsOrNot H rest → BeginsOrNot (Then G H) text
@@ -40,13 +40,13 @@ both {A} {B} G H det g h text = by_first (g text)
 
 -- ---- line ends
 
-newline_told : IsTold Newline
-newline_told [] = inr (λ t. nothing t.0 t.1 t.2)
+newline_decided : IsDecided Newline
+newline_decided [] = inr (λ t. nothing t.0 t.1 t.2)
   where
     nothing : (end : LineEnd) (rest : List ℕ) → [] ≡ print_end end ++ rest → ⊥
     nothing crlf rest e = cc
     nothing lf rest e = cc
-newline_told (b ∷ text) = by_byte (b == 10) refl (b == 13) refl text
+newline_decided (b ∷ text) = by_byte (b == 10) refl (b == 13) refl text
   where
     other : (text : List ℕ) → (b == 10) ≡ false → (b == 13) ≡ false → Begins Newline (b ∷ text) → ⊥
     other text not_lf not_cr t = by_end t.0 t.1 t.2
@@ -76,27 +76,27 @@ shorter : (end : LineEnd) (text rest : List ℕ) → text ≡ print_end end ++ r
 shorter crlf text rest e = omega (arith, ap length e)
 shorter lf text rest e = omega (arith, ap length e)
 
-stops_told : (text : List ℕ) → Stops is_newline text ⊎ (Stops is_newline text → ⊥)
-stops_told [] = inr (λ s. s)
-stops_told (b ∷ text) = by_test (is_newline b) refl
+stops_decided : (text : List ℕ) → Stops is_newline text ⊎ (Stops is_newline text → ⊥)
+stops_decided [] = inr (λ s. s)
+stops_decided (b ∷ text) = by_test (is_newline b) refl
   where
     by_test : (t : Bool) → is_newline b ≡ t → (is_newline b ≡ false) ⊎ (is_newline b ≡ false → ⊥)
     by_test true p = inr (λ q. absurd (let h : true ≡ false = sym p ∙ q in cc))
     by_test false p = inl p
 
 -- a text is told where every shorter one is
-abbrev IsToldBelow : {A : Type 0} → Piece A → List ℕ → Type 0
-IsToldBelow G text = (rest : List ℕ) → length rest < length text → BeginsOrNot G rest
+abbrev IsDecidedBelow : {A : Type 0} → Piece A → List ℕ → Type 0
+IsDecidedBelow G text = (rest : List ℕ) → length rest < length text → BeginsOrNot G rest
 
-by_length : {A : Type 0} (G : Piece A) → ((text : List ℕ) → IsToldBelow G text → BeginsOrNot G text) → IsTold G
+by_length : {A : Type 0} (G : Piece A) → ((text : List ℕ) → IsDecidedBelow G text → BeginsOrNot G text) → IsDecided G
 by_length G step text = go (length text) text (omega arith)
   where
     go : (n : ℕ) (text : List ℕ) → length text ≤ n → BeginsOrNot G text
     go zero text short = step text (λ rest less. absurd (omega (arith, short, less)))
     go (suc n) text short = step text (λ rest less. go n rest (omega (arith, short, less)))
 
-blank_step : (text : List ℕ) → IsToldBelow Blank text → BeginsOrNot Blank text
-blank_step text later = by_newline (newline_told text)
+blank_step : (text : List ℕ) → IsDecidedBelow Blank text → BeginsOrNot Blank text
+blank_step text later = by_newline (newline_decided text)
   where
     longer : (end : LineEnd) (rest : List ℕ) → text ≡ print_end end ++ rest → BeginsOrNot Blank rest → BeginsOrNot Blank text
     longer end rest e (inl x) =
@@ -118,25 +118,25 @@ blank_step text later = by_newline (newline_told text)
 
     by_newline : BeginsOrNot Newline text → BeginsOrNot Blank text
     by_newline (inl x) = longer x.0 x.1 x.2 (later x.1 (shorter x.0 text x.1 x.2))
-    by_newline (inr none) = by_stop none (stops_told text)
+    by_newline (inr none) = by_stop none (stops_decided text)
 
-blank_told : IsTold Blank
-blank_told = by_length Blank blank_step
+blank_decided : IsDecided Blank
+blank_decided = by_length Blank blank_step
 
 -- ---- bytes
 
-bytes_told : (bytes : List ℕ) → IsTold (Bytes bytes)
-bytes_told [] text = inl (tt, text, refl)
-bytes_told (b ∷ bytes) [] = inr (λ t. absurd (let e = t.2 in cc))
-bytes_told (b ∷ bytes) (c ∷ text) = by_byte (c == b) refl (bytes_told bytes text)
+bytes_decided : (bytes : List ℕ) → IsDecided (Bytes bytes)
+bytes_decided [] text = inl (tt, text, refl)
+bytes_decided (b ∷ bytes) [] = inr (λ t. absurd (let e = t.2 in cc))
+bytes_decided (b ∷ bytes) (c ∷ text) = by_byte (c == b) refl (bytes_decided bytes text)
   where
     by_byte : (t : Bool) → (c == b) ≡ t → BeginsOrNot (Bytes bytes) text → BeginsOrNot (Bytes (b ∷ bytes)) (c ∷ text)
     by_byte true p (inl x) = inl (tt, x.1, ap (λ a. a ∷ text) (eqb-true c b p) ∙ ap (λ l. b ∷ l) x.2)
     by_byte true p (inr none) = inr (λ t. none (tt, t.1, (first_same c b text (bytes ++ t.1) t.2).1))
     by_byte false p later = inr (λ t. eqb-false c b p (first_same c b text (bytes ++ t.1) t.2).0)
 
-version_told : IsTold Version
-version_told text = by_both (bytes_told (print_version 0) text) (bytes_told (print_version 1) text)
+version_decided : IsDecided Version
+version_decided text = by_both (bytes_decided (print_version 0) text) (bytes_decided (print_version 1) text)
   where
     by_both : BeginsOrNot (Bytes (print_version 0)) text → BeginsOrNot (Bytes (print_version 1)) text → BeginsOrNot Version text
     by_both (inl x) second = inl (0, x.1, (omega arith, x.2))
@@ -148,9 +148,9 @@ version_told text = by_both (bytes_told (print_version 0) text) (bytes_told (pri
         by_minor (suc zero) rest x = not_1 (tt, rest, x.1)
         by_minor (suc (suc minor)) rest x = absurd (omega (arith, x.0))
 
-digit_told : IsTold Digit
-digit_told [] = inr (λ t. absurd (let e = t.2.1 in cc))
-digit_told (b ∷ text) = by_test (is_ascii_digit b) refl
+digit_decided : IsDecided Digit
+digit_decided [] = inr (λ t. absurd (let e = t.2.1 in cc))
+digit_decided (b ∷ text) = by_test (is_ascii_digit b) refl
   where
     by_test : (t : Bool) → is_ascii_digit b ≡ t → BeginsOrNot Digit (b ∷ text)
     by_test true p = inl (b, text, (p, refl))
@@ -159,8 +159,8 @@ digit_told (b ∷ text) = by_test (is_ascii_digit b) refl
         let h : false ≡ true = sym p ∙ ap is_ascii_digit same ∙ t.2.0 in cc
         ))
 
-code_told : IsTold Code
-code_told = both Digit (Then Digit Digit) Digit_deterministic digit_told (both Digit Digit Digit_deterministic digit_told digit_told)
+code_decided : IsDecided Code
+code_decided = both Digit (Then Digit Digit) Digit_deterministic digit_decided (both Digit Digit Digit_deterministic digit_decided digit_decided)
 
 -- ---- words and texts
 
@@ -188,8 +188,8 @@ all_pass : (test : ℕ → Bool) (text run word behind : List ℕ) → AllPass t
 all_pass test text run word behind pass parts e stops =
     run_unstopped test word behind (subst (AllPass test) (sym (append-nil run) ∙ sym parts ∙ e) pass) stops
 
-word_told : (test : ℕ → Bool) (stop : ℕ) → test stop ≡ false → IsTold (Word test stop)
-word_told test stop off text = let f = front test text in by_rest f.run f.rest f.pass f.parts f.stops
+word_decided : (test : ℕ → Bool) (stop : ℕ) → test stop ≡ false → IsDecided (Word test stop)
+word_decided test stop off text = let f = front test text in by_rest f.run f.rest f.pass f.parts f.stops
   where
     by_parts : (run : List ℕ) (b : ℕ) (rest : List ℕ) → AllPass test run → text ≡ run ++ b ∷ rest → test b ≡ false
         → (t : Bool) → nat_lt 0 (length run) ≡ t → (u : Bool) → (b == stop) ≡ u → BeginsOrNot (Word test stop) text
@@ -207,8 +207,8 @@ word_told test stop off text = let f = front test text in by_rest f.run f.rest f
     by_rest run (b ∷ rest) pass parts (inl e) = absurd cc
     by_rest run (b ∷ rest) pass parts (inr s) = by_parts run b rest pass parts s (nat_lt 0 (length run)) refl (b == stop) refl
 
-target_told : IsTold Target
-target_told text = by_word (word_told is_uri_byte 32 refl text)
+target_decided : IsDecided Target
+target_decided text = by_word (word_decided is_uri_byte 32 refl text)
   where
     by_text : (word rest : List ℕ) → Word is_uri_byte 32 word text rest → (t : Bool) → is_utf8 word ≡ t → BeginsOrNot Target text
     by_text word rest x true p = inl (word, rest, (x, IsUtf8-from_is_utf8 word p))
@@ -221,8 +221,8 @@ target_told text = by_word (word_told is_uri_byte 32 refl text)
     by_word (inl x) = by_text x.0 x.1 x.2 (is_utf8 x.0) refl
     by_word (inr none) = inr (λ t. none (t.0, t.1, t.2.0))
 
-text_told : IsTold Text
-text_told text = let f = front is_value_byte text in by_rest f.run f.rest f.pass f.parts f.stops (newline_told f.rest)
+text_decided : IsDecided Text
+text_decided text = let f = front is_value_byte text in by_rest f.run f.rest f.pass f.parts f.stops (newline_decided f.rest)
   where
     by_rest : (run rest : List ℕ) → AllPass is_value_byte run → text ≡ run ++ rest → ((rest ≡ []) ⊎ Stops is_value_byte rest)
         → BeginsOrNot Newline rest → BeginsOrNot Text text
@@ -233,8 +233,8 @@ text_told text = let f = front is_value_byte text in by_rest f.run f.rest f.pass
         let same = run_unique is_value_byte t.0.0 run (print_end t.0.1 ++ t.1) rest t.2.0 pass (Stops_value t.0.1 t.1) s (sym t.2.1 ∙ parts) in
         none (t.0.1, t.1, sym same.1))
 
-reason_told : IsTold Reason
-reason_told text = by_both (newline_told text) (both (Bytes (32 ∷ [])) Text (Bytes_deterministic (32 ∷ [])) (bytes_told (32 ∷ [])) text_told text)
+reason_decided : IsDecided Reason
+reason_decided text = by_both (newline_decided text) (both (Bytes (32 ∷ [])) Text (Bytes_deterministic (32 ∷ [])) (bytes_decided (32 ∷ [])) text_decided text)
   where
     by_both : BeginsOrNot Newline text → BeginsOrNot (Then (Bytes (32 ∷ [])) Text) text → BeginsOrNot Reason text
     by_both (inl x) phrase = inl ((None, x.0), x.1, (All-nil (Passes is_value_byte), x.2))
@@ -247,8 +247,8 @@ reason_told text = by_both (newline_told text) (both (Bytes (32 ∷ [])) Text (B
 
 -- ---- field lines
 
-field_told : IsTold FieldLine
-field_told text = by_parts (both (Word is_token_byte 58) Text (Word_deterministic is_token_byte 58 colon_ends_token) (word_told is_token_byte 58 colon_ends_token) text_told text)
+field_decided : IsDecided FieldLine
+field_decided text = by_parts (both (Word is_token_byte 58) Text (Word_deterministic is_token_byte 58 colon_ends_token) (word_decided is_token_byte 58 colon_ends_token) text_decided text)
   where
     by_parts : BeginsOrNot (Then (Word is_token_byte 58) Text) text → BeginsOrNot FieldLine text
     by_parts (inl x) =
@@ -270,8 +270,8 @@ line_shorter f text rest e =
     let behind : List ℕ = f.raw ++ (print_end f.end ++ rest) in
     omega (arith, ap length (e ∙ print_field-append f rest), length-append f.name (58 ∷ behind), length-append f.raw (print_end f.end ++ rest), length-append (print_end f.end) rest)
 
-section_step : (text : List ℕ) → IsToldBelow Section text → BeginsOrNot Section text
-section_step text later = by_newline (newline_told text)
+section_step : (text : List ℕ) → IsDecidedBelow Section text → BeginsOrNot Section text
+section_step text later = by_newline (newline_decided text)
   where
     regroup : (a b c d : List ℕ) → a ++ ((b ++ c) ++ d) ≡ ((a ++ b) ++ c) ++ d
     regroup a b c d = simp append_assoc
@@ -297,33 +297,33 @@ section_step text later = by_newline (newline_told text)
 
     by_newline : BeginsOrNot Newline text → BeginsOrNot Section text
     by_newline (inl x) = inl (([], x.0), x.1, (All-nil IsField, x.2))
-    by_newline (inr none) = by_line none (field_told text)
+    by_newline (inr none) = by_line none (field_decided text)
 
-section_told : IsTold Section
-section_told = by_length Section section_step
+section_decided : IsDecided Section
+section_decided = by_length Section section_step
 
 -- ---- heads
 
-request_start_told : IsTold RequestStart
-request_start_told =
+request_start_decided : IsDecided RequestStart
+request_start_decided =
     let method_det = Word_deterministic is_token_byte 32 space_ends_token in
-    both Blank (Then Method (Then Target (Then Version Newline))) Blank_deterministic blank_told
-    (both Method (Then Target (Then Version Newline)) method_det (word_told is_token_byte 32 space_ends_token)
-    (both Target (Then Version Newline) Target_deterministic target_told
-    (both Version Newline Version_deterministic version_told newline_told)))
+    both Blank (Then Method (Then Target (Then Version Newline))) Blank_deterministic blank_decided
+    (both Method (Then Target (Then Version Newline)) method_det (word_decided is_token_byte 32 space_ends_token)
+    (both Target (Then Version Newline) Target_deterministic target_decided
+    (both Version Newline Version_deterministic version_decided newline_decided)))
 
-response_start_told : IsTold ResponseStart
-response_start_told =
-    both Blank (Then Version (Then (Bytes (32 ∷ [])) (Then Code Reason))) Blank_deterministic blank_told
-    (both Version (Then (Bytes (32 ∷ [])) (Then Code Reason)) Version_deterministic version_told
-    (both (Bytes (32 ∷ [])) (Then Code Reason) (Bytes_deterministic (32 ∷ [])) (bytes_told (32 ∷ []))
-    (both Code Reason Code_deterministic code_told reason_told)))
+response_start_decided : IsDecided ResponseStart
+response_start_decided =
+    both Blank (Then Version (Then (Bytes (32 ∷ [])) (Then Code Reason))) Blank_deterministic blank_decided
+    (both Version (Then (Bytes (32 ∷ [])) (Then Code Reason)) Version_deterministic version_decided
+    (both (Bytes (32 ∷ [])) (Then Code Reason) (Bytes_deterministic (32 ∷ [])) (bytes_decided (32 ∷ []))
+    (both Code Reason Code_deterministic code_decided reason_decided)))
 
 abbrev pub HeadOrNot : List ℕ → Type 0
 HeadOrNot bytes = ((h : RequestHead) × IsHead bytes h) ⊎ ((h : RequestHead) → IsHead bytes h → ⊥)
 
-pub request_told : (bytes : List ℕ) → HeadOrNot bytes
-request_told bytes = by_tree (both RequestStart Section RequestStart_deterministic request_start_told section_told bytes)
+pub request_decided : (bytes : List ℕ) → HeadOrNot bytes
+request_decided bytes = by_tree (both RequestStart Section RequestStart_deterministic request_start_decided section_decided bytes)
   where
     by_count : (h : RequestHead) → ReadsRequest bytes h [] → (t : Bool) → nat_le (length h.fields) most_field_lines ≡ t → HeadOrNot bytes
     by_count h read true p = inl (h, (read, leb-true (length h.fields) most_field_lines p))
@@ -345,8 +345,8 @@ request_told bytes = by_tree (both RequestStart Section RequestStart_determinist
 abbrev pub StatusHeadOrNot : List ℕ → Type 0
 StatusHeadOrNot bytes = ((h : ResponseHead) × IsStatusHead bytes h) ⊎ ((h : ResponseHead) → IsStatusHead bytes h → ⊥)
 
-pub response_told : (bytes : List ℕ) → StatusHeadOrNot bytes
-response_told bytes = by_tree (both ResponseStart Section ResponseStart_deterministic response_start_told section_told bytes)
+pub response_decided : (bytes : List ℕ) → StatusHeadOrNot bytes
+response_decided bytes = by_tree (both ResponseStart Section ResponseStart_deterministic response_start_decided section_decided bytes)
   where
     by_count : (h : ResponseHead) → ReadsResponse bytes h [] → (t : Bool) → nat_le (length h.fields) most_field_lines ≡ t → StatusHeadOrNot bytes
     by_count h read true p = inl (h, (read, leb-true (length h.fields) most_field_lines p))

@@ -7,7 +7,7 @@ use Rattle.hx_framing.specs.declared.heads.head_end.HeadSearch.{HeadSearch}
 use Rattle.hx_framing.specs.declared.heads.head_end.Searched.TheVariants as searched
 use Rattle.hx_framing.specs.Places.{empty_lines_from, empty_lines_length, head_end_at, head_end_from, head_length, most_head_bytes, IsOpenHead}
 use Rattle.hx_framing.specs.Searching.{Reaches, IsSearched}
-use Rattle.hx_framing.proofs.HeadEnds.{empty_lines_stable, empty_stands}
+use Rattle.hx_framing.proofs.HeadEnds.{empty_lines_stable, empty_line_ends}
 
 -- ---- the empty lines in front
 
@@ -162,7 +162,7 @@ empty_lines_reached bytes s at r outside is =
 
 -- a head takes some bytes, and no more than there are
 pub head_some : (u : List ℕ) (n : ℕ) → head_length u ≡ Some n → 0 < n
-head_some u n found = omega (arith, (empty_stands (drop (empty_lines_length u) u) (empty_lines_length u) n found).two)
+head_some u n found = omega (arith, (empty_line_ends (drop (empty_lines_length u) u) (empty_lines_length u) n found).two)
 
 -- no head ends there, and the limit isn't reached
 pub open_head : (bytes : List ℕ) → length bytes ≤ most_head_bytes → head_length (take most_head_bytes bytes) ≡ None → IsOpenHead bytes

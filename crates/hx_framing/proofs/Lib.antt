@@ -5,7 +5,7 @@ pub mod UnreadLemmas
 pub mod PlainLemmas
 pub mod HeadLemmas
 pub mod NumberLemmas
-pub mod LengthTold
+pub mod LengthShown
 pub mod FramingLemmas
 pub mod HeadLineLemmas
 pub mod GivenLemmas

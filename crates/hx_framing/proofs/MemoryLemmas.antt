@@ -78,7 +78,7 @@ chunks_behind : (bytes : List ℕ) (s : Chunking) → IsBodyBehind (chunks_from 
 chunks_behind [] s = tt
 chunks_behind (b ∷ bytes) s = follow_behind (step s b) (chunks_from bytes) bytes (step_fine s.phase s b) (chunks_behind bytes)
 
-pub body_behind : (max : ℕ) (told : Framing) (e : Bool) (bytes : List ℕ) → IsBodyBehind (body_at max told e bytes)
+pub body_behind : (max : ℕ) (shown : Framing) (e : Bool) (bytes : List ℕ) → IsBodyBehind (body_at max shown e bytes)
 body_behind max framing.Nothing e bytes = tt
 body_behind max (framing.Announced n) e bytes = body_cond (nat_lt (length bytes) n) _ _ tt tt
 body_behind max framing.Chunked e bytes = chunks_behind bytes (start max)
@@ -99,7 +99,7 @@ lengths_behind max minor neither endless fields =
 
 expected_behind : (expected : Option (List ℕ)) (r : Result Framing FrameFault) → IsBehindHead r → IsBehindHead (with_expectation expected r)
 expected_behind expected (Err f) x = x
-expected_behind expected (Ok told) x = judged_cond (has_other_expectation expected) _ _ refl tt
+expected_behind expected (Ok shown) x = judged_cond (has_other_expectation expected) _ _ refl tt
 
 pub request_body_behind : (max : ℕ) (head : Head) → IsBehindHead (request_body_of max head)
 request_body_behind max head =
@@ -107,7 +107,7 @@ request_body_behind max head =
 
 status_behind : (status : ℕ) (r : Result Framing FrameFault) → IsBehindHead r → IsBehindHead (with_status status r)
 status_behind status (Err f) x = x
-status_behind status (Ok told) x = judged_cond (is_taken_status status) _ _ tt refl
+status_behind status (Ok shown) x = judged_cond (is_taken_status status) _ _ tt refl
 
 pub framing_behind : (max : ℕ) (h : Bool) (head : StatusHead) → IsBehindHead (framing_of_response max h head)
 framing_behind max h head =

@@ -54,42 +54,42 @@ of_body e h head (Bad f) r rest is = absurd cc
 of_body e h head (Whole content behind) r rest is = record { content = content; behind = behind; body_is = refl; same = cc }
 
 -- where a response has no content, none was taken
-none_taken : (max : ℕ) (h e : Bool) (head : StatusHead) (bytes : List ℕ) (told : Framing) (content : Option (List ℕ)) (behind : List ℕ)
-    → framing_of_response max h head ≡ Ok told → body_at max told e bytes ≡ Whole content behind → is_without_content h head.status ≡ true → content ≡ None
-none_taken max h e head bytes told content behind is body without = by_status (is_taken_status head.status) (sym judged ∙ is)
+none_taken : (max : ℕ) (h e : Bool) (head : StatusHead) (bytes : List ℕ) (shown : Framing) (content : Option (List ℕ)) (behind : List ℕ)
+    → framing_of_response max h head ≡ Ok shown → body_at max shown e bytes ≡ Whole content behind → is_without_content h head.status ≡ true → content ≡ None
+none_taken max h e head bytes shown content behind is body without = by_status (is_taken_status head.status) (sym judged ∙ is)
   where
     judged : framing_of_response max h head ≡ with_status head.status (Ok framing.Nothing)
     judged = ap (λ t. with_status head.status (cond (head.status == 101 || t) (Ok framing.Nothing) (framing_of_final max head))) without
         ∙ ap (λ t. with_status head.status (cond t (Ok framing.Nothing) (framing_of_final max head))) (or_true (head.status == 101))
 
-    by_status : (t : Bool) → cond t (Ok framing.Nothing) (Err fault.Status) ≡ Ok told → content ≡ None
+    by_status : (t : Bool) → cond t (Ok framing.Nothing) (Err fault.Status) ≡ Ok shown → content ≡ None
     by_status true h =
-        let nothing : framing.Nothing ≡ told = cc in
+        let nothing : framing.Nothing ≡ shown = cc in
         let whole : Whole None bytes ≡ Whole content behind = ap (λ (f : Framing). body_at max f e bytes) nothing ∙ body in cc
     by_status false h = absurd cc
 
 -- a head that tells its framing has a status that is taken
-taken_by : (status : ℕ) (judged : Result Framing FrameFault) (told : Framing) → with_status status judged ≡ Ok told → is_taken_status status ≡ true
-taken_by status (Err f) told is = absurd cc
-taken_by status (Ok framing) told is = by_test (is_taken_status status) is
+taken_by : (status : ℕ) (judged : Result Framing FrameFault) (shown : Framing) → with_status status judged ≡ Ok shown → is_taken_status status ≡ true
+taken_by status (Err f) shown is = absurd cc
+taken_by status (Ok framing) shown is = by_test (is_taken_status status) is
   where
-    by_test : (t : Bool) → cond t (Ok framing) (Err fault.Status) ≡ Ok told → t ≡ true
+    by_test : (t : Bool) → cond t (Ok framing) (Err fault.Status) ≡ Ok shown → t ≡ true
     by_test true h = refl
     by_test false h = absurd cc
 
 of_framing : (max : ℕ) (h e : Bool) (head : StatusHead) (text bytes : List ℕ) (judged : Result Framing FrameFault) (r : Response) (rest : List ℕ)
     → framing_of_response max h head ≡ judged → Judges text (Ok head) → is_interim head.status ≡ false → Spelled r rest ≡ with_framing max h e head bytes judged → IsMade h r
-of_framing max h e head text bytes (Err f) r rest told judges final is = absurd cc
-of_framing max h e head text bytes (Ok framing) r rest told judges final is =
+of_framing max h e head text bytes (Err f) r rest shown judges final is = absurd cc
+of_framing max h e head text bytes (Ok framing) r rest shown judges final is =
     let whole = of_body e h head (body_at max framing e bytes) r rest is in record {
       head = head;
       content = whole.content;
       same = whole.same;
       text = text;
       judged = judges;
-      taken = taken_by head.status _ framing told;
+      taken = taken_by head.status _ framing shown;
       final = final;
-      without = none_taken max h e head bytes framing whole.content whole.behind told whole.body_is;
+      without = none_taken max h e head bytes framing whole.content whole.behind shown whole.body_is;
     }
 
 of_head : (max : ℕ) (h e : Bool) (bytes : List ℕ) (o : Option ℕ) (r : Response) (rest : List ℕ) → FrontBy max h e bytes o (Spelled r rest) → IsMade h r

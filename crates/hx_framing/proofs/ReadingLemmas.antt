@@ -110,11 +110,11 @@ fine_response bytes h fine is =
 
 -- ---- what is read
 
-pub reads_request : (max : ℕ) (ended told : Bool) (bytes : List ℕ) (h : RequestHead) (n : ℕ) (reading : Reading Request)
+pub reads_request : (max : ℕ) (ended continue_sent : Bool) (bytes : List ℕ) (h : RequestHead) (n : ℕ) (reading : Reading Request)
     → head_length (take most_head_bytes bytes) ≡ Some n → is_fine_request h ≡ true → take n bytes ≡ print_request h ++ []
-    → reading ≡ with_head max ended told (drop n bytes) (Ok (head_of h)) → Reads max ended told bytes reading
-reads_request max ended told bytes h n reading place fine text is =
-    subst (λ (o : Option ℕ). ReadsBy max ended told bytes o reading) (sym place) (Ok (head_of h), (h, fine_request (take n bytes) h fine text, refl), is)
+    → reading ≡ with_head max ended continue_sent (drop n bytes) (Ok (head_of h)) → Reads max ended continue_sent bytes reading
+reads_request max ended continue_sent bytes h n reading place fine text is =
+    subst (λ (o : Option ℕ). ReadsBy max ended continue_sent bytes o reading) (sym place) (Ok (head_of h), (h, fine_request (take n bytes) h fine text, refl), is)
 
 pub reads_response : (max : ℕ) (to_head ended : Bool) (bytes : List ℕ) (h : ResponseHead) (n : ℕ) (reading : Reading Response)
     → head_length (take most_head_bytes bytes) ≡ Some n → is_fine_response h ≡ true → take n bytes ≡ print_response h ++ []
@@ -137,9 +137,9 @@ passes_interim max to_head ended bytes h n reading place fine text interim (size
     (n ∷ sizes, rest, (first, passes), front)
 
 -- without a head
-pub reads_no_request : (max : ℕ) (ended told : Bool) (bytes : List ℕ) (reading : Reading Request)
-    → head_length (take most_head_bytes bytes) ≡ None → reading ≡ without_head ended bytes → Reads max ended told bytes reading
-reads_no_request max ended told bytes reading none is = subst (λ (o : Option ℕ). ReadsBy max ended told bytes o reading) (sym none) is
+pub reads_no_request : (max : ℕ) (ended continue_sent : Bool) (bytes : List ℕ) (reading : Reading Request)
+    → head_length (take most_head_bytes bytes) ≡ None → reading ≡ without_head ended bytes → Reads max ended continue_sent bytes reading
+reads_no_request max ended continue_sent bytes reading none is = subst (λ (o : Option ℕ). ReadsBy max ended continue_sent bytes o reading) (sym none) is
 
 pub reads_no_response : (max : ℕ) (to_head ended : Bool) (bytes : List ℕ) (reading : Reading Response)
     → head_length (take most_head_bytes bytes) ≡ None → reading ≡ response.without_head ended bytes → response.Reads max to_head ended bytes reading

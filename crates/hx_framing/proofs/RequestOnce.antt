@@ -18,12 +18,12 @@ judged_once_lem bytes (Ok a) (Err g) x y = absurd (y.0 x.0 x.1)
 judged_once_lem bytes (Err f) (Ok b) x y = absurd (x.0 y.0 y.1)
 judged_once_lem bytes (Err f) (Err g) x y = ap Err (x.1 ∙ sym y.1)
 
-pub read_once_lem : (max : ℕ) (ended told : Bool) (bytes : List ℕ) (a b : Reading Request) → Reads max ended told bytes a → Reads max ended told bytes b → a ≡ b
-read_once_lem max ended told bytes a b x y = by_place (head_length (take 32768 bytes)) x y
+pub read_once_lem : (max : ℕ) (ended continue_sent : Bool) (bytes : List ℕ) (a b : Reading Request) → Reads max ended continue_sent bytes a → Reads max ended continue_sent bytes b → a ≡ b
+read_once_lem max ended continue_sent bytes a b x y = by_place (head_length (take 32768 bytes)) x y
   where
-    by_place : (o : Option ℕ) → ReadsBy max ended told bytes o a → ReadsBy max ended told bytes o b → a ≡ b
+    by_place : (o : Option ℕ) → ReadsBy max ended continue_sent bytes o a → ReadsBy max ended continue_sent bytes o b → a ≡ b
     by_place None x y = x ∙ sym y
-    by_place (Some n) x y = x.2 ∙ ap (with_head max ended told (drop n bytes)) (judged_once_lem (take n bytes) x.0 y.0 x.1 y.1) ∙ sym y.2
+    by_place (Some n) x y = x.2 ∙ ap (with_head max ended continue_sent (drop n bytes)) (judged_once_lem (take n bytes) x.0 y.0 x.1 y.1) ∙ sym y.2
 
 same_parts : (m n : Request) (r q : List ℕ) → Spelled m r ≡ Spelled n q → (m ≡ n) × (r ≡ q)
 same_parts m n r q e = (cc, cc)
@@ -42,5 +42,5 @@ pub answered_once_lem : (p : Progress Request) (a b : Next Request) → Answers 
 answered_once_lem p a b x y =
     let rest = (spelled_once_lem p.max_body p.stream p.given p.given x.rest y.rest refl x.spells y.spells).1 in
     x.answer_is
-    ∙ ap next_of (read_once_lem p.max_body p.ended p.told y.rest x.reading y.reading (subst (λ (b : List ℕ). Reads p.max_body p.ended p.told b x.reading) rest x.reads) y.reads)
+    ∙ ap next_of (read_once_lem p.max_body p.ended p.continue_sent y.rest x.reading y.reading (subst (λ (b : List ℕ). Reads p.max_body p.ended p.continue_sent b x.reading) rest x.reads) y.reads)
     ∙ sym y.answer_is

@@ -51,9 +51,9 @@ reads_begun max e t bytes at head request_body b =
 pub reads_content : (max : ℕ) (e t : Bool) (bytes : List ℕ) (at : ℕ) (head : Head) (request_body : RequestBody) → Begins max bytes at head request_body
     → (request_body.wants_continue && not t) ≡ false
     → Reads max e t bytes (with_body e (request_of head) (body_at max request_body.framing false (drop at bytes)))
-reads_content max e t bytes at head request_body b told =
+reads_content max e t bytes at head request_body b continue_sent =
     subst (λ (r : Reading Request). Reads max e t bytes r)
-    (ap (λ (w : Bool). cond {A = Reading Request} w Continue (with_body e (request_of head) (body_at max request_body.framing false (drop at bytes)))) told)
+    (ap (λ (w : Bool). cond {A = Reading Request} w Continue (with_body e (request_of head) (body_at max request_body.framing false (drop at bytes)))) continue_sent)
     (reads_begun max e t bytes at head request_body b)
 
 -- whatever comes, the content is read on from where it stands
@@ -61,10 +61,10 @@ resumes_from : (max : ℕ) (t : Bool) (bytes : List ℕ) (at : ℕ) (head : Head
     → Begins max bytes at head request_body → (request_body.wants_continue && not t) ≡ false
     → ((more : List ℕ) → body_at max request_body.framing false (drop at bytes ++ more) ≡ body_from content false (unread ++ more))
     → Resumes max t head content bytes unread
-resumes_from max t bytes at head request_body content unread b told on = λ more ended.
+resumes_from max t bytes at head request_body content unread b continue_sent on = λ more ended.
     subst (λ (body : Body). Reads max ended t (bytes ++ more) (with_body ended (request_of head) body))
     (ap (body_at max request_body.framing false) (drop-append-le at bytes more (place_within bytes at b.place)) ∙ on more)
-    (reads_content max ended t (bytes ++ more) at head request_body (begins_append max bytes more at head request_body b) told)
+    (reads_content max ended t (bytes ++ more) at head request_body (begins_append max bytes more at head request_body b) continue_sent)
 
 behind : (bytes : List ℕ) (at n : ℕ) → at ≤ length bytes → n ≤ length (drop at bytes) → at + n ≤ length bytes
 behind bytes at n low high = omega (arith, low, high, length-drop at bytes)

@@ -15,7 +15,7 @@ use Rattle.hx_framing.specs.RequestReading.{request_of, Reads}
 use Rattle.hx_framing.specs.RequestHeadProgress.{Resumes}
 use Rattle.hx_framing.specs.RequestStream.{SpellsRequest, StreamSpells, Answers}
 use Rattle.hx_framing.specs.Progress.{Progress, next_of, fed, finished, IsDue}
-use Rattle.hx_framing.specs.RequestState.{State, StandsFor, Keeps}
+use Rattle.hx_framing.specs.RequestState.{State, RepresentsStream, Keeps}
 use Rattle.hx_framing.proofs.RequestOnce.{read_once_lem}
 use Rattle.hx_framing.proofs.RequestLemmas.{reads_message, reads_append, reads_ended, reads_over}
 
@@ -64,15 +64,15 @@ due_ended max false t u r due x = reads_ended max false t u r (due_settled max t
 -- what is due stays due, whatever comes behind it
 pub due_fed : (p : Progress Request) (a : Next Request) (w : List ℕ) → p.ended ≡ false → IsDue a → Answers p a → Answers (fed p w) a
 due_fed p a w open_still due x =
-    let now : Reads p.max_body false p.told x.rest x.reading
-    = subst (λ (e : Bool). Reads p.max_body e p.told x.rest x.reading) open_still x.reads in
-    let settled : IsSettled x.reading = due_settled p.max_body p.told x.rest x.reading (subst IsDue x.answer_is due) now in
+    let now : Reads p.max_body false p.continue_sent x.rest x.reading
+    = subst (λ (e : Bool). Reads p.max_body e p.continue_sent x.rest x.reading) open_still x.reads in
+    let settled : IsSettled x.reading = due_settled p.max_body p.continue_sent x.rest x.reading (subst IsDue x.answer_is due) now in
     record {
       rest = x.rest ++ w;
       reading = extended x.reading w;
       spells = spells_append p.max_body p.stream p.given x.rest w x.spells;
-      reads = subst (λ (e : Bool). Reads p.max_body e p.told (x.rest ++ w) (extended x.reading w)) (sym open_still)
-          (reads_append p.max_body p.told x.rest w x.reading settled now);
+      reads = subst (λ (e : Bool). Reads p.max_body e p.continue_sent (x.rest ++ w) (extended x.reading w)) (sym open_still)
+          (reads_append p.max_body p.continue_sent x.rest w x.reading settled now);
       answer_is = x.answer_is ∙ sym (next_extended x.reading w);
     }
 
@@ -82,77 +82,77 @@ due_finished p a due x = record {
   rest = x.rest;
   reading = x.reading;
   spells = x.spells;
-  reads = due_ended p.max_body p.ended p.told x.rest x.reading (subst IsDue x.answer_is due) x.reads;
+  reads = due_ended p.max_body p.ended p.continue_sent x.rest x.reading (subst IsDue x.answer_is due) x.reads;
   answer_is = x.answer_is;
 }
 
 -- ---- a reader
 
 -- what is found behind the messages given is the answer
-pub answers_by : (p : Progress Request) (s : State) (r : Reading Request) → (stands : StandsFor s p)
-    → Reads p.max_body p.ended p.told stands.rest r → Answers p (next_of r)
-answers_by p s r stands reads = record {
-  rest = stands.rest;
+pub answers_by : (p : Progress Request) (s : State) (r : Reading Request) → (represents : RepresentsStream s p)
+    → Reads p.max_body p.ended p.continue_sent represents.rest r → Answers p (next_of r)
+answers_by p s r represents reads = record {
+  rest = represents.rest;
   reading = r;
-  spells = stands.spells;
+  spells = represents.spells;
   reads = reads;
   answer_is = refl;
 }
 
 -- before a head
-pub before : (s : State) (p : Progress Request) → s.phase ≡ phase.BeforeHead → (stands : StandsFor s p) → (s.unread ≡ stands.rest) × (p.told ≡ false)
-before s p waiting stands = subst (λ (f : RequestPhase). Keeps s p stands.rest f) waiting stands.keeps
+pub before : (s : State) (p : Progress Request) → s.phase ≡ phase.BeforeHead → (represents : RepresentsStream s p) → (s.unread ≡ represents.rest) × (p.continue_sent ≡ false)
+before s p waiting represents = subst (λ (f : RequestPhase). Keeps s p represents.rest f) waiting represents.keeps
 
 -- what is read in the unread bytes is read in the stream
-pub kept_reads : (s : State) (p : Progress Request) (r : Reading Request) → s.phase ≡ phase.BeforeHead → (stands : StandsFor s p)
-    → Reads s.max_body s.ended false s.unread r → Reads p.max_body p.ended p.told stands.rest r
-kept_reads s p r waiting stands reads =
-    let k = before s p waiting stands in
-    subst (λ (m : ℕ). Reads m p.ended p.told stands.rest r) stands.max_body
-    (subst (λ (e : Bool). Reads s.max_body e p.told stands.rest r) stands.ended
-    (subst (λ (t : Bool). Reads s.max_body s.ended t stands.rest r) (sym k.1)
+pub kept_reads : (s : State) (p : Progress Request) (r : Reading Request) → s.phase ≡ phase.BeforeHead → (represents : RepresentsStream s p)
+    → Reads s.max_body s.ended false s.unread r → Reads p.max_body p.ended p.continue_sent represents.rest r
+kept_reads s p r waiting represents reads =
+    let k = before s p waiting represents in
+    subst (λ (m : ℕ). Reads m p.ended p.continue_sent represents.rest r) represents.max_body
+    (subst (λ (e : Bool). Reads s.max_body e p.continue_sent represents.rest r) represents.ended
+    (subst (λ (t : Bool). Reads s.max_body s.ended t represents.rest r) (sym k.1)
     (subst (λ (u : List ℕ). Reads s.max_body s.ended false u r) k.0 reads)))
 
 -- in a content
-pub inside : (s : State) (p : Progress Request) (head : Head) (content : Content) → s.phase ≡ phase.InContent head content → (stands : StandsFor s p)
-    → Resumes p.max_body p.told head content stands.rest s.unread
-inside s p head content waiting stands = subst (λ (f : RequestPhase). Keeps s p stands.rest f) waiting stands.keeps
+pub inside : (s : State) (p : Progress Request) (head : Head) (content : Content) → s.phase ≡ phase.InContent head content → (represents : RepresentsStream s p)
+    → Resumes p.max_body p.continue_sent head content represents.rest s.unread
+inside s p head content waiting represents = subst (λ (f : RequestPhase). Keeps s p represents.rest f) waiting represents.keeps
 
 -- what is taken of a content is read in the stream
-pub content_reads : (s : State) (p : Progress Request) (head : Head) (content : Content) (body : Body) → s.phase ≡ phase.InContent head content → (stands : StandsFor s p)
-    → body_from content false s.unread ≡ body → Reads p.max_body p.ended p.told stands.rest (with_body s.ended (request_of head) body)
-content_reads s p head content body waiting stands is =
-    let here : Reads p.max_body p.ended p.told (stands.rest ++ []) (with_body p.ended (request_of head) (body_from content false (s.unread ++ []))) = inside s p head content waiting stands [] p.ended in
-    subst (λ (e : Bool). Reads p.max_body p.ended p.told stands.rest (with_body e (request_of head) body)) (sym stands.ended)
-    (subst (λ (b : Body). Reads p.max_body p.ended p.told stands.rest (with_body p.ended (request_of head) b)) (ap (body_from content false) (append-nil s.unread) ∙ is)
-    (subst (λ (u : List ℕ). Reads p.max_body p.ended p.told u (with_body p.ended (request_of head) (body_from content false (s.unread ++ [])))) (append-nil stands.rest) here))
+pub content_reads : (s : State) (p : Progress Request) (head : Head) (content : Content) (body : Body) → s.phase ≡ phase.InContent head content → (represents : RepresentsStream s p)
+    → body_from content false s.unread ≡ body → Reads p.max_body p.ended p.continue_sent represents.rest (with_body s.ended (request_of head) body)
+content_reads s p head content body waiting represents is =
+    let here : Reads p.max_body p.ended p.continue_sent (represents.rest ++ []) (with_body p.ended (request_of head) (body_from content false (s.unread ++ []))) = inside s p head content waiting represents [] p.ended in
+    subst (λ (e : Bool). Reads p.max_body p.ended p.continue_sent represents.rest (with_body e (request_of head) body)) (sym represents.ended)
+    (subst (λ (b : Body). Reads p.max_body p.ended p.continue_sent represents.rest (with_body p.ended (request_of head) b)) (ap (body_from content false) (append-nil s.unread) ∙ is)
+    (subst (λ (u : List ℕ). Reads p.max_body p.ended p.continue_sent u (with_body p.ended (request_of head) (body_from content false (s.unread ++ [])))) (append-nil represents.rest) here))
 
 -- ---- what the reader is left with
 
 pub keeps_going : (t : State) (p : Progress Request) (head : Head) (content : Content) (rest : List ℕ) → t.phase ≡ phase.InContent head content
-    → Resumes p.max_body p.told head content rest t.unread → Keeps t p rest t.phase
+    → Resumes p.max_body p.continue_sent head content rest t.unread → Keeps t p rest t.phase
 keeps_going t p head content rest going on = subst (λ (f : RequestPhase). Keeps t p rest f) (sym going) on
 
 pub keeps_fault : (t : State) (p : Progress Request) (rest : List ℕ) (f : FrameFault) → t.phase ≡ phase.Faulty f
-    → Reads p.max_body p.ended p.told rest (Faulty f) → Keeps t p rest t.phase
+    → Reads p.max_body p.ended p.continue_sent rest (Faulty f) → Keeps t p rest t.phase
 keeps_fault t p rest f faulty reads = subst (λ (g : RequestPhase). Keeps t p rest g) (sym faulty) reads
 
 -- nothing was given
-pub stands_on : (s t : State) (p : Progress Request) → t.max_body ≡ s.max_body → t.ended ≡ s.ended → (stands : StandsFor s p)
-    → Keeps t p stands.rest t.phase → StandsFor t p
-stands_on s t p max e stands keeps =
-    record { max_body = max ∙ stands.max_body; ended = e ∙ stands.ended; rest = stands.rest; spells = stands.spells; keeps = keeps }
+pub represents_on : (s t : State) (p : Progress Request) → t.max_body ≡ s.max_body → t.ended ≡ s.ended → (represents : RepresentsStream s p)
+    → Keeps t p represents.rest t.phase → RepresentsStream t p
+represents_on s t p max e represents keeps =
+    record { max_body = max ∙ represents.max_body; ended = e ∙ represents.ended; rest = represents.rest; spells = represents.spells; keeps = keeps }
 
 -- one more request was given, and rest is left
-pub stands_given : (s t : State) (p : Progress Request) (m : Request) → t.max_body ≡ s.max_body → t.ended ≡ s.ended → t.phase ≡ phase.BeforeHead
-    → (stands : StandsFor s p) → Reads p.max_body p.ended p.told stands.rest (Spelled m t.unread)
-    → StandsFor t (record p { given = p.given ++ m ∷ []; told = false })
-stands_given s t p m max e waiting stands reads = record {
-  max_body = max ∙ stands.max_body;
-  ended = e ∙ stands.ended;
+pub represents_given : (s t : State) (p : Progress Request) (m : Request) → t.max_body ≡ s.max_body → t.ended ≡ s.ended → t.phase ≡ phase.BeforeHead
+    → (represents : RepresentsStream s p) → Reads p.max_body p.ended p.continue_sent represents.rest (Spelled m t.unread)
+    → RepresentsStream t (record p { given = p.given ++ m ∷ []; continue_sent = false })
+represents_given s t p m max e waiting represents reads = record {
+  max_body = max ∙ represents.max_body;
+  ended = e ∙ represents.ended;
   rest = t.unread;
-  spells = spells_push p.max_body p.stream p.given m stands.rest t.unread stands.spells (reads_message p.max_body p.ended p.told stands.rest m t.unread reads);
-  keeps = subst (λ (f : RequestPhase). Keeps t (record p { given = p.given ++ m ∷ []; told = false }) t.unread f) (sym waiting) (refl, refl);
+  spells = spells_push p.max_body p.stream p.given m represents.rest t.unread represents.spells (reads_message p.max_body p.ended p.continue_sent represents.rest m t.unread reads);
+  keeps = subst (λ (f : RequestPhase). Keeps t (record p { given = p.given ++ m ∷ []; continue_sent = false }) t.unread f) (sym waiting) (refl, refl);
 }
 
 -- ---- a piece has come
@@ -163,67 +163,67 @@ resumes_fed max t head content rest unread w on = λ more ended.
     subst (λ (u : List ℕ). Reads max ended t u (with_body ended (request_of head) (body_from content false ((unread ++ w) ++ more)))) (sym (append_assoc rest w more))
     (subst (λ (u : List ℕ). Reads max ended t (rest ++ (w ++ more)) (with_body ended (request_of head) (body_from content false u))) (sym (append_assoc unread w more)) (on (w ++ more) ended))
 
-faulty_fed : (p : Progress Request) (rest w : List ℕ) (f : FrameFault) → p.ended ≡ false → Reads p.max_body p.ended p.told rest (Faulty f)
-    → Reads p.max_body p.ended p.told (rest ++ w) (Faulty f)
+faulty_fed : (p : Progress Request) (rest w : List ℕ) (f : FrameFault) → p.ended ≡ false → Reads p.max_body p.ended p.continue_sent rest (Faulty f)
+    → Reads p.max_body p.ended p.continue_sent (rest ++ w) (Faulty f)
 faulty_fed p rest w f open_still k =
-    subst (λ (e : Bool). Reads p.max_body e p.told (rest ++ w) (Faulty f)) (sym open_still)
-    (reads_append p.max_body p.told rest w (Faulty f) tt (subst (λ (e : Bool). Reads p.max_body e p.told rest (Faulty f)) open_still k))
+    subst (λ (e : Bool). Reads p.max_body e p.continue_sent (rest ++ w) (Faulty f)) (sym open_still)
+    (reads_append p.max_body p.continue_sent rest w (Faulty f) tt (subst (λ (e : Bool). Reads p.max_body e p.continue_sent rest (Faulty f)) open_still k))
 
-pub stands_fed : (s t : State) (p : Progress Request) (piece : List ℕ) → t.max_body ≡ s.max_body → t.ended ≡ s.ended → t.phase ≡ s.phase → t.unread ≡ s.unread ++ piece
-    → p.ended ≡ false → StandsFor s p → StandsFor t (fed p piece)
-stands_fed s t p piece max e same longer open_still stands = record {
-  max_body = max ∙ stands.max_body;
-  ended = e ∙ stands.ended;
-  rest = stands.rest ++ piece;
-  spells = spells_append p.max_body p.stream p.given stands.rest piece stands.spells;
-  keeps = subst (λ (f : RequestPhase). Keeps t (fed p piece) (stands.rest ++ piece) f) (sym same) (by_phase s.phase stands.keeps);
+pub represents_fed : (s t : State) (p : Progress Request) (piece : List ℕ) → t.max_body ≡ s.max_body → t.ended ≡ s.ended → t.phase ≡ s.phase → t.unread ≡ s.unread ++ piece
+    → p.ended ≡ false → RepresentsStream s p → RepresentsStream t (fed p piece)
+represents_fed s t p piece max e same longer open_still represents = record {
+  max_body = max ∙ represents.max_body;
+  ended = e ∙ represents.ended;
+  rest = represents.rest ++ piece;
+  spells = spells_append p.max_body p.stream p.given represents.rest piece represents.spells;
+  keeps = subst (λ (f : RequestPhase). Keeps t (fed p piece) (represents.rest ++ piece) f) (sym same) (by_phase s.phase represents.keeps);
 }
   where
-    by_phase : (f : RequestPhase) → Keeps s p stands.rest f → Keeps t (fed p piece) (stands.rest ++ piece) f
+    by_phase : (f : RequestPhase) → Keeps s p represents.rest f → Keeps t (fed p piece) (represents.rest ++ piece) f
     by_phase phase.BeforeHead k = (longer ∙ ap (λ u. u ++ piece) k.0, k.1)
     by_phase (phase.InContent head content) k =
-        subst (λ (u : List ℕ). Resumes p.max_body p.told head content (stands.rest ++ piece) u) (sym longer)
-        (resumes_fed p.max_body p.told head content stands.rest s.unread piece k)
-    by_phase (phase.Faulty f) k = faulty_fed p stands.rest piece f open_still k
+        subst (λ (u : List ℕ). Resumes p.max_body p.continue_sent head content (represents.rest ++ piece) u) (sym longer)
+        (resumes_fed p.max_body p.continue_sent head content represents.rest s.unread piece k)
+    by_phase (phase.Faulty f) k = faulty_fed p represents.rest piece f open_still k
 
 -- after a fault what comes doesn't count
-pub stands_fed_faulty : (s : State) (p : Progress Request) (piece : List ℕ) (f : FrameFault) → s.phase ≡ phase.Faulty f → StandsFor s p → p.ended ≡ false
-    → StandsFor s (fed p piece)
-stands_fed_faulty s p piece f some stands open_still =
-    let k = subst (λ (o : RequestPhase). Keeps s p stands.rest o) some stands.keeps in
+pub represents_fed_faulty : (s : State) (p : Progress Request) (piece : List ℕ) (f : FrameFault) → s.phase ≡ phase.Faulty f → RepresentsStream s p → p.ended ≡ false
+    → RepresentsStream s (fed p piece)
+represents_fed_faulty s p piece f some represents open_still =
+    let k = subst (λ (o : RequestPhase). Keeps s p represents.rest o) some represents.keeps in
     record {
-      max_body = stands.max_body;
-      ended = stands.ended;
-      rest = stands.rest ++ piece;
-      spells = spells_append p.max_body p.stream p.given stands.rest piece stands.spells;
-      keeps = subst (λ (o : RequestPhase). Keeps s (fed p piece) (stands.rest ++ piece) o) (sym some)
-          (subst (λ (e : Bool). Reads p.max_body e p.told (stands.rest ++ piece) (Faulty f)) (sym open_still)
-          (reads_append p.max_body p.told stands.rest piece (Faulty f) tt
-          (subst (λ (e : Bool). Reads p.max_body e p.told stands.rest (Faulty f)) open_still k)));
+      max_body = represents.max_body;
+      ended = represents.ended;
+      rest = represents.rest ++ piece;
+      spells = spells_append p.max_body p.stream p.given represents.rest piece represents.spells;
+      keeps = subst (λ (o : RequestPhase). Keeps s (fed p piece) (represents.rest ++ piece) o) (sym some)
+          (subst (λ (e : Bool). Reads p.max_body e p.continue_sent (represents.rest ++ piece) (Faulty f)) (sym open_still)
+          (reads_append p.max_body p.continue_sent represents.rest piece (Faulty f) tt
+          (subst (λ (e : Bool). Reads p.max_body e p.continue_sent represents.rest (Faulty f)) open_still k)));
     }
 
 -- ---- the stream has ended
 
-pub stands_finished : (s : State) (p : Progress Request) → StandsFor s p → StandsFor (record s { ended = true }) (finished p)
-stands_finished s p stands = record {
-  max_body = stands.max_body;
+pub represents_finished : (s : State) (p : Progress Request) → RepresentsStream s p → RepresentsStream (record s { ended = true }) (finished p)
+represents_finished s p represents = record {
+  max_body = represents.max_body;
   ended = refl;
-  rest = stands.rest;
-  spells = stands.spells;
-  keeps = by_phase s.phase stands.keeps;
+  rest = represents.rest;
+  spells = represents.spells;
+  keeps = by_phase s.phase represents.keeps;
 }
   where
-    by_phase : (f : RequestPhase) → Keeps s p stands.rest f → Keeps (record s { ended = true }) (finished p) stands.rest f
+    by_phase : (f : RequestPhase) → Keeps s p represents.rest f → Keeps (record s { ended = true }) (finished p) represents.rest f
     by_phase phase.BeforeHead k = k
     by_phase (phase.InContent head content) k = k
-    by_phase (phase.Faulty f) k = reads_ended p.max_body p.ended p.told stands.rest (Faulty f) tt k
+    by_phase (phase.Faulty f) k = reads_ended p.max_body p.ended p.continue_sent represents.rest (Faulty f) tt k
 
-pub ended_is : (s : State) (p : Progress Request) → StandsFor s p → s.ended ≡ p.ended
-ended_is s p stands = stands.ended
+pub ended_is : (s : State) (p : Progress Request) → RepresentsStream s p → s.ended ≡ p.ended
+ended_is s p represents = represents.ended
 
 -- where the piece found room
-pub stands_fed_by : {A E : Type 0} (s t : State) (piece : List ℕ) {unread : List ℕ} → t.max_body ≡ s.max_body → t.ended ≡ s.ended → t.phase ≡ s.phase → unread ≡ s.unread
+pub represents_fed_by : {A E : Type 0} (s t : State) (piece : List ℕ) {unread : List ℕ} → t.max_body ≡ s.max_body → t.ended ≡ s.ended → t.phase ≡ s.phase → unread ≡ s.unread
     → (r : Result A E) → OnOk r (t.unread ≡ unread ++ piece)
-    → OnOk r ((p : Progress Request) → StandsFor s p → p.ended ≡ false → StandsFor t (fed p piece))
-stands_fed_by s t piece max e same kept (Ok x) longer = λ p stands open_still. stands_fed s t p piece max e same (longer ∙ ap (λ u. u ++ piece) kept) open_still stands
-stands_fed_by s t piece max e same kept (Err x) longer = tt
+    → OnOk r ((p : Progress Request) → RepresentsStream s p → p.ended ≡ false → RepresentsStream t (fed p piece))
+represents_fed_by s t piece max e same kept (Ok x) longer = λ p represents open_still. represents_fed s t p piece max e same (longer ∙ ap (λ u. u ++ piece) kept) open_still represents
+represents_fed_by s t piece max e same kept (Err x) longer = tt

@@ -15,9 +15,9 @@ use Rattle.hx_framing.specs.Reading.{Reading, Incomplete, Spelled, Faulty, cut_o
 use Rattle.hx_framing.specs.Progress.{Progress}
 use Rattle.hx_framing.specs.ResponseReading.{response_of, Reads}
 use Rattle.hx_framing.specs.ResponseHeadProgress.{Resumes, IsHeadProgress}
-use Rattle.hx_framing.specs.ResponseState.{State, StandsFor}
+use Rattle.hx_framing.specs.ResponseState.{State, RepresentsStream}
 use Rattle.hx_framing.proofs.ContentReadings.{body_faulty}
-use Rattle.hx_framing.proofs.ResponseStreams.{inside, content_reads, Same, stands_going}
+use Rattle.hx_framing.proofs.ResponseStreams.{inside, content_reads, Same, represents_going}
 
 -- a reader in this content
 abbrev pub in_content : State → StatusHead → Content → State
@@ -32,38 +32,38 @@ read_of b e unread left content new t s ends kept is h =
     (subst (λ (u : List ℕ). ReadsOn e e u content t new left) kept h))
 
 pub going_reads : (b : State) (p : Progress Response) (head : StatusHead) (content new : Content) (n : ℕ) → b.ended ≡ false
-    → Advances b.ended b.unread content (content_progress.Incomplete n) new → StandsFor (in_content b head content) p
+    → Advances b.ended b.unread content (content_progress.Incomplete n) new → RepresentsStream (in_content b head content) p
     → Reads p.max_body p.to_head p.ended p.stream Incomplete
-going_reads b p head content new n open_still k stands =
+going_reads b p head content new n open_still k represents =
     subst (λ (r : Reading Response). Reads p.max_body p.to_head p.ended p.stream r) (ap (λ (e : Bool). cut_off {M = Response} e) open_still)
-    (content_reads (in_content b head content) p head content Short refl stands k.1)
+    (content_reads (in_content b head content) p head content Short refl represents k.1)
 
 pub faulty_reads : (b : State) (p : Progress Response) (head : StatusHead) (content : Content) (f : FrameFault)
-    → with_body {M = Option (List ℕ)} b.ended (λ c. c) (body_from content b.ended b.unread) ≡ Faulty f → StandsFor (in_content b head content) p
+    → with_body {M = Option (List ℕ)} b.ended (λ c. c) (body_from content b.ended b.unread) ≡ Faulty f → RepresentsStream (in_content b head content) p
     → Reads p.max_body p.to_head p.ended p.stream (Faulty f)
-faulty_reads b p head content f k stands =
+faulty_reads b p head content f k represents =
     subst (λ (r : Reading Response). Reads p.max_body p.to_head p.ended p.stream r) (body_faulty b.ended (response_of b.to_head head) (body_from content b.ended b.unread) f k)
-    (content_reads (in_content b head content) p head content (body_from content b.ended b.unread) refl stands refl)
+    (content_reads (in_content b head content) p head content (body_from content b.ended b.unread) refl represents refl)
 
 pub whole_reads : (b : State) (p : Progress Response) (head : StatusHead) (content new : Content) (c : Option (List ℕ)) (n : ℕ)
-    → Advances b.ended b.unread content (content_progress.Whole c n) new → StandsFor (in_content b head content) p
+    → Advances b.ended b.unread content (content_progress.Whole c n) new → RepresentsStream (in_content b head content) p
     → Reads p.max_body p.to_head p.ended p.stream (Spelled (response_of b.to_head head c) (drop n b.unread))
-whole_reads b p head content new c n k stands = content_reads (in_content b head content) p head content (Whole c (drop n b.unread)) refl stands k.1
+whole_reads b p head content new c n k represents = content_reads (in_content b head content) p head content (Whole c (drop n b.unread)) refl represents k.1
 
 -- no message was given yet
-pub none_given : (b : State) (p : Progress Response) (head : StatusHead) (content : Content) → StandsFor (in_content b head content) p → p.given ≡ []
-none_given b p head content stands = (inside (in_content b head content) p head content refl stands).none
+pub none_given : (b : State) (p : Progress Response) (head : StatusHead) (content : Content) → RepresentsStream (in_content b head content) p → p.given ≡ []
+none_given b p head content represents = (inside (in_content b head content) p head content refl represents).none
 
 -- the content goes on
-pub stands_later : (b t : State) (p : Progress Response) (head : StatusHead) (content new : Content) (n : ℕ) → Same (in_content b head content) t
+pub represents_later : (b t : State) (p : Progress Response) (head : StatusHead) (content new : Content) (n : ℕ) → Same (in_content b head content) t
     → t.phase ≡ phase.InContent head new → t.unread ≡ drop n b.unread → Advances b.ended b.unread content (content_progress.Incomplete n) new
-    → StandsFor (in_content b head content) p → StandsFor t p
-stands_later b t p head content new n same going left k stands =
-    let here = inside (in_content b head content) p head content refl stands in
+    → RepresentsStream (in_content b head content) p → RepresentsStream t p
+represents_later b t p head content new n same going left k represents =
+    let here = inside (in_content b head content) p head content refl represents in
     let later : Resumes p.max_body p.to_head head new p.stream t.unread = λ more ended.
     subst (λ (u : List ℕ). Reads p.max_body p.to_head ended (p.stream ++ more) (with_body ended (response_of p.to_head head) (body_from new ended (u ++ more)))) (sym left)
     (subst (λ (body : Body). Reads p.max_body p.to_head ended (p.stream ++ more) (with_body ended (response_of p.to_head head) body)) (k.2 more ended) (here.resumes more ended)) in
-    stands_going (in_content b head content) t p head new same here.none going later stands
+    represents_going (in_content b head content) t p head new same here.none going later represents
 
 -- what is found in the unread bytes
 pub progress_of : (b : State) (max : ℕ) (h e : Bool) (slice unread : List ℕ) (f g : HeadProgress StatusHead Response) → max ≡ b.max_body → h ≡ b.to_head → e ≡ b.ended

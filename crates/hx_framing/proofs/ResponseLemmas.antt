@@ -28,7 +28,7 @@ front_over max h e u x = by_place (head_length (take 32768 u)) x
 
     framing_over : (head : StatusHead) (bytes : List ℕ) (n : Result Framing FrameFault) → Over ≡ with_framing max h e head bytes n → ⊥
     framing_over head bytes (Err f) x = cc
-    framing_over head bytes (Ok told) x = body_over e (response_of h head) (body_at max told e bytes) x
+    framing_over head bytes (Ok continue_sent) x = body_over e (response_of h head) (body_at max continue_sent e bytes) x
 
     head_over : (bytes : List ℕ) (j : Result StatusHead FrameFault) → Over ≡ with_head max h e bytes j → ⊥
     head_over bytes (Err f) x = cc
@@ -50,10 +50,10 @@ cut_ended r s false due x = absurd (subst IsSettled x due)
 framing_ended : (max : ℕ) (h : Bool) (head : StatusHead) (bytes : List ℕ) (r : Reading Response) (n : Result Framing FrameFault) → IsSettled r
     → r ≡ with_framing max h false head bytes n → r ≡ with_framing max h true head bytes n
 framing_ended max h head bytes r (Err f) due x = x
-framing_ended max h head bytes r (Ok told) due x =
-    let decided = settled_decided (response_of h head) (body_at max told false bytes) (subst IsSettled x due) in
-    body_ended (response_of h head) r (body_at max told false bytes) due x
-    ∙ ap (with_body true (response_of h head)) (body_stays max told bytes decided)
+framing_ended max h head bytes r (Ok continue_sent) due x =
+    let decided = settled_decided (response_of h head) (body_at max continue_sent false bytes) (subst IsSettled x due) in
+    body_ended (response_of h head) r (body_at max continue_sent false bytes) due x
+    ∙ ap (with_body true (response_of h head)) (body_stays max continue_sent bytes decided)
 
 head_ended : (max : ℕ) (h : Bool) (bytes : List ℕ) (r : Reading Response) (j : Result StatusHead FrameFault) → IsSettled r
     → r ≡ with_head max h false bytes j → r ≡ with_head max h true bytes j
@@ -76,10 +76,10 @@ reads_ended max h e u r due x = (x.0, x.1, x.2, front_ended max h e x.1 r due x.
 framing_append : (max : ℕ) (h : Bool) (head : StatusHead) (bytes w : List ℕ) (n : Result Framing FrameFault) → IsSettled (with_framing max h false head bytes n)
     → with_framing max h false head (bytes ++ w) n ≡ extended (with_framing max h false head bytes n) w
 framing_append max h head bytes w (Err f) due = refl
-framing_append max h head bytes w (Ok told) due =
-    let decided = settled_decided (response_of h head) (body_at max told false bytes) due in
-    ap (λ b. with_body false (response_of h head) b) (body_append max told bytes w decided)
-    ∙ body_extended (response_of h head) (body_at max told false bytes) w decided
+framing_append max h head bytes w (Ok continue_sent) due =
+    let decided = settled_decided (response_of h head) (body_at max continue_sent false bytes) due in
+    ap (λ b. with_body false (response_of h head) b) (body_append max continue_sent bytes w decided)
+    ∙ body_extended (response_of h head) (body_at max continue_sent false bytes) w decided
 
 head_append : (max : ℕ) (h : Bool) (bytes w : List ℕ) (j : Result StatusHead FrameFault) → IsSettled (with_head max h false bytes j)
     → with_head max h false (bytes ++ w) j ≡ extended (with_head max h false bytes j) w

@@ -12,7 +12,7 @@ use Rattle.hx_framing.specs.Contents.{body_at, body_from}
 use Rattle.hx_framing.specs.Reading.{Reading, with_body}
 use Rattle.hx_framing.specs.ResponseReading.{response_of, with_framing, with_head, Reads, FrontBy}
 use Rattle.hx_framing.specs.ResponseHeadProgress.{HasFinalHead}
-use Rattle.hx_framing.specs.ResponseState.{State, StandsFor}
+use Rattle.hx_framing.specs.ResponseState.{State, RepresentsStream}
 use Rattle.hx_framing.specs.ResponseStream.{NeedsMemory}
 use Rattle.hx_framing.specs.Progress.{Progress, needs_memory, next_of}
 use Rattle.hx_framing.proofs.MemoryLemmas.{IsBehindHead, framing_behind, body_behind, rest_behind, body_needs}
@@ -21,13 +21,13 @@ use Rattle.hx_framing.proofs.ResponseStreams.{answers_by, before, kept_reads, in
 
 framing_needs : (max : ℕ) (h e : Bool) (head : StatusHead) (bytes : List ℕ) (r : Result Framing FrameFault) → IsBehindHead r → needs_memory (next_of (with_framing max h e head bytes r)) ≡ true
 framing_needs max h e head bytes (Err f) x = ap not x
-framing_needs max h e head bytes (Ok told) x = body_needs e (response_of h head) (body_at max told e bytes) (body_behind max told e bytes)
+framing_needs max h e head bytes (Ok continue_sent) x = body_needs e (response_of h head) (body_at max continue_sent e bytes) (body_behind max continue_sent e bytes)
 
 -- the answer of a stream is one
-needs_by : (p : Progress Response) (s : State) (r : Reading Response) → p.given ≡ [] → StandsFor s p → Reads p.max_body p.to_head p.ended p.stream r
+needs_by : (p : Progress Response) (s : State) (r : Reading Response) → p.given ≡ [] → RepresentsStream s p → Reads p.max_body p.to_head p.ended p.stream r
     → needs_memory (next_of r) ≡ true → NeedsMemory p
-needs_by p s r none stands reads needs = λ answer x.
-    ap (λ (a : Next Response). needs_memory a) (answered_once_lem p answer (next_of r) x (answers_by p s r none stands reads)) ∙ needs
+needs_by p s r none represents reads needs = λ answer x.
+    ap (λ (a : Next Response). needs_memory a) (answered_once_lem p answer (next_of r) x (answers_by p s r none represents reads)) ∙ needs
 
 final_reads : (max : ℕ) (h e : Bool) (bytes : List ℕ) → (has : HasFinalHead bytes)
     → Reads max h e bytes (with_head max h e (drop has.2.1.2 has.2.1.1) (Ok has.0))
@@ -39,15 +39,15 @@ final_reads max h e bytes has =
       subst (λ (o : Option ℕ). FrontBy max h e x.1 o (with_head max h e (drop x.2 x.1) (Ok has.0))) (sym x.4) (Ok has.0, x.5, x.6, refl),
     )
 
-pub head_needs : (s : State) (p : Progress Response) → s.phase ≡ phase.BeforeHead → HasFinalHead s.unread → StandsFor s p → NeedsMemory p
-head_needs s p waiting has stands =
+pub head_needs : (s : State) (p : Progress Response) → s.phase ≡ phase.BeforeHead → HasFinalHead s.unread → RepresentsStream s p → NeedsMemory p
+head_needs s p waiting has represents =
     let rest = drop has.2.1.2 has.2.1.1 in
-    needs_by p s (with_head s.max_body s.to_head s.ended rest (Ok has.0)) (before s p waiting stands).none stands
-    (kept_reads s p _ waiting stands (final_reads s.max_body s.to_head s.ended s.unread has))
+    needs_by p s (with_head s.max_body s.to_head s.ended rest (Ok has.0)) (before s p waiting represents).none represents
+    (kept_reads s p _ waiting represents (final_reads s.max_body s.to_head s.ended s.unread has))
     (framing_needs s.max_body s.to_head s.ended has.0 rest (framing_of_response s.max_body s.to_head has.0) (framing_behind s.max_body s.to_head has.0))
 
-pub content_needs : (s : State) (p : Progress Response) (head : StatusHead) (content : Content) → s.phase ≡ phase.InContent head content → StandsFor s p → NeedsMemory p
-content_needs s p head content going stands =
-    needs_by p s (with_body s.ended (response_of s.to_head head) (body_from content s.ended s.unread)) (inside s p head content going stands).none stands
-    (content_reads s p head content (body_from content s.ended s.unread) going stands refl)
+pub content_needs : (s : State) (p : Progress Response) (head : StatusHead) (content : Content) → s.phase ≡ phase.InContent head content → RepresentsStream s p → NeedsMemory p
+content_needs s p head content going represents =
+    needs_by p s (with_body s.ended (response_of s.to_head head) (body_from content s.ended s.unread)) (inside s p head content going represents).none represents
+    (content_reads s p head content (body_from content s.ended s.unread) going represents refl)
     (body_needs s.ended (response_of s.to_head head) (body_from content s.ended s.unread) (rest_behind content s.ended s.unread))

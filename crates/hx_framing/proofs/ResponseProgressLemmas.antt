@@ -54,17 +54,17 @@ final_head_faulty bytes at n f within some place judged x = (
 
 -- ---- behind a final head
 
-reads_final : (max : ℕ) (h e : Bool) (bytes : List ℕ) (at : ℕ) (head : StatusHead) (told : Framing) → IsFinalHead bytes (final_head.Complete head at)
-    → framing_of_response max h head ≡ Ok told → Reads max h e bytes (with_body e (response_of h head) (body_at max told e (drop at bytes)))
-reads_final max h e bytes at head told x is = (
+reads_final : (max : ℕ) (h e : Bool) (bytes : List ℕ) (at : ℕ) (head : StatusHead) (shown : Framing) → IsFinalHead bytes (final_head.Complete head at)
+    → framing_of_response max h head ≡ Ok shown → Reads max h e bytes (with_body e (response_of h head) (body_at max shown e (drop at bytes)))
+reads_final max h e bytes at head shown x is = (
   x.1.0,
   x.1.1,
   x.1.3,
-  subst (λ (o : Option ℕ). FrontBy max h e x.1.1 o (with_body e (response_of h head) (body_at max told e (drop at bytes)))) (sym x.1.4) (
+  subst (λ (o : Option ℕ). FrontBy max h e x.1.1 o (with_body e (response_of h head) (body_at max shown e (drop at bytes)))) (sym x.1.4) (
     Ok head,
     x.1.5,
     x.1.6,
-    sym (ap (with_framing max h e head (drop x.1.2 x.1.1)) is ∙ ap (λ u. with_body e (response_of h head) (body_at max told e u)) x.1.7),
+    sym (ap (with_framing max h e head (drop x.1.2 x.1.1)) is ∙ ap (λ u. with_body e (response_of h head) (body_at max shown e u)) x.1.7),
   ),
 )
 
@@ -86,31 +86,31 @@ final_append bytes w at head x =
       ),
     )
 
-resumes_from : (max : ℕ) (h : Bool) (bytes : List ℕ) (at : ℕ) (head : StatusHead) (told : Framing) (content : Content) (unread : List ℕ)
-    → IsFinalHead bytes (final_head.Complete head at) → framing_of_response max h head ≡ Ok told
-    → ((more : List ℕ) (e : Bool) → body_at max told e (drop at bytes ++ more) ≡ body_from content e (unread ++ more))
+resumes_from : (max : ℕ) (h : Bool) (bytes : List ℕ) (at : ℕ) (head : StatusHead) (shown : Framing) (content : Content) (unread : List ℕ)
+    → IsFinalHead bytes (final_head.Complete head at) → framing_of_response max h head ≡ Ok shown
+    → ((more : List ℕ) (e : Bool) → body_at max shown e (drop at bytes ++ more) ≡ body_from content e (unread ++ more))
     → Resumes max h head content bytes unread
-resumes_from max h bytes at head told content unread x is on = λ more ended.
+resumes_from max h bytes at head shown content unread x is on = λ more ended.
     subst (λ (body : Body). Reads max h ended (bytes ++ more) (with_body ended (response_of h head) body))
-    (ap (body_at max told ended) (drop-append-le at bytes more x.0.1) ∙ on more ended)
-    (reads_final max h ended (bytes ++ more) at head told (final_append bytes more at head x) is)
+    (ap (body_at max shown ended) (drop-append-le at bytes more x.0.1) ∙ on more ended)
+    (reads_final max h ended (bytes ++ more) at head shown (final_append bytes more at head x) is)
 
 -- what was read of the content behind the head
 abbrev pub Took : ℕ → Bool → Framing → List ℕ → ℕ → ContentProgress → Content → Type 0
-Took max e told bytes at t content = ReadsOn e e (drop at bytes) (begun max told) t content (behind_read t (drop at bytes))
+Took max e shown bytes at t content = ReadsOn e e (drop at bytes) (begun max shown) t content (behind_read t (drop at bytes))
 
-pub took : (max : ℕ) (e : Bool) (told : Framing) (bytes : List ℕ) (at : ℕ) (rest : List ℕ) (old : Content) (t s : ContentProgress) (content : Content)
-    → rest ≡ drop at bytes → old ≡ begun max told → t ≡ s → ReadsOn e e rest old t content (behind_read t rest) → Took max e told bytes at s content
-took max e told bytes at rest old t s content same is kind h =
-    subst (λ (t : ContentProgress). Took max e told bytes at t content) kind
-    (subst (λ (u : List ℕ). ReadsOn e e u (begun max told) t content (behind_read t u)) same
+pub took : (max : ℕ) (e : Bool) (shown : Framing) (bytes : List ℕ) (at : ℕ) (rest : List ℕ) (old : Content) (t s : ContentProgress) (content : Content)
+    → rest ≡ drop at bytes → old ≡ begun max shown → t ≡ s → ReadsOn e e rest old t content (behind_read t rest) → Took max e shown bytes at s content
+took max e shown bytes at rest old t s content same is kind h =
+    subst (λ (t : ContentProgress). Took max e shown bytes at t content) kind
+    (subst (λ (u : List ℕ). ReadsOn e e u (begun max shown) t content (behind_read t u)) same
     (subst (λ (o : Content). ReadsOn e e rest o t content (behind_read t rest)) is h))
 
-reads_taken : (max : ℕ) (h e : Bool) (bytes : List ℕ) (at : ℕ) (head : StatusHead) (told : Framing) (body : Body) → IsFinalHead bytes (final_head.Complete head at)
-    → framing_of_response max h head ≡ Ok told → body_from (begun max told) e (drop at bytes) ≡ body → Reads max h e bytes (with_body e (response_of h head) body)
-reads_taken max h e bytes at head told body x is gives =
-    subst (λ (body : Body). Reads max h e bytes (with_body e (response_of h head) body)) (begun_is max told e (drop at bytes) ∙ gives)
-    (reads_final max h e bytes at head told x is)
+reads_taken : (max : ℕ) (h e : Bool) (bytes : List ℕ) (at : ℕ) (head : StatusHead) (shown : Framing) (body : Body) → IsFinalHead bytes (final_head.Complete head at)
+    → framing_of_response max h head ≡ Ok shown → body_from (begun max shown) e (drop at bytes) ≡ body → Reads max h e bytes (with_body e (response_of h head) body)
+reads_taken max h e bytes at head shown body x is gives =
+    subst (λ (body : Body). Reads max h e bytes (with_body e (response_of h head) body)) (begun_is max shown e (drop at bytes) ∙ gives)
+    (reads_final max h e bytes at head shown x is)
 
 -- some of the bytes are there
 some_bytes : (bytes : List ℕ) (at k : ℕ) → 0 < at → at ≤ length bytes → 1 ≤ length bytes + k
@@ -119,32 +119,32 @@ some_bytes bytes at k some within = omega (arith, some, within)
 behind : (bytes : List ℕ) (at n : ℕ) → at ≤ length bytes → n ≤ length (drop at bytes) → at + n ≤ length bytes
 behind bytes at n low high = omega (arith, low, high, length-drop at bytes)
 
-pub progress_going : (max : ℕ) (h e : Bool) (bytes : List ℕ) (at : ℕ) (head : StatusHead) (told : Framing) (content : Content) (n : ℕ) → IsFinalHead bytes (final_head.Complete head at)
-    → framing_of_response max h head ≡ Ok told → Took max e told bytes at (content_progress.Incomplete n) content → IsHeadProgress max h e bytes (head_progress.InContent head content (at + n))
-progress_going max h e bytes at head told content n x is k =
+pub progress_going : (max : ℕ) (h e : Bool) (bytes : List ℕ) (at : ℕ) (head : StatusHead) (shown : Framing) (content : Content) (n : ℕ) → IsFinalHead bytes (final_head.Complete head at)
+    → framing_of_response max h head ≡ Ok shown → Took max e shown bytes at (content_progress.Incomplete n) content → IsHeadProgress max h e bytes (head_progress.InContent head content (at + n))
+progress_going max h e bytes at head shown content n x is k =
     let same : drop n (drop at bytes) ≡ drop (at + n) bytes = drop-drop n at bytes in (
       (omega (arith, x.0.0), behind bytes at n x.0.1 k.1.0),
-      subst (λ (r : Reading Response). Reads max h e bytes r) (ap (λ (e : Bool). cut_off {M = Response} e) k.0) (reads_taken max h e bytes at head told Short x is k.1.1),
-      resumes_from max h bytes at head told content (drop (at + n) bytes) x is
-          (λ more e. begun_is max told e (drop at bytes ++ more) ∙ k.1.2 more e ∙ ap (λ u. body_from content e (u ++ more)) same),
+      subst (λ (r : Reading Response). Reads max h e bytes r) (ap (λ (e : Bool). cut_off {M = Response} e) k.0) (reads_taken max h e bytes at head shown Short x is k.1.1),
+      resumes_from max h bytes at head shown content (drop (at + n) bytes) x is
+          (λ more e. begun_is max shown e (drop at bytes ++ more) ∙ k.1.2 more e ∙ ap (λ u. body_from content e (u ++ more)) same),
       subst (λ (u : List ℕ). IsOpen content u) same k.1.3,
     )
 
-pub progress_faulty : (max : ℕ) (h e : Bool) (bytes : List ℕ) (at : ℕ) (head : StatusHead) (told : Framing) (content : Content) (f : FrameFault) → IsFinalHead bytes (final_head.Complete head at)
-    → framing_of_response max h head ≡ Ok told → Took max e told bytes at (content_progress.Faulty f) content → IsHeadProgress max h e bytes (head_progress.Faulty f)
-progress_faulty max h e bytes at head told content f x is k =
-    let body : Body = body_from (begun max told) e (drop at bytes) in (
+pub progress_faulty : (max : ℕ) (h e : Bool) (bytes : List ℕ) (at : ℕ) (head : StatusHead) (shown : Framing) (content : Content) (f : FrameFault) → IsFinalHead bytes (final_head.Complete head at)
+    → framing_of_response max h head ≡ Ok shown → Took max e shown bytes at (content_progress.Faulty f) content → IsHeadProgress max h e bytes (head_progress.Faulty f)
+progress_faulty max h e bytes at head shown content f x is k =
+    let body : Body = body_from (begun max shown) e (drop at bytes) in (
       some_bytes bytes at _ x.0.0 x.0.1,
-      subst (λ (r : Reading Response). Reads max h e bytes r) (body_faulty e (response_of h head) body f k.0) (reads_taken max h e bytes at head told body x is refl),
+      subst (λ (r : Reading Response). Reads max h e bytes r) (body_faulty e (response_of h head) body f k.0) (reads_taken max h e bytes at head shown body x is refl),
     )
 
-pub progress_message : (max : ℕ) (h e : Bool) (bytes : List ℕ) (at : ℕ) (head : StatusHead) (told : Framing) (content : Content) (c : Option (List ℕ)) (n : ℕ)
-    → IsFinalHead bytes (final_head.Complete head at) → framing_of_response max h head ≡ Ok told → Took max e told bytes at (content_progress.Whole c n) content
+pub progress_message : (max : ℕ) (h e : Bool) (bytes : List ℕ) (at : ℕ) (head : StatusHead) (shown : Framing) (content : Content) (c : Option (List ℕ)) (n : ℕ)
+    → IsFinalHead bytes (final_head.Complete head at) → framing_of_response max h head ≡ Ok shown → Took max e shown bytes at (content_progress.Whole c n) content
     → IsHeadProgress max h e bytes (head_progress.Message (response_of h head c) (at + n))
-progress_message max h e bytes at head told content c n x is k = (
+progress_message max h e bytes at head shown content c n x is k = (
   (omega (arith, x.0.0), behind bytes at n x.0.1 k.0.0),
   subst (λ (u : List ℕ). Reads max h e bytes (Spelled (response_of h head c) u)) (drop-drop n at bytes)
-      (reads_taken max h e bytes at head told (Whole c (drop n (drop at bytes))) x is k.0.1),
+      (reads_taken max h e bytes at head shown (Whole c (drop n (drop at bytes))) x is k.0.1),
 )
 
 -- ---- a head that is at fault

@@ -16,7 +16,7 @@ use Rattle.hx_framing.specs.ResponseReading.{response_of, Passes, Reads}
 use Rattle.hx_framing.specs.ResponseHeadProgress.{Resumes}
 use Rattle.hx_framing.specs.ResponseStream.{IsGiven, AnswersBy, Answers}
 use Rattle.hx_framing.specs.Progress.{Progress, next_of, fed, finished, IsDue}
-use Rattle.hx_framing.specs.ResponseState.{State, StandsFor, KeepsBy}
+use Rattle.hx_framing.specs.ResponseState.{State, RepresentsStream, KeepsBy}
 use Rattle.hx_framing.proofs.ResponseOnce.{read_once_lem}
 use Rattle.hx_framing.proofs.ResponseLemmas.{reads_over, reads_ended, reads_append, reads_behind, passes_append, passes_behind}
 
@@ -81,10 +81,10 @@ due_finished p a due x = record { spells = given_finished p p.given x.spells; by
 -- ---- a reader
 
 -- what is read before the message is the answer
-pub answers_by : (p : Progress Response) (s : State) (r : Reading Response) → p.given ≡ [] → StandsFor s p
+pub answers_by : (p : Progress Response) (s : State) (r : Reading Response) → p.given ≡ [] → RepresentsStream s p
     → Reads p.max_body p.to_head p.ended p.stream r → Answers p (next_of r)
-answers_by p s r none stands reads = record {
-  spells = stands.spells;
+answers_by p s r none represents reads = record {
+  spells = represents.spells;
   by = subst (λ (given : List Response). AnswersBy p given (next_of r)) (sym none) (r, reads, refl);
 }
 
@@ -97,17 +97,17 @@ before_by : (s : State) (p : Progress Response) (given : List Response) → Keep
 before_by s p [] k = record { none = refl; passes = k }
 before_by s p (m ∷ more) k = absurd k
 
-pub before : (s : State) (p : Progress Response) → s.phase ≡ phase.BeforeHead → StandsFor s p → Before s p p.given
-before s p waiting stands = before_by s p p.given (subst (λ (f : ResponsePhase). KeepsBy s p f p.given) waiting stands.keeps)
+pub before : (s : State) (p : Progress Response) → s.phase ≡ phase.BeforeHead → RepresentsStream s p → Before s p p.given
+before s p waiting represents = before_by s p p.given (subst (λ (f : ResponsePhase). KeepsBy s p f p.given) waiting represents.keeps)
 
 -- what is read in the unread bytes is read in the stream
-pub kept_reads : (s : State) (p : Progress Response) (r : Reading Response) → s.phase ≡ phase.BeforeHead → StandsFor s p
+pub kept_reads : (s : State) (p : Progress Response) (r : Reading Response) → s.phase ≡ phase.BeforeHead → RepresentsStream s p
     → Reads s.max_body s.to_head s.ended s.unread r → Reads p.max_body p.to_head p.ended p.stream r
-kept_reads s p r waiting stands reads =
-    let keeps = before s p waiting stands in
-    subst (λ (m : ℕ). Reads m p.to_head p.ended p.stream r) stands.max_body
-    (subst (λ (h : Bool). Reads s.max_body h p.ended p.stream r) stands.to_head
-    (subst (λ (e : Bool). Reads s.max_body s.to_head e p.stream r) stands.ended
+kept_reads s p r waiting represents reads =
+    let keeps = before s p waiting represents in
+    subst (λ (m : ℕ). Reads m p.to_head p.ended p.stream r) represents.max_body
+    (subst (λ (h : Bool). Reads s.max_body h p.ended p.stream r) represents.to_head
+    (subst (λ (e : Bool). Reads s.max_body s.to_head e p.stream r) represents.ended
     (reads_behind s.max_body s.to_head s.ended p.stream keeps.passes.0 s.unread r keeps.passes.1 reads)))
 
 -- in the content
@@ -120,26 +120,26 @@ inside_by : (s : State) (p : Progress Response) (head : StatusHead) (content : C
 inside_by s p head content [] k = record { none = refl; resumes = k }
 inside_by s p head content (m ∷ more) k = absurd k
 
-pub inside : (s : State) (p : Progress Response) (head : StatusHead) (content : Content) → s.phase ≡ phase.InContent head content → StandsFor s p
+pub inside : (s : State) (p : Progress Response) (head : StatusHead) (content : Content) → s.phase ≡ phase.InContent head content → RepresentsStream s p
     → Inside s p head content p.given
-inside s p head content going stands = inside_by s p head content p.given (subst (λ (f : ResponsePhase). KeepsBy s p f p.given) going stands.keeps)
+inside s p head content going represents = inside_by s p head content p.given (subst (λ (f : ResponsePhase). KeepsBy s p f p.given) going represents.keeps)
 
 -- what is taken of a content is read in the stream
-pub content_reads : (s : State) (p : Progress Response) (head : StatusHead) (content : Content) (body : Body) → s.phase ≡ phase.InContent head content → StandsFor s p
+pub content_reads : (s : State) (p : Progress Response) (head : StatusHead) (content : Content) (body : Body) → s.phase ≡ phase.InContent head content → RepresentsStream s p
     → body_from content s.ended s.unread ≡ body → Reads p.max_body p.to_head p.ended p.stream (with_body s.ended (response_of s.to_head head) body)
-content_reads s p head content body going stands is =
-    let here : Reads p.max_body p.to_head p.ended (p.stream ++ []) (with_body p.ended (response_of p.to_head head) (body_from content p.ended (s.unread ++ []))) = (inside s p head content going stands).resumes [] p.ended in
-    subst (λ (h : Bool). Reads p.max_body p.to_head p.ended p.stream (with_body s.ended (response_of h head) body)) (sym stands.to_head)
-    (subst (λ (e : Bool). Reads p.max_body p.to_head p.ended p.stream (with_body e (response_of p.to_head head) body)) (sym stands.ended)
+content_reads s p head content body going represents is =
+    let here : Reads p.max_body p.to_head p.ended (p.stream ++ []) (with_body p.ended (response_of p.to_head head) (body_from content p.ended (s.unread ++ []))) = (inside s p head content going represents).resumes [] p.ended in
+    subst (λ (h : Bool). Reads p.max_body p.to_head p.ended p.stream (with_body s.ended (response_of h head) body)) (sym represents.to_head)
+    (subst (λ (e : Bool). Reads p.max_body p.to_head p.ended p.stream (with_body e (response_of p.to_head head) body)) (sym represents.ended)
     (subst (λ (b : Body). Reads p.max_body p.to_head p.ended p.stream (with_body p.ended (response_of p.to_head head) b))
-    (ap (body_from content p.ended) (append-nil s.unread) ∙ ap (λ (e : Bool). body_from content e s.unread) (sym stands.ended) ∙ is)
+    (ap (body_from content p.ended) (append-nil s.unread) ∙ ap (λ (e : Bool). body_from content e s.unread) (sym represents.ended) ∙ is)
     (subst (λ (u : List ℕ). Reads p.max_body p.to_head p.ended u (with_body p.ended (response_of p.to_head head) (body_from content p.ended (s.unread ++ [])))) (append-nil p.stream) here)))
 
 -- behind the message comes the end
-pub answers_end : (s : State) (p : Progress Response) → s.phase ≡ phase.Given → StandsFor s p → Answers p End
-answers_end s p given stands = record {
-  spells = stands.spells;
-  by = by_given p.given (subst (λ (f : ResponsePhase). KeepsBy s p f p.given) given stands.keeps);
+pub answers_end : (s : State) (p : Progress Response) → s.phase ≡ phase.Given → RepresentsStream s p → Answers p End
+answers_end s p given represents = record {
+  spells = represents.spells;
+  by = by_given p.given (subst (λ (f : ResponsePhase). KeepsBy s p f p.given) given represents.keeps);
 }
   where
     by_given : (g : List Response) → KeepsBy s p phase.Given g → AnswersBy p g End
@@ -147,10 +147,10 @@ answers_end s p given stands = record {
     by_given (m ∷ more) k = refl
 
 -- a fault that was answered is answered again
-pub answers_fault : (s : State) (p : Progress Response) (f : FrameFault) → s.phase ≡ phase.Faulty f → StandsFor s p → Answers p (next_of (Faulty f))
-answers_fault s p f faulty stands = record {
-  spells = stands.spells;
-  by = by_given p.given (subst (λ (f : ResponsePhase). KeepsBy s p f p.given) faulty stands.keeps);
+pub answers_fault : (s : State) (p : Progress Response) (f : FrameFault) → s.phase ≡ phase.Faulty f → RepresentsStream s p → Answers p (next_of (Faulty f))
+answers_fault s p f faulty represents = record {
+  spells = represents.spells;
+  by = by_given p.given (subst (λ (f : ResponsePhase). KeepsBy s p f p.given) faulty represents.keeps);
 }
   where
     by_given : (g : List Response) → KeepsBy s p (phase.Faulty f) g → AnswersBy p g (next_of (Faulty f))
@@ -165,63 +165,63 @@ pub record Same (s t : State) : Type 0 where
   pub to_head : t.to_head ≡ s.to_head
   pub ended : t.ended ≡ s.ended
 
-stands_on : (s t : State) (p : Progress Response) → Same s t → StandsFor s p → KeepsBy t p t.phase p.given → StandsFor t p
-stands_on s t p same stands keeps = record {
-  max_body = same.max_body ∙ stands.max_body;
-  to_head = same.to_head ∙ stands.to_head;
-  ended = same.ended ∙ stands.ended;
-  spells = stands.spells;
+represents_on : (s t : State) (p : Progress Response) → Same s t → RepresentsStream s p → KeepsBy t p t.phase p.given → RepresentsStream t p
+represents_on s t p same represents keeps = record {
+  max_body = same.max_body ∙ represents.max_body;
+  to_head = same.to_head ∙ represents.to_head;
+  ended = same.ended ∙ represents.ended;
+  spells = represents.spells;
   keeps = keeps;
 }
 
 -- interim responses were passed over
-pub stands_passed : (s t : State) (p : Progress Response) (n : ℕ) → Same s t → s.phase ≡ phase.BeforeHead → t.phase ≡ phase.BeforeHead
-    → t.unread ≡ drop n s.unread → (sizes : List ℕ) × Passes s.unread sizes (drop n s.unread) → StandsFor s p → StandsFor t p
-stands_passed s t p n same waiting still left x stands =
-    let keeps = before s p waiting stands in
+pub represents_passed : (s t : State) (p : Progress Response) (n : ℕ) → Same s t → s.phase ≡ phase.BeforeHead → t.phase ≡ phase.BeforeHead
+    → t.unread ≡ drop n s.unread → (sizes : List ℕ) × Passes s.unread sizes (drop n s.unread) → RepresentsStream s p → RepresentsStream t p
+represents_passed s t p n same waiting still left x represents =
+    let keeps = before s p waiting represents in
     let passed : (sizes : List ℕ) × Passes p.stream sizes t.unread
     = (keeps.passes.0 ++ x.0, subst (λ (u : List ℕ). Passes p.stream (keeps.passes.0 ++ x.0) u) (sym left) (passes_behind p.stream keeps.passes.0 s.unread x.0 (drop n s.unread) keeps.passes.1 x.1)) in
-    stands_on s t p same stands (subst (λ (f : ResponsePhase). KeepsBy t p f p.given) (sym still)
+    represents_on s t p same represents (subst (λ (f : ResponsePhase). KeepsBy t p f p.given) (sym still)
     (subst (λ (g : List Response). KeepsBy t p phase.BeforeHead g) (sym keeps.none) passed))
 
 -- a content goes on
-pub stands_going : (s t : State) (p : Progress Response) (head : StatusHead) (content : Content) → Same s t → p.given ≡ [] → t.phase ≡ phase.InContent head content
-    → Resumes p.max_body p.to_head head content p.stream t.unread → StandsFor s p → StandsFor t p
-stands_going s t p head content same none going on stands =
-    stands_on s t p same stands (subst (λ (f : ResponsePhase). KeepsBy t p f p.given) (sym going)
+pub represents_going : (s t : State) (p : Progress Response) (head : StatusHead) (content : Content) → Same s t → p.given ≡ [] → t.phase ≡ phase.InContent head content
+    → Resumes p.max_body p.to_head head content p.stream t.unread → RepresentsStream s p → RepresentsStream t p
+represents_going s t p head content same none going on represents =
+    represents_on s t p same represents (subst (λ (f : ResponsePhase). KeepsBy t p f p.given) (sym going)
     (subst (λ (g : List Response). KeepsBy t p (phase.InContent head content) g) (sym none) on))
 
 -- a content was begun
-pub stands_begun : (s t : State) (p : Progress Response) (head : StatusHead) (content : Content) (n : ℕ) → Same s t → s.phase ≡ phase.BeforeHead → t.phase ≡ phase.InContent head content
-    → t.unread ≡ drop n s.unread → Resumes s.max_body s.to_head head content s.unread (drop n s.unread) → StandsFor s p → StandsFor t p
-stands_begun s t p head content n same waiting going left on stands =
-    let keeps = before s p waiting stands in
+pub represents_begun : (s t : State) (p : Progress Response) (head : StatusHead) (content : Content) (n : ℕ) → Same s t → s.phase ≡ phase.BeforeHead → t.phase ≡ phase.InContent head content
+    → t.unread ≡ drop n s.unread → Resumes s.max_body s.to_head head content s.unread (drop n s.unread) → RepresentsStream s p → RepresentsStream t p
+represents_begun s t p head content n same waiting going left on represents =
+    let keeps = before s p waiting represents in
     let here : Resumes s.max_body s.to_head head content p.stream t.unread = λ more ended.
     reads_behind s.max_body s.to_head ended (p.stream ++ more) keeps.passes.0 (s.unread ++ more) _ (passes_append p.stream keeps.passes.0 s.unread more keeps.passes.1)
     (subst (λ (u : List ℕ). Reads s.max_body s.to_head ended (s.unread ++ more) (with_body ended (response_of s.to_head head) (body_from content ended (u ++ more)))) (sym left) (on more ended)) in
-    stands_going s t p head content same keeps.none going
-    (subst (λ (m : ℕ). Resumes m p.to_head head content p.stream t.unread) stands.max_body
-    (subst (λ (h : Bool). Resumes s.max_body h head content p.stream t.unread) stands.to_head here)) stands
+    represents_going s t p head content same keeps.none going
+    (subst (λ (m : ℕ). Resumes m p.to_head head content p.stream t.unread) represents.max_body
+    (subst (λ (h : Bool). Resumes s.max_body h head content p.stream t.unread) represents.to_head here)) represents
 
 -- the message was given
-pub stands_given : (s t : State) (p : Progress Response) (m : Response) (rest : List ℕ) → Same s t → p.given ≡ [] → t.phase ≡ phase.Given
-    → Reads p.max_body p.to_head p.ended p.stream (Spelled m rest) → StandsFor s p → StandsFor t (record p { given = p.given ++ m ∷ []; told = false })
-stands_given s t p m rest same none given reads stands =
-    let q : Progress Response = record p { given = p.given ++ m ∷ []; told = false } in
+pub represents_given : (s t : State) (p : Progress Response) (m : Response) (rest : List ℕ) → Same s t → p.given ≡ [] → t.phase ≡ phase.Given
+    → Reads p.max_body p.to_head p.ended p.stream (Spelled m rest) → RepresentsStream s p → RepresentsStream t (record p { given = p.given ++ m ∷ []; continue_sent = false })
+represents_given s t p m rest same none given reads represents =
+    let q : Progress Response = record p { given = p.given ++ m ∷ []; continue_sent = false } in
     record {
-      max_body = same.max_body ∙ stands.max_body;
-      to_head = same.to_head ∙ stands.to_head;
-      ended = same.ended ∙ stands.ended;
+      max_body = same.max_body ∙ represents.max_body;
+      to_head = same.to_head ∙ represents.to_head;
+      ended = same.ended ∙ represents.ended;
       spells = subst (λ (g : List Response). IsGiven q (g ++ m ∷ [])) (sym none) (rest, reads);
       keeps = subst (λ (f : ResponsePhase). KeepsBy t q f (p.given ++ m ∷ [])) (sym given)
           (subst (λ (g : List Response). KeepsBy t q phase.Given (g ++ m ∷ [])) (sym none) tt);
     }
 
 -- the fault is kept
-pub stands_fault : (s t : State) (p : Progress Response) (f : FrameFault) → Same s t → p.given ≡ [] → t.phase ≡ phase.Faulty f
-    → Reads p.max_body p.to_head p.ended p.stream (Faulty f) → StandsFor s p → StandsFor t p
-stands_fault s t p f same none faulty reads stands =
-    stands_on s t p same stands (subst (λ (g : ResponsePhase). KeepsBy t p g p.given) (sym faulty)
+pub represents_fault : (s t : State) (p : Progress Response) (f : FrameFault) → Same s t → p.given ≡ [] → t.phase ≡ phase.Faulty f
+    → Reads p.max_body p.to_head p.ended p.stream (Faulty f) → RepresentsStream s p → RepresentsStream t p
+represents_fault s t p f same none faulty reads represents =
+    represents_on s t p same represents (subst (λ (g : ResponsePhase). KeepsBy t p g p.given) (sym faulty)
     (subst (λ (g : List Response). KeepsBy t p (phase.Faulty f) g) (sym none) reads))
 
 -- ---- a piece has come, and the stream has ended
@@ -232,14 +232,14 @@ resumes_fed max h head content bytes unread w on = λ more ended.
     subst (λ (u : List ℕ). Reads max h ended u (with_body ended (response_of h head) (body_from content ended ((unread ++ w) ++ more)))) (sym (append_assoc bytes w more))
     (subst (λ (u : List ℕ). Reads max h ended (bytes ++ (w ++ more)) (with_body ended (response_of h head) (body_from content ended u))) (sym (append_assoc unread w more)) (on (w ++ more) ended))
 
-pub stands_fed : (s t : State) (p : Progress Response) (piece : List ℕ) → Same s t → t.phase ≡ s.phase → t.unread ≡ s.unread ++ piece → p.ended ≡ false
-    → StandsFor s p → StandsFor t (fed p piece)
-stands_fed s t p piece same kept longer open_still stands = record {
-  max_body = same.max_body ∙ stands.max_body;
-  to_head = same.to_head ∙ stands.to_head;
-  ended = same.ended ∙ stands.ended;
-  spells = given_fed p piece p.given open_still stands.spells;
-  keeps = subst (λ (f : ResponsePhase). KeepsBy t (fed p piece) f p.given) (sym kept) (by_phase s.phase p.given stands.keeps);
+pub represents_fed : (s t : State) (p : Progress Response) (piece : List ℕ) → Same s t → t.phase ≡ s.phase → t.unread ≡ s.unread ++ piece → p.ended ≡ false
+    → RepresentsStream s p → RepresentsStream t (fed p piece)
+represents_fed s t p piece same kept longer open_still represents = record {
+  max_body = same.max_body ∙ represents.max_body;
+  to_head = same.to_head ∙ represents.to_head;
+  ended = same.ended ∙ represents.ended;
+  spells = given_fed p piece p.given open_still represents.spells;
+  keeps = subst (λ (f : ResponsePhase). KeepsBy t (fed p piece) f p.given) (sym kept) (by_phase s.phase p.given represents.keeps);
 }
   where
     by_phase : (f : ResponsePhase) (g : List Response) → KeepsBy s p f g → KeepsBy t (fed p piece) f g
@@ -255,49 +255,49 @@ stands_fed s t p piece same kept longer open_still stands = record {
     by_phase (phase.Faulty f) (m ∷ more) k = k
 
 -- where the piece found room
-pub stands_fed_by : {A E : Type 0} (s t : State) (piece : List ℕ) {unread : List ℕ} → Same s t → t.phase ≡ s.phase → unread ≡ s.unread
+pub represents_fed_by : {A E : Type 0} (s t : State) (piece : List ℕ) {unread : List ℕ} → Same s t → t.phase ≡ s.phase → unread ≡ s.unread
     → (r : Result A E) → OnOk r (t.unread ≡ unread ++ piece)
-    → OnOk r ((p : Progress Response) → StandsFor s p → p.ended ≡ false → StandsFor t (fed p piece))
-stands_fed_by s t piece same phase_same kept (Ok x) longer = λ p stands open_still. stands_fed s t p piece same phase_same (longer ∙ ap (λ u. u ++ piece) kept) open_still stands
-stands_fed_by s t piece same phase_same kept (Err x) longer = tt
+    → OnOk r ((p : Progress Response) → RepresentsStream s p → p.ended ≡ false → RepresentsStream t (fed p piece))
+represents_fed_by s t piece same phase_same kept (Ok x) longer = λ p represents open_still. represents_fed s t p piece same phase_same (longer ∙ ap (λ u. u ++ piece) kept) open_still represents
+represents_fed_by s t piece same phase_same kept (Err x) longer = tt
 
-pub stands_fed_given : (s : State) (p : Progress Response) (piece : List ℕ) → s.phase ≡ phase.Given → StandsFor s p → p.ended ≡ false
-    → StandsFor s (fed p piece)
-stands_fed_given s p piece given stands open_still = record {
-  max_body = stands.max_body;
-  to_head = stands.to_head;
-  ended = stands.ended;
-  spells = given_fed p piece p.given open_still stands.spells;
+pub represents_fed_given : (s : State) (p : Progress Response) (piece : List ℕ) → s.phase ≡ phase.Given → RepresentsStream s p → p.ended ≡ false
+    → RepresentsStream s (fed p piece)
+represents_fed_given s p piece given represents open_still = record {
+  max_body = represents.max_body;
+  to_head = represents.to_head;
+  ended = represents.ended;
+  spells = given_fed p piece p.given open_still represents.spells;
   keeps = subst (λ (f : ResponsePhase). KeepsBy s (fed p piece) f p.given) (sym given)
-      (by_given p.given (subst (λ (f : ResponsePhase). KeepsBy s p f p.given) given stands.keeps));
+      (by_given p.given (subst (λ (f : ResponsePhase). KeepsBy s p f p.given) given represents.keeps));
 }
   where
     by_given : (g : List Response) → KeepsBy s p phase.Given g → KeepsBy s (fed p piece) phase.Given g
     by_given [] k = k
     by_given (m ∷ more) k = k
 
-pub stands_fed_faulty : (s : State) (p : Progress Response) (piece : List ℕ) (f : FrameFault) → s.phase ≡ phase.Faulty f → StandsFor s p → p.ended ≡ false
-    → StandsFor s (fed p piece)
-stands_fed_faulty s p piece f faulty stands open_still = record {
-  max_body = stands.max_body;
-  to_head = stands.to_head;
-  ended = stands.ended;
-  spells = given_fed p piece p.given open_still stands.spells;
+pub represents_fed_faulty : (s : State) (p : Progress Response) (piece : List ℕ) (f : FrameFault) → s.phase ≡ phase.Faulty f → RepresentsStream s p → p.ended ≡ false
+    → RepresentsStream s (fed p piece)
+represents_fed_faulty s p piece f faulty represents open_still = record {
+  max_body = represents.max_body;
+  to_head = represents.to_head;
+  ended = represents.ended;
+  spells = given_fed p piece p.given open_still represents.spells;
   keeps = subst (λ (f : ResponsePhase). KeepsBy s (fed p piece) f p.given) (sym faulty)
-      (by_given p.given (subst (λ (f : ResponsePhase). KeepsBy s p f p.given) faulty stands.keeps));
+      (by_given p.given (subst (λ (f : ResponsePhase). KeepsBy s p f p.given) faulty represents.keeps));
 }
   where
     by_given : (g : List Response) → KeepsBy s p (phase.Faulty f) g → KeepsBy s (fed p piece) (phase.Faulty f) g
     by_given [] k = reads_fed p (Faulty f) piece open_still tt k
     by_given (m ∷ more) k = k
 
-pub stands_finished : (s : State) (p : Progress Response) → StandsFor s p → StandsFor (record s { ended = true }) (finished p)
-stands_finished s p stands = record {
-  max_body = stands.max_body;
-  to_head = stands.to_head;
+pub represents_finished : (s : State) (p : Progress Response) → RepresentsStream s p → RepresentsStream (record s { ended = true }) (finished p)
+represents_finished s p represents = record {
+  max_body = represents.max_body;
+  to_head = represents.to_head;
   ended = refl;
-  spells = given_finished p p.given stands.spells;
-  keeps = by_phase s.phase p.given stands.keeps;
+  spells = given_finished p p.given represents.spells;
+  keeps = by_phase s.phase p.given represents.keeps;
 }
   where
     by_phase : (f : ResponsePhase) (g : List Response) → KeepsBy s p f g → KeepsBy (record s { ended = true }) (finished p) f g
@@ -310,5 +310,5 @@ stands_finished s p stands = record {
     by_phase (phase.Faulty f) [] k = reads_ended p.max_body p.to_head p.ended p.stream (Faulty f) tt k
     by_phase (phase.Faulty f) (m ∷ more) k = k
 
-pub ended_is : (s : State) (p : Progress Response) → StandsFor s p → s.ended ≡ p.ended
-ended_is s p stands = stands.ended
+pub ended_is : (s : State) (p : Progress Response) → RepresentsStream s p → s.ended ≡ p.ended
+ended_is s p represents = represents.ended

@@ -17,7 +17,7 @@ use Rattle.hx_framing.specs.declared.lengths.framing.Framing.TheVariants as fram
 use Rattle.hx_framing.specs.declared.lengths.framing.RequestBody.{RequestBody}
 use Rattle.hx_framing.specs.declared.messages.Request.{Request}
 use Rattle.hx_framing.specs.Head.{Judges}
-use Rattle.hx_framing.specs.ContentLength.{comma_pieces, is_digits, length_told, one_number}
+use Rattle.hx_framing.specs.ContentLength.{comma_pieces, is_digits, length_shown, one_number}
 use Rattle.hx_framing.specs.Lengths.{transfer_encoding, expect, codings, ends_in_chunks, is_only_chunked, is_above, framing_or, expectation, framing_of_request, with_expectation, request_body_of, without_lengths}
 use Rattle.hx_framing.specs.Body.{Short, Whole}
 use Rattle.hx_framing.specs.Contents.{body_at}
@@ -25,7 +25,7 @@ use Rattle.hx_framing.specs.Reading.{Reading, Spelled, with_body}
 use Rattle.hx_framing.specs.RequestReading.{request_of, Reads}
 use Rattle.hx_framing.specs.Text.{content_length, content_bytes, request_text}
 use Rattle.hx_framing.specs.Written.{head_text, sent_fields, sent_head, close_field, read_back, IsWritable}
-use Rattle.hx_framing.proofs.LengthTold.{values_of-absent}
+use Rattle.hx_framing.proofs.LengthShown.{values_of-absent}
 use Rattle.hx_framing.proofs.RequestProgressLemmas.{Begins, reads_content}
 use Rattle.hx_framing.proofs.WrittenLines.{written_head, head_written}
 use Rattle.hx_framing.proofs.WrittenEnds.{head_ends}
@@ -48,9 +48,9 @@ one_piece ds n some digits value =
     ap (λ ps. one_number (ps ++ [])) one ∙ ap (λ t. cond ((t && true) && true) (Some (digits_value 10 ds)) None) test ∙ ap Some value
 
 -- the length that is told is the content's
-told_sent : (r : Request) (c : Option (List ℕ)) → IsWritable r → r.content ≡ c → length_told (sent_fields r) ≡ content_length c
-told_sent r None writable is = ap (λ vs. one_number (flatten (map comma_pieces vs))) (lengths_none r writable is)
-told_sent r (Some bytes) writable is =
+shown_sent : (r : Request) (c : Option (List ℕ)) → IsWritable r → r.content ≡ c → length_shown (sent_fields r) ≡ content_length c
+shown_sent r None writable is = ap (λ vs. one_number (flatten (map comma_pieces vs))) (lengths_none r writable is)
+shown_sent r (Some bytes) writable is =
     let small : length bytes < 2 ^ 64 = subst (λ c. length (content_bytes c) < 2 ^ 64) is writable.content in
     let back = decimal_back (length bytes) small in
     ap (λ vs. one_number (flatten (map comma_pieces vs))) (lengths_some r bytes writable is)
@@ -73,11 +73,11 @@ and_false false = refl
 
 -- no line announces a length that isn't one
 length_sent : (r : Request) (c : Option (List ℕ)) → IsWritable r → r.content ≡ c
-    → (has (sent_fields r) (codes "content-length") && not (is_some (length_told (sent_fields r)))) ≡ false
+    → (has (sent_fields r) (codes "content-length") && not (is_some (length_shown (sent_fields r)))) ≡ false
 length_sent r None writable is =
-    ap (λ t. t && not (is_some (length_told (sent_fields r)))) (none_has (sent_fields r) (codes "content-length") (lengths_none r writable is))
+    ap (λ t. t && not (is_some (length_shown (sent_fields r)))) (none_has (sent_fields r) (codes "content-length") (lengths_none r writable is))
 length_sent r (Some bytes) writable is =
-    ap (λ told. has (sent_fields r) (codes "content-length") && not (is_some told)) (told_sent r (Some bytes) writable is)
+    ap (λ shown. has (sent_fields r) (codes "content-length") && not (is_some shown)) (shown_sent r (Some bytes) writable is)
     ∙ and_false (has (sent_fields r) (codes "content-length"))
 
 within_sent : (max : ℕ) (c : Option (List ℕ)) → length (content_bytes c) ≤ max → is_above max (content_length c) ≡ false
@@ -85,14 +85,14 @@ within_sent max None small = refl
 within_sent max (Some bytes) small = le-ltb max (length bytes) small
 
 -- how fields without a coding are judged
-by_fields : (max : ℕ) (coded stands zero ends only : Bool) (told : Option ℕ) → coded ≡ false → (stands && not (is_some told)) ≡ false → is_above max told ≡ false
-    → cond (coded && stands) (Err fault.BothLengths)
-    (cond (((coded && zero) || (stands && not (is_some told))) || (coded && not ends)) (Err fault.Length)
+by_fields : (max : ℕ) (coded represents zero ends only : Bool) (shown : Option ℕ) → coded ≡ false → (represents && not (is_some shown)) ≡ false → is_above max shown ≡ false
+    → cond (coded && represents) (Err fault.BothLengths)
+    (cond (((coded && zero) || (represents && not (is_some shown))) || (coded && not ends)) (Err fault.Length)
     (cond (coded && not only) (Err fault.Coding)
-    (cond (is_above max told) (Err fault.TooLarge) (Ok (cond coded framing.Chunked (framing_or framing.Nothing told))))))
-    ≡ Ok (framing_or framing.Nothing told)
-by_fields max true stands zero ends only told coded length within = absurd cc
-by_fields max false stands zero ends only told coded length within = rw (length, within) refl
+    (cond (is_above max shown) (Err fault.TooLarge) (Ok (cond coded framing.Chunked (framing_or framing.Nothing shown))))))
+    ≡ Ok (framing_or framing.Nothing shown)
+by_fields max true represents zero ends only shown coded length within = absurd cc
+by_fields max false represents zero ends only shown coded length within = rw (length, within) refl
 
 -- what the fields tell of the content
 abbrev sent_framing : Option (List ℕ) → Framing
@@ -102,10 +102,10 @@ framing_sent : (r : Request) (c : Option (List ℕ)) (max : ℕ) → IsWritable 
     → framing_of_request max (sent_head r) ≡ Ok (sent_framing c)
 framing_sent r c max writable is small =
     let fields = sent_fields r in
-    let told = told_sent r c writable is in
+    let shown = shown_sent r c writable is in
     by_fields max (has fields transfer_encoding) (has fields (codes "content-length")) false (ends_in_chunks (codings fields)) (is_only_chunked (codings fields))
-    (length_told fields) (codings_none r writable) (length_sent r c writable is) (ap (is_above max) told ∙ within_sent max c small)
-    ∙ ap (λ n. Ok (framing_or framing.Nothing n)) told
+    (length_shown fields) (codings_none r writable) (length_sent r c writable is) (ap (is_above max) shown ∙ within_sent max c small)
+    ∙ ap (λ n. Ok (framing_or framing.Nothing n)) shown
 
 abbrev sent_request_body : Option (List ℕ) → RequestBody
 sent_request_body c = record { framing = sent_framing c; wants_continue = false }

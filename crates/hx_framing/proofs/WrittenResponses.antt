@@ -25,7 +25,7 @@ use Rattle.hx_framing.specs.declared.lengths.framing.Framing.{Framing}
 use Rattle.hx_framing.specs.declared.lengths.framing.Framing.TheVariants as framing
 use Rattle.hx_framing.specs.declared.heads.status_head.StatusHead.{StatusHead}
 use Rattle.hx_framing.specs.Body.{Short, Whole}
-use Rattle.hx_framing.specs.ContentLength.{announced_up_to, comma_pieces, length_told, one_number}
+use Rattle.hx_framing.specs.ContentLength.{announced_up_to, comma_pieces, length_shown, one_number}
 use Rattle.hx_framing.specs.Contents.{body_at}
 use Rattle.hx_framing.specs.Lengths.{announced_of, codings, framing_of_final, framing_of_response, framing_or, is_above, is_interim, is_only_chunked, is_taken_status, is_without_content, transfer_encoding, with_status, without_lengths}
 use Rattle.hx_framing.specs.Places.{empty_lines_length, head_end_from, head_length, most_head_bytes}
@@ -51,10 +51,10 @@ close_lines false = refl
 -- the lines of the head are those of the fields as they are sent
 sent_lines : (m : SentResponse) → sent_head_text m ≡ status_line m.status ++ (field_lines (response_fields m) ++ text.crlf)
 sent_lines m =
-    let all = flat_map-append field_line (m.fields ++ length_fields m.told) (close_fields m.close)
-    ∙ ap (λ t. t ++ field_lines (close_fields m.close)) (flat_map-append field_line m.fields (length_fields m.told) ∙ ap (λ t. field_lines m.fields ++ t) (length_lines m.told))
-    ∙ ap (λ t. (field_lines m.fields ++ length_line m.told) ++ t) (close_lines m.close) in
-    regroup (status_line m.status) (field_lines m.fields) (length_line m.told) (close_line m.close) text.crlf ∙ ap (λ t. status_line m.status ++ (t ++ text.crlf)) (sym all)
+    let all = flat_map-append field_line (m.fields ++ length_fields m.shown) (close_fields m.close)
+    ∙ ap (λ t. t ++ field_lines (close_fields m.close)) (flat_map-append field_line m.fields (length_fields m.shown) ∙ ap (λ t. field_lines m.fields ++ t) (length_lines m.shown))
+    ∙ ap (λ t. (field_lines m.fields ++ length_line m.shown) ++ t) (close_lines m.close) in
+    regroup (status_line m.status) (field_lines m.fields) (length_line m.shown) (close_line m.close) text.crlf ∙ ap (λ t. status_line m.status ++ (t ++ text.crlf)) (sym all)
   where
     regroup : (a b c d e : List ℕ) → a ++ b ++ c ++ d ++ e ≡ a ++ (((b ++ c) ++ d) ++ e)
     regroup a b c d e = simp append_assoc refl
@@ -89,8 +89,8 @@ three_digits n low high =
 
 all_writable : (h : Bool) (m : SentResponse) → IsWritableResponse h m → All IsWritableField (response_fields m)
 all_writable h m writable =
-    All-append IsWritableField (m.fields ++ length_fields m.told) (close_fields m.close)
-    (All-append IsWritableField m.fields (length_fields m.told) writable.fields (length_fields_writable m.told writable.small)) (by_close m.close)
+    All-append IsWritableField (m.fields ++ length_fields m.shown) (close_fields m.close)
+    (All-append IsWritableField m.fields (length_fields m.shown) writable.fields (length_fields_writable m.shown writable.small)) (by_close m.close)
   where
     by_close : (close : Bool) → All IsWritableField (close_fields close)
     by_close true = All-cons IsWritableField close_field [] close_writable (All-nil IsWritableField)
@@ -159,26 +159,26 @@ head_ends h m writable rest =
 -- ---- what the fields tell
 
 abbrev own_fields : SentResponse → List Field
-own_fields m = length_fields m.told ++ close_fields m.close
+own_fields m = length_fields m.shown ++ close_fields m.close
 
 values_sent : (m : SentResponse) (name : List ℕ) → has m.fields name ≡ false → values_of (response_fields m) name ≡ values_of (own_fields m) name
 values_sent m name none =
-    ap (λ gs. values_of gs name) (append_assoc m.fields (length_fields m.told) (close_fields m.close))
+    ap (λ gs. values_of gs name) (append_assoc m.fields (length_fields m.shown) (close_fields m.close))
     ∙ ap (map (λ (f : Field). f.value)) (filter-append (is_named name) m.fields (own_fields m) ∙ ap (λ gs. gs ++ filter (is_named name) (own_fields m)) (filter_none (is_named name) m.fields none))
 
 has_sent : (m : SentResponse) (name : List ℕ) → has m.fields name ≡ false → has (response_fields m) name ≡ has (own_fields m) name
 has_sent m name none =
-    ap (λ gs. has gs name) (append_assoc m.fields (length_fields m.told) (close_fields m.close))
+    ap (λ gs. has gs name) (append_assoc m.fields (length_fields m.shown) (close_fields m.close))
     ∙ list_any-append (is_named name) m.fields (own_fields m) ∙ ap (λ t. t || has (own_fields m) name) none
 
 without_sent : (m : SentResponse) (name : List ℕ) → has m.fields name ≡ false → without_named (response_fields m) name ≡ m.fields ++ without_named (own_fields m) name
 without_sent m name none =
-    ap (λ gs. without_named gs name) (append_assoc m.fields (length_fields m.told) (close_fields m.close))
+    ap (λ gs. without_named gs name) (append_assoc m.fields (length_fields m.shown) (close_fields m.close))
     ∙ filter-append (λ f. not (is_named name f)) m.fields (own_fields m)
     ∙ ap (λ gs. gs ++ without_named (own_fields m) name) (filter_other (is_named name) m.fields none)
 
 -- the only length is the one that is told
-lengths_sent : (m : SentResponse) (o : Option ℕ) → has m.fields (codes "content-length") ≡ false → m.told ≡ o
+lengths_sent : (m : SentResponse) (o : Option ℕ) → has m.fields (codes "content-length") ≡ false → m.shown ≡ o
     → values_of (response_fields m) (codes "content-length") ≡ values_of (length_fields o ++ close_fields m.close) (codes "content-length")
 lengths_sent m o none is = values_sent m (codes "content-length") none ∙ ap (λ t. values_of (length_fields t ++ close_fields m.close) (codes "content-length")) is
 
@@ -190,25 +190,25 @@ no_lengths : (close : Bool) → values_of (length_fields None ++ close_fields cl
 no_lengths true = refl
 no_lengths false = refl
 
-told_sent : (m : SentResponse) (o : Option ℕ) → has m.fields (codes "content-length") ≡ false → IfSome o (λ n. n < 2 ^ 64) → m.told ≡ o
-    → length_told (response_fields m) ≡ o
-told_sent m None none small is = ap (λ vs. one_number (flatten (map comma_pieces vs))) (lengths_sent m None none is ∙ no_lengths m.close)
-told_sent m (Some n) none small is =
+shown_sent : (m : SentResponse) (o : Option ℕ) → has m.fields (codes "content-length") ≡ false → IfSome o (λ n. n < 2 ^ 64) → m.shown ≡ o
+    → length_shown (response_fields m) ≡ o
+shown_sent m None none small is = ap (λ vs. one_number (flatten (map comma_pieces vs))) (lengths_sent m None none is ∙ no_lengths m.close)
+shown_sent m (Some n) none small is =
     let back = decimal_back n small in
     ap (λ vs. one_number (flatten (map comma_pieces vs))) (lengths_sent m (Some n) none is ∙ own_lengths n m.close)
     ∙ one_piece (decimal n) n back.0 back.1 back.2
 
-length_sent : (m : SentResponse) (o : Option ℕ) → has m.fields (codes "content-length") ≡ false → IfSome o (λ n. n < 2 ^ 64) → m.told ≡ o
-    → (has (response_fields m) (codes "content-length") && not (is_some (length_told (response_fields m)))) ≡ false
+length_sent : (m : SentResponse) (o : Option ℕ) → has m.fields (codes "content-length") ≡ false → IfSome o (λ n. n < 2 ^ 64) → m.shown ≡ o
+    → (has (response_fields m) (codes "content-length") && not (is_some (length_shown (response_fields m)))) ≡ false
 length_sent m None none small is =
-    ap (λ t. t && not (is_some (length_told (response_fields m)))) (none_has (response_fields m) (codes "content-length") (lengths_sent m None none is ∙ no_lengths m.close))
+    ap (λ t. t && not (is_some (length_shown (response_fields m)))) (none_has (response_fields m) (codes "content-length") (lengths_sent m None none is ∙ no_lengths m.close))
 length_sent m (Some n) none small is =
-    ap (λ told. has (response_fields m) (codes "content-length") && not (is_some told)) (told_sent m (Some n) none small is)
+    ap (λ shown. has (response_fields m) (codes "content-length") && not (is_some shown)) (shown_sent m (Some n) none small is)
     ∙ and_false (has (response_fields m) (codes "content-length"))
 
 -- no coding is sent
 codings_sent : (m : SentResponse) → has m.fields (codes "transfer-encoding") ≡ false → has (response_fields m) (codes "transfer-encoding") ≡ false
-codings_sent m none = has_sent m (codes "transfer-encoding") none ∙ by_own m.told m.close
+codings_sent m none = has_sent m (codes "transfer-encoding") none ∙ by_own m.shown m.close
   where
     by_own : (o : Option ℕ) (close : Bool) → has (length_fields o ++ close_fields close) (codes "transfer-encoding") ≡ false
     by_own None true = refl
@@ -218,7 +218,7 @@ codings_sent m none = has_sent m (codes "transfer-encoding") none ∙ by_own m.t
 
 -- without its length a response has its own lines and the one that closes the connection
 without_length : (m : SentResponse) → has m.fields (codes "content-length") ≡ false → without_named (response_fields m) (codes "content-length") ≡ m.fields ++ close_fields m.close
-without_length m none = without_sent m (codes "content-length") none ∙ ap (λ gs. m.fields ++ gs) (by_own m.told m.close)
+without_length m none = without_sent m (codes "content-length") none ∙ ap (λ gs. m.fields ++ gs) (by_own m.shown m.close)
   where
     by_own : (o : Option ℕ) (close : Bool) → without_named (length_fields o ++ close_fields close) (codes "content-length") ≡ close_fields close
     by_own None true = refl
@@ -238,14 +238,14 @@ without_coding m none =
 -- ---- how the head is judged
 
 -- how fields without a coding are judged
-by_fields : (max : ℕ) (coded stands zero only : Bool) (told : Option ℕ) → coded ≡ false → (stands && not (is_some told)) ≡ false → is_above max told ≡ false
-    → cond (coded && stands) (Err fault.BothLengths)
-    (cond (((coded && zero) || (stands && not (is_some told))) || false) (Err fault.Length)
+by_fields : (max : ℕ) (coded represents zero only : Bool) (shown : Option ℕ) → coded ≡ false → (represents && not (is_some shown)) ≡ false → is_above max shown ≡ false
+    → cond (coded && represents) (Err fault.BothLengths)
+    (cond (((coded && zero) || (represents && not (is_some shown))) || false) (Err fault.Length)
     (cond (coded && not only) (Err fault.Coding)
-    (cond (is_above max told) (Err fault.TooLarge) (Ok (cond coded framing.Chunked (framing_or framing.UntilClose told))))))
-    ≡ Ok (framing_or framing.UntilClose told)
-by_fields max true stands zero only told coded length within = absurd cc
-by_fields max false stands zero only told coded length within = rw (length, within) refl
+    (cond (is_above max shown) (Err fault.TooLarge) (Ok (cond coded framing.Chunked (framing_or framing.UntilClose shown))))))
+    ≡ Ok (framing_or framing.UntilClose shown)
+by_fields max true represents zero only shown coded length within = absurd cc
+by_fields max false represents zero only shown coded length within = rw (length, within) refl
 
 abbrev sent_framing : Bool → List ℕ → Framing
 sent_framing without content = cond without framing.Nothing (framing.Announced (length content))
@@ -263,8 +263,8 @@ framing_sent : (h : Bool) (m : SentResponse) (max : ℕ) → IsWritableResponse 
     → framing_of_response max h (sent_head m) ≡ Ok (sent_framing (is_without_content h m.status) m.content)
 framing_sent h m max writable small = by_test (is_without_content h m.status) refl
   where
-    judged : (told : Framing) → with_status m.status (Ok told) ≡ Ok told
-    judged told = ap (λ t. cond t (Ok told) (Err fault.Status)) (taken_status m.status writable.status.0 writable.status.1)
+    judged : (shown : Framing) → with_status m.status (Ok shown) ≡ Ok shown
+    judged shown = ap (λ t. cond t (Ok shown) (Err fault.Status)) (taken_status m.status writable.status.0 writable.status.1)
 
     final : Result Framing FrameFault
     final = framing_of_final max (sent_head m)
@@ -276,13 +276,13 @@ framing_sent h m max writable small = by_test (is_without_content h m.status) re
     by_test true p = without_switch ∙ ap (λ t. with_status m.status (cond t (Ok framing.Nothing) final)) p ∙ judged framing.Nothing
     by_test false p =
         let fields = response_fields m in
-        let told : length_told fields ≡ Some (length m.content) = told_sent m m.told writable.lengths writable.small refl ∙ writable.behind p in
-        let within : is_above max (length_told fields) ≡ false = ap (is_above max) told ∙ le-ltb max (length m.content) small in
+        let shown : length_shown fields ≡ Some (length m.content) = shown_sent m m.shown writable.lengths writable.small refl ∙ writable.behind p in
+        let within : is_above max (length_shown fields) ≡ false = ap (is_above max) shown ∙ le-ltb max (length m.content) small in
         without_switch
         ∙ ap (λ t. with_status m.status (cond t (Ok framing.Nothing) final)) p
         ∙ ap (with_status m.status) (by_fields max (has fields transfer_encoding) (has fields (codes "content-length")) false (is_only_chunked (codings fields))
-        (length_told fields) (codings_sent m writable.codings) (length_sent m m.told writable.lengths writable.small refl) within
-        ∙ ap (λ n. Ok (framing_or framing.UntilClose n)) told)
+        (length_shown fields) (codings_sent m writable.codings) (length_sent m m.shown writable.lengths writable.small refl) within
+        ∙ ap (λ n. Ok (framing_or framing.UntilClose n)) shown)
         ∙ judged (framing.Announced (length m.content))
 
 -- ---- the content, and what follows it
@@ -314,20 +314,20 @@ body_sent max h m rest writable = by_test (is_without_content h m.status) refl
 
 -- ---- the response
 
-announced_sent : (h : Bool) (m : SentResponse) → IsWritableResponse h m → announced_of h (sent_head m) ≡ cond h m.told None
+announced_sent : (h : Bool) (m : SentResponse) → IsWritableResponse h m → announced_of h (sent_head m) ≡ cond h m.shown None
 announced_sent h m writable = by_head h
   where
-    told : length_told (response_fields m) ≡ m.told
-    told = told_sent m m.told writable.lengths writable.small refl
+    shown : length_shown (response_fields m) ≡ m.shown
+    shown = shown_sent m m.shown writable.lengths writable.small refl
 
     kept : (o : Option ℕ) → IfSome o (λ n. n < 2 ^ 64) → announced_up_to (2 ^ 64 - 1) o ≡ o
     kept None small = refl
     kept (Some n) small = ap (λ t. cond t (Some n) None) (le-leb n (2 ^ 64 - 1) (omega arith))
 
-    by_head : (t : Bool) → announced_of t (sent_head m) ≡ cond t m.told None
+    by_head : (t : Bool) → announced_of t (sent_head m) ≡ cond t m.shown None
     by_head true =
-        ap (λ t. cond (true && not t) (announced_up_to (2 ^ 64 - 1) (length_told (response_fields m))) None) (codings_sent m writable.codings)
-        ∙ ap (announced_up_to (2 ^ 64 - 1)) told ∙ kept m.told writable.small
+        ap (λ t. cond (true && not t) (announced_up_to (2 ^ 64 - 1) (length_shown (response_fields m))) None) (codings_sent m writable.codings)
+        ∙ ap (announced_up_to (2 ^ 64 - 1)) shown ∙ kept m.shown writable.small
     by_head false = refl
 
 response_sent : (h : Bool) (m : SentResponse) (content : Option (List ℕ)) → IsWritableResponse h m → content_of content ≡ m.content → response_of h (sent_head m) content ≡ response_back h m

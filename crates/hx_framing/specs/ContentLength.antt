@@ -1,6 +1,6 @@
 -- The length that Content-Length lines tell (RFC 9110, section 8.6, and RFC 9112, section 6.3).
 --
--- length_pieces: what the lines list    one_number: the number that texts of digits are    length_told: the length
+-- length_pieces: what the lines list    one_number: the number that texts of digits are    length_shown: the length
 -- length_up_to, announced_up_to: the length within a limit
 -- significant, is_number: a number compared by its digits, so that it may have any size
 use Rattle.std.specs.Prelude.{ℕ, ◌&&◌, Bool, cond, List, [], ◌∷◌, map, drop, bytes_eq, Option, Some, None, Result, Ok}
@@ -42,8 +42,8 @@ one_number (text ∷ texts) =
     (Some (digits_value 10 text)) None
 
 -- the length that the lines tell: one number, however often it is listed, counts as this number (RFC 9112, section 6.3)
-abbrev pub length_told : List Field → Option ℕ
-length_told fields = one_number (length_pieces fields)
+abbrev pub length_shown : List Field → Option ℕ
+length_shown fields = one_number (length_pieces fields)
 
 -- the length, if one is told and it is at most so much
 abbrev pub length_up_to : ℕ → Option ℕ → Result ℕ FrameFault

@@ -39,11 +39,11 @@ answers_head status fields = framing_of_response 1000 true (response_head status
 
 -- a content that waits for no continue
 abbrev pub plain : Framing → Result RequestBody FrameFault
-plain told = Ok (record { framing = told; wants_continue = false })
+plain shown = Ok (record { framing = shown; wants_continue = false })
 
 abbrev pub of_length : ℕ → Result RequestBody FrameFault
 of_length n = plain (framing.Announced n)
 
 -- a content that waits for a continue
 abbrev pub waiting : Framing → Result RequestBody FrameFault
-waiting told = Ok (record { framing = told; wants_continue = true })
+waiting shown = Ok (record { framing = shown; wants_continue = true })

@@ -2,7 +2,7 @@
 -- A head's faults are tested in the order of their numbers.
 --
 -- has_both, has_bad_length, has_endless_coding, has_other_coding, is_too_large, has_other_expectation: what is at fault
--- framing_told: what faultless length fields say
+-- framing_shown: what faultless length fields say
 -- framing_of_lengths, request_body_of, framing_of_response: how a head is judged
 -- announced_of, without_lengths: what a message keeps of its length fields
 -- uncoded, framing_of_codings, framing_of_only_coding: the judgement in steps
@@ -19,7 +19,7 @@ use Rattle.hx_framing.specs.declared.lengths.framing.Framing.TheVariants as fram
 use Rattle.hx_framing.specs.declared.lengths.framing.RequestBody.{RequestBody}
 use Rattle.hx_framing.specs.declared.heads.request_head.Head.{Head}
 use Rattle.hx_framing.specs.declared.heads.status_head.StatusHead.{StatusHead}
-use Rattle.hx_framing.specs.ContentLength.{content_length, length_told, length_up_to, announced_up_to}
+use Rattle.hx_framing.specs.ContentLength.{content_length, length_shown, length_up_to, announced_up_to}
 
 abbrev pub transfer_encoding : List ℕ
 transfer_encoding = codes "transfer-encoding"
@@ -50,7 +50,7 @@ has_both fields = has fields transfer_encoding && has fields content_length
 -- HTTP/1.0 knows no transfer coding, or Content-Length tells no length (RFC 9112, sections 6.1 and 6.3)
 abbrev pub has_bad_length : ℕ → List Field → Bool
 has_bad_length minor fields =
-    (has fields transfer_encoding && (minor == 0)) || (has fields content_length && not (is_some (length_told fields)))
+    (has fields transfer_encoding && (minor == 0)) || (has fields content_length && not (is_some (length_shown fields)))
 
 -- the end of a request's content can't be told from its codings, as where there is none (RFC 9112, section 6.3)
 -- own: or chunked stands twice
@@ -67,16 +67,16 @@ is_above most (Some n) = nat_lt most n
 
 -- own: a content of more than max_body bytes is refused
 abbrev pub is_too_large : ℕ → List Field → Bool
-is_too_large max_body fields = is_above max_body (length_told fields)
+is_too_large max_body fields = is_above max_body (length_shown fields)
 
 abbrev pub framing_or : Framing → Option ℕ → Framing
 framing_or neither None = neither
 framing_or neither (Some n) = framing.Announced n
 
 -- what faultless length fields say, or what holds where neither stands
-abbrev pub framing_told : Framing → List Field → Framing
-framing_told neither fields =
-    cond (has fields transfer_encoding) framing.Chunked (framing_or neither (length_told fields))
+abbrev pub framing_shown : Framing → List Field → Framing
+framing_shown neither fields =
+    cond (has fields transfer_encoding) framing.Chunked (framing_or neither (length_shown fields))
 
 -- what is expected of a server
 -- own: in HTTP/1.0 Expect is ignored, not only 100-continue (RFC 9110, section 10.1.1)
@@ -108,7 +108,7 @@ framing_of_lengths max_body minor neither endless fields =
     (cond (has_bad_length minor fields || endless) (Err fault.Length)
     (cond (has_other_coding fields) (Err fault.Coding)
     (cond (is_too_large max_body fields) (Err fault.TooLarge)
-    (Ok (framing_told neither fields)))))
+    (Ok (framing_shown neither fields)))))
 
 -- a request without either field has no content (RFC 9112, section 6.3)
 abbrev pub framing_of_request : ℕ → Head → Result Framing FrameFault
@@ -118,9 +118,9 @@ framing_of_request max_body head =
 -- a client that expects a continue waits for it only where it has content to send
 abbrev pub with_expectation : Option (List ℕ) → Result Framing FrameFault → Result RequestBody FrameFault
 with_expectation expected (Err f) = Err f
-with_expectation expected (Ok told) =
+with_expectation expected (Ok shown) =
     cond (has_other_expectation expected) (Err fault.Expect)
-    (Ok (record { framing = told; wants_continue = expects_continue expected && has_content told }))
+    (Ok (record { framing = shown; wants_continue = expects_continue expected && has_content shown }))
 
 -- how the content of a request is judged by its head
 abbrev pub request_body_of : ℕ → Head → Result RequestBody FrameFault
@@ -146,7 +146,7 @@ framing_of_final max_body head = framing_of_lengths max_body head.minor framing.
 -- a status that isn't taken is the last fault
 abbrev pub with_status : ℕ → Result Framing FrameFault → Result Framing FrameFault
 with_status status (Err f) = Err f
-with_status status (Ok told) = cond (is_taken_status status) (Ok told) (Err fault.Status)
+with_status status (Ok shown) = cond (is_taken_status status) (Ok shown) (Err fault.Status)
 
 -- how the content of a response is judged by its head; to_head: it answers a HEAD
 -- own: no length field is judged where there is no content or protocols are switched
@@ -161,7 +161,7 @@ framing_of_response max_body to_head head =
 abbrev pub announced_of : Bool → StatusHead → Option ℕ
 announced_of to_head head =
     cond (to_head && not (has head.fields transfer_encoding))
-    (announced_up_to (2 ^ 64 - 1) (length_told head.fields)) None
+    (announced_up_to (2 ^ 64 - 1) (length_shown head.fields)) None
 
 -- the lines that are no length fields
 abbrev pub without_lengths : List Field → List Field
@@ -176,7 +176,7 @@ announced (Err f) = Err f
 -- what Content-Length alone says, or what holds without it
 abbrev pub announced_or : ℕ → Framing → List Field → Result Framing FrameFault
 announced_or max_body neither fields =
-    cond (has fields content_length) (announced (length_up_to max_body (length_told fields))) (Ok neither)
+    cond (has fields content_length) (announced (length_up_to max_body (length_shown fields))) (Ok neither)
 
 -- what is judged of the length fields without their codings, if that is enough
 abbrev pub uncoded : ℕ → ℕ → Framing → List Field → Option (Result Framing FrameFault)

@@ -20,11 +20,11 @@ pub record Progress (M : Type 0) : Type 0 where
   pub stream : List ℕ
   pub ended : Bool
   pub given : List M
-  pub told : Bool
+  pub continue_sent : Bool
 
 abbrev pub start : {M : Type 0} → ℕ → Bool → Progress M
 start max_body to_head =
-    record { max_body = max_body; to_head = to_head; stream = []; ended = false; given = []; told = false }
+    record { max_body = max_body; to_head = to_head; stream = []; ended = false; given = []; continue_sent = false }
 
 -- a piece has come
 abbrev pub fed : {M : Type 0} → Progress M → List ℕ → Progress M
@@ -45,8 +45,8 @@ next_of (Faulty f) = next.Refused f
 -- after that answer
 abbrev pub moved : {M : Type 0} → Progress M → Next M → Progress M
 moved p next.More = p
-moved p next.NeedsContinue = record p { told = true }
-moved p (next.Message m) = record p { given = p.given ++ m ∷ []; told = false }
+moved p next.NeedsContinue = record p { continue_sent = true }
+moved p (next.Message m) = record p { given = p.given ++ m ∷ []; continue_sent = false }
 moved p (next.Refused f) = p
 moved p next.End = p
 

@@ -17,8 +17,8 @@ asks bytes reading = request.Reads 1000 false false bytes reading
 abbrev pub asks_last : List ℕ → Reading Request → Type 0
 asks_last bytes reading = request.Reads 1000 true false bytes reading
 
-abbrev pub asks_told : List ℕ → Reading Request → Type 0
-asks_told bytes reading = request.Reads 1000 false true bytes reading
+abbrev pub asks_continue_sent : List ℕ → Reading Request → Type 0
+asks_continue_sent bytes reading = request.Reads 1000 false true bytes reading
 
 -- a response stream that goes on, one that ends, and one that answers a HEAD
 abbrev pub answers : List ℕ → Reading Response → Type 0
@@ -95,17 +95,31 @@ in_a_row =
 -- how far its reader has come
 abbrev pub behind : Bool → List Request → Progress Request
 behind ended given =
-    record { max_body = 1000; to_head = false; stream = in_a_row; ended = ended; given = given; told = false }
+    record { max_body = 1000; to_head = false; stream = in_a_row; ended = ended; given = given; continue_sent = false }
 
 -- how far a reader of the response has come
 abbrev pub hello_behind : Bool → List Response → Progress Response
 hello_behind ended given =
-    record { max_body = 1000; to_head = false; stream = hello_response; ended = ended; given = given; told = false }
+    record {
+      max_body = 1000;
+      to_head = false;
+      stream = hello_response;
+      ended = ended;
+      given = given;
+      continue_sent = false;
+    }
 
 abbrev pub hi : Request
 hi = put_with [] (Some (codes "hi"))
 
 -- a stream of requests, whether it has ended, what was given of it, and whether the next continue was
 abbrev pub waiting : Bool → List ℕ → Bool → List Request → Bool → Progress Request
-waiting to_head stream ended given told =
-    record { max_body = 1000; to_head = to_head; stream = stream; ended = ended; given = given; told = told }
+waiting to_head stream ended given continue_sent =
+    record {
+      max_body = 1000;
+      to_head = to_head;
+      stream = stream;
+      ended = ended;
+      given = given;
+      continue_sent = continue_sent;
+    }

@@ -13,8 +13,8 @@ use Rattle.hx_framing.specs.RequestReading.{request_of, Reads}
 
 -- whatever comes, the bytes read as this head with what the unread ones make of its content
 abbrev pub Resumes : ℕ → Bool → Head → Content → List ℕ → List ℕ → Type 0
-Resumes max_body told head content bytes unread = (more : List ℕ) (ended : Bool)
-    → Reads max_body ended told (bytes ++ more)
+Resumes max_body continue_sent head content bytes unread = (more : List ℕ) (ended : Bool)
+    → Reads max_body ended continue_sent (bytes ++ more)
     (with_body ended (request_of head) (body_from content false (unread ++ more)))
 
 -- an index behind at least one of the bytes, and within them

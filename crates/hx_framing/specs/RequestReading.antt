@@ -25,16 +25,16 @@ request_of head content = record {
 -- behind a head that tells its content; a continue comes before all that may follow (RFC 9110, section 10.1.1)
 -- no request's content runs until the close, so it is the same whether the stream ends
 abbrev pub with_request_body : ℕ → Bool → Bool → Head → List ℕ → Result RequestBody FrameFault → Reading Request
-with_request_body max_body ended told head bytes (Err f) = Faulty f
-with_request_body max_body ended told head bytes (Ok body) =
-    cond (body.wants_continue && not told) Continue
+with_request_body max_body ended continue_sent head bytes (Err f) = Faulty f
+with_request_body max_body ended continue_sent head bytes (Ok body) =
+    cond (body.wants_continue && not continue_sent) Continue
     (with_body ended (request_of head) (body_at max_body body.framing false bytes))
 
 -- behind a judged head
 abbrev pub with_head : ℕ → Bool → Bool → List ℕ → Result Head FrameFault → Reading Request
-with_head max_body ended told bytes (Err f) = Faulty f
-with_head max_body ended told bytes (Ok head) =
-    with_request_body max_body ended told head bytes (request_body_of max_body head)
+with_head max_body ended continue_sent bytes (Err f) = Faulty f
+with_head max_body ended continue_sent bytes (Ok head) =
+    with_request_body max_body ended continue_sent head bytes (request_body_of max_body head)
 
 -- no head ends within the limit; empty lines alone are no message
 abbrev pub without_head : Bool → List ℕ → Reading Request
@@ -43,12 +43,12 @@ without_head ended bytes =
     (cond (ended && (empty_lines_length bytes == length bytes)) Over (cut_off ended))
 
 abbrev pub ReadsBy : ℕ → Bool → Bool → List ℕ → Option ℕ → Reading Request → Type 0
-ReadsBy max_body ended told bytes None reading = reading ≡ without_head ended bytes
-ReadsBy max_body ended told bytes (Some n) reading =
+ReadsBy max_body ended continue_sent bytes None reading = reading ≡ without_head ended bytes
+ReadsBy max_body ended continue_sent bytes (Some n) reading =
     (judged : Result Head FrameFault) × Judges (take n bytes) judged
-    × (reading ≡ with_head max_body ended told (drop n bytes) judged)
+    × (reading ≡ with_head max_body ended continue_sent (drop n bytes) judged)
 
 -- ended: the stream ends behind these bytes; told: the continue of this message was given
 abbrev pub Reads : ℕ → Bool → Bool → List ℕ → Reading Request → Type 0
-Reads max_body ended told bytes reading =
-    ReadsBy max_body ended told bytes (head_length (take most_head_bytes bytes)) reading
+Reads max_body ended continue_sent bytes reading =
+    ReadsBy max_body ended continue_sent bytes (head_length (take most_head_bytes bytes)) reading

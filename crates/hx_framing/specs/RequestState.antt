@@ -22,12 +22,12 @@ pub record State : Type 0 where
 -- before a head the reader keeps what follows the messages given; in a content it keeps what is still to come of it;
 -- from a fault on the stream has that fault there
 abbrev pub Keeps : State → Progress Request → List ℕ → RequestPhase → Type 0
-Keeps s p rest phase.BeforeHead = (s.unread ≡ rest) × (p.told ≡ false)
-Keeps s p rest (phase.InContent head content) = Resumes p.max_body p.told head content rest s.unread
-Keeps s p rest (phase.Faulty f) = Reads p.max_body p.ended p.told rest (Faulty f)
+Keeps s p rest phase.BeforeHead = (s.unread ≡ rest) × (p.continue_sent ≡ false)
+Keeps s p rest (phase.InContent head content) = Resumes p.max_body p.continue_sent head content rest s.unread
+Keeps s p rest (phase.Faulty f) = Reads p.max_body p.ended p.continue_sent rest (Faulty f)
 
 -- the reader stands for the stream
-pub record StandsFor (s : State) (p : Progress Request) : Type 0 where
+pub record RepresentsStream (s : State) (p : Progress Request) : Type 0 where
   pub max_body : s.max_body ≡ p.max_body
   pub ended : s.ended ≡ p.ended
   pub rest : List ℕ

@@ -21,7 +21,7 @@ pub record Answers (p : Progress Request) (answer : Next Request) : Type 0 where
   pub rest : List ℕ
   pub reading : Reading Request
   pub spells : StreamSpells p.max_body p.stream p.given rest
-  pub reads : Reads p.max_body p.ended p.told rest reading
+  pub reads : Reads p.max_body p.ended p.continue_sent rest reading
   pub answer_is : answer ≡ next_of reading
 
 -- out of memory may stand in place of the answer

@@ -33,7 +33,7 @@ KeepsBy s p (phase.Faulty f) [] = Reads p.max_body p.to_head p.ended p.stream (F
 KeepsBy s p (phase.Faulty f) (message ∷ more) = ⊥
 
 -- the reader stands for the stream
-pub record StandsFor (s : State) (p : Progress Response) : Type 0 where
+pub record RepresentsStream (s : State) (p : Progress Response) : Type 0 where
   pub max_body : s.max_body ≡ p.max_body
   pub to_head : s.to_head ≡ p.to_head
   pub ended : s.ended ≡ p.ended

@@ -18,15 +18,15 @@ use Rattle.hx_framing.specs.Written.{IsWritableField, close_field, length_fields
 pub record SentResponse : Type 0 where
   pub status : ℕ
   pub fields : List Field
-  pub told : Option ℕ
+  pub shown : Option ℕ
   pub close : Bool
   pub content : List ℕ
 
 abbrev pub sent_text : SentResponse → List ℕ
-sent_text m = response_text m.status m.fields m.told m.close m.content
+sent_text m = response_text m.status m.fields m.shown m.close m.content
 
 abbrev pub sent_head_text : SentResponse → List ℕ
-sent_head_text m = status_line m.status ++ field_lines m.fields ++ length_line m.told ++ close_line m.close ++ crlf
+sent_head_text m = status_line m.status ++ field_lines m.fields ++ length_line m.shown ++ close_line m.close ++ crlf
 
 -- the line that closes the connection, as a field
 abbrev pub close_fields : Bool → List Field
@@ -34,7 +34,7 @@ close_fields close = if close then close_field ∷ [] else []
 
 -- the fields as they are sent
 abbrev pub response_fields : SentResponse → List Field
-response_fields m = m.fields ++ length_fields m.told ++ close_fields m.close
+response_fields m = m.fields ++ length_fields m.shown ++ close_fields m.close
 
 -- What is read back: what was written, with the line that closes the connection. To a HEAD the
 -- length that is told is that of the content which isn't sent (RFC 9110, section 9.3.2).
@@ -43,7 +43,7 @@ response_back to_head m = record {
   status = m.status;
   fields = m.fields ++ close_fields m.close;
   content = m.content;
-  announced = if to_head then m.told else None;
+  announced = if to_head then m.shown else None;
 }
 
 -- The status is final, each part stands in the text as it is, and nothing in the fields speaks of
@@ -54,8 +54,8 @@ pub record IsWritableResponse (to_head : Bool) (m : SentResponse) : Type 0 where
   pub fields : All IsWritableField m.fields
   pub lengths : has m.fields (codes "content-length") ≡ false
   pub codings : has m.fields (codes "transfer-encoding") ≡ false
-  pub small : IfSome m.told (λ n. n < 2 ^ 64)
+  pub small : IfSome m.shown (λ n. n < 2 ^ 64)
   pub without : is_without_content to_head m.status ≡ true → m.content ≡ []
-  pub behind : is_without_content to_head m.status ≡ false → m.told ≡ Some (length m.content)
+  pub behind : is_without_content to_head m.status ≡ false → m.shown ≡ Some (length m.content)
   pub few : length (response_fields m) ≤ most_field_lines
   pub short : length (sent_head_text m) ≤ most_head_bytes

@@ -34,7 +34,7 @@
 //! `GivenFields`, `FaultOrder`, `Written`, `WrittenResponse`, `Examples`, `LengthExamples` and
 //! `ReadingExamples`. The rest serves the proofs alone and needs no trust: `RequestHeadProgress`,
 //! `ResponseHeadProgress`, `ContentReading`, `Decoding`, `PlainContent`, `Queue`, `Searching`, what
-//! else is in `ChunkTokens`; and so does `StandsFor`, which may be any relation that holds of a new
+//! else is in `ChunkTokens`; and so does `RepresentsStream`, which may be any relation that holds of a new
 //! reader and that each call keeps.
 #![tactic(auto)]
 

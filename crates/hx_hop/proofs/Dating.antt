@@ -7,13 +7,13 @@ use Rattle.hx_fields.specs.declared.field_line.Field.{Field}
 use Rattle.hx_fields.specs.Lines.{is_named, values_of, without_named}
 use Rattle.hx_hop.specs.Answering.{dated_of, has_one_date, is_one_date}
 use Rattle.hx_hop.specs.Forwarding.{line}
-use Rattle.hx_hop.specs.Meaning.{HasOneDate, DatesOnce, TellsTheMoment}
+use Rattle.hx_hop.specs.Meaning.{HasOneDate, DatesOnce, ShowsTheMoment}
 use Rattle.hx_hop.specs.Moments.{date_text_of}
 use Rattle.hx_hop.proofs.Lines.{filter_none, not_true}
 use Rattle.hx_hop.proofs.Moments.{parse_secs-date_text_of}
 
-pub tells_the_moment : TellsTheMoment
-tells_the_moment now early = parse_secs-date_text_of now early
+pub shows_the_moment : ShowsTheMoment
+shows_the_moment now early = parse_secs-date_text_of now early
 
 -- the one Date that is added is the only one
 added : (fields : List Field) (text : List ℕ) → values_of (without_named fields (codes "Date") ++ line (codes "Date") text ∷ []) (codes "Date") ≡ text ∷ []
@@ -23,7 +23,7 @@ added fields text =
 
 replaced : (fields : List Field) (now : ℕ) → now < END_OF_TIME
     → has_one_date (without_named fields (codes "Date") ++ line (codes "Date") (date_text_of now) ∷ []) ≡ true
-replaced fields now early = ap is_one_date (added fields (date_text_of now)) ∙ ap is_some (tells_the_moment now early)
+replaced fields now early = ap is_one_date (added fields (date_text_of now)) ∙ ap is_some (shows_the_moment now early)
 
 by_date : (fields : List Field) (now : ℕ) → now < END_OF_TIME → (t : Bool) → has_one_date fields ≡ t
     → has_one_date (cond t fields (without_named fields (codes "Date") ++ line (codes "Date") (date_text_of now) ∷ [])) ≡ true

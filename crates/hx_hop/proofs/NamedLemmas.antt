@@ -11,7 +11,7 @@ use Rattle.hx_fields.specs.Lines.{members_of}
 use Rattle.hx_fields.specs.Names.{is_same_name}
 use Rattle.hx_fields.specs.declared.field_line.Field.{Field}
 use Rattle.hx_hop.specs.Stripping.{cache_names, connection_names, is_among, is_hop_line, is_hop_name, lists_cache_field, stripped}
-use Rattle.hx_hop.specs.NamedLines.{AreLineNames, AreMarkedBy, gives, is_marked, is_unmarked, marked_too, marks_of_members, stands}
+use Rattle.hx_hop.specs.NamedLines.{AreLineNames, AreMarkedBy, gives, is_marked, is_unmarked, marked_too, marks_of_members, is_present}
 
 abbrev pub Marked : Type 0
 Marked = BTreeMap (List ℕ) Bool
@@ -65,7 +65,7 @@ pub one_name_more : (done : List Field) (line : Field) (old new : Marked) →
     AreLineNames done old → AreLineNames (done ++ line ∷ []) new
 one_name_more done line old new u h q =
     at_name (folded line.name) false old new u q
-    ∙ by_put (stands done q) (bytes_eq (folded line.name) q) (get folded_cmp old q) (h q)
+    ∙ by_put (is_present done q) (bytes_eq (folded line.name) q) (get folded_cmp old q) (h q)
     ∙ sym (ap (λ b. cond b (Some false) None) (list_any-append (λ (l : Field). bytes_eq (folded l.name) q) done (line ∷ [])))
 
 -- ---- marks
@@ -137,16 +137,16 @@ marked_line : (there given : Bool) → there ≡ true → is_marked (marked_too 
 marked_line true given h = refl
 marked_line false given h = absurd (false≢true h)
 
-kept_alike : (all rest : List Field) (names : Marked) → ((q : List ℕ) → get folded_cmp names q ≡ marked_too (marks_of_members all q) (cond (stands all q) (Some false) None)) →
-    ((q : List ℕ) → stands rest q ≡ true → stands all q ≡ true) →
+kept_alike : (all rest : List Field) (names : Marked) → ((q : List ℕ) → get folded_cmp names q ≡ marked_too (marks_of_members all q) (cond (is_present all q) (Some false) None)) →
+    ((q : List ℕ) → is_present rest q ≡ true → is_present all q ≡ true) →
     filter (λ (line : Field). not (is_hop_name line.name || is_marked (get folded_cmp names (folded line.name)))) rest ≡ filter (λ line. not (is_hop_line all line)) rest
 kept_alike all [] names h within = refl
 kept_alike all (line ∷ lines) names h within =
     let q = folded line.name in
     let p : Field → Bool = λ l. not (is_hop_name l.name || is_marked (get folded_cmp names (folded l.name))) in
-    let more = kept_alike all lines names h (λ z e. within z (or_right (bytes_eq (folded line.name) z) (stands lines z) e)) in
-    let there = within q (or_left (bytes_eq q q) (stands lines q) ((bytes_eq-Decides q q).1 refl)) in
-    let same : is_marked (get folded_cmp names q) ≡ connection_names all line.name = ap is_marked (h q) ∙ marked_line (stands all q) (marks_of_members all q) there in
+    let more = kept_alike all lines names h (λ z e. within z (or_right (bytes_eq (folded line.name) z) (is_present lines z) e)) in
+    let there = within q (or_left (bytes_eq q q) (is_present lines q) ((bytes_eq-Decides q q).1 refl)) in
+    let same : is_marked (get folded_cmp names q) ≡ connection_names all line.name = ap is_marked (h q) ∙ marked_line (is_present all q) (marks_of_members all q) there in
     ap (λ b. cond (not (is_hop_name line.name || b)) (line ∷ filter p lines) (filter p lines)) same
     ∙ ap (λ zs. cond (not (is_hop_line all line)) (line ∷ zs) zs) more
 

@@ -9,7 +9,7 @@ use Rattle.hx_fields.specs.Names.{is_same_name}
 use Rattle.hx_hop.specs.declared.validators.Conditions.{Conditions}
 use Rattle.hx_hop.specs.Asking.{kept_fields}
 use Rattle.hx_hop.specs.Forwarding.{client_lines, condition_lines, forwarded_of, host_text, is_condition, line, opt_line, via_text}
-use Rattle.hx_hop.specs.Meaning.{ClosesWhereTold, KeepsTheStatus, LeavesOutTheDefaultPort, SendsNoExpect, SendsNoHopField, SendsNoLength, SendsWhatWasAsked, StaysOpen, TellsTheVersion, WritesOtherPorts}
+use Rattle.hx_hop.specs.Meaning.{ClosesWhereAsked, KeepsTheStatus, LeavesOutTheDefaultPort, SendsNoExpect, SendsNoHopField, SendsNoLength, SendsWhatWasAsked, StaysOpen, ShowsTheVersion, WritesOtherPorts}
 use Rattle.hx_hop.specs.Stripping.{connection_names, hop_names, is_hop_line, is_hop_name, stripped}
 use Rattle.hx_hop.proofs.Lines.{is_among-same, list_any_fewer, list_any_none_left, not_true}
 use Rattle.hx_hop.proofs.Stripped.{takes_out_theirs}
@@ -86,12 +86,12 @@ leaves_out_the_default_port key h = rw h refl
 pub writes_other_ports : WritesOtherPorts
 writes_other_ports key h = rw h refl
 
-pub tells_the_version : TellsTheVersion
-tells_the_version name = (refl, refl)
+pub shows_the_version : ShowsTheVersion
+shows_the_version name = (refl, refl)
 
-pub closes_where_told : ClosesWhereTold
-closes_where_told request target (inl old) = rw old refl
-closes_where_told request target (inr close) = listed_last _ _ close
+pub closes_where_asked : ClosesWhereAsked
+closes_where_asked request target (inl old) = rw old refl
+closes_where_asked request target (inr close) = listed_last _ _ close
 
 pub stays_open : StaysOpen
 stays_open request target new absent = rw (new, absent) refl

@@ -32,8 +32,8 @@ abbrev pub StripsAtOnce : Type 0
 StripsAtOnce = (fields : List Field) → stripped (stripped fields) ≡ stripped fields
 
 -- the text of a moment is the date of that moment
-abbrev pub TellsTheMoment : Type 0
-TellsTheMoment = (now : ℕ) → now < END_OF_TIME → parse_secs (date_text_of now) ≡ Some now
+abbrev pub ShowsTheMoment : Type 0
+ShowsTheMoment = (now : ℕ) → now < END_OF_TIME → parse_secs (date_text_of now) ≡ Some now
 
 -- what was dated has one valid Date
 abbrev pub HasOneDate : Type 0
@@ -88,12 +88,12 @@ abbrev pub WritesOtherPorts : Type 0
 WritesOtherPorts = (key : Key) → (key.port == 80) ≡ false → host_text key ≡ key.host ++ codes ":" ++ decimal key.port
 
 -- Via tells the version that was received, and the name (RFC 9110, section 7.6.3)
-abbrev pub TellsTheVersion : Type 0
-TellsTheVersion = (name : List ℕ) → (via_text 0 name ≡ codes "1.0 " ++ name) × (via_text 1 name ≡ codes "1.1 " ++ name)
+abbrev pub ShowsTheVersion : Type 0
+ShowsTheVersion = (name : List ℕ) → (via_text 0 name ≡ codes "1.0 " ++ name) × (via_text 1 name ≡ codes "1.1 " ++ name)
 
 -- the connection of a client of HTTP/1.0 closes, and that of another where it says close (RFC 9112, section 9.6)
-abbrev pub ClosesWhereTold : Type 0
-ClosesWhereTold = (request : Request) (target : Target) →
+abbrev pub ClosesWhereAsked : Type 0
+ClosesWhereAsked = (request : Request) (target : Target) →
     (request.minor ≡ 0) ⊎ (connection_names request.fields (codes "close") ≡ true) → (asked_of request target).close ≡ true
 
 abbrev pub StaysOpen : Type 0

@@ -15,8 +15,8 @@ has_many_members fields =
     || list_any (λ (line : Field). nat_lt 64 (length line.value) && is_named (codes "Connection") line) fields
 
 -- a line has this folded name
-abbrev pub stands : List Field → List ℕ → Bool
-stands lines q = list_any (λ (line : Field). bytes_eq (folded line.name) q) lines
+abbrev pub is_present : List Field → List ℕ → Bool
+is_present lines q = list_any (λ (line : Field). bytes_eq (folded line.name) q) lines
 
 -- one of these is this folded name
 abbrev pub gives : List (List ℕ) → List ℕ → Bool
@@ -30,7 +30,7 @@ marks_of_members fields q = gives (members_of fields (codes "Connection")) q
 
 -- the names of the lines, none of them marked
 abbrev pub AreLineNames : List Field → BTreeMap (List ℕ) Bool → Type 0
-AreLineNames fields names = (q : List ℕ) → get folded_cmp names q ≡ (if stands fields q then Some false else None)
+AreLineNames fields names = (q : List ℕ) → get folded_cmp names q ≡ (if is_present fields q then Some false else None)
 
 -- a name that is there is marked where it was, or is marked now
 abbrev pub marked_too : Bool → Option Bool → Option Bool

@@ -14,10 +14,10 @@ ghost use Rattle.hx_hop.specs.Examples.{mixed_fields, response_of};
 ghost use Rattle.hx_hop.specs.Forwarding.{line, host_text, client_lines, via_text, forwarded_lines, forwarded_of};
 ghost use Rattle.hx_hop.specs.Moments.{date_text_of};
 ghost use Rattle.hx_hop.specs.Stripping.{connection_names, is_hop_name, lists_cache_field, stripped};
-ghost use Rattle.hx_hop.specs.Meaning.{TakesOutTheirs, KeepsTheOthers, StripsAtOnce, TellsTheMoment, HasOneDate};
+ghost use Rattle.hx_hop.specs.Meaning.{TakesOutTheirs, KeepsTheOthers, StripsAtOnce, ShowsTheMoment, HasOneDate};
 ghost use Rattle.hx_hop.specs.Meaning.{DatesOnce, SendsOneHost, EndsWithVia, SendsNoHopField, SendsNoExpect};
 ghost use Rattle.hx_hop.specs.Meaning.{SendsNoLength, SendsWhatWasAsked, LeavesOutTheDefaultPort, WritesOtherPorts};
-ghost use Rattle.hx_hop.specs.Meaning.{TellsTheVersion, ClosesWhereTold, StaysOpen, KeepsTheStatus};
+ghost use Rattle.hx_hop.specs.Meaning.{ShowsTheVersion, ClosesWhereAsked, StaysOpen, KeepsTheStatus};
 
 use hx_target::a_target_is_judged_in_one_way;
 
@@ -49,8 +49,8 @@ pub fn the_rest_goes_on()
 {}
 
 /// A response gets one valid Date, and keeps it.
-pub fn one_date_stands()
-    ensures moment { TellsTheMoment }
+pub fn one_date_is_present()
+    ensures moment { ShowsTheMoment }
     ensures one { HasOneDate }
     ensures once { DatesOnce }
 {}
@@ -96,7 +96,7 @@ pub fn missing_date_is_added()
 
 /// The standard's date, a leap day, and the last second of the year 9999.
 #[tactic(auto, unfolding(httpdate::proofs::OnLiterals::httpdate_on_literals, crate::specs::Moments::split_off))]
-pub fn moments_are_told()
+pub fn moments_are_shown()
     ensures standard { date_text_of 784111777 ≡ codes "Sun, 06 Nov 1994 08:49:37 GMT" }
     ensures leap_day { date_text_of 951782400 ≡ codes "Tue, 29 Feb 2000 00:00:00 GMT" }
     ensures last { date_text_of 253402300799 ≡ codes "Fri, 31 Dec 9999 23:59:59 GMT" }
@@ -112,15 +112,15 @@ pub fn only_what_was_asked_goes_forward()
 {}
 
 /// Host has the port unless it is 80, and Via the version that was received.
-pub fn host_and_via_tell_port_and_version()
+pub fn host_and_via_show_port_and_version()
     ensures default_port { LeavesOutTheDefaultPort }
     ensures other_port { WritesOtherPorts }
-    ensures version { TellsTheVersion }
+    ensures version { ShowsTheVersion }
 {}
 
 /// A client's connection closes where the client is of HTTP/1.0 or says close, and not else.
-pub fn connections_close_where_told()
-    ensures closes { ClosesWhereTold }
+pub fn connections_close_where_asked()
+    ensures closes { ClosesWhereAsked }
     ensures stays { StaysOpen }
 {}
 

@@ -22,11 +22,12 @@ pub use asking::ask;
 pub use forwarding::forward_request;
 pub use laws::{
     a_request_is_asked_in_one_way, absolute_form_is_rewritten, an_answer_keeps_its_status,
-    cache_fields_are_seen_in_connection, conditions_go_forward, connections_close_where_told,
-    fields_of_one_connection, fields_that_go_on, host_and_via_tell_port_and_version,
-    members_of_connection_are_taken_out, missing_date_is_added, moments_are_told, one_date_stands,
-    one_host_goes_forward, only_what_was_asked_goes_forward, stripped_before_it_is_dated,
-    the_first_request_is_forwarded, the_rest_goes_on, what_goes_past_the_cache,
+    cache_fields_are_seen_in_connection, conditions_go_forward, connections_close_where_asked,
+    fields_of_one_connection, fields_that_go_on, host_and_via_show_port_and_version,
+    members_of_connection_are_taken_out, missing_date_is_added, moments_are_shown,
+    one_date_is_present, one_host_goes_forward, only_what_was_asked_goes_forward,
+    stripped_before_it_is_dated, the_first_request_is_forwarded, the_rest_goes_on,
+    what_goes_past_the_cache,
 };
 pub use request_view::Asked;
 pub use response_view::Answered;

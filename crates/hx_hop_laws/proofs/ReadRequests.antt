@@ -67,26 +67,26 @@ of_body false head Short r rest is = absurd cc
 of_body ended head (Bad f) r rest is = absurd cc
 of_body ended head (Whole content behind) r rest is = (content, cc)
 
-of_plan : (max_body : ℕ) (ended told : Bool) (head : Head) (bytes : List ℕ) (plan : Result _ FrameFault) (r : Request) (rest : List ℕ)
-    → Spelled r rest ≡ with_request_body max_body ended told head bytes plan → (content : Option (List ℕ)) × (r ≡ request_of head content)
-of_plan max_body ended told head bytes (Err f) r rest is = absurd cc
-of_plan max_body ended told head bytes (Ok plan) r rest is = by_test (plan.wants_continue && not told) is
+of_plan : (max_body : ℕ) (ended continue_sent : Bool) (head : Head) (bytes : List ℕ) (plan : Result _ FrameFault) (r : Request) (rest : List ℕ)
+    → Spelled r rest ≡ with_request_body max_body ended continue_sent head bytes plan → (content : Option (List ℕ)) × (r ≡ request_of head content)
+of_plan max_body ended continue_sent head bytes (Err f) r rest is = absurd cc
+of_plan max_body ended continue_sent head bytes (Ok plan) r rest is = by_test (plan.wants_continue && not continue_sent) is
   where
     by_test : (t : Bool) → Spelled r rest ≡ cond t Continue (with_body ended (request_of head) (body_at max_body plan.framing false bytes)) → (content : Option (List ℕ)) × (r ≡ request_of head content)
     by_test true h = absurd cc
     by_test false h = of_body ended head (body_at max_body plan.framing false bytes) r rest h
 
-of_head : (max_body : ℕ) (ended told : Bool) (bytes behind : List ℕ) (judged : Result Head FrameFault) (r : Request) (rest : List ℕ)
-    → Judges bytes judged → Spelled r rest ≡ with_head max_body ended told behind judged → IsClean r
-of_head max_body ended told bytes behind (Err f) r rest judges is = absurd cc
-of_head max_body ended told bytes behind (Ok head) r rest (h, is_head, same) is =
-    let made = of_plan max_body ended told head behind (request_body_of max_body head) r rest is in
+of_head : (max_body : ℕ) (ended continue_sent : Bool) (bytes behind : List ℕ) (judged : Result Head FrameFault) (r : Request) (rest : List ℕ)
+    → Judges bytes judged → Spelled r rest ≡ with_head max_body ended continue_sent behind judged → IsClean r
+of_head max_body ended continue_sent bytes behind (Err f) r rest judges is = absurd cc
+of_head max_body ended continue_sent bytes behind (Ok head) r rest (h, is_head, same) is =
+    let made = of_plan max_body ended continue_sent head behind (request_body_of max_body head) r rest is in
     subst IsClean (sym (made.1 ∙ ap (λ (g : Head). request_of g made.0) same)) (head_is_clean bytes h made.0 is_head)
 
-by_length : (max_body : ℕ) (ended told : Bool) (bytes : List ℕ) (o : Option ℕ) (r : Request) (rest : List ℕ)
-    → ReadsBy max_body ended told bytes o (Spelled r rest) → IsClean r
-by_length max_body ended told bytes None r rest reads = absurd (no_request ended bytes r rest reads)
-by_length max_body ended told bytes (Some n) r rest (judged, judges, is) = of_head max_body ended told (take n bytes) (drop n bytes) judged r rest judges is
+by_length : (max_body : ℕ) (ended continue_sent : Bool) (bytes : List ℕ) (o : Option ℕ) (r : Request) (rest : List ℕ)
+    → ReadsBy max_body ended continue_sent bytes o (Spelled r rest) → IsClean r
+by_length max_body ended continue_sent bytes None r rest reads = absurd (no_request ended bytes r rest reads)
+by_length max_body ended continue_sent bytes (Some n) r rest (judged, judges, is) = of_head max_body ended continue_sent (take n bytes) (drop n bytes) judged r rest judges is
 
-pub read_is_clean : (max_body : ℕ) (ended told : Bool) (bytes : List ℕ) (r : Request) (rest : List ℕ) → Reads max_body ended told bytes (Spelled r rest) → IsClean r
-read_is_clean max_body ended told bytes r rest reads = by_length max_body ended told bytes (head_length (take most_head_bytes bytes)) r rest reads
+pub read_is_clean : (max_body : ℕ) (ended continue_sent : Bool) (bytes : List ℕ) (r : Request) (rest : List ℕ) → Reads max_body ended continue_sent bytes (Spelled r rest) → IsClean r
+read_is_clean max_body ended continue_sent bytes r rest reads = by_length max_body ended continue_sent bytes (head_length (take most_head_bytes bytes)) r rest reads

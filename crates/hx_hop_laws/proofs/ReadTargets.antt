@@ -14,8 +14,8 @@ use Rattle.hx_target.specs.declared.faults.TargetFault.{TargetFault}
 use Rattle.hx_target.specs.declared.faults.TargetFault.TheVariants.{Form, Scheme, Host, Port, Userinfo, Escape, DotSegment, TooLong}
 use Rattle.hx_target.specs.declared.targets.Target.{Target}
 use Rattle.hx_target.specs.Hosts.{host_part, if_port, is_address, is_address_byte, is_host, is_name, is_name_byte, lowercase, port_of, short_number}
-use Rattle.hx_target.specs.Judgement.{Judged, Question, fault_or_target, first_fault, is_bad_byte, is_malformed, judged_of, named, path_query_of, question_of, stands, target_of}
-use Rattle.hx_target.proofs.Judgements.{none_stands}
+use Rattle.hx_target.specs.Judgement.{Judged, Question, fault_or_target, first_fault, is_bad_byte, is_malformed, judged_of, named, path_query_of, question_of, applies, target_of}
+use Rattle.hx_target.proofs.Judgements.{none_applies}
 
 -- a byte from `!` to `~`
 pub record IsVisible (b : ℕ) : Type 0 where
@@ -153,9 +153,9 @@ pub record IsCleanTarget (target : Target) : Type 0 where
 
 valid_host : (q : Question) → first_fault q ≡ None → is_host (host_part (named q)) ≡ true
 valid_host q none =
-    let form = none_stands (stands Form q) (find (λ fault. stands fault q) (Scheme ∷ Host ∷ Port ∷ Userinfo ∷ Escape ∷ DotSegment ∷ TooLong ∷ [])) Form none in
-    let scheme = none_stands (stands Scheme q) (find (λ fault. stands fault q) (Host ∷ Port ∷ Userinfo ∷ Escape ∷ DotSegment ∷ TooLong ∷ [])) Scheme form.1 in
-    let host = none_stands (stands Host q) (find (λ fault. stands fault q) (Port ∷ Userinfo ∷ Escape ∷ DotSegment ∷ TooLong ∷ [])) Host scheme.1 in
+    let form = none_applies (applies Form q) (find (λ fault. applies fault q) (Scheme ∷ Host ∷ Port ∷ Userinfo ∷ Escape ∷ DotSegment ∷ TooLong ∷ [])) Form none in
+    let scheme = none_applies (applies Scheme q) (find (λ fault. applies fault q) (Host ∷ Port ∷ Userinfo ∷ Escape ∷ DotSegment ∷ TooLong ∷ [])) Scheme form.1 in
+    let host = none_applies (applies Host q) (find (λ fault. applies fault q) (Port ∷ Userinfo ∷ Escape ∷ DotSegment ∷ TooLong ∷ [])) Host scheme.1 in
     (both _ _ (last_not _ _ host.0)).0
   where
     last_not : (a b : Bool) → a || not b ≡ false → b ≡ true

@@ -153,8 +153,8 @@ lines_fit request target name conditions clean aim token are =
 
 pub sends_parts_as_they_are : SendsPartsAsTheyAre
 unfolding forwarded_of
-sends_parts_as_they_are max_body most ended told bytes rest request target name conditions reads judged token are small limits =
-    let clean = read_is_clean max_body ended told bytes request rest reads in
+sends_parts_as_they_are max_body most ended continue_sent bytes rest request target name conditions reads judged token are small limits =
+    let clean = read_is_clean max_body ended continue_sent bytes request rest reads in
     let aim = target_is_clean request.target (values_of request.fields (codes "Host")) target judged in
     record {
       method = clean.method;
@@ -170,6 +170,6 @@ sends_parts_as_they_are max_body most ended told bytes rest request target name 
     }
 
 pub forwards_one_request : ForwardsOneRequest
-forwards_one_request max_body most ended told bytes rest request target name conditions reads judged token are small limits over continued behind =
+forwards_one_request max_body most ended continue_sent bytes rest request target name conditions reads judged token are small limits over continued behind =
     request_back (forwarded_of (asked_of request target) name conditions) most over continued behind
-    (sends_parts_as_they_are max_body most ended told bytes rest request target name conditions reads judged token are small limits) limits.content
+    (sends_parts_as_they_are max_body most ended continue_sent bytes rest request target name conditions reads judged token are small limits) limits.content

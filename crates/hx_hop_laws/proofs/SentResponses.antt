@@ -11,7 +11,7 @@ use Rattle.hx_fields.specs.declared.field_line.Field.{Field}
 use Rattle.hx_fields.specs.Lines.{has, is_named, without_named}
 use Rattle.hx_framing.specs.declared.messages.Response.{Response}
 use Rattle.hx_framing.specs.declared.heads.status_head.StatusHead.{StatusHead}
-use Rattle.hx_framing.specs.ContentLength.{announced_up_to, length_told}
+use Rattle.hx_framing.specs.ContentLength.{announced_up_to, length_shown}
 use Rattle.hx_framing.specs.Lengths.{announced_of, is_interim, is_without_content, transfer_encoding, without_lengths}
 use Rattle.hx_framing.specs.Reading.{Spelled}
 use Rattle.hx_framing.specs.ResponseReading.{Reads, content_of, response_of}
@@ -57,9 +57,9 @@ below_limit true head = by_coding (has head.fields transfer_encoding)
         by_test true p = let low = leb-true n (2 ^ 64 - 1) p in omega arith
         by_test false p = tt
 
-    by_coding : (t : Bool) → IfSome (cond (true && not t) (announced_up_to (2 ^ 64 - 1) (length_told head.fields)) None) (λ n. n < 2 ^ 64)
+    by_coding : (t : Bool) → IfSome (cond (true && not t) (announced_up_to (2 ^ 64 - 1) (length_shown head.fields)) None) (λ n. n < 2 ^ 64)
     by_coding true = tt
-    by_coding false = by_length (length_told head.fields)
+    by_coding false = by_length (length_shown head.fields)
 
 pub clean : (max : ℕ) (h e : Bool) (bytes : List ℕ) (r : Response) (rest : List ℕ) → Reads max h e bytes (Spelled r rest) → IsCleanAnswer h r
 clean max h e bytes r rest reads =
@@ -125,16 +125,16 @@ sends_one_response max_body most now to_head ended close bytes rest r added read
           (dated_fit (stripped r.fields) now early (All-filter (λ f. not (is_hop_line r.fields f)) IsWritableField r.fields is.fields)) are.fields;
       lengths = sent_without r.fields added now (codes "content-length") is.lengths are.lengths refl;
       codings = sent_without r.fields added now (codes "transfer-encoding") is.codings are.codings refl;
-      small = told_small to_head is.announced limits.content;
+      small = shown_small to_head is.announced limits.content;
       without = none_sent to_head is.without;
-      behind = told to_head;
+      behind = shown to_head;
       few = limits.few;
       short = limits.short;
     }) limits.content
   where
-    told_small : (h : Bool) → IfSome r.announced (λ n. n < 2 ^ 64) → length (cond h [] r.content) ≤ most
+    shown_small : (h : Bool) → IfSome r.announced (λ n. n < 2 ^ 64) → length (cond h [] r.content) ≤ most
         → IfSome (cond ((r.status == 204) || (r.status == 304)) None (cond h r.announced (Some (length r.content)))) (λ n. n < 2 ^ 64)
-    told_small h announced within = by_status ((r.status == 204) || (r.status == 304)) h announced within
+    shown_small h announced within = by_status ((r.status == 204) || (r.status == 304)) h announced within
       where
         by_status : (t h : Bool) → IfSome r.announced (λ n. n < 2 ^ 64) → length (cond h [] r.content) ≤ most → IfSome (cond t None (cond h r.announced (Some (length r.content)))) (λ n. n < 2 ^ 64)
         by_status true h announced within = tt
@@ -145,10 +145,10 @@ sends_one_response max_body most now to_head ended close bytes rest r added read
     none_sent true none without = refl
     none_sent false none without = none without
 
-    told : (h : Bool) → is_without_content h r.status ≡ false
+    shown : (h : Bool) → is_without_content h r.status ≡ false
         → cond ((r.status == 204) || (r.status == 304)) None (cond h r.announced (Some (length r.content))) ≡ Some (length (cond h [] r.content))
-    told true some = absurd cc
-    told false some = by_tests (is_interim r.status) (r.status == 204) (r.status == 304) some
+    shown true some = absurd cc
+    shown false some = by_tests (is_interim r.status) (r.status == 204) (r.status == 304) some
       where
         by_tests : (i s t : Bool) → (false || i || s || t) ≡ false → cond (s || t) None (Some (length r.content)) ≡ Some (length r.content)
         by_tests true s t h = absurd cc

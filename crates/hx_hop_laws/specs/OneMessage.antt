@@ -41,17 +41,18 @@ pub record IsWithinLimits (max_body : ℕ) (sent : Request) : Type 0 where
   pub content : length (content_bytes sent.content) ≤ max_body
 
 abbrev pub ReadsCleanParts : Type 0
-ReadsCleanParts = (max_body : ℕ) (ended told : Bool) (bytes rest : List ℕ) (request : Request)
-    → Reads max_body ended told bytes (Spelled request rest) → IsClean request
+ReadsCleanParts = (max_body : ℕ) (ended continue_sent : Bool) (bytes rest : List ℕ) (request : Request)
+    → Reads max_body ended continue_sent bytes (Spelled request rest) → IsClean request
 
 -- what was read and asked goes forward in parts that stand in its text as they are: no CR, no LF
 -- and no blank in the method and the target, no CR or LF in a field line, and no length, coding or
 -- expectation of the client's
 abbrev pub SendsPartsAsTheyAre : Type 0
 SendsPartsAsTheyAre =
-    (max_body most : ℕ) (ended told : Bool) (bytes rest : List ℕ) (request : Request) (target : Target) (name : List ℕ)
+    (max_body most : ℕ) (ended continue_sent : Bool) (bytes rest : List ℕ) (request : Request) (target : Target)
+    (name : List ℕ)
     (conditions : Option Conditions)
-    → Reads max_body ended told bytes (Spelled request rest)
+    → Reads max_body ended continue_sent bytes (Spelled request rest)
     → Judged request.target (values_of request.fields (codes "Host")) (Ok target)
     → IsToken name → IfSome conditions AreFieldValues
     → let sent = forwarded_of (asked_of request target) name conditions in
@@ -61,9 +62,10 @@ SendsPartsAsTheyAre =
 -- whatever stands behind it: it is read back as it was sent, and what stands behind it is left
 abbrev pub ForwardsOneRequest : Type 0
 ForwardsOneRequest =
-    (max_body most : ℕ) (ended told : Bool) (bytes rest : List ℕ) (request : Request) (target : Target) (name : List ℕ)
+    (max_body most : ℕ) (ended continue_sent : Bool) (bytes rest : List ℕ) (request : Request) (target : Target)
+    (name : List ℕ)
     (conditions : Option Conditions)
-    → Reads max_body ended told bytes (Spelled request rest)
+    → Reads max_body ended continue_sent bytes (Spelled request rest)
     → Judged request.target (values_of request.fields (codes "Host")) (Ok target)
     → IsToken name → IfSome conditions AreFieldValues
     → let sent = forwarded_of (asked_of request target) name conditions in

@@ -20,7 +20,7 @@ abbrev pub sent_on : Bool → Response → ℕ → List Field → Bool → SentR
 sent_on to_head r now added close = record {
   status = r.status;
   fields = (answered_of r now).fields ++ added;
-  told = if (r.status == 204) || (r.status == 304) then None
+  shown = if (r.status == 204) || (r.status == 304) then None
       else (if to_head then r.announced else Some (length r.content));
   close = close;
   content = if to_head then [] else r.content;

@@ -7,7 +7,7 @@ use Rattle.hx_policy.specs.declared.words.Policy.{Policy}
 use Rattle.hx_reuse.specs.declared.rule.ReuseRule.{ReuseRule}
 use Rattle.hx_reuse.specs.declared.rule.ReuseRule.TheVariants.{Operator, Method, Content, Range, Precondition, UriMiss, VaryMiss, ResponseNoCache, RequestNoCache, AboveMaxAge, BelowMinFresh, MustRevalidate, NoLifetime, StaleNoCache, NoMaxStale, PastMaxStale, StaleMaxAge, StaleMinFresh}
 use Rattle.hx_reuse.specs.Words.{number_of}
-use Rattle.hx_reuse.specs.Rules.{stands, reuse_rules, reuse_rule_of}
+use Rattle.hx_reuse.specs.Rules.{applies, reuse_rules, reuse_rule_of}
 use Rattle.hx_reuse.specs.Meaning.{IsLeast}
 use Rattle.hx_fields.proofs.FirstThat.{IsMember, ascends, passes, fails_before, none_passes, none_found, first_found}
 
@@ -41,18 +41,18 @@ module _ (policy : Policy) (held : List Stored) (asked : Asked) (now : ℕ) wher
   unfolding reuse_rule_of
   rule_is_least rule h =
       record {
-        it_stands = passes number_of (λ r. stands r policy held asked now) reuse_rules rule h;
-        none_before = λ r l. fails_before number_of (λ r. stands r policy held asked now) 0 reuse_rules rule r in_order h (listed r) l;
+        it_applies = passes number_of (λ r. applies r policy held asked now) reuse_rules rule h;
+        none_before = λ r l. fails_before number_of (λ r. applies r policy held asked now) 0 reuse_rules rule r in_order h (listed r) l;
       }
 
   pub least_is_rule : (rule : ReuseRule) → IsLeast policy held asked now rule → reuse_rule_of policy held asked now ≡ Some rule
   unfolding reuse_rule_of
-  least_is_rule rule least = first_found number_of (λ r. stands r policy held asked now) 0 reuse_rules rule in_order (listed rule) least.it_stands least.none_before
+  least_is_rule rule least = first_found number_of (λ r. applies r policy held asked now) 0 reuse_rules rule in_order (listed rule) least.it_applies least.none_before
 
-  pub no_rule_stands : reuse_rule_of policy held asked now ≡ None → (rule : ReuseRule) → stands rule policy held asked now ≡ false
+  pub no_rule_applies : reuse_rule_of policy held asked now ≡ None → (rule : ReuseRule) → applies rule policy held asked now ≡ false
   unfolding reuse_rule_of
-  no_rule_stands h rule = none_passes number_of (λ r. stands r policy held asked now) reuse_rules rule h (listed rule)
+  no_rule_applies h rule = none_passes number_of (λ r. applies r policy held asked now) reuse_rules rule h (listed rule)
 
-  pub no_rule_found : ((rule : ReuseRule) → stands rule policy held asked now ≡ false) → reuse_rule_of policy held asked now ≡ None
+  pub no_rule_found : ((rule : ReuseRule) → applies rule policy held asked now ≡ false) → reuse_rule_of policy held asked now ≡ None
   unfolding reuse_rule_of
-  no_rule_found none = none_found number_of (λ r. stands r policy held asked now) reuse_rules none
+  no_rule_found none = none_found number_of (λ r. applies r policy held asked now) reuse_rules none

@@ -23,10 +23,10 @@ use Rattle.hx_reuse.specs.declared.rule.ErrorRule.{ErrorRule}
 use Rattle.hx_reuse.specs.declared.rule.ErrorRule.TheVariants as on_error
 use Rattle.hx_reuse.specs.Chosen.{chosen_of}
 use Rattle.hx_reuse.specs.Lifetimes.{given, lifetime_under}
-use Rattle.hx_reuse.specs.Rules.{Standing, stands_at, standing, fresh, asks_to_validate, above_max_age, below_min_fresh, asks_for_freshness, accepts_stale, past_limit, is_some_and, against, stands, reuse_rules, reuse_rule_of, decided, decision_of}
-use Rattle.hx_reuse.specs.ErrorRules.{stated_once, response_limit, request_limit, operator_limit, is_past, against_on_error, error_rules, standing_on, error_rule_on, leave_of, leave_on_error}
+use Rattle.hx_reuse.specs.Rules.{Situation, situation_at, situation, fresh, asks_to_validate, above_max_age, below_min_fresh, asks_for_freshness, accepts_stale, past_limit, is_some_and, against, applies, reuse_rules, reuse_rule_of, decided, decision_of}
+use Rattle.hx_reuse.specs.ErrorRules.{stated_once, response_limit, request_limit, operator_limit, is_past, against_on_error, error_rules, situation_on, error_rule_on, leave_of, leave_on_error}
 use Rattle.hx_reuse.specs.OnError.{staleness_at}
-use Rattle.hx_reuse.specs.PlainLines.{plain_against, plain_against_chosen, plain_stands, plain_decision_of, plain_against_on_error, plain_leave_on_error}
+use Rattle.hx_reuse.specs.PlainLines.{plain_against, plain_against_chosen, plain_applies, plain_decision_of, plain_against_on_error, plain_leave_on_error}
 use Rattle.hx_reuse.specs.LineWords.{asks_advice, AsksTheSame, SaysNoLimit, without_limit}
 use Rattle.hx_fields.proofs.JoinedTests.{never, first_absent, last_absent, neither, or_right, has_value, is_below, is_not_below}
 use Rattle.hx_reuse.proofs.OnErrorLemmas.{is_given}
@@ -77,7 +77,7 @@ plain_lifetime caches status fields =
 -- ---- a line without words
 
 pub plain_rule : (caches : Bool) (which : ReuseRule) (lifetime : Lifetime) (age : ℕ) (response request : List Occurrence) →
-    against which (stands_at (plain caches) lifetime age response request) ≡ plain_against which lifetime age response request
+    against which (situation_at (plain caches) lifetime age response request) ≡ plain_against which lifetime age response request
 plain_rule caches Operator lifetime age response request = refl
 plain_rule caches Method lifetime age response request = refl
 plain_rule caches Content lifetime age response request = refl
@@ -105,53 +105,53 @@ last_false : (a b : Bool) → b ≡ false → a || b ≡ a
 last_false true b h = refl
 last_false false b h = h
 
-no_limit : (caches : Bool) (lifetime : Lifetime) (age : ℕ) (response request : List Occurrence) → operator_limit (stands_at (plain caches) lifetime age response request) ≡ None
+no_limit : (caches : Bool) (lifetime : Lifetime) (age : ℕ) (response request : List Occurrence) → operator_limit (situation_at (plain caches) lifetime age response request) ≡ None
 no_limit caches lifetime age response request = same_none (has response StaleIfError || has request StaleIfError)
 
 pub plain_error_rule : (caches : Bool) (which : ErrorRule) (lifetime : Lifetime) (age : ℕ) (response request : List Occurrence) →
-    against_on_error which (stands_at (plain caches) lifetime age response request) ≡ plain_against_on_error which lifetime age response request
+    against_on_error which (situation_at (plain caches) lifetime age response request) ≡ plain_against_on_error which lifetime age response request
 plain_error_rule caches on_error.NoCache lifetime age response request = refl
 plain_error_rule caches on_error.MustRevalidate lifetime age response request = refl
 plain_error_rule caches on_error.NoLifetime lifetime age response request = refl
 plain_error_rule caches on_error.RequestNoCache lifetime age response request = refl
 plain_error_rule caches on_error.NoDirective lifetime age response request =
-    let s : Standing = stands_at (plain caches) lifetime age response request in
+    let s : Situation = situation_at (plain caches) lifetime age response request in
     last_none (is_none (response_limit s) && is_none (request_limit s)) (is_none (operator_limit s)) (ap is_none (no_limit caches lifetime age response request))
 plain_error_rule caches on_error.TooStale lifetime age response request =
-    let s : Standing = stands_at (plain caches) lifetime age response request in
+    let s : Situation = situation_at (plain caches) lifetime age response request in
     last_false (is_past s (response_limit s) || is_past s (request_limit s)) (is_past s (operator_limit s)) (ap (is_past s) (no_limit caches lifetime age response request))
 
-plain_chosen : (caches : Bool) (which : ReuseRule) (e : Stored) (asked : Asked) (now : ℕ) → against which (standing (plain caches) e asked now) ≡ plain_against_chosen which e asked now
+plain_chosen : (caches : Bool) (which : ReuseRule) (e : Stored) (asked : Asked) (now : ℕ) → against which (situation (plain caches) e asked now) ≡ plain_against_chosen which e asked now
 plain_chosen caches which e asked now =
-    ap (λ (l : Lifetime). against which (stands_at (plain caches) l (age_of e.times now) (occurrences_of e.fields) (occurrences_of asked.fields))) (plain_lifetime caches e.status e.fields)
+    ap (λ (l : Lifetime). against which (situation_at (plain caches) l (age_of e.times now) (occurrences_of e.fields) (occurrences_of asked.fields))) (plain_lifetime caches e.status e.fields)
     ∙ plain_rule caches which (lifetime_of e.fields) (age_of e.times now) (occurrences_of e.fields) (occurrences_of asked.fields)
 
 module _ (caches : Bool) (held : List Stored) (asked : Asked) (now : ℕ) where
-  plain_stand : (which : ReuseRule) → stands which (plain caches) held asked now ≡ plain_stands which caches held asked now
-  plain_stand Operator = refl
-  plain_stand Method = refl
-  plain_stand Content = refl
-  plain_stand Range = refl
-  plain_stand Precondition = refl
-  plain_stand UriMiss = refl
-  plain_stand VaryMiss = refl
-  plain_stand which =
-      same_of_some (λ e. against which (standing (plain caches) e asked now)) (λ e. plain_against_chosen which e asked now) (chosen_of held asked)
+  plain_apply : (which : ReuseRule) → applies which (plain caches) held asked now ≡ plain_applies which caches held asked now
+  plain_apply Operator = refl
+  plain_apply Method = refl
+  plain_apply Content = refl
+  plain_apply Range = refl
+  plain_apply Precondition = refl
+  plain_apply UriMiss = refl
+  plain_apply VaryMiss = refl
+  plain_apply which =
+      same_of_some (λ e. against which (situation (plain caches) e asked now)) (λ e. plain_against_chosen which e asked now) (chosen_of held asked)
       (λ e. plain_chosen caches which e asked now)
 
   pub plain_decides : decision_of (plain caches) held asked now ≡ plain_decision_of caches held asked now
   unfolding decision_of reuse_rule_of plain_decision_of
   plain_decides =
       ap (λ (o : Option ReuseRule). decided o (option_map (λ e. e.serial) (chosen_of held asked)))
-      (same_found (λ which. stands which (plain caches) held asked now) (λ which. plain_stands which caches held asked now) reuse_rules plain_stand)
+      (same_found (λ which. applies which (plain caches) held asked now) (λ which. plain_applies which caches held asked now) reuse_rules plain_apply)
 
 pub plain_leaves : (caches : Bool) (response : Stored) (request : List Occurrence) (now : ℕ) → leave_on_error (plain caches) response request now ≡ plain_leave_on_error response request now
 unfolding error_rule_on plain_leave_on_error
 plain_leaves caches response request now =
     let age = age_of response.times now in
     let directives = occurrences_of response.fields in
-    ap leave_of (same_found (λ which. against_on_error which (standing_on (plain caches) response request now)) (λ which. plain_against_on_error which (lifetime_of response.fields) age directives request) error_rules
-    (λ which. ap (λ (l : Lifetime). against_on_error which (stands_at (plain caches) l age directives request)) (plain_lifetime caches response.status response.fields)
+    ap leave_of (same_found (λ which. against_on_error which (situation_on (plain caches) response request now)) (λ which. plain_against_on_error which (lifetime_of response.fields) age directives request) error_rules
+    (λ which. ap (λ (l : Lifetime). against_on_error which (situation_at (plain caches) l age directives request)) (plain_lifetime caches response.status response.fields)
     ∙ plain_error_rule caches which (lifetime_of response.fields) age directives request))
 
 -- ---- a request's advice
@@ -159,57 +159,57 @@ plain_leaves caches response request now =
 unheeded : (word test : Bool) → word ≡ false → word && test ≡ false
 unheeded word test h = first_absent word test h
 
-pub advice_never_stands : (which : ReuseRule) (s : Standing) → s.policy.heeds_requests ≡ false → asks_advice which ≡ true → against which s ≡ false
-advice_never_stands RequestNoCache s h is = last_absent (fresh s) (asks_to_validate s) (unheeded s.policy.heeds_requests _ h)
-advice_never_stands AboveMaxAge s h is = last_absent (fresh s) (above_max_age s) (unheeded s.policy.heeds_requests _ h)
-advice_never_stands BelowMinFresh s h is = last_absent (fresh s) (below_min_fresh s) (unheeded s.policy.heeds_requests _ h)
-advice_never_stands StaleNoCache s h is = last_absent (not (fresh s)) (asks_to_validate s) (unheeded s.policy.heeds_requests _ h)
-advice_never_stands StaleMaxAge s h is = last_absent (not (fresh s)) (above_max_age s) (unheeded s.policy.heeds_requests _ h)
-advice_never_stands StaleMinFresh s h is = last_absent (not (fresh s)) (asks_for_freshness s) (unheeded s.policy.heeds_requests _ h)
-advice_never_stands which s h is = absurd (never (sym is))
+pub advice_never_applies : (which : ReuseRule) (s : Situation) → s.policy.heeds_requests ≡ false → asks_advice which ≡ true → against which s ≡ false
+advice_never_applies RequestNoCache s h is = last_absent (fresh s) (asks_to_validate s) (unheeded s.policy.heeds_requests _ h)
+advice_never_applies AboveMaxAge s h is = last_absent (fresh s) (above_max_age s) (unheeded s.policy.heeds_requests _ h)
+advice_never_applies BelowMinFresh s h is = last_absent (fresh s) (below_min_fresh s) (unheeded s.policy.heeds_requests _ h)
+advice_never_applies StaleNoCache s h is = last_absent (not (fresh s)) (asks_to_validate s) (unheeded s.policy.heeds_requests _ h)
+advice_never_applies StaleMaxAge s h is = last_absent (not (fresh s)) (above_max_age s) (unheeded s.policy.heeds_requests _ h)
+advice_never_applies StaleMinFresh s h is = last_absent (not (fresh s)) (asks_for_freshness s) (unheeded s.policy.heeds_requests _ h)
+advice_never_applies which s h is = absurd (never (sym is))
 
-pub advice_never_on_error : (s : Standing) → s.policy.heeds_requests ≡ false → against_on_error on_error.RequestNoCache s ≡ false
+pub advice_never_on_error : (s : Situation) → s.policy.heeds_requests ≡ false → against_on_error on_error.RequestNoCache s ≡ false
 advice_never_on_error s h = unheeded s.policy.heeds_requests _ h
 
 module _ (policy : Policy) (off : policy.heeds_requests ≡ false) (lifetime : Lifetime) (age : ℕ) (response one two : List Occurrence) (same : max_stale one ≡ max_stale two) where
-  abbrev here : Standing
-  here = stands_at policy lifetime age response one
+  abbrev here : Situation
+  here = situation_at policy lifetime age response one
 
-  abbrev there : Standing
-  there = stands_at policy lifetime age response two
+  abbrev there : Situation
+  there = situation_at policy lifetime age response two
 
   -- of the request's directives nothing counts but max-stale
   advice_is_none : (which : ReuseRule) → against which here ≡ against which there
-  advice_is_none RequestNoCache = advice_never_stands RequestNoCache here off refl ∙ sym (advice_never_stands RequestNoCache there off refl)
-  advice_is_none AboveMaxAge = advice_never_stands AboveMaxAge here off refl ∙ sym (advice_never_stands AboveMaxAge there off refl)
-  advice_is_none BelowMinFresh = advice_never_stands BelowMinFresh here off refl ∙ sym (advice_never_stands BelowMinFresh there off refl)
-  advice_is_none StaleNoCache = advice_never_stands StaleNoCache here off refl ∙ sym (advice_never_stands StaleNoCache there off refl)
-  advice_is_none StaleMaxAge = advice_never_stands StaleMaxAge here off refl ∙ sym (advice_never_stands StaleMaxAge there off refl)
-  advice_is_none StaleMinFresh = advice_never_stands StaleMinFresh here off refl ∙ sym (advice_never_stands StaleMinFresh there off refl)
+  advice_is_none RequestNoCache = advice_never_applies RequestNoCache here off refl ∙ sym (advice_never_applies RequestNoCache there off refl)
+  advice_is_none AboveMaxAge = advice_never_applies AboveMaxAge here off refl ∙ sym (advice_never_applies AboveMaxAge there off refl)
+  advice_is_none BelowMinFresh = advice_never_applies BelowMinFresh here off refl ∙ sym (advice_never_applies BelowMinFresh there off refl)
+  advice_is_none StaleNoCache = advice_never_applies StaleNoCache here off refl ∙ sym (advice_never_applies StaleNoCache there off refl)
+  advice_is_none StaleMaxAge = advice_never_applies StaleMaxAge here off refl ∙ sym (advice_never_applies StaleMaxAge there off refl)
+  advice_is_none StaleMinFresh = advice_never_applies StaleMinFresh here off refl ∙ sym (advice_never_applies StaleMinFresh there off refl)
   advice_is_none NoMaxStale = ap (λ (m : MaxStale). not (fresh here) && not (accepts_stale m)) same
   advice_is_none PastMaxStale = ap (λ (m : MaxStale). not (fresh here) && past_limit (age - lifetime.seconds) m) same
   advice_is_none which = refl
 
 module _ (policy : Policy) (held : List Stored) (asked other : Asked) (now : ℕ) (off : policy.heeds_requests ≡ false) (like : AsksTheSame held asked other) where
-  same_stand : (which : ReuseRule) → stands which policy held asked now ≡ stands which policy held other now
-  same_stand Operator = refl
-  same_stand Method = ap (λ (m : List ℕ). not (bytes_eq m (codes "GET") || bytes_eq m (codes "HEAD"))) like.same_method
-  same_stand Content = like.same_content
-  same_stand Range = like.same_range
-  same_stand Precondition = like.same_precondition
-  same_stand UriMiss = ap (λ (k : Key). length (filter (λ e. same_key e.key k) held) == 0) like.one_key
-  same_stand VaryMiss = ap is_none like.same_choice
-  same_stand which =
-      same_of_some (λ e. against which (standing policy e asked now)) (λ e. against which (standing policy e other now)) (chosen_of held asked)
+  same_apply : (which : ReuseRule) → applies which policy held asked now ≡ applies which policy held other now
+  same_apply Operator = refl
+  same_apply Method = ap (λ (m : List ℕ). not (bytes_eq m (codes "GET") || bytes_eq m (codes "HEAD"))) like.same_method
+  same_apply Content = like.same_content
+  same_apply Range = like.same_range
+  same_apply Precondition = like.same_precondition
+  same_apply UriMiss = ap (λ (k : Key). length (filter (λ e. same_key e.key k) held) == 0) like.one_key
+  same_apply VaryMiss = ap is_none like.same_choice
+  same_apply which =
+      same_of_some (λ e. against which (situation policy e asked now)) (λ e. against which (situation policy e other now)) (chosen_of held asked)
       (λ e. advice_is_none policy off (lifetime_under policy e.status e.fields) (age_of e.times now) (occurrences_of e.fields) (occurrences_of asked.fields) (occurrences_of other.fields) like.same_max_stale which)
-      ∙ ap (is_some_and (λ e. against which (standing policy e other now))) like.same_choice
+      ∙ ap (is_some_and (λ e. against which (situation policy e other now))) like.same_choice
 
   pub advice_decides_nothing : decision_of policy held asked now ≡ decision_of policy held other now
   unfolding decision_of reuse_rule_of
   advice_decides_nothing =
-      let rule = same_found (λ which. stands which policy held asked now) (λ which. stands which policy held other now) reuse_rules same_stand in
+      let rule = same_found (λ which. applies which policy held asked now) (λ which. applies which policy held other now) reuse_rules same_apply in
       ap (λ (o : Option ReuseRule). decided o (option_map (λ e. e.serial) (chosen_of held asked))) rule
-      ∙ ap (λ (c : Option Stored). decided (find (λ which. stands which policy held other now) reuse_rules) (option_map (λ e. e.serial) c)) like.same_choice
+      ∙ ap (λ (c : Option Stored). decided (find (λ which. applies which policy held other now) reuse_rules) (option_map (λ e. e.serial) c)) like.same_choice
 
 -- ---- a staleness after an error
 
@@ -229,8 +229,8 @@ none_valid : (found : List Occurrence) → has found StaleIfError ≡ false → 
 none_valid found h = rw (none_occurs found StaleIfError h) refl
 
 module _ (policy : Policy) (response : Stored) (request : List Occurrence) (now most : ℕ) (silent : SaysNoLimit response request) (word : policy.stale_if_error ≡ Some most) where
-  abbrev s : Standing
-  s = standing_on policy response request now
+  abbrev s : Situation
+  s = situation_on policy response request now
 
   limit_is : operator_limit s ≡ Some most
   limit_is =
@@ -253,11 +253,11 @@ module _ (policy : Policy) (response : Stored) (request : List Occurrence) (now 
       (past_by (operator_limit s) true limit_is (is_below most (staleness_at policy response now) past))
 
 module _ (policy : Policy) (response : Stored) (request : List Occurrence) (now : ℕ) where
-  abbrev with : Standing
-  with = standing_on policy response request now
+  abbrev with : Situation
+  with = situation_on policy response request now
 
-  abbrev without : Standing
-  without = standing_on (without_limit policy) response request now
+  abbrev without : Situation
+  without = situation_on (without_limit policy) response request now
 
   one_says : (a b : Bool) (o p : Option ℕ) → (a ≡ true) ⊎ (b ≡ true) → cond (a || b) None o ≡ cond (a || b) None p
   one_says true b o p h = refl

@@ -10,9 +10,9 @@ use Rattle.hx_reuse.specs.declared.decision.Decision.TheVariants.{Hit, Forward}
 use Rattle.hx_reuse.specs.declared.rule.ReuseRule.{ReuseRule}
 use Rattle.hx_reuse.specs.declared.rule.ReuseRule.TheVariants.{Operator, Method, Content, Range, Precondition, UriMiss, VaryMiss}
 use Rattle.hx_reuse.specs.Chosen.{chosen_of}
-use Rattle.hx_reuse.specs.Rules.{stands, against, standing, is_some_and, names_entry, reuse_rule_of, decided, decision_of}
+use Rattle.hx_reuse.specs.Rules.{applies, against, situation, is_some_and, names_entry, reuse_rule_of, decided, decision_of}
 use Rattle.hx_reuse.specs.Meaning.{IsChosen, MayBeSent, IsLeast, NamesTheResponse}
-use Rattle.hx_reuse.proofs.LeastRule.{rule_is_least, least_is_rule, no_rule_stands, no_rule_found}
+use Rattle.hx_reuse.proofs.LeastRule.{rule_is_least, least_is_rule, no_rule_applies, no_rule_found}
 use Rattle.hx_reuse.proofs.Choice.{chosen_is_latest, chosen_is_held, found_by_serial}
 
 same_hit : (m n : ℕ) → Hit m ≡ Hit n → m ≡ n
@@ -55,7 +55,7 @@ never_true : false ≡ true → ⊥
 never_true h = cc
 
 -- a rule on the chosen response stands only where there is one
-entry_there : (policy : Policy) (held : List Stored) (asked : Asked) (now : ℕ) (rule : ReuseRule) → stands rule policy held asked now ≡ true → names_entry rule ≡ true → (e : Stored) × (chosen_of held asked ≡ Some e)
+entry_there : (policy : Policy) (held : List Stored) (asked : Asked) (now : ℕ) (rule : ReuseRule) → applies rule policy held asked now ≡ true → names_entry rule ≡ true → (e : Stored) × (chosen_of held asked ≡ Some e)
 entry_there policy held asked now Operator h l = absurd (never_true l)
 entry_there policy held asked now Method h l = absurd (never_true l)
 entry_there policy held asked now Content h l = absurd (never_true l)
@@ -63,7 +63,7 @@ entry_there policy held asked now Range h l = absurd (never_true l)
 entry_there policy held asked now Precondition h l = absurd (never_true l)
 entry_there policy held asked now UriMiss h l = absurd (never_true l)
 entry_there policy held asked now VaryMiss h l = absurd (never_true l)
-entry_there policy held asked now rule h l = some_and (λ e. against rule (standing policy e asked now)) (chosen_of held asked) h
+entry_there policy held asked now rule h l = some_and (λ e. against rule (situation policy e asked now)) (chosen_of held asked) h
 
 -- a forward: the rule, and what is named with it
 forward_of : (o : Option ReuseRule) (s : Option ℕ) (rule : ReuseRule) (named : Option ℕ) → decided o s ≡ Forward rule named → (o ≡ Some rule) × (named ≡ cond (names_entry rule) s None)
@@ -81,8 +81,8 @@ module _ (policy : Policy) (held : List Stored) (asked : Asked) (now : ℕ) wher
   pub may_be_sent : (serial : ℕ) → decision_of policy held asked now ≡ Hit serial → MayBeSent policy held asked now serial
   unfolding decision_of serial_of
   may_be_sent serial h =
-      let r = hit_of (reuse_rule_of policy held asked now) (chosen_of held asked) serial h (λ none. no_rule_stands policy held asked now none VaryMiss) in
-      record { response = r.1.0; chosen_is = r.1.1; serial_is = r.1.2; no_rule = no_rule_stands policy held asked now r.0 }
+      let r = hit_of (reuse_rule_of policy held asked now) (chosen_of held asked) serial h (λ none. no_rule_applies policy held asked now none VaryMiss) in
+      record { response = r.1.0; chosen_is = r.1.1; serial_is = r.1.2; no_rule = no_rule_applies policy held asked now r.0 }
 
   pub is_sent : (serial : ℕ) → MayBeSent policy held asked now serial → decision_of policy held asked now ≡ Hit serial
   unfolding decision_of
@@ -101,7 +101,7 @@ module _ (policy : Policy) (held : List Stored) (asked : Asked) (now : ℕ) wher
       let may = may_be_sent serial h in
       ap (λ (s : ℕ). find_entry s held) (sym may.serial_is) ∙ found_by_serial held distinct may.response (chosen_is_held held asked may.response may.chosen_is) ∙ sym may.chosen_is
 
-  names_the_response : (rule : ReuseRule) (named : Option ℕ) → stands rule policy held asked now ≡ true
+  names_the_response : (rule : ReuseRule) (named : Option ℕ) → applies rule policy held asked now ≡ true
       → ((names_entry rule ≡ false) × (named ≡ None)) ⊎ ((names_entry rule ≡ true) × (named ≡ option_map (λ e. e.serial) (chosen_of held asked))) → NamesTheResponse held asked rule named
   names_the_response rule named h (inl low) = inl low
   names_the_response rule named h (inr high) =
@@ -113,7 +113,7 @@ module _ (policy : Policy) (held : List Stored) (asked : Asked) (now : ℕ) wher
   names_the_least rule named h =
       let r = forward_of (reuse_rule_of policy held asked now) (option_map (λ e. e.serial) (chosen_of held asked)) rule named h in
       let least = rule_is_least policy held asked now rule r.0 in
-      (least, names_the_response rule named least.it_stands (named_by rule (option_map (λ e. e.serial) (chosen_of held asked)) named (names_entry rule) refl r.1))
+      (least, names_the_response rule named least.it_applies (named_by rule (option_map (λ e. e.serial) (chosen_of held asked)) named (names_entry rule) refl r.1))
 
   pub forwards : (rule : ReuseRule) → IsLeast policy held asked now rule → (named : Option ℕ) × (decision_of policy held asked now ≡ Forward rule named)
   unfolding decision_of

@@ -11,8 +11,8 @@ use Rattle.hx_policy.specs.declared.words.Policy.{Policy}
 use Rattle.hx_reuse.specs.declared.rule.ErrorRule.{ErrorRule}
 use Rattle.hx_reuse.specs.declared.rule.ErrorRule.TheVariants.{NoCache, MustRevalidate, NoLifetime, RequestNoCache, NoDirective, TooStale}
 use Rattle.hx_reuse.specs.Words.{error_number_of}
-use Rattle.hx_reuse.specs.Rules.{Standing, must_revalidate}
-use Rattle.hx_reuse.specs.ErrorRules.{stated_once, response_limit, request_limit, operator_limit, is_past, against_on_error, error_rules, standing_on, error_rule_on}
+use Rattle.hx_reuse.specs.Rules.{Situation, must_revalidate}
+use Rattle.hx_reuse.specs.ErrorRules.{stated_once, response_limit, request_limit, operator_limit, is_past, against_on_error, error_rules, situation_on, error_rule_on}
 use Rattle.hx_reuse.specs.OnError.{StatesLimit, AsksForLimit, GivesLimit, staleness_at, MayBeSentOnError, IsLeastOnError}
 use Rattle.hx_fields.proofs.FirstThat.{IsMember, ascends, passes, fails_before, none_passes, none_found, first_found}
 use Rattle.hx_fields.proofs.JoinedTests.{not_false, not_true, left_false, right_false, neither, last_absent, first_absent, second_false, either_false, some_value, has_value, not_below, is_not_below}
@@ -41,20 +41,20 @@ states seconds_are.Repeated n h = absurd cc
 states (seconds_are.Value m) n h = let same : m ≡ n = cc in ap seconds_are.Value same
 
 module _ (policy : Policy) (response : Stored) (request : List Occurrence) (now : ℕ) where
-  abbrev here : Standing
-  here = standing_on policy response request now
+  abbrev here : Situation
+  here = situation_on policy response request now
 
   pub least_on_error : (least : ErrorRule) → error_rule_on policy response request now ≡ Some least → IsLeastOnError policy response request now least
   unfolding error_rule_on
   least_on_error least h = record {
-    it_stands = passes error_number_of (λ r. against_on_error r here) error_rules least h;
+    it_applies = passes error_number_of (λ r. against_on_error r here) error_rules least h;
     none_before = λ r l. fails_before error_number_of (λ r. against_on_error r here) 0 error_rules least r in_order h (listed r) l;
   }
 
   pub named_on_error : (least : ErrorRule) → IsLeastOnError policy response request now least → error_rule_on policy response request now ≡ Some least
   unfolding error_rule_on
   named_on_error least is =
-      first_found error_number_of (λ r. against_on_error r here) 0 error_rules least in_order (listed least) is.it_stands is.none_before
+      first_found error_number_of (λ r. against_on_error r here) 0 error_rules least in_order (listed least) is.it_applies is.none_before
 
   none_on_error : error_rule_on policy response request now ≡ None → (rule : ErrorRule) → against_on_error rule here ≡ false
   unfolding error_rule_on
@@ -158,17 +158,17 @@ module _ (policy : Policy) (response : Stored) (request : List Occurrence) (now 
       (has_value (operator_limit here) limit.0 (is_given limit.0 limit.1))
 
   module _ (may : MayBeSentOnError policy response request now) where
-    none_stands : (rule : ErrorRule) → against_on_error rule here ≡ false
-    none_stands NoCache = may.no_no_cache
-    none_stands MustRevalidate =
+    none_applies : (rule : ErrorRule) → against_on_error rule here ≡ false
+    none_applies NoCache = may.no_no_cache
+    none_applies MustRevalidate =
         let must = has here.response directive.MustRevalidate in
         let proxy = has here.response directive.ProxyRevalidate in
         let shared = has here.response directive.SMaxage in
         neither (must || proxy) shared (neither must proxy may.no_must_revalidate may.no_proxy_revalidate) may.no_s_maxage
-    none_stands NoLifetime = not_true here.lifetime.explicit may.has_a_lifetime
-    none_stands RequestNoCache = heeded policy.heeds_requests (has request directive.NoCache) may.not_to_be_validated
-    none_stands NoDirective = some_limit may.is_allowed
-    none_stands TooStale =
+    none_applies NoLifetime = not_true here.lifetime.explicit may.has_a_lifetime
+    none_applies RequestNoCache = heeded policy.heeds_requests (has request directive.NoCache) may.not_to_be_validated
+    none_applies NoDirective = some_limit may.is_allowed
+    none_applies TooStale =
         neither (is_past here (response_limit here) || is_past here (request_limit here)) (is_past here (operator_limit here))
         (neither (is_past here (response_limit here)) (is_past here (request_limit here))
         (not_past (response_limit here) (λ most h. may.within_its_limit most (states (seconds here.response directive.StaleIfError) most h)))
@@ -176,4 +176,4 @@ module _ (policy : Policy) (response : Stored) (request : List Occurrence) (now 
         (not_past (operator_limit here) (λ most h. may.within_the_operators most (gives most h)))
 
     pub may_be_sent_on_error : error_rule_on policy response request now ≡ None
-    may_be_sent_on_error = none_is_found none_stands
+    may_be_sent_on_error = none_is_found none_applies

@@ -16,7 +16,7 @@ use Rattle.hx_reuse.specs.declared.decision.Decision.TheVariants.{Hit}
 use Rattle.hx_reuse.specs.declared.rule.ReuseRule.{ReuseRule}
 use Rattle.hx_reuse.specs.declared.rule.ReuseRule.TheVariants.{Operator, Method, Content, Range, Precondition, UriMiss, VaryMiss, ResponseNoCache, RequestNoCache, AboveMaxAge, BelowMinFresh, MustRevalidate, NoLifetime, StaleNoCache, NoMaxStale, PastMaxStale, StaleMaxAge, StaleMinFresh}
 use Rattle.hx_reuse.specs.Chosen.{of_key, chosen_of}
-use Rattle.hx_reuse.specs.Rules.{Standing, stands, against, standing, fresh, must_revalidate, asks_to_validate, above_max_age, below_min_fresh, asks_for_freshness, accepts_stale, past_limit, is_some_and, decision_of}
+use Rattle.hx_reuse.specs.Rules.{Situation, applies, against, situation, fresh, must_revalidate, asks_to_validate, above_max_age, below_min_fresh, asks_for_freshness, accepts_stale, past_limit, is_some_and, decision_of}
 use Rattle.hx_reuse.specs.Reusable.{IsWithinMaxAge, IsFreshForMinFresh, IsSentFresh, IsSentStale, TakesStaleness, MayBeReused}
 use Rattle.hx_fields.proofs.JoinedTests.{never, second_false, first_absent, last_absent, under_not, not_first, not_false, left_false, right_false, neither, no_value, not_below, is_not_below, below, is_below, not_true}
 use Rattle.hx_reuse.proofs.ValueTests.{test_false, none_tests}
@@ -54,8 +54,8 @@ not_past_what_it_takes Any n h = refl
 not_past_what_it_takes (UpTo most) n h = is_not_below most n h
 
 module _ (policy : Policy) (e : Stored) (asked : Asked) (now : ℕ) where
-  abbrev here : Standing
-  here = standing policy e asked now
+  abbrev here : Situation
+  here = situation policy e asked now
 
   -- ---- what is so where no rule on the chosen response stands
 
@@ -180,7 +180,7 @@ module _ (policy : Policy) (e : Stored) (asked : Asked) (now : ℕ) where
 module _ (policy : Policy) (held : List Stored) (asked : Asked) (now : ℕ) where
   -- ---- from no rule to the list
 
-  none_on : (e : Stored) → chosen_of held asked ≡ Some e → ((rule : ReuseRule) → stands rule policy held asked now ≡ false) → (rule : ReuseRule) → against rule (standing policy e asked now) ≡ false
+  none_on : (e : Stored) → chosen_of held asked ≡ Some e → ((rule : ReuseRule) → applies rule policy held asked now ≡ false) → (rule : ReuseRule) → against rule (situation policy e asked now) ≡ false
   none_on e is none Operator = refl
   none_on e is none Method = refl
   none_on e is none Content = refl
@@ -188,7 +188,7 @@ module _ (policy : Policy) (held : List Stored) (asked : Asked) (now : ℕ) wher
   none_on e is none Precondition = refl
   none_on e is none UriMiss = refl
   none_on e is none VaryMiss = refl
-  none_on e is none rule = sym (ap (is_some_and (λ x. against rule (standing policy x asked now))) is) ∙ none rule
+  none_on e is none rule = sym (ap (is_some_and (λ x. against rule (situation policy x asked now))) is) ∙ none rule
 
   pub reused_is_allowed : (serial : ℕ) → decision_of policy held asked now ≡ Hit serial → (response : Stored) × MayBeReused policy held asked now response × (response.serial ≡ serial)
   reused_is_allowed serial h =
@@ -200,27 +200,27 @@ module _ (policy : Policy) (held : List Stored) (asked : Asked) (now : ℕ) wher
           is_chosen = chosen_is_latest held asked may.response may.chosen_is;
           request_allows = record { method_allows = method_allows asked.method (may.no_rule Method); no_content = may.no_rule Content; no_range = may.no_rule Range; no_precondition = may.no_rule Precondition };
           no_no_cache = none ResponseNoCache;
-          fresh_or_stale = sent_somehow policy may.response asked now none (fresh (standing policy may.response asked now)) refl;
+          fresh_or_stale = sent_somehow policy may.response asked now none (fresh (situation policy may.response asked now)) refl;
         },
         may.serial_is,
       )
 
   -- ---- and back
 
-  none_stands : (e : Stored) → chosen_of held asked ≡ Some e → MayBeReused policy held asked now e → (rule : ReuseRule) → stands rule policy held asked now ≡ false
-  none_stands e is may Operator = ap not may.operator_allows
-  none_stands e is may Method = method_is_allowed asked.method may.request_allows.method_allows
-  none_stands e is may Content = may.request_allows.no_content
-  none_stands e is may Range = may.request_allows.no_range
-  none_stands e is may Precondition = may.request_allows.no_precondition
-  none_stands e is may UriMiss =
+  none_applies : (e : Stored) → chosen_of held asked ≡ Some e → MayBeReused policy held asked now e → (rule : ReuseRule) → applies rule policy held asked now ≡ false
+  none_applies e is may Operator = ap not may.operator_allows
+  none_applies e is may Method = method_is_allowed asked.method may.request_allows.method_allows
+  none_applies e is may Content = may.request_allows.no_content
+  none_applies e is may Range = may.request_allows.no_range
+  none_applies e is may Precondition = may.request_allows.no_precondition
+  none_applies e is may UriMiss =
       let candidate = may.is_chosen.is_candidate in
       some_there (of_key held asked) e (member_filter (λ x. same_key x.key asked.target.key) held e candidate.has_the_key (member_contained held e candidate.is_held))
-  none_stands e is may VaryMiss = ap is_none is
-  none_stands e is may rule =
-      ap (is_some_and (λ x. against rule (standing policy x asked now))) is ∙ none_against policy e asked now may.no_no_cache may.fresh_or_stale rule
+  none_applies e is may VaryMiss = ap is_none is
+  none_applies e is may rule =
+      ap (is_some_and (λ x. against rule (situation policy x asked now))) is ∙ none_against policy e asked now may.no_no_cache may.fresh_or_stale rule
 
   pub allowed_is_reused : (response : Stored) → Distinct (serials held) → MayBeReused policy held asked now response → decision_of policy held asked now ≡ Hit response.serial
   allowed_is_reused response distinct may =
       let is = latest_is_the_chosen held asked response distinct may.is_chosen in
-      is_sent policy held asked now response.serial (record { response = response; chosen_is = is; serial_is = refl; no_rule = none_stands response is may })
+      is_sent policy held asked now response.serial (record { response = response; chosen_is = is; serial_is = refl; no_rule = none_applies response is may })

@@ -12,7 +12,7 @@ use Rattle.hx_reuse.specs.declared.decision.Decision.TheVariants.{Hit, Forward}
 use Rattle.hx_reuse.specs.declared.rule.ReuseRule.{ReuseRule}
 use Rattle.hx_reuse.specs.declared.rule.ReuseRule.TheVariants.{Operator, UriMiss, VaryMiss, ResponseNoCache, RequestNoCache, AboveMaxAge, BelowMinFresh, MustRevalidate, NoLifetime, StaleNoCache, NoMaxStale, PastMaxStale, StaleMaxAge, StaleMinFresh}
 use Rattle.hx_reuse.specs.Chosen.{of_key, chosen_of, latest}
-use Rattle.hx_reuse.specs.Rules.{against, standing, stands, is_some_and, request_rules, entry_rules, reuse_rule_of, names_entry, decided, decision_of}
+use Rattle.hx_reuse.specs.Rules.{against, situation, applies, is_some_and, request_rules, entry_rules, reuse_rule_of, names_entry, decided, decision_of}
 use Rattle.hx_fields.proofs.FirstThat.{IsMember}
 use Rattle.hx_reuse.proofs.Members.{AreSerialsOf, are_serials}
 
@@ -118,7 +118,7 @@ pub by_operator : (policy : Policy) (held : List Stored) (asked : Asked) (now : 
 unfolding reuse_rule_of decision_of
 by_operator policy held asked now h =
     forward_low (reuse_rule_of policy held asked now) (option_map (λ e. e.serial) (chosen_of held asked)) Operator
-    (find_head (λ r. stands r policy held asked now) Operator (request_rules ++ (UriMiss ∷ VaryMiss ∷ entry_rules)) (ap not h)) refl
+    (find_head (λ r. applies r policy held asked now) Operator (request_rules ++ (UriMiss ∷ VaryMiss ∷ entry_rules)) (ap not h)) refl
 
 -- where the operator doesn't
 module _ (policy : Policy) (caches : policy.caches ≡ true) (held : List Stored) (asked : Asked) (now : ℕ) where
@@ -126,49 +126,49 @@ module _ (policy : Policy) (caches : policy.caches ≡ true) (held : List Stored
   serial_of = option_map (λ e. e.serial) (chosen_of held asked)
 
   -- the operator's rule doesn't stand
-  after_operator : reuse_rule_of policy held asked now ≡ find (λ r. stands r policy held asked now) (request_rules ++ (UriMiss ∷ VaryMiss ∷ entry_rules))
+  after_operator : reuse_rule_of policy held asked now ≡ find (λ r. applies r policy held asked now) (request_rules ++ (UriMiss ∷ VaryMiss ∷ entry_rules))
   unfolding reuse_rule_of
-  after_operator = find_skip (λ r. stands r policy held asked now) Operator (request_rules ++ (UriMiss ∷ VaryMiss ∷ entry_rules)) (ap not caches)
+  after_operator = find_skip (λ r. applies r policy held asked now) Operator (request_rules ++ (UriMiss ∷ VaryMiss ∷ entry_rules)) (ap not caches)
 
   -- a rule on the request alone
-  pub by_request : (rule : ReuseRule) → find (λ r. stands r policy held asked now) request_rules ≡ Some rule → Forward rule None ≡ decision_of policy held asked now
+  pub by_request : (rule : ReuseRule) → find (λ r. applies r policy held asked now) request_rules ≡ Some rule → Forward rule None ≡ decision_of policy held asked now
   unfolding serial_of reuse_rule_of decision_of
   by_request rule h =
       forward_low (reuse_rule_of policy held asked now) serial_of rule
-      (after_operator ∙ find_front (λ r. stands r policy held asked now) request_rules (UriMiss ∷ VaryMiss ∷ entry_rules) rule h)
-      (find_each (λ r. names_entry r ≡ false) (λ r. stands r policy held asked now) request_rules rule (refl, (refl, (refl, (refl, tt)))) h)
+      (after_operator ∙ find_front (λ r. applies r policy held asked now) request_rules (UriMiss ∷ VaryMiss ∷ entry_rules) rule h)
+      (find_each (λ r. names_entry r ≡ false) (λ r. applies r policy held asked now) request_rules rule (refl, (refl, (refl, (refl, tt)))) h)
 
-  module _ (free : find (λ r. stands r policy held asked now) request_rules ≡ None) where
-    after_request : reuse_rule_of policy held asked now ≡ find (λ r. stands r policy held asked now) (UriMiss ∷ VaryMiss ∷ entry_rules)
+  module _ (free : find (λ r. applies r policy held asked now) request_rules ≡ None) where
+    after_request : reuse_rule_of policy held asked now ≡ find (λ r. applies r policy held asked now) (UriMiss ∷ VaryMiss ∷ entry_rules)
     unfolding reuse_rule_of
-    after_request = after_operator ∙ find_rest (λ r. stands r policy held asked now) request_rules (UriMiss ∷ VaryMiss ∷ entry_rules) free
+    after_request = after_operator ∙ find_rest (λ r. applies r policy held asked now) request_rules (UriMiss ∷ VaryMiss ∷ entry_rules) free
 
     -- no entry of the key
     pub by_uri : of_key held asked ≡ [] → Forward UriMiss None ≡ decision_of policy held asked now
     unfolding serial_of reuse_rule_of decision_of
     by_uri h =
         forward_low (reuse_rule_of policy held asked now) serial_of UriMiss
-        (after_request ∙ find_head (λ r. stands r policy held asked now) UriMiss (VaryMiss ∷ entry_rules) (ap (λ xs. length xs == 0) h)) refl
+        (after_request ∙ find_head (λ r. applies r policy held asked now) UriMiss (VaryMiss ∷ entry_rules) (ap (λ xs. length xs == 0) h)) refl
 
     module _ (some : (length (of_key held asked) == 0) ≡ false) where
-      after_uri : reuse_rule_of policy held asked now ≡ find (λ r. stands r policy held asked now) (VaryMiss ∷ entry_rules)
+      after_uri : reuse_rule_of policy held asked now ≡ find (λ r. applies r policy held asked now) (VaryMiss ∷ entry_rules)
       unfolding reuse_rule_of
-      after_uri = after_request ∙ find_skip (λ r. stands r policy held asked now) UriMiss (VaryMiss ∷ entry_rules) some
+      after_uri = after_request ∙ find_skip (λ r. applies r policy held asked now) UriMiss (VaryMiss ∷ entry_rules) some
 
       -- none matches by Vary
       pub by_vary : chosen_of held asked ≡ None → Forward VaryMiss None ≡ decision_of policy held asked now
       unfolding serial_of reuse_rule_of decision_of
       by_vary h =
           forward_low (reuse_rule_of policy held asked now) serial_of VaryMiss
-          (after_uri ∙ find_head (λ r. stands r policy held asked now) VaryMiss entry_rules (ap is_none h)) refl
+          (after_uri ∙ find_head (λ r. applies r policy held asked now) VaryMiss entry_rules (ap is_none h)) refl
 
       module _ (e : Stored) (is : chosen_of held asked ≡ Some e) where
         -- the rules on the chosen entry
-        by_entry : reuse_rule_of policy held asked now ≡ find (λ r. against r (standing policy e asked now)) entry_rules
+        by_entry : reuse_rule_of policy held asked now ≡ find (λ r. against r (situation policy e asked now)) entry_rules
         unfolding reuse_rule_of
         by_entry =
-            after_uri ∙ find_skip (λ r. stands r policy held asked now) VaryMiss entry_rules (ap is_none is)
-            ∙ find_same (λ r. stands r policy held asked now) (λ r. against r (standing policy e asked now)) entry_rules (
+            after_uri ∙ find_skip (λ r. applies r policy held asked now) VaryMiss entry_rules (ap is_none is)
+            ∙ find_same (λ r. applies r policy held asked now) (λ r. against r (situation policy e asked now)) entry_rules (
               at ResponseNoCache,
               (
                 at RequestNoCache,
@@ -191,17 +191,17 @@ module _ (policy : Policy) (caches : policy.caches ≡ true) (held : List Stored
               ),
             )
           where
-            at : (r : ReuseRule) → is_some_and (λ x. against r (standing policy x asked now)) (chosen_of held asked) ≡ against r (standing policy e asked now)
-            at r = ap (is_some_and (λ x. against r (standing policy x asked now))) is
+            at : (r : ReuseRule) → is_some_and (λ x. against r (situation policy x asked now)) (chosen_of held asked) ≡ against r (situation policy e asked now)
+            at r = ap (is_some_and (λ x. against r (situation policy x asked now))) is
 
-        pub by_rule : (rule : ReuseRule) → find (λ r. against r (standing policy e asked now)) entry_rules ≡ Some rule → Forward rule (Some e.serial) ≡ decision_of policy held asked now
+        pub by_rule : (rule : ReuseRule) → find (λ r. against r (situation policy e asked now)) entry_rules ≡ Some rule → Forward rule (Some e.serial) ≡ decision_of policy held asked now
         unfolding serial_of reuse_rule_of decision_of
         by_rule rule h =
             forward_high (reuse_rule_of policy held asked now) serial_of rule e.serial (by_entry ∙ h)
-            (find_each (λ r. names_entry r ≡ true) (λ r. against r (standing policy e asked now)) entry_rules rule
+            (find_each (λ r. names_entry r ≡ true) (λ r. against r (situation policy e asked now)) entry_rules rule
             (refl, (refl, (refl, (refl, (refl, (refl, (refl, (refl, (refl, (refl, (refl, tt))))))))))) h)
             (ap (option_map (λ x. x.serial)) is)
 
-        pub by_none : find (λ r. against r (standing policy e asked now)) entry_rules ≡ None → Hit e.serial ≡ decision_of policy held asked now
+        pub by_none : find (λ r. against r (situation policy e asked now)) entry_rules ≡ None → Hit e.serial ≡ decision_of policy held asked now
         unfolding serial_of reuse_rule_of decision_of
         by_none h = hit (reuse_rule_of policy held asked now) serial_of e.serial (by_entry ∙ h) (ap (option_map (λ x. x.serial)) is)

@@ -9,7 +9,7 @@ use Rattle.hx_reuse.specs.declared.rule.ReuseRule.TheVariants.{Operator, Method,
 use Rattle.hx_reuse.specs.declared.rule.ErrorRule.{ErrorRule}
 use Rattle.hx_reuse.specs.declared.rule.ErrorRule.TheVariants as on_error
 use Rattle.hx_reuse.specs.Words.{number_of, error_number_of}
-use Rattle.hx_reuse.specs.Rules.{Standing, against, stands_on_chosen, stands, reuse_rules, names_entry}
+use Rattle.hx_reuse.specs.Rules.{Situation, against, stands_on_chosen, applies, reuse_rules, names_entry}
 use Rattle.hx_reuse.specs.ErrorRules.{error_rules}
 use Rattle.hx_fields.proofs.JoinedTests.{never}
 
@@ -33,7 +33,7 @@ each_is_listed PastMaxStale = refl
 each_is_listed StaleMaxAge = refl
 each_is_listed StaleMinFresh = refl
 
-pub on_the_chosen : (rule : ReuseRule) (policy : Policy) (held : List Stored) (asked : Asked) (now : ℕ) → names_entry rule ≡ true → stands rule policy held asked now ≡ stands_on_chosen rule policy held asked now
+pub on_the_chosen : (rule : ReuseRule) (policy : Policy) (held : List Stored) (asked : Asked) (now : ℕ) → names_entry rule ≡ true → applies rule policy held asked now ≡ stands_on_chosen rule policy held asked now
 on_the_chosen Operator policy held asked now h = absurd (never (sym h))
 on_the_chosen Method policy held asked now h = absurd (never (sym h))
 on_the_chosen Content policy held asked now h = absurd (never (sym h))
@@ -43,7 +43,7 @@ on_the_chosen UriMiss policy held asked now h = absurd (never (sym h))
 on_the_chosen VaryMiss policy held asked now h = absurd (never (sym h))
 on_the_chosen rule policy held asked now h = refl
 
-pub against_none : (rule : ReuseRule) (s : Standing) → names_entry rule ≡ false → against rule s ≡ false
+pub against_none : (rule : ReuseRule) (s : Situation) → names_entry rule ≡ false → against rule s ≡ false
 against_none Operator s h = refl
 against_none Method s h = refl
 against_none Content s h = refl

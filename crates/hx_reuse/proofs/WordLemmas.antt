@@ -15,54 +15,54 @@ same_detail (Some c) None = false
 same_detail (Some c) (Some d) = bytes_eq c d
 
 -- the rule that has these words
-told_by : List ℕ → Option (List ℕ) → Option ReuseRule
-told_by reason detail = find (λ r. bytes_eq (reason_of r) reason && same_detail (detail_of r) detail) reuse_rules
+named_by : List ℕ → Option (List ℕ) → Option ReuseRule
+named_by reason detail = find (λ r. bytes_eq (reason_of r) reason && same_detail (detail_of r) detail) reuse_rules
 
-told : (r : ReuseRule) → told_by (reason_of r) (detail_of r) ≡ Some r
-unfolding told_by same_detail
-told Operator = refl
-told Method = refl
-told Content = refl
-told Range = refl
-told Precondition = refl
-told UriMiss = refl
-told VaryMiss = refl
-told ResponseNoCache = refl
-told RequestNoCache = refl
-told AboveMaxAge = refl
-told BelowMinFresh = refl
-told MustRevalidate = refl
-told NoLifetime = refl
-told StaleNoCache = refl
-told NoMaxStale = refl
-told PastMaxStale = refl
-told StaleMaxAge = refl
-told StaleMinFresh = refl
+named : (r : ReuseRule) → named_by (reason_of r) (detail_of r) ≡ Some r
+unfolding named_by same_detail
+named Operator = refl
+named Method = refl
+named Content = refl
+named Range = refl
+named Precondition = refl
+named UriMiss = refl
+named VaryMiss = refl
+named ResponseNoCache = refl
+named RequestNoCache = refl
+named AboveMaxAge = refl
+named BelowMinFresh = refl
+named MustRevalidate = refl
+named NoLifetime = refl
+named StaleNoCache = refl
+named NoMaxStale = refl
+named PastMaxStale = refl
+named StaleMaxAge = refl
+named StaleMinFresh = refl
 
 same_rule : (r q : ReuseRule) → ◌≡◌ {A = Option ReuseRule} (Some r) (Some q) → r ≡ q
 same_rule r q h = cc
 
-pub words_tell_apart : (r q : ReuseRule) → reason_of r ≡ reason_of q → detail_of r ≡ detail_of q → r ≡ q
-words_tell_apart r q h k =
-    same_rule r q (sym (told r) ∙ ap (λ (reason : List ℕ). told_by reason (detail_of r)) h ∙ ap (λ (detail : Option (List ℕ)). told_by (reason_of q) detail) k ∙ told q)
+pub words_differ : (r q : ReuseRule) → reason_of r ≡ reason_of q → detail_of r ≡ detail_of q → r ≡ q
+words_differ r q h k =
+    same_rule r q (sym (named r) ∙ ap (λ (reason : List ℕ). named_by reason (detail_of r)) h ∙ ap (λ (detail : Option (List ℕ)). named_by (reason_of q) detail) k ∙ named q)
 
 error_rules : List ErrorRule
 error_rules = on_error.NoCache ∷ on_error.MustRevalidate ∷ on_error.NoLifetime ∷ on_error.RequestNoCache ∷ on_error.NoDirective ∷ on_error.TooStale ∷ []
 
-error_told_by : List ℕ → Option ErrorRule
-error_told_by word = find (λ r. bytes_eq (error_word_of r) word) error_rules
+error_named_by : List ℕ → Option ErrorRule
+error_named_by word = find (λ r. bytes_eq (error_word_of r) word) error_rules
 
-error_told : (r : ErrorRule) → error_told_by (error_word_of r) ≡ Some r
-unfolding error_told_by error_rules
-error_told on_error.NoCache = refl
-error_told on_error.MustRevalidate = refl
-error_told on_error.NoLifetime = refl
-error_told on_error.RequestNoCache = refl
-error_told on_error.NoDirective = refl
-error_told on_error.TooStale = refl
+error_named : (r : ErrorRule) → error_named_by (error_word_of r) ≡ Some r
+unfolding error_named_by error_rules
+error_named on_error.NoCache = refl
+error_named on_error.MustRevalidate = refl
+error_named on_error.NoLifetime = refl
+error_named on_error.RequestNoCache = refl
+error_named on_error.NoDirective = refl
+error_named on_error.TooStale = refl
 
 same_error_rule : (r q : ErrorRule) → ◌≡◌ {A = Option ErrorRule} (Some r) (Some q) → r ≡ q
 same_error_rule r q h = cc
 
-pub error_words_tell_apart : (r q : ErrorRule) → error_word_of r ≡ error_word_of q → r ≡ q
-error_words_tell_apart r q h = same_error_rule r q (sym (error_told r) ∙ ap error_told_by h ∙ error_told q)
+pub error_words_differ : (r q : ErrorRule) → error_word_of r ≡ error_word_of q → r ≡ q
+error_words_differ r q h = same_error_rule r q (sym (error_named r) ∙ ap error_named_by h ∙ error_named q)

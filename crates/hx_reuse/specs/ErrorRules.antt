@@ -21,7 +21,7 @@ use Rattle.hx_store.specs.Stored.{Stored}
 use Rattle.hx_policy.specs.declared.words.Policy.{Policy}
 use Rattle.hx_reuse.specs.Chosen.{chosen_of}
 use Rattle.hx_reuse.specs.Lifetimes.{lifetime_under}
-use Rattle.hx_reuse.specs.Rules.{Standing, stands_at, must_revalidate, asks_to_validate, is_some_and}
+use Rattle.hx_reuse.specs.Rules.{Situation, situation_at, must_revalidate, asks_to_validate, is_some_and}
 use Rattle.hx_reuse.specs.declared.rule.ErrorRule.{ErrorRule}
 use Rattle.hx_reuse.specs.declared.rule.ErrorRule.TheVariants.{NoCache, MustRevalidate, NoLifetime, RequestNoCache}
 use Rattle.hx_reuse.specs.declared.rule.ErrorRule.TheVariants.{NoDirective, TooStale}
@@ -33,25 +33,25 @@ stated_once _ = None
 
 -- the staleness that a response allows: "any request applicable to the cached response" (RFC 5861, section 4)
 -- own: one that stands twice or can't be read allows none
-abbrev pub response_limit : Standing → Option ℕ
+abbrev pub response_limit : Situation → Option ℕ
 response_limit s = stated_once (seconds s.response directive.StaleIfError)
 
 -- the staleness that a request allows: "the request it appears in" (RFC 5861, section 4)
-abbrev pub request_limit : Standing → Option ℕ
+abbrev pub request_limit : Situation → Option ℕ
 request_limit s = first_valid s.request directive.StaleIfError
 
 -- own: the staleness that the operator's line allows, where neither has a stale-if-error, be it one that can't be read
-abbrev pub operator_limit : Standing → Option ℕ
+abbrev pub operator_limit : Situation → Option ℕ
 operator_limit s =
     if has s.response directive.StaleIfError || has s.request directive.StaleIfError then None
     else s.policy.stale_if_error
 
 -- "the upper limit to staleness" (RFC 5861, section 4)
-abbrev pub is_past : Standing → Option ℕ → Bool
+abbrev pub is_past : Situation → Option ℕ → Bool
 is_past s limit = is_some_and (λ most. nat_lt most (staleness_of s.lifetime s.age)) limit
 
 -- the condition of each rule
-abbrev pub against_on_error : ErrorRule → Standing → Bool
+abbrev pub against_on_error : ErrorRule → Situation → Bool
 -- RFC 9111, section 5.2.2.4
 against_on_error NoCache s = has s.response directive.NoCache
 -- RFC 9111, sections 4.2.4, 5.2.2.2, 5.2.2.8 and 5.2.2.10
@@ -71,15 +71,15 @@ abbrev pub error_rules : List ErrorRule
 error_rules = NoCache ∷ MustRevalidate ∷ NoLifetime ∷ RequestNoCache ∷ NoDirective ∷ TooStale ∷ []
 
 -- what the rules read of a response, at a moment, and of a request's directives
-abbrev pub standing_on : Policy → Stored → List Occurrence → ℕ → Standing
-standing_on policy response request now =
-    stands_at policy (lifetime_under policy response.status response.fields) (age_of response.times now)
+abbrev pub situation_on : Policy → Stored → List Occurrence → ℕ → Situation
+situation_on policy response request now =
+    situation_at policy (lifetime_under policy response.status response.fields) (age_of response.times now)
     (occurrences_of response.fields) request
 
 -- the least rule that stands against sending this response, by the directives of a request
 unfoldable pub error_rule_on : Policy → Stored → List Occurrence → ℕ → Option ErrorRule
 error_rule_on policy response request now =
-    find (λ rule. against_on_error rule (standing_on policy response request now)) error_rules
+    find (λ rule. against_on_error rule (situation_on policy response request now)) error_rules
 
 -- the least rule that stands against sending the response that is chosen for a request; where none
 -- is chosen a reuse rule stands that keeps this from being asked, and the answer says nothing

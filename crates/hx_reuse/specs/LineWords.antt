@@ -18,8 +18,8 @@ use Rattle.hx_policy.specs.declared.words.Policy.{Policy}
 use Rattle.hx_policy.specs.Words.{is_heuristic}
 use Rattle.hx_reuse.specs.Chosen.{chosen_of}
 use Rattle.hx_reuse.specs.Lifetimes.{lifetime_under}
-use Rattle.hx_reuse.specs.Rules.{Standing, against, decision_of}
-use Rattle.hx_reuse.specs.ErrorRules.{against_on_error, standing_on, error_rule_on}
+use Rattle.hx_reuse.specs.Rules.{Situation, against, decision_of}
+use Rattle.hx_reuse.specs.ErrorRules.{against_on_error, situation_on, error_rule_on}
 use Rattle.hx_reuse.specs.OnError.{staleness_at}
 use Rattle.hx_reuse.specs.declared.rule.ReuseRule.{ReuseRule}
 use Rattle.hx_reuse.specs.declared.rule.ReuseRule.TheVariants.{Operator, Method, Content, Range, Precondition, UriMiss}
@@ -69,13 +69,13 @@ asks_advice PastMaxStale = false
 asks_advice StaleMaxAge = true
 asks_advice StaleMinFresh = true
 
-abbrev pub IgnoredAdviceNeverStands : Type 0
-IgnoredAdviceNeverStands = (rule : ReuseRule) (s : Standing) →
+abbrev pub IgnoredAdviceNeverApplies : Type 0
+IgnoredAdviceNeverApplies = (rule : ReuseRule) (s : Situation) →
     s.policy.heeds_requests ≡ false → asks_advice rule ≡ true → against rule s ≡ false
 
-abbrev pub IgnoredAdviceNeverStandsOnError : Type 0
-IgnoredAdviceNeverStandsOnError =
-    (s : Standing) → s.policy.heeds_requests ≡ false → against_on_error on_error.RequestNoCache s ≡ false
+abbrev pub IgnoredAdviceNeverAppliesOnError : Type 0
+IgnoredAdviceNeverAppliesOnError =
+    (s : Situation) → s.policy.heeds_requests ≡ false → against_on_error on_error.RequestNoCache s ≡ false
 
 -- two requests for one key by one method, with the same conditions, for which the same response is chosen, and with the
 -- same max-stale
@@ -105,13 +105,13 @@ pub record SaysNoLimit (response : Stored) (request : List Occurrence) : Type 0 
 abbrev pub OperatorsLimitAllows : Type 0
 OperatorsLimitAllows = (policy : Policy) (response : Stored) (request : List Occurrence) (now most : ℕ) →
     SaysNoLimit response request → policy.stale_if_error ≡ Some most → staleness_at policy response now ≤ most →
-    (against_on_error on_error.NoDirective (standing_on policy response request now) ≡ false)
-    × (against_on_error on_error.TooStale (standing_on policy response request now) ≡ false)
+    (against_on_error on_error.NoDirective (situation_on policy response request now) ≡ false)
+    × (against_on_error on_error.TooStale (situation_on policy response request now) ≡ false)
 
 abbrev pub OperatorsLimitEnds : Type 0
 OperatorsLimitEnds = (policy : Policy) (response : Stored) (request : List Occurrence) (now most : ℕ) →
     SaysNoLimit response request → policy.stale_if_error ≡ Some most → most < staleness_at policy response now →
-    against_on_error on_error.TooStale (standing_on policy response request now) ≡ true
+    against_on_error on_error.TooStale (situation_on policy response request now) ≡ true
 
 abbrev pub without_limit : Policy → Policy
 without_limit policy = record policy { stale_if_error = None }

@@ -15,7 +15,7 @@ use Rattle.hx_store.specs.Serials.{Distinct}
 use Rattle.hx_store.specs.Shelf.{serials, find_entry}
 use Rattle.hx_reuse.specs.Chosen.{comes_later, chosen_of}
 use Rattle.hx_reuse.specs.Words.{number_of, reason_of, detail_of, error_word_of}
-use Rattle.hx_reuse.specs.Rules.{stands, names_entry, decision_of}
+use Rattle.hx_reuse.specs.Rules.{applies, names_entry, decision_of}
 use Rattle.hx_reuse.specs.declared.rule.ReuseRule.{ReuseRule}
 use Rattle.hx_reuse.specs.declared.rule.ReuseRule.TheVariants.{Operator}
 use Rattle.hx_reuse.specs.declared.rule.ErrorRule.{ErrorRule}
@@ -38,12 +38,12 @@ pub record MayBeSent (policy : Policy) (held : List Stored) (asked : Asked) (now
   pub response : Stored
   pub chosen_is : chosen_of held asked ≡ Some response
   pub serial_is : response.serial ≡ serial
-  pub no_rule : (rule : ReuseRule) → stands rule policy held asked now ≡ false
+  pub no_rule : (rule : ReuseRule) → applies rule policy held asked now ≡ false
 
 -- the rule stands, and none of a smaller number does
 pub record IsLeast (policy : Policy) (held : List Stored) (asked : Asked) (now : ℕ) (rule : ReuseRule) : Type 0 where
-  pub it_stands : stands rule policy held asked now ≡ true
-  pub none_before : (other : ReuseRule) → number_of other < number_of rule → stands other policy held asked now ≡ false
+  pub it_applies : applies rule policy held asked now ≡ true
+  pub none_before : (other : ReuseRule) → number_of other < number_of rule → applies other policy held asked now ≡ false
 
 -- a rule on the chosen response is named with it, the others are named alone
 abbrev pub NamesTheResponse : List Stored → Asked → ReuseRule → Option ℕ → Type 0
@@ -99,8 +99,8 @@ NamesTheLeast = (policy : Policy) (held : List Stored) (asked : Asked) (now : �
     decision_of policy held asked now ≡ Forward rule named
     → IsLeast policy held asked now rule × NamesTheResponse held asked rule named
 
-abbrev pub ForwardsWhereOneStands : Type 0
-ForwardsWhereOneStands = (policy : Policy) (held : List Stored) (asked : Asked) (now : ℕ) (rule : ReuseRule) →
+abbrev pub ForwardsWhereOneApplies : Type 0
+ForwardsWhereOneApplies = (policy : Policy) (held : List Stored) (asked : Asked) (now : ℕ) (rule : ReuseRule) →
     IsLeast policy held asked now rule → (named : Option ℕ) × (decision_of policy held asked now ≡ Forward rule named)
 
 -- own: what the operator keeps from the store goes forward by its rule, whatever is held
@@ -109,9 +109,9 @@ ForwardsWithoutCache = (policy : Policy) (held : List Stored) (asked : Asked) (n
     policy.caches ≡ false → decision_of policy held asked now ≡ Forward Operator None
 
 -- a reader of Cache-Status knows the rule (RFC 9211, sections 2.2 and 2.8)
-abbrev pub WordsTellRulesApart : Type 0
-WordsTellRulesApart =
+abbrev pub WordsOfRulesDiffer : Type 0
+WordsOfRulesDiffer =
     (rule other : ReuseRule) → reason_of rule ≡ reason_of other → detail_of rule ≡ detail_of other → rule ≡ other
 
-abbrev pub WordsTellErrorRulesApart : Type 0
-WordsTellErrorRulesApart = (rule other : ErrorRule) → error_word_of rule ≡ error_word_of other → rule ≡ other
+abbrev pub WordsOfErrorRulesDiffer : Type 0
+WordsOfErrorRulesDiffer = (rule other : ErrorRule) → error_word_of rule ≡ error_word_of other → rule ≡ other

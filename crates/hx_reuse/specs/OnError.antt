@@ -17,7 +17,7 @@ use Rattle.hx_store.specs.Stored.{Stored}
 use Rattle.hx_policy.specs.declared.words.Policy.{Policy}
 use Rattle.hx_reuse.specs.Lifetimes.{lifetime_under}
 use Rattle.hx_reuse.specs.Words.{error_number_of}
-use Rattle.hx_reuse.specs.ErrorRules.{standing_on, against_on_error, error_rule_on}
+use Rattle.hx_reuse.specs.ErrorRules.{situation_on, against_on_error, error_rule_on}
 use Rattle.hx_reuse.specs.declared.rule.ErrorRule.{ErrorRule}
 
 -- the response has one stale-if-error, of so many seconds
@@ -58,9 +58,9 @@ pub record MayBeSentOnError (policy : Policy) (response : Stored) (request : Lis
 -- the rule stands, and none of a smaller number does
 pub record IsLeastOnError (policy : Policy) (response : Stored) (request : List Occurrence) (now : ℕ)
     (least : ErrorRule) : Type 0 where
-  pub it_stands : against_on_error least (standing_on policy response request now) ≡ true
+  pub it_applies : against_on_error least (situation_on policy response request now) ≡ true
   pub none_before : (other : ErrorRule) → error_number_of other < error_number_of least
-      → against_on_error other (standing_on policy response request now) ≡ false
+      → against_on_error other (situation_on policy response request now) ≡ false
 
 -- ---- the statements
 
@@ -76,7 +76,7 @@ abbrev pub NamesTheLeastOnError : Type 0
 NamesTheLeastOnError = (policy : Policy) (response : Stored) (request : List Occurrence) (now : ℕ) (least : ErrorRule) →
     error_rule_on policy response request now ≡ Some least → IsLeastOnError policy response request now least
 
-abbrev pub NamesOneThatStandsOnError : Type 0
-NamesOneThatStandsOnError =
+abbrev pub NamesOneThatAppliesOnError : Type 0
+NamesOneThatAppliesOnError =
     (policy : Policy) (response : Stored) (request : List Occurrence) (now : ℕ) (least : ErrorRule) →
     IsLeastOnError policy response request now least → error_rule_on policy response request now ≡ Some least

@@ -1,7 +1,7 @@
 -- What the rules ask where the operator's line has no words: the conditions that the standards
 -- name, with nothing of a policy (RFC 9111, section 4; RFC 5861, section 4).
 --
--- plain_against: a rule on the chosen response     plain_stands: a rule
+-- plain_against: a rule on the chosen response     plain_applies: a rule
 -- plain_decision_of: what is done with a request
 -- plain_against_on_error: a rule after an error    plain_leave_on_error: none stands, or the least that does
 -- Below them are the statements that the law `default_policy_changes_nothing` proves.
@@ -21,7 +21,7 @@ use Rattle.hx_store.specs.Stored.{Stored}
 use Rattle.hx_policy.specs.Words.{plain}
 use Rattle.hx_reuse.specs.Chosen.{of_key, chosen_of}
 use Rattle.hx_reuse.specs.Lifetimes.{lifetime_under}
-use Rattle.hx_reuse.specs.Rules.{is_some_and, accepts_stale, past_limit, stands_at, against, reuse_rules, decided}
+use Rattle.hx_reuse.specs.Rules.{is_some_and, accepts_stale, past_limit, situation_at, against, reuse_rules, decided}
 use Rattle.hx_reuse.specs.Rules.{decision_of}
 use Rattle.hx_reuse.specs.ErrorRules.{stated_once, against_on_error, error_rules, leave_of, leave_on_error}
 use Rattle.hx_reuse.specs.declared.rule.ReuseRule.{ReuseRule}
@@ -89,29 +89,29 @@ abbrev pub plain_stands_on_chosen : ReuseRule → List Stored → Asked → ℕ 
 plain_stands_on_chosen which held asked now =
     is_some_and (λ e. plain_against_chosen which e asked now) (chosen_of held asked)
 
-abbrev pub plain_stands : ReuseRule → Bool → List Stored → Asked → ℕ → Bool
-plain_stands Operator caches held asked now = not caches
-plain_stands Method caches held asked now = not (bytes_eq asked.method (codes "GET") || bytes_eq asked.method (codes "HEAD"))
-plain_stands Content caches held asked now = has_content asked
-plain_stands Range caches held asked now = asks_for_range asked
-plain_stands Precondition caches held asked now = has_precondition asked
-plain_stands UriMiss caches held asked now = length (of_key held asked) == 0
-plain_stands VaryMiss caches held asked now = is_none (chosen_of held asked)
-plain_stands ResponseNoCache caches held asked now = plain_stands_on_chosen ResponseNoCache held asked now
-plain_stands RequestNoCache caches held asked now = plain_stands_on_chosen RequestNoCache held asked now
-plain_stands AboveMaxAge caches held asked now = plain_stands_on_chosen AboveMaxAge held asked now
-plain_stands BelowMinFresh caches held asked now = plain_stands_on_chosen BelowMinFresh held asked now
-plain_stands MustRevalidate caches held asked now = plain_stands_on_chosen MustRevalidate held asked now
-plain_stands NoLifetime caches held asked now = plain_stands_on_chosen NoLifetime held asked now
-plain_stands StaleNoCache caches held asked now = plain_stands_on_chosen StaleNoCache held asked now
-plain_stands NoMaxStale caches held asked now = plain_stands_on_chosen NoMaxStale held asked now
-plain_stands PastMaxStale caches held asked now = plain_stands_on_chosen PastMaxStale held asked now
-plain_stands StaleMaxAge caches held asked now = plain_stands_on_chosen StaleMaxAge held asked now
-plain_stands StaleMinFresh caches held asked now = plain_stands_on_chosen StaleMinFresh held asked now
+abbrev pub plain_applies : ReuseRule → Bool → List Stored → Asked → ℕ → Bool
+plain_applies Operator caches held asked now = not caches
+plain_applies Method caches held asked now = not (bytes_eq asked.method (codes "GET") || bytes_eq asked.method (codes "HEAD"))
+plain_applies Content caches held asked now = has_content asked
+plain_applies Range caches held asked now = asks_for_range asked
+plain_applies Precondition caches held asked now = has_precondition asked
+plain_applies UriMiss caches held asked now = length (of_key held asked) == 0
+plain_applies VaryMiss caches held asked now = is_none (chosen_of held asked)
+plain_applies ResponseNoCache caches held asked now = plain_stands_on_chosen ResponseNoCache held asked now
+plain_applies RequestNoCache caches held asked now = plain_stands_on_chosen RequestNoCache held asked now
+plain_applies AboveMaxAge caches held asked now = plain_stands_on_chosen AboveMaxAge held asked now
+plain_applies BelowMinFresh caches held asked now = plain_stands_on_chosen BelowMinFresh held asked now
+plain_applies MustRevalidate caches held asked now = plain_stands_on_chosen MustRevalidate held asked now
+plain_applies NoLifetime caches held asked now = plain_stands_on_chosen NoLifetime held asked now
+plain_applies StaleNoCache caches held asked now = plain_stands_on_chosen StaleNoCache held asked now
+plain_applies NoMaxStale caches held asked now = plain_stands_on_chosen NoMaxStale held asked now
+plain_applies PastMaxStale caches held asked now = plain_stands_on_chosen PastMaxStale held asked now
+plain_applies StaleMaxAge caches held asked now = plain_stands_on_chosen StaleMaxAge held asked now
+plain_applies StaleMinFresh caches held asked now = plain_stands_on_chosen StaleMinFresh held asked now
 
 unfoldable pub plain_decision_of : Bool → List Stored → Asked → ℕ → Decision
 plain_decision_of caches held asked now =
-    decided (find (λ which. plain_stands which caches held asked now) reuse_rules)
+    decided (find (λ which. plain_applies which caches held asked now) reuse_rules)
     (option_map (λ e. e.serial) (chosen_of held asked))
 
 -- RFC 5861, section 4, and what RFC 9111, sections 5.2.2.2, 5.2.2.4, 5.2.2.8 and 5.2.2.10 forbid to send stale
@@ -142,13 +142,13 @@ PlainLineGivesNoLifetime = (caches : Bool) (status : ℕ) (fields : List Field)
 abbrev pub PlainLineAsksTheSame : Type 0
 PlainLineAsksTheSame =
     (caches : Bool) (which : ReuseRule) (lifetime : Lifetime) (age : ℕ) (response request : List Occurrence) →
-    against which (stands_at (plain caches) lifetime age response request)
+    against which (situation_at (plain caches) lifetime age response request)
     ≡ plain_against which lifetime age response request
 
 abbrev pub PlainLineAsksTheSameOnError : Type 0
 PlainLineAsksTheSameOnError =
     (caches : Bool) (which : ErrorRule) (lifetime : Lifetime) (age : ℕ) (response request : List Occurrence) →
-    against_on_error which (stands_at (plain caches) lifetime age response request)
+    against_on_error which (situation_at (plain caches) lifetime age response request)
     ≡ plain_against_on_error which lifetime age response request
 
 abbrev pub PlainLineDecidesTheSame : Type 0

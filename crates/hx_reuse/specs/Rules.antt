@@ -1,8 +1,8 @@
 -- Which rules keep a stored response from being sent (RFC 9111, sections 4 and 5.2.1), and which is the first.
 --
--- Standing: what the rules on a chosen response read     asks_to_validate, above_max_age, below_min_fresh,
+-- Situation: what the rules on a chosen response read     asks_to_validate, above_max_age, below_min_fresh,
 -- asks_for_freshness: what a request wants                against: the condition of each of these rules
--- stands: the condition of each rule                     reuse_rules: the rules by their numbers
+-- applies: the condition of each rule                     reuse_rules: the rules by their numbers
 -- reuse_rule_of: the least that stands                   decision_of: what is done with a request
 use Rattle.std.specs.Prelude.{ℕ, ◌+◌, ◌==◌, nat_lt, if◌then◌else◌, Bool, true, false, not, ◌&&◌, ◌||◌, List, [], ◌∷◌}
 use Rattle.std.specs.Prelude.{length, find, codes, bytes_eq, Option, Some, None, is_some, is_none, option_map}
@@ -34,27 +34,27 @@ is_some_and test None = false
 is_some_and test (Some x) = test x
 
 -- what the rules on a chosen response read of it, of the request and of the operator's line
-pub record Standing : Type 0 where
+pub record Situation : Type 0 where
   pub policy : Policy
   pub lifetime : Lifetime
   pub age : ℕ
   pub response : List Occurrence
   pub request : List Occurrence
 
-abbrev pub stands_at : Policy → Lifetime → ℕ → List Occurrence → List Occurrence → Standing
-stands_at policy lifetime age response request =
+abbrev pub situation_at : Policy → Lifetime → ℕ → List Occurrence → List Occurrence → Situation
+situation_at policy lifetime age response request =
     record { policy = policy; lifetime = lifetime; age = age; response = response; request = request }
 
-abbrev pub standing : Policy → Stored → Asked → ℕ → Standing
-standing policy e asked now =
-    stands_at policy (lifetime_under policy e.status e.fields) (age_of e.times now) (occurrences_of e.fields)
+abbrev pub situation : Policy → Stored → Asked → ℕ → Situation
+situation policy e asked now =
+    situation_at policy (lifetime_under policy e.status e.fields) (age_of e.times now) (occurrences_of e.fields)
     (occurrences_of asked.fields)
 
-abbrev pub fresh : Standing → Bool
+abbrev pub fresh : Situation → Bool
 fresh s = is_fresh_of s.lifetime s.age
 
 -- the response may not be sent stale (RFC 9111, sections 5.2.2.2, 5.2.2.8 and 5.2.2.10)
-abbrev pub must_revalidate : Standing → Bool
+abbrev pub must_revalidate : Situation → Bool
 must_revalidate s =
     (has s.response directive.MustRevalidate || has s.response directive.ProxyRevalidate)
     || has s.response directive.SMaxage
@@ -63,22 +63,22 @@ must_revalidate s =
 -- and of no-cache, max-age and min-fresh the operator's to say: the standard calls them advisory
 -- (RFC 9111, section 5.2.1). Its max-stale, only-if-cached, no-store and stale-if-error count
 -- whatever the line says.
-abbrev pub asks_to_validate : Standing → Bool
+abbrev pub asks_to_validate : Situation → Bool
 asks_to_validate s = s.policy.heeds_requests && has s.request directive.NoCache
 
 -- the age is above the request's max-age (RFC 9111, section 5.2.1.1)
-abbrev pub above_max_age : Standing → Bool
+abbrev pub above_max_age : Situation → Bool
 above_max_age s =
     s.policy.heeds_requests && is_some_and (λ most. nat_lt most s.age) (first_valid s.request directive.MaxAge)
 
 -- fresh for less than the request's min-fresh (RFC 9111, section 5.2.1.3)
-abbrev pub below_min_fresh : Standing → Bool
+abbrev pub below_min_fresh : Situation → Bool
 below_min_fresh s =
     s.policy.heeds_requests && is_some_and (λ least. nat_lt s.lifetime.seconds (s.age + least))
     (first_valid s.request directive.MinFresh)
 
 -- the request has min-fresh (RFC 9111, section 5.2.1.3)
-abbrev pub asks_for_freshness : Standing → Bool
+abbrev pub asks_for_freshness : Situation → Bool
 asks_for_freshness s = s.policy.heeds_requests && is_some (first_valid s.request directive.MinFresh)
 
 -- the request takes stale responses, up to a staleness (RFC 9111, section 5.2.1.2)
@@ -91,7 +91,7 @@ past_limit n (UpTo limit) = nat_lt limit n
 past_limit n _ = false
 
 -- the conditions of the rules on the chosen response
-abbrev pub against : ReuseRule → Standing → Bool
+abbrev pub against : ReuseRule → Situation → Bool
 -- RFC 9111, section 5.2.2.4
 against ResponseNoCache s = has s.response directive.NoCache
 -- RFC 9111, section 5.2.1.4
@@ -126,36 +126,36 @@ against VaryMiss s = false
 -- a rule on the chosen response: one is chosen, and the condition of the rule holds of it
 abbrev pub stands_on_chosen : ReuseRule → Policy → List Stored → Asked → ℕ → Bool
 stands_on_chosen rule policy held asked now =
-    is_some_and (λ e. against rule (standing policy e asked now)) (chosen_of held asked)
+    is_some_and (λ e. against rule (situation policy e asked now)) (chosen_of held asked)
 
 -- the condition of each rule, under what the operator's line says of caching
-abbrev pub stands : ReuseRule → Policy → List Stored → Asked → ℕ → Bool
+abbrev pub applies : ReuseRule → Policy → List Stored → Asked → ℕ → Bool
 -- own: what the operator keeps from the store
-stands Operator policy held asked now = not policy.caches
+applies Operator policy held asked now = not policy.caches
 -- RFC 9111, section 4: the method of the request has to let a stored response answer it
-stands Method policy held asked now = not (bytes_eq asked.method (codes "GET") || bytes_eq asked.method (codes "HEAD"))
+applies Method policy held asked now = not (bytes_eq asked.method (codes "GET") || bytes_eq asked.method (codes "HEAD"))
 -- own: content of a GET or HEAD may change what it asks for
-stands Content policy held asked now = has_content asked
+applies Content policy held asked now = has_content asked
 -- own: ranges are the origin's matter (RFC 9111, section 3.3 lets a cache be without them)
-stands Range policy held asked now = asks_for_range asked
+applies Range policy held asked now = asks_for_range asked
 -- own: conditions of RFC 9111, section 4.3.2 that only the origin judges here
-stands Precondition policy held asked now = has_precondition asked
+applies Precondition policy held asked now = has_precondition asked
 -- RFC 9111, sections 2 and 4
-stands UriMiss policy held asked now = length (of_key held asked) == 0
+applies UriMiss policy held asked now = length (of_key held asked) == 0
 -- RFC 9111, section 4.1
-stands VaryMiss policy held asked now = is_none (chosen_of held asked)
+applies VaryMiss policy held asked now = is_none (chosen_of held asked)
 -- those on the chosen response
-stands ResponseNoCache policy held asked now = stands_on_chosen ResponseNoCache policy held asked now
-stands RequestNoCache policy held asked now = stands_on_chosen RequestNoCache policy held asked now
-stands AboveMaxAge policy held asked now = stands_on_chosen AboveMaxAge policy held asked now
-stands BelowMinFresh policy held asked now = stands_on_chosen BelowMinFresh policy held asked now
-stands MustRevalidate policy held asked now = stands_on_chosen MustRevalidate policy held asked now
-stands NoLifetime policy held asked now = stands_on_chosen NoLifetime policy held asked now
-stands StaleNoCache policy held asked now = stands_on_chosen StaleNoCache policy held asked now
-stands NoMaxStale policy held asked now = stands_on_chosen NoMaxStale policy held asked now
-stands PastMaxStale policy held asked now = stands_on_chosen PastMaxStale policy held asked now
-stands StaleMaxAge policy held asked now = stands_on_chosen StaleMaxAge policy held asked now
-stands StaleMinFresh policy held asked now = stands_on_chosen StaleMinFresh policy held asked now
+applies ResponseNoCache policy held asked now = stands_on_chosen ResponseNoCache policy held asked now
+applies RequestNoCache policy held asked now = stands_on_chosen RequestNoCache policy held asked now
+applies AboveMaxAge policy held asked now = stands_on_chosen AboveMaxAge policy held asked now
+applies BelowMinFresh policy held asked now = stands_on_chosen BelowMinFresh policy held asked now
+applies MustRevalidate policy held asked now = stands_on_chosen MustRevalidate policy held asked now
+applies NoLifetime policy held asked now = stands_on_chosen NoLifetime policy held asked now
+applies StaleNoCache policy held asked now = stands_on_chosen StaleNoCache policy held asked now
+applies NoMaxStale policy held asked now = stands_on_chosen NoMaxStale policy held asked now
+applies PastMaxStale policy held asked now = stands_on_chosen PastMaxStale policy held asked now
+applies StaleMaxAge policy held asked now = stands_on_chosen StaleMaxAge policy held asked now
+applies StaleMinFresh policy held asked now = stands_on_chosen StaleMinFresh policy held asked now
 
 -- the rules by their numbers
 abbrev pub request_rules : List ReuseRule
@@ -174,7 +174,7 @@ reuse_rules =
 
 -- the least rule that stands
 unfoldable pub reuse_rule_of : Policy → List Stored → Asked → ℕ → Option ReuseRule
-reuse_rule_of policy held asked now = find (λ rule. stands rule policy held asked now) reuse_rules
+reuse_rule_of policy held asked now = find (λ rule. applies rule policy held asked now) reuse_rules
 
 -- the rule speaks of the chosen response
 abbrev pub names_entry : ReuseRule → Bool

@@ -5,7 +5,7 @@ use Rattle.hx_hop.specs.declared.request_view.Asked.{Asked}
 use Rattle.hx_store.specs.Stored.{Stored}
 use Rattle.hx_policy.specs.declared.words.Policy.{Policy}
 use Rattle.hx_reuse.specs.Words.{number_of, error_number_of}
-use Rattle.hx_reuse.specs.Rules.{Standing, against, stands_on_chosen, stands, request_rules, entry_rules, reuse_rules}
+use Rattle.hx_reuse.specs.Rules.{Situation, against, stands_on_chosen, applies, request_rules, entry_rules, reuse_rules}
 use Rattle.hx_reuse.specs.Rules.{names_entry}
 use Rattle.hx_reuse.specs.ErrorRules.{error_rules}
 use Rattle.hx_reuse.specs.declared.rule.ReuseRule.{ReuseRule}
@@ -36,11 +36,11 @@ EntryRulesNameTheResponse = filter names_entry reuse_rules ≡ entry_rules
 abbrev pub EntryRulesStandOnTheChosen : Type 0
 EntryRulesStandOnTheChosen =
     (rule : ReuseRule) (policy : Policy) (held : List Stored) (asked : Asked) (now : ℕ) →
-    names_entry rule ≡ true → stands rule policy held asked now ≡ stands_on_chosen rule policy held asked now
+    names_entry rule ≡ true → applies rule policy held asked now ≡ stands_on_chosen rule policy held asked now
 
 -- and none of the others has a condition on a response
 abbrev pub OthersAreAgainstNone : Type 0
-OthersAreAgainstNone = (rule : ReuseRule) (s : Standing) → names_entry rule ≡ false → against rule s ≡ false
+OthersAreAgainstNone = (rule : ReuseRule) (s : Situation) → names_entry rule ≡ false → against rule s ≡ false
 
 -- ---- the rules after an error
 

@@ -2,11 +2,11 @@
 //! and moment.
 ghost use Rattle.hx_reuse.specs.Meaning.{ChoosesTheLatest, ChoosesByDate, ChoosesWhereOneCan, ChoosesNoOther};
 ghost use Rattle.hx_reuse.specs.Meaning.{SendsWhatMayBeSent, SendsNothingElse, SendsWhatIsHeld, FindsWhatIsSent};
-ghost use Rattle.hx_reuse.specs.Meaning.{NamesTheLeast, ForwardsWhereOneStands, ForwardsWithoutCache};
-ghost use Rattle.hx_reuse.specs.Meaning.{WordsTellRulesApart, WordsTellErrorRulesApart};
+ghost use Rattle.hx_reuse.specs.Meaning.{NamesTheLeast, ForwardsWhereOneApplies, ForwardsWithoutCache};
+ghost use Rattle.hx_reuse.specs.Meaning.{WordsOfRulesDiffer, WordsOfErrorRulesDiffer};
 ghost use Rattle.hx_reuse.specs.Reusable.{ReusesWhatMayBeReused, ReusesNothingElse};
 ghost use Rattle.hx_reuse.specs.OnError.{SendsOnErrorWhatMayBeSent, SendsOnErrorNothingElse, NamesTheLeastOnError};
-ghost use Rattle.hx_reuse.specs.OnError.{NamesOneThatStandsOnError};
+ghost use Rattle.hx_reuse.specs.OnError.{NamesOneThatAppliesOnError};
 ghost use Rattle.std.specs.Prelude.{◌≡◌, Some, None, codes};
 ghost use Rattle.hx_reuse.specs.declared.rule.ReuseRule.TheVariants as rule;
 ghost use Rattle.hx_reuse.specs.declared.rule.ErrorRule.TheVariants as on_error;
@@ -14,7 +14,7 @@ ghost use Rattle.hx_reuse.specs.Words.{detail_of, error_word_of, reason_of};
 ghost use Rattle.hx_reuse.specs.PlainLines.{PlainLineGivesNoLifetime, PlainLineAsksTheSame, PlainLineDecidesTheSame};
 ghost use Rattle.hx_reuse.specs.PlainLines.{PlainLineAsksTheSameOnError, PlainLineLeavesTheSame};
 ghost use Rattle.hx_reuse.specs.LineWords.{StatedLifetimeStays, OtherStatusesStay, GivenLifetimeCounts};
-ghost use Rattle.hx_reuse.specs.LineWords.{IgnoredAdviceNeverStands, IgnoredAdviceNeverStandsOnError};
+ghost use Rattle.hx_reuse.specs.LineWords.{IgnoredAdviceNeverApplies, IgnoredAdviceNeverAppliesOnError};
 ghost use Rattle.hx_reuse.specs.LineWords.{IgnoredAdviceDecidesNothing, OperatorsLimitAllows, OperatorsLimitEnds};
 ghost use Rattle.hx_reuse.specs.LineWords.{StatedLimitStays};
 ghost use Rattle.hx_reuse.specs.Promises.{SendsNoOtherRequestsVariant, SendsNoOtherVariant, NeverSendsStaleAgainst};
@@ -35,7 +35,7 @@ pub fn the_latest_that_matches_is_chosen()
 {}
 
 /// The chosen response is sent exactly where no rule stands.
-pub fn sent_where_no_rule_stands()
+pub fn sent_where_no_rule_applies()
     ensures every { SendsWhatMayBeSent }
     ensures only { SendsNothingElse }
 {}
@@ -49,7 +49,7 @@ pub fn a_hit_is_held()
 /// A request goes forward exactly where a rule stands, by the least that does; and a rule on a response names it.
 pub fn forward_names_the_least_rule()
     ensures least { NamesTheLeast }
-    ensures every { ForwardsWhereOneStands }
+    ensures every { ForwardsWhereOneApplies }
 {}
 
 /// What the operator keeps from the store is never answered from it: the request goes forward, by that rule.
@@ -73,7 +73,7 @@ pub fn sent_on_error_where_it_may_be()
 /// The rule that is named after an error stands, and none of a smaller number does.
 pub fn the_least_error_rule_is_named()
     ensures least { NamesTheLeastOnError }
-    ensures every { NamesOneThatStandsOnError }
+    ensures every { NamesOneThatAppliesOnError }
 {}
 
 /// A response that is sent without the origin was asked for with the values that the request has of
@@ -125,8 +125,8 @@ pub fn a_given_lifetime_counts()
 /// Where a line doesn't heed what requests want, no rule on a request's no-cache, max-age or
 /// min-fresh stands, and requests that differ in nothing else are answered alike.
 pub fn ignored_directives_are_not_asked()
-    ensures rules { IgnoredAdviceNeverStands }
-    ensures on_error { IgnoredAdviceNeverStandsOnError }
+    ensures rules { IgnoredAdviceNeverApplies }
+    ensures on_error { IgnoredAdviceNeverAppliesOnError }
     ensures decision { IgnoredAdviceDecidesNothing }
 {}
 
@@ -152,9 +152,9 @@ pub fn the_tables_of_the_rules_agree()
 {}
 
 /// No two reuse rules have the same reason and detail, and no two rules after an error the same word.
-pub fn words_tell_the_rule()
-    ensures reuse { WordsTellRulesApart }
-    ensures error { WordsTellErrorRulesApart }
+pub fn words_name_the_rule()
+    ensures reuse { WordsOfRulesDiffer }
+    ensures error { WordsOfErrorRulesDiffer }
 {}
 
 /// The reason of each rule (RFC 9211, section 2.2).

@@ -23,10 +23,10 @@ pub use crate::laws::{
     default_policy_changes_nothing, details_of_the_rules, forward_names_the_least_rule,
     ignored_directives_are_not_asked, no_other_requests_variant_is_sent, no_other_variant_is_sent,
     nothing_is_reused_against_the_operator, reasons_of_the_rules, sent_on_error_where_it_may_be,
-    sent_where_it_may_be_reused, sent_where_no_rule_stands, the_latest_that_matches_is_chosen,
+    sent_where_it_may_be_reused, sent_where_no_rule_applies, the_latest_that_matches_is_chosen,
     the_least_error_rule_is_named, the_operators_stale_if_error_counts,
-    the_tables_of_the_rules_agree, what_has_to_be_validated_is, words_of_the_error_rules,
-    words_tell_the_rule,
+    the_tables_of_the_rules_agree, what_has_to_be_validated_is, words_name_the_rule,
+    words_of_the_error_rules,
 };
 pub use crate::lifetimes::lifetime_under;
 pub use crate::on_error::may_serve_on_error;

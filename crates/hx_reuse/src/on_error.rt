@@ -5,7 +5,7 @@
 ghost use Rattle.std.specs.Prelude.{◌≡◌, ◌||◌, ◌&&◌, nat_lt, if◌then◌else◌, find, None, is_none};
 ghost use Rattle.hx_directives.specs.Answers.{has, seconds, first_valid};
 ghost use Rattle.hx_directives.specs.declared.names.Directive.TheVariants.{StaleIfError};
-ghost use Rattle.hx_reuse.specs.Rules.{is_some_and, stands_at};
+ghost use Rattle.hx_reuse.specs.Rules.{is_some_and, situation_at};
 ghost use Rattle.hx_reuse.specs.ErrorRules.{stated_once, error_rules, against_on_error, error_rule_on, leave_on_error};
 
 use crate::lifetimes::lifetime_under;
@@ -79,7 +79,7 @@ fn rule_on_error(
     request: &Directives,
 ) -> Option<ErrorRule>
     ensures { result
-        ≡ find (λ r. against_on_error r (stands_at policy lifetime age response.now request.now)) error_rules }
+        ≡ find (λ r. against_on_error r (situation_at policy lifetime age response.now request.now)) error_rules }
 {
     if response.has(Directive::NoCache) {
         Some(ErrorRule::NoCache)

@@ -7,7 +7,8 @@ ghost use Rattle.hx_directives.specs.declared.names.Directive.TheVariants.{Proxy
 ghost use Rattle.hx_age.specs.Age.{is_fresh_of, staleness_of};
 ghost use Rattle.hx_store.specs.Stored.{Stored};
 ghost use Rattle.hx_policy.specs.declared.words.Policy.{Policy as Words};
-ghost use Rattle.hx_reuse.specs.Rules.{is_some_and, against, stands, past_limit, accepts_stale, stands_at, standing};
+ghost use Rattle.hx_reuse.specs.Rules.{is_some_and, against, applies, past_limit, accepts_stale, situation_at};
+ghost use Rattle.hx_reuse.specs.Rules.{situation};
 ghost use Rattle.hx_reuse.specs.Rules.{request_rules, entry_rules};
 
 use crate::lifetimes::lifetime_under;
@@ -21,7 +22,7 @@ use hx_store::Entry;
 /// The least rule on the request alone.
 pub(crate) fn request_rule(asked: &Asked) -> Option<ReuseRule>
     ensures { (policy : Words) (held : List Stored) (now : ℕ)
-        → result ≡ find (λ r. stands r policy held asked.now now) request_rules }
+        → result ≡ find (λ r. applies r policy held asked.now now) request_rules }
 {
     if asked.method.as_str() != "GET" && asked.method.as_str() != "HEAD" {
         return Some(ReuseRule::Method);
@@ -119,7 +120,7 @@ fn rule_against(
     response: &Directives,
     request: &Directives,
 ) -> Option<ReuseRule>
-    ensures { result ≡ find (λ r. against r (stands_at policy lifetime age response.now request.now)) entry_rules }
+    ensures { result ≡ find (λ r. against r (situation_at policy lifetime age response.now request.now)) entry_rules }
 {
     if response.has(Directive::NoCache) {
         return Some(ReuseRule::ResponseNoCache);
@@ -150,7 +151,7 @@ fn stale_rule(
 ) -> Option<ReuseRule>
     requires validated_not { has response.now NoCache ≡ false }
     requires stale { is_fresh_of lifetime age ≡ false }
-    ensures { result ≡ find (λ r. against r (stands_at policy lifetime age response.now request.now)) entry_rules }
+    ensures { result ≡ find (λ r. against r (situation_at policy lifetime age response.now request.now)) entry_rules }
 {
     if must_revalidate(response) {
         return Some(ReuseRule::MustRevalidate);
@@ -185,7 +186,7 @@ pub(crate) fn rule_on(
     policy: Policy,
 ) -> Option<ReuseRule>
     requires { asked_directives.now ≡ occurrences_of asked.now.fields }
-    ensures { result ≡ find (λ r. against r (standing policy entry.now asked.now now)) entry_rules }
+    ensures { result ≡ find (λ r. against r (situation policy entry.now asked.now now)) entry_rules }
 {
     let lifetime = lifetime_under(policy, entry.status, &entry.fields, &entry.directives);
     let age = current_age(&entry.times, now);

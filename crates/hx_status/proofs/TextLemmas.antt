@@ -16,35 +16,35 @@ use Rattle.hx_status.specs.declared.cause.Cause.{Cause}
 use Rattle.hx_status.specs.declared.cause.Cause.TheVariants.{Denied, NoLine, OnlyIfCached, Origin, Frame, Target}
 
 -- the rule that has this text
-told_by : List ℕ → Option ReuseRule
-told_by text = find (λ r. bytes_eq (rule_text r) text) reuse_rules
+named_by : List ℕ → Option ReuseRule
+named_by text = find (λ r. bytes_eq (rule_text r) text) reuse_rules
 
-told : (r : ReuseRule) → told_by (rule_text r) ≡ Some r
-unfolding told_by
-told Operator = refl
-told Method = refl
-told Content = refl
-told Range = refl
-told Precondition = refl
-told UriMiss = refl
-told VaryMiss = refl
-told ResponseNoCache = refl
-told RequestNoCache = refl
-told AboveMaxAge = refl
-told BelowMinFresh = refl
-told MustRevalidate = refl
-told NoLifetime = refl
-told StaleNoCache = refl
-told NoMaxStale = refl
-told PastMaxStale = refl
-told StaleMaxAge = refl
-told StaleMinFresh = refl
+named : (r : ReuseRule) → named_by (rule_text r) ≡ Some r
+unfolding named_by
+named Operator = refl
+named Method = refl
+named Content = refl
+named Range = refl
+named Precondition = refl
+named UriMiss = refl
+named VaryMiss = refl
+named ResponseNoCache = refl
+named RequestNoCache = refl
+named AboveMaxAge = refl
+named BelowMinFresh = refl
+named MustRevalidate = refl
+named NoLifetime = refl
+named StaleNoCache = refl
+named NoMaxStale = refl
+named PastMaxStale = refl
+named StaleMaxAge = refl
+named StaleMinFresh = refl
 
 same_rule : (r q : ReuseRule) → ◌≡◌ {A = Option ReuseRule} (Some r) (Some q) → r ≡ q
 same_rule r q h = cc
 
-pub texts_tell_apart : (r q : ReuseRule) → rule_text r ≡ rule_text q → r ≡ q
-texts_tell_apart r q h = same_rule r q (sym (told r) ∙ ap told_by h ∙ told q)
+pub texts_differ : (r q : ReuseRule) → rule_text r ≡ rule_text q → r ≡ q
+texts_differ r q h = same_rule r q (sym (named r) ∙ ap named_by h ∙ named q)
 
 every_frame : List FrameFault
 every_frame = frame.Head ∷ frame.Version ∷ frame.BothLengths ∷ frame.Length ∷ frame.Coding ∷ frame.Chunk ∷ frame.TooLarge ∷ frame.Expect ∷ frame.Truncated ∷ frame.Status ∷ []
@@ -53,24 +53,24 @@ every_frame = frame.Head ∷ frame.Version ∷ frame.BothLengths ∷ frame.Lengt
 frame_by : List ℕ → Option FrameFault
 frame_by text = find (λ x. bytes_eq (frame_word x) text) every_frame
 
-frame_told : (x : FrameFault) → frame_by (frame_word x) ≡ Some x
+frame_named : (x : FrameFault) → frame_by (frame_word x) ≡ Some x
 unfolding frame_by every_frame
-frame_told frame.Head = refl
-frame_told frame.Version = refl
-frame_told frame.BothLengths = refl
-frame_told frame.Length = refl
-frame_told frame.Coding = refl
-frame_told frame.Chunk = refl
-frame_told frame.TooLarge = refl
-frame_told frame.Expect = refl
-frame_told frame.Truncated = refl
-frame_told frame.Status = refl
+frame_named frame.Head = refl
+frame_named frame.Version = refl
+frame_named frame.BothLengths = refl
+frame_named frame.Length = refl
+frame_named frame.Coding = refl
+frame_named frame.Chunk = refl
+frame_named frame.TooLarge = refl
+frame_named frame.Expect = refl
+frame_named frame.Truncated = refl
+frame_named frame.Status = refl
 
 same_frame : (x y : FrameFault) → ◌≡◌ {A = Option FrameFault} (Some x) (Some y) → x ≡ y
 same_frame x y h = cc
 
-pub frame_words_tell_apart : (x y : FrameFault) → frame_word x ≡ frame_word y → x ≡ y
-frame_words_tell_apart x y h = same_frame x y (sym (frame_told x) ∙ ap frame_by h ∙ frame_told y)
+pub frame_words_differ : (x y : FrameFault) → frame_word x ≡ frame_word y → x ≡ y
+frame_words_differ x y h = same_frame x y (sym (frame_named x) ∙ ap frame_by h ∙ frame_named y)
 
 every_target : List TargetFault
 every_target = target.Form ∷ target.Scheme ∷ target.Host ∷ target.Port ∷ target.Userinfo ∷ target.Escape ∷ target.DotSegment ∷ target.TooLong ∷ target.OutOfMemory ∷ []
@@ -79,23 +79,23 @@ every_target = target.Form ∷ target.Scheme ∷ target.Host ∷ target.Port ∷
 target_by : List ℕ → Option TargetFault
 target_by text = find (λ x. bytes_eq (target_word x) text) every_target
 
-target_told : (x : TargetFault) → target_by (target_word x) ≡ Some x
+target_named : (x : TargetFault) → target_by (target_word x) ≡ Some x
 unfolding target_by every_target
-target_told target.Form = refl
-target_told target.Scheme = refl
-target_told target.Host = refl
-target_told target.Port = refl
-target_told target.Userinfo = refl
-target_told target.Escape = refl
-target_told target.DotSegment = refl
-target_told target.TooLong = refl
-target_told target.OutOfMemory = refl
+target_named target.Form = refl
+target_named target.Scheme = refl
+target_named target.Host = refl
+target_named target.Port = refl
+target_named target.Userinfo = refl
+target_named target.Escape = refl
+target_named target.DotSegment = refl
+target_named target.TooLong = refl
+target_named target.OutOfMemory = refl
 
 same_target : (x y : TargetFault) → ◌≡◌ {A = Option TargetFault} (Some x) (Some y) → x ≡ y
 same_target x y h = cc
 
-pub target_words_tell_apart : (x y : TargetFault) → target_word x ≡ target_word y → x ≡ y
-target_words_tell_apart x y h = same_target x y (sym (target_told x) ∙ ap target_by h ∙ target_told y)
+pub target_words_differ : (x y : TargetFault) → target_word x ≡ target_word y → x ≡ y
+target_words_differ x y h = same_target x y (sym (target_named x) ∙ ap target_by h ∙ target_named y)
 
 every_kind : List FailKind
 every_kind = kind.Refused ∷ kind.TimedOut ∷ kind.Closed ∷ kind.BadAnswer ∷ kind.TooLarge ∷ []
@@ -104,19 +104,19 @@ every_kind = kind.Refused ∷ kind.TimedOut ∷ kind.Closed ∷ kind.BadAnswer �
 kind_by : List ℕ → Option FailKind
 kind_by text = find (λ x. bytes_eq (kind_word x) text) every_kind
 
-kind_told : (x : FailKind) → kind_by (kind_word x) ≡ Some x
+kind_named : (x : FailKind) → kind_by (kind_word x) ≡ Some x
 unfolding kind_by every_kind
-kind_told kind.Refused = refl
-kind_told kind.TimedOut = refl
-kind_told kind.Closed = refl
-kind_told kind.BadAnswer = refl
-kind_told kind.TooLarge = refl
+kind_named kind.Refused = refl
+kind_named kind.TimedOut = refl
+kind_named kind.Closed = refl
+kind_named kind.BadAnswer = refl
+kind_named kind.TooLarge = refl
 
 same_kind : (x y : FailKind) → ◌≡◌ {A = Option FailKind} (Some x) (Some y) → x ≡ y
 same_kind x y h = cc
 
-pub kind_words_tell_apart : (x y : FailKind) → kind_word x ≡ kind_word y → x ≡ y
-kind_words_tell_apart x y h = same_kind x y (sym (kind_told x) ∙ ap kind_by h ∙ kind_told y)
+pub kind_words_differ : (x y : FailKind) → kind_word x ≡ kind_word y → x ≡ y
+kind_words_differ x y h = same_kind x y (sym (kind_named x) ∙ ap kind_by h ∙ kind_named y)
 
 -- ---- the statuses
 

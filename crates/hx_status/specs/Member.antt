@@ -45,7 +45,7 @@ rule_detail Hit = None
 rule_detail (Fwd rule) = detail_of rule
 
 -- why an answer isn't stored, where nothing else is told: `not-stored-` and the word of the rule (law
--- `not_stored_tells_the_rule`)
+-- `not_stored_names_the_rule`)
 abbrev pub not_stored_word : StoreRule → List ℕ
 not_stored_word storing.Operator = codes "not-stored-operator"
 not_stored_word storing.Method = codes "not-stored-method"
@@ -93,5 +93,5 @@ member_text name status =
 
 -- ---- the statement
 
-abbrev pub NotStoredTellsTheRule : Type 0
-NotStoredTellsTheRule = (rule : StoreRule) → not_stored_word rule ≡ codes "not-stored-" ++ storing_word_of rule
+abbrev pub NotStoredNamesTheRule : Type 0
+NotStoredNamesTheRule = (rule : StoreRule) → not_stored_word rule ≡ codes "not-stored-" ++ storing_word_of rule

@@ -3,7 +3,7 @@
 --
 -- status_of, text_of: the answer to a cause    origin_text: where the origin failed
 -- frame_word, target_word: the words of faults
--- TextsTellRulesApart and those below it: a reader of the text knows the rule, the fault, the failure
+-- TextsOfRulesDiffer and those below it: a reader of the text knows the rule, the fault, the failure
 use Rattle.std.specs.Prelude.{◌≡◌, ◌⊎◌, ℕ, List, [], ◌++◌, codes, Option, Some, None}
 use Rattle.std.specs.Fmt.{decimal}
 use Rattle.hx_framing.specs.declared.fault.FrameFault.{FrameFault}
@@ -112,18 +112,18 @@ text_of (Frame fault) = codes "refused: " ++ frame_word fault
 text_of (Target fault) = codes "refused: " ++ target_word fault
 
 -- no two reuse rules are named by the same text, in a refusal as in Cache-Status
-abbrev pub TextsTellRulesApart : Type 0
-TextsTellRulesApart = (rule other : ReuseRule) → rule_text rule ≡ rule_text other → rule ≡ other
+abbrev pub TextsOfRulesDiffer : Type 0
+TextsOfRulesDiffer = (rule other : ReuseRule) → rule_text rule ≡ rule_text other → rule ≡ other
 
 -- no two faults of messages have one word, nor two faults of targets, nor two ways in which an origin fails
-abbrev pub FrameWordsTellApart : Type 0
-FrameWordsTellApart = (fault other : FrameFault) → frame_word fault ≡ frame_word other → fault ≡ other
+abbrev pub FrameWordsDiffer : Type 0
+FrameWordsDiffer = (fault other : FrameFault) → frame_word fault ≡ frame_word other → fault ≡ other
 
-abbrev pub TargetWordsTellApart : Type 0
-TargetWordsTellApart = (fault other : TargetFault) → target_word fault ≡ target_word other → fault ≡ other
+abbrev pub TargetWordsDiffer : Type 0
+TargetWordsDiffer = (fault other : TargetFault) → target_word fault ≡ target_word other → fault ≡ other
 
-abbrev pub KindWordsTellApart : Type 0
-KindWordsTellApart = (kind other : FailKind) → kind_word kind ≡ kind_word other → kind ≡ other
+abbrev pub KindWordsDiffer : Type 0
+KindWordsDiffer = (kind other : FailKind) → kind_word kind ≡ kind_word other → kind ≡ other
 
 -- 403 Forbidden is the operator's answer and no other's (RFC 9110, section 15.5.4)
 abbrev pub IsOfTheTable : Cause → Type 0

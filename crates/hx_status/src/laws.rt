@@ -1,18 +1,18 @@
 //! What the texts tell their reader.
-ghost use Rattle.hx_status.specs.Member.{NotStoredTellsTheRule};
-ghost use Rattle.hx_status.specs.Refusals.{FrameWordsTellApart, KindWordsTellApart, OnlyTheTableForbids};
-ghost use Rattle.hx_status.specs.Refusals.{TargetWordsTellApart, TextsTellRulesApart, TheTableForbids};
+ghost use Rattle.hx_status.specs.Member.{NotStoredNamesTheRule};
+ghost use Rattle.hx_status.specs.Refusals.{FrameWordsDiffer, KindWordsDiffer, OnlyTheTableForbids};
+ghost use Rattle.hx_status.specs.Refusals.{TargetWordsDiffer, TextsOfRulesDiffer, TheTableForbids};
 
 /// No two reuse rules are named by the same text, in a refusal as in Cache-Status.
-pub fn texts_tell_the_rule()
-    ensures { TextsTellRulesApart }
+pub fn texts_name_the_rule()
+    ensures { TextsOfRulesDiffer }
 {}
 
 /// No two faults of messages, of targets or of origins are told by the same word.
-pub fn words_tell_the_fault()
-    ensures frame { FrameWordsTellApart }
-    ensures target { TargetWordsTellApart }
-    ensures kind { KindWordsTellApart }
+pub fn words_name_the_fault()
+    ensures frame { FrameWordsDiffer }
+    ensures target { TargetWordsDiffer }
+    ensures kind { KindWordsDiffer }
 {}
 
 /// 403 is given exactly where the operator's table lets a request not through (RFC 9110, section 15.5.4).
@@ -22,6 +22,6 @@ pub fn only_the_table_forbids()
 {}
 
 /// An answer that isn't stored tells its rule by `not-stored-` and the word of that rule.
-pub fn not_stored_tells_the_rule()
-    ensures { NotStoredTellsTheRule }
+pub fn not_stored_names_the_rule()
+    ensures { NotStoredNamesTheRule }
 {}

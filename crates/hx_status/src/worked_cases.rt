@@ -175,7 +175,7 @@ pub fn failed_origins()
 {}
 
 /// Why an answer isn't stored, where no other detail is told.
-pub fn storing_rules_are_told()
+pub fn storing_rules_are_named()
     ensures no_lifetime { member_text (codes "edge") (not_stored_by rule.UriMiss storing.NothingToReuse) ≡ codes "edge;fwd=uri-miss;detail=not-stored-no-lifetime" }
     ensures no_store { member_text (codes "edge") (not_stored_by rule.UriMiss storing.ResponseNoStore) ≡ codes "edge;fwd=uri-miss;detail=not-stored-no-store" }
     ensures private { member_text (codes "edge") (not_stored_by rule.NoMaxStale storing.Private) ≡ codes "edge;fwd=stale;detail=not-stored-private" }

@@ -6,7 +6,7 @@ use Rattle.hx_hop.specs.declared.response_view.Answered.{Answered}
 use Rattle.hx_storable.specs.declared.known_facts.Facts.{Facts}
 use Rattle.hx_storable.specs.declared.rule.StoreRule.{StoreRule}
 use Rattle.hx_storable.specs.declared.rule.StoreRule.TheVariants.{Operator, Method, Bypass, Status, MustUnderstand, ResponseNoStore, RequestNoStore, Private, Authorization, NothingAllows, VaryStar, ConnectionField, NothingToReuse, TooLarge, Overtaken, Serials, SetCookie, ErrorStatus}
-use Rattle.hx_storable.specs.Rules.{stands, number_of, storage_rules, storage_rule_of}
+use Rattle.hx_storable.specs.Rules.{applies, number_of, storage_rules, storage_rule_of}
 use Rattle.hx_storable.specs.Storable.{IsLeast, IsStored}
 use Rattle.hx_fields.proofs.FirstThat.{IsMember, ascends, passes, fails_before, none_passes, none_found, first_found}
 
@@ -40,19 +40,19 @@ module _ (asked : Asked) (answered : Answered) (facts : Facts) where
   unfolding storage_rule_of
   rule_is_least least h =
       record {
-        it_stands = passes number_of (λ r. stands r asked answered facts) storage_rules least h;
-        none_before = λ r l. fails_before number_of (λ r. stands r asked answered facts) 0 storage_rules least r in_order h (listed r) l;
+        it_applies = passes number_of (λ r. applies r asked answered facts) storage_rules least h;
+        none_before = λ r l. fails_before number_of (λ r. applies r asked answered facts) 0 storage_rules least r in_order h (listed r) l;
       }
 
   pub least_is_rule : (least : StoreRule) → IsLeast asked answered facts least → storage_rule_of asked answered facts ≡ Some least
   unfolding storage_rule_of
   least_is_rule least is =
-      first_found number_of (λ r. stands r asked answered facts) 0 storage_rules least in_order (listed least) is.it_stands is.none_before
+      first_found number_of (λ r. applies r asked answered facts) 0 storage_rules least in_order (listed least) is.it_applies is.none_before
 
-  pub no_rule_stands : (any : StoreRule) → IsStored asked answered facts → stands any asked answered facts ≡ false
+  pub no_rule_applies : (any : StoreRule) → IsStored asked answered facts → applies any asked answered facts ≡ false
   unfolding storage_rule_of
-  no_rule_stands any h = none_passes number_of (λ r. stands r asked answered facts) storage_rules any h (listed any)
+  no_rule_applies any h = none_passes number_of (λ r. applies r asked answered facts) storage_rules any h (listed any)
 
-  pub no_rule_found : ((any : StoreRule) → stands any asked answered facts ≡ false) → IsStored asked answered facts
+  pub no_rule_found : ((any : StoreRule) → applies any asked answered facts ≡ false) → IsStored asked answered facts
   unfolding storage_rule_of
-  no_rule_found none = none_found number_of (λ r. stands r asked answered facts) storage_rules none
+  no_rule_found none = none_found number_of (λ r. applies r asked answered facts) storage_rules none

@@ -10,12 +10,12 @@ use Rattle.hx_policy.specs.Words.{is_heuristic, plain}
 use Rattle.hx_storable.specs.declared.known_facts.Facts.{Facts}
 use Rattle.hx_storable.specs.declared.rule.StoreRule.{StoreRule}
 use Rattle.hx_storable.specs.declared.rule.StoreRule.TheVariants.{Operator, SetCookie, ErrorStatus}
-use Rattle.hx_storable.specs.Rules.{says, has_cookie_for_one, is_uncached_error, stands, rules_of_words, storage_rule_of}
+use Rattle.hx_storable.specs.Rules.{says, has_cookie_for_one, is_uncached_error, applies, rules_of_words, storage_rule_of}
 use Rattle.hx_storable.specs.Storable.{IsWithinTheWords, IsStored}
 use Rattle.hx_storable.specs.LineWords.{with_policy, rules_without_words}
 use Rattle.hx_fields.proofs.JoinedTests.{never, not_false, not_true, first_absent, last_absent, either_false}
 use Rattle.hx_storable.proofs.Joined.{find_before}
-use Rattle.hx_storable.proofs.LeastRule.{no_rule_stands, no_rule_found}
+use Rattle.hx_storable.proofs.LeastRule.{no_rule_applies, no_rule_found}
 
 less : (status : ℕ) → nat_le 400 status ≡ false → status < 400
 less status h = grind (arith, nat_tests)
@@ -37,7 +37,7 @@ turned false h = refl
 module _ (asked : Asked) (answered : Answered) (facts : Facts) where
   -- where no rule stands the words allow it, and where they do neither rule of theirs stands
 
-  module _ (none : (any : StoreRule) → stands any asked answered facts ≡ false) where
+  module _ (none : (any : StoreRule) → applies any asked answered facts ≡ false) where
     pub within_the_words : IsWithinTheWords answered facts.policy
     within_the_words = record {
       cookies = cookies (either_false (not facts.policy.stores_cookies) (has_cookie_for_one answered) (none SetCookie));
@@ -66,21 +66,21 @@ module _ (asked : Asked) (answered : Answered) (facts : Facts) where
         errors (inl h) = inl (not_false facts.policy.stores_errors h)
         errors (inr h) = inr (no_error (either_false (nat_le 400 answered.status) (not (is_heuristic answered.status)) h))
 
-  pub cookie_stands : (facts.policy.stores_cookies ≡ true) ⊎ ((has_line answered.fields (codes "Set-Cookie") ≡ false) ⊎ (says answered directive.Public ≡ true)) → stands SetCookie asked answered facts ≡ false
-  cookie_stands (inl h) = first_absent (not facts.policy.stores_cookies) (has_cookie_for_one answered) (not_true facts.policy.stores_cookies h)
-  cookie_stands (inr (inl absent)) =
+  pub cookie_applies : (facts.policy.stores_cookies ≡ true) ⊎ ((has_line answered.fields (codes "Set-Cookie") ≡ false) ⊎ (says answered directive.Public ≡ true)) → applies SetCookie asked answered facts ≡ false
+  cookie_applies (inl h) = first_absent (not facts.policy.stores_cookies) (has_cookie_for_one answered) (not_true facts.policy.stores_cookies h)
+  cookie_applies (inr (inl absent)) =
       last_absent (not facts.policy.stores_cookies) (has_cookie_for_one answered)
       (first_absent (has_line answered.fields (codes "Set-Cookie")) (not (says answered directive.Public)) absent)
-  cookie_stands (inr (inr public)) =
+  cookie_applies (inr (inr public)) =
       last_absent (not facts.policy.stores_cookies) (has_cookie_for_one answered)
       (last_absent (has_line answered.fields (codes "Set-Cookie")) (not (says answered directive.Public)) (not_true (says answered directive.Public) public))
 
-  pub error_stands : (facts.policy.stores_errors ≡ true) ⊎ ((answered.status < 400) ⊎ (is_heuristic answered.status ≡ true)) → stands ErrorStatus asked answered facts ≡ false
-  error_stands (inl h) = first_absent (not facts.policy.stores_errors) (is_uncached_error answered.status) (not_true facts.policy.stores_errors h)
-  error_stands (inr (inl low)) =
+  pub error_applies : (facts.policy.stores_errors ≡ true) ⊎ ((answered.status < 400) ⊎ (is_heuristic answered.status ≡ true)) → applies ErrorStatus asked answered facts ≡ false
+  error_applies (inl h) = first_absent (not facts.policy.stores_errors) (is_uncached_error answered.status) (not_true facts.policy.stores_errors h)
+  error_applies (inr (inl low)) =
       last_absent (not facts.policy.stores_errors) (is_uncached_error answered.status)
       (first_absent (nat_le 400 answered.status) (not (is_heuristic answered.status)) (not_reached answered.status low))
-  error_stands (inr (inr heuristic)) =
+  error_applies (inr (inr heuristic)) =
       last_absent (not facts.policy.stores_errors) (is_uncached_error answered.status)
       (last_absent (nat_le 400 answered.status) (not (is_heuristic answered.status)) (not_true (is_heuristic answered.status) heuristic))
 
@@ -89,32 +89,32 @@ module _ (asked : Asked) (answered : Answered) (facts : Facts) where
   pub cookie_forbids : facts.policy.stores_cookies ≡ false → has_line answered.fields (codes "Set-Cookie") ≡ true → says answered directive.Public ≡ false → IsStored asked answered facts → ⊥
   cookie_forbids word cookie public h =
       let for_one = both (has_line answered.fields (codes "Set-Cookie")) (not (says answered directive.Public)) cookie (turned (says answered directive.Public) public) in
-      never (sym (both (not facts.policy.stores_cookies) (has_cookie_for_one answered) (turned facts.policy.stores_cookies word) for_one) ∙ no_rule_stands asked answered facts SetCookie h)
+      never (sym (both (not facts.policy.stores_cookies) (has_cookie_for_one answered) (turned facts.policy.stores_cookies word) for_one) ∙ no_rule_applies asked answered facts SetCookie h)
 
   pub error_forbids : facts.policy.stores_errors ≡ false → 400 ≤ answered.status → is_heuristic answered.status ≡ false → IsStored asked answered facts → ⊥
   error_forbids word high other h =
       let error = both (nat_le 400 answered.status) (not (is_heuristic answered.status)) (reached answered.status high) (turned (is_heuristic answered.status) other) in
-      never (sym (both (not facts.policy.stores_errors) (is_uncached_error answered.status) (turned facts.policy.stores_errors word) error) ∙ no_rule_stands asked answered facts ErrorStatus h)
+      never (sym (both (not facts.policy.stores_errors) (is_uncached_error answered.status) (turned facts.policy.stores_errors word) error) ∙ no_rule_applies asked answered facts ErrorStatus h)
 
   -- without the words no rule stands that doesn't stand with them
-  plain_none : ((any : StoreRule) → stands any asked answered facts ≡ false) → (any : StoreRule) → stands any asked answered (with_policy facts (plain true)) ≡ false
+  plain_none : ((any : StoreRule) → applies any asked answered facts ≡ false) → (any : StoreRule) → applies any asked answered (with_policy facts (plain true)) ≡ false
   plain_none none Operator = refl
   plain_none none SetCookie = refl
   plain_none none ErrorStatus = refl
   plain_none none any = none any
 
   pub stored_without_words : IsStored asked answered facts → IsStored asked answered (with_policy facts (plain true))
-  stored_without_words h = no_rule_found asked answered (with_policy facts (plain true)) (plain_none (λ any. no_rule_stands asked answered facts any h))
+  stored_without_words h = no_rule_found asked answered (with_policy facts (plain true)) (plain_none (λ any. no_rule_applies asked answered facts any h))
 
-  words_none : ((any : StoreRule) → stands any asked answered (with_policy facts (plain facts.policy.caches)) ≡ false) → IsWithinTheWords answered facts.policy → (any : StoreRule) → stands any asked answered facts ≡ false
-  words_none none within SetCookie = cookie_stands within.cookies
-  words_none none within ErrorStatus = error_stands within.errors
+  words_none : ((any : StoreRule) → applies any asked answered (with_policy facts (plain facts.policy.caches)) ≡ false) → IsWithinTheWords answered facts.policy → (any : StoreRule) → applies any asked answered facts ≡ false
+  words_none none within SetCookie = cookie_applies within.cookies
+  words_none none within ErrorStatus = error_applies within.errors
   words_none none within any = none any
 
   pub stored_with_words : IsStored asked answered (with_policy facts (plain facts.policy.caches)) → IsWithinTheWords answered facts.policy → IsStored asked answered facts
   stored_with_words h within =
-      no_rule_found asked answered facts (words_none (λ any. no_rule_stands asked answered (with_policy facts (plain facts.policy.caches)) any h) within)
+      no_rule_found asked answered facts (words_none (λ any. no_rule_applies asked answered (with_policy facts (plain facts.policy.caches)) any h) within)
 
-  pub plain_asks_the_others : (caches : Bool) → storage_rule_of asked answered (with_policy facts (plain caches)) ≡ find (λ rule. stands rule asked answered (with_policy facts (plain caches))) rules_without_words
+  pub plain_asks_the_others : (caches : Bool) → storage_rule_of asked answered (with_policy facts (plain caches)) ≡ find (λ rule. applies rule asked answered (with_policy facts (plain caches))) rules_without_words
   unfolding storage_rule_of
-  plain_asks_the_others caches = find_before (λ rule. stands rule asked answered (with_policy facts (plain caches))) rules_without_words rules_of_words refl
+  plain_asks_the_others caches = find_before (λ rule. applies rule asked answered (with_policy facts (plain caches))) rules_without_words rules_of_words refl

@@ -12,11 +12,11 @@ use Rattle.hx_storable.specs.declared.known_facts.Facts.{Facts}
 use Rattle.hx_storable.specs.declared.rule.StoreRule.{StoreRule}
 use Rattle.hx_storable.specs.declared.rule.StoreRule.TheVariants.{Operator, Method, Bypass, Status, MustUnderstand, ResponseNoStore, RequestNoStore, Private, Authorization, NothingAllows, VaryStar, ConnectionField, NothingToReuse, TooLarge, Overtaken, Serials, SetCookie, ErrorStatus}
 use Rattle.hx_policy.specs.Words.{is_heuristic}
-use Rattle.hx_storable.specs.Rules.{asks, says, is_understood, allows_shared, allows_storing, stands}
+use Rattle.hx_storable.specs.Rules.{asks, says, is_understood, allows_shared, allows_storing, applies}
 use Rattle.hx_storable.specs.Storable.{IsFinal, NeedsUnderstanding, IsNotForbidden, AllowsShared, AllowsStoring, IsForTheStore, MayBeStored, IsStored}
 use Rattle.hx_fields.proofs.JoinedTests.{never, not_false, not_true, left_false, right_false, neither, one_of, or_left, or_right, second_false, either_false, first_absent, last_absent, is_equal, not_equal, implied}
-use Rattle.hx_storable.proofs.LeastRule.{no_rule_stands, no_rule_found}
-use Rattle.hx_storable.proofs.LineLemmas.{turned, within_the_words, cookie_stands, error_stands}
+use Rattle.hx_storable.proofs.LeastRule.{no_rule_applies, no_rule_found}
+use Rattle.hx_storable.proofs.LineLemmas.{turned, within_the_words, cookie_applies, error_applies}
 
 -- ---- statuses and methods
 
@@ -35,7 +35,7 @@ get_is_method m is = rw is refl
 module _ (asked : Asked) (answered : Answered) (facts : Facts) where
   -- ---- what is so where no rule stands
 
-  module _ (none : (any : StoreRule) → stands any asked answered facts ≡ false) where
+  module _ (none : (any : StoreRule) → applies any asked answered facts ≡ false) where
     pub is_get : asked.method ≡ codes "GET"
     is_get = method_is_get asked.method (none Method)
 
@@ -179,54 +179,54 @@ module _ (asked : Asked) (answered : Answered) (facts : Facts) where
       at (inr (inr (inr (inl h)))) = or_left (((public || expires) || max_age) || shared) heuristic (or_right ((public || expires) || max_age) shared h)
       at (inr (inr (inr (inr h)))) = or_right (((public || expires) || max_age) || shared) heuristic h
 
-  not_forbidden_stands : IsNotForbidden answered → says answered directive.NoStore && not (says answered directive.MustUnderstand) ≡ false
-  not_forbidden_stands (inl absent) = first_absent (says answered directive.NoStore) (not (says answered directive.MustUnderstand)) absent
-  not_forbidden_stands (inr lifted) = last_absent (says answered directive.NoStore) (not (says answered directive.MustUnderstand)) (not_true (says answered directive.MustUnderstand) lifted.0)
+  not_forbidden_applies : IsNotForbidden answered → says answered directive.NoStore && not (says answered directive.MustUnderstand) ≡ false
+  not_forbidden_applies (inl absent) = first_absent (says answered directive.NoStore) (not (says answered directive.MustUnderstand)) absent
+  not_forbidden_applies (inr lifted) = last_absent (says answered directive.NoStore) (not (says answered directive.MustUnderstand)) (not_true (says answered directive.MustUnderstand) lifted.0)
 
-  authorization_stands : (has_line asked.fields (codes "Authorization") ≡ false) ⊎ AllowsShared answered → has_line asked.fields (codes "Authorization") && not (allows_shared (occurrences_of answered.fields)) ≡ false
-  authorization_stands (inl absent) = first_absent (has_line asked.fields (codes "Authorization")) (not (allows_shared (occurrences_of answered.fields))) absent
-  authorization_stands (inr shared) = last_absent (has_line asked.fields (codes "Authorization")) (not (allows_shared (occurrences_of answered.fields))) (not_true (allows_shared (occurrences_of answered.fields)) (shared_is_allowed shared))
+  authorization_applies : (has_line asked.fields (codes "Authorization") ≡ false) ⊎ AllowsShared answered → has_line asked.fields (codes "Authorization") && not (allows_shared (occurrences_of answered.fields)) ≡ false
+  authorization_applies (inl absent) = first_absent (has_line asked.fields (codes "Authorization")) (not (allows_shared (occurrences_of answered.fields))) absent
+  authorization_applies (inr shared) = last_absent (has_line asked.fields (codes "Authorization")) (not (allows_shared (occurrences_of answered.fields))) (not_true (allows_shared (occurrences_of answered.fields)) (shared_is_allowed shared))
 
-  of_use_stands : (facts.explicit ≡ true) ⊎ (facts.validator ≡ true) → not facts.explicit && not facts.validator ≡ false
-  of_use_stands (inl h) = first_absent (not facts.explicit) (not facts.validator) (not_true facts.explicit h)
-  of_use_stands (inr h) = last_absent (not facts.explicit) (not facts.validator) (not_true facts.validator h)
+  of_use_applies : (facts.explicit ≡ true) ⊎ (facts.validator ≡ true) → not facts.explicit && not facts.validator ≡ false
+  of_use_applies (inl h) = first_absent (not facts.explicit) (not facts.validator) (not_true facts.explicit h)
+  of_use_applies (inr h) = last_absent (not facts.explicit) (not facts.validator) (not_true facts.validator h)
 
   module _ (may : MayBeStored asked answered facts) where
-    none_stands : (any : StoreRule) → stands any asked answered facts ≡ false
-    none_stands Operator = not_true facts.policy.caches may.operator_allows
-    none_stands Method = get_is_method asked.method may.is_for_the_store.is_get
-    none_stands Bypass =
+    none_applies : (any : StoreRule) → applies any asked answered facts ≡ false
+    none_applies Operator = not_true facts.policy.caches may.operator_allows
+    none_applies Method = get_is_method asked.method may.is_for_the_store.is_get
+    none_applies Bypass =
         neither (has_content asked || asks_for_range asked) (has_precondition asked)
         (neither (has_content asked) (asks_for_range asked) may.is_for_the_store.no_content may.is_for_the_store.no_range) may.is_for_the_store.no_precondition
-    none_stands Status =
+    none_applies Status =
         neither (answered.status == 206) (answered.status == 304)
         (not_equal answered.status 206 (λ e. part_is_not_understood answered.status e (may.is_storable.status_is_understood (inl e))))
         (not_equal answered.status 304 (λ e. not_modified_is_not_understood answered.status e (may.is_storable.status_is_understood (inr (inl e)))))
-    none_stands MustUnderstand = implied (says answered directive.MustUnderstand) (is_understood answered.status) (λ must. may.is_storable.status_is_understood (inr (inr must)))
-    none_stands ResponseNoStore = not_forbidden_stands may.is_storable.no_no_store
-    none_stands RequestNoStore = may.is_storable.not_asked_not_to
-    none_stands Private = may.is_storable.not_private
-    none_stands Authorization = authorization_stands may.is_storable.not_authorized
-    none_stands NothingAllows = not_true (allows_storing answered) (storing_is_allowed may.is_storable.allowed)
-    none_stands VaryStar = may.is_of_use.names_its_fields
-    none_stands ConnectionField = may.is_of_use.keeps_its_fields
-    none_stands NothingToReuse = of_use_stands may.is_of_use.lasts_or_is_validated
-    none_stands TooLarge = may.has_room.not_too_large
-    none_stands Overtaken = may.is_of_use.not_overtaken
-    none_stands Serials = may.has_room.has_serial
-    none_stands SetCookie = cookie_stands asked answered facts may.is_within_the_words.cookies
-    none_stands ErrorStatus = error_stands asked answered facts may.is_within_the_words.errors
+    none_applies MustUnderstand = implied (says answered directive.MustUnderstand) (is_understood answered.status) (λ must. may.is_storable.status_is_understood (inr (inr must)))
+    none_applies ResponseNoStore = not_forbidden_applies may.is_storable.no_no_store
+    none_applies RequestNoStore = may.is_storable.not_asked_not_to
+    none_applies Private = may.is_storable.not_private
+    none_applies Authorization = authorization_applies may.is_storable.not_authorized
+    none_applies NothingAllows = not_true (allows_storing answered) (storing_is_allowed may.is_storable.allowed)
+    none_applies VaryStar = may.is_of_use.names_its_fields
+    none_applies ConnectionField = may.is_of_use.keeps_its_fields
+    none_applies NothingToReuse = of_use_applies may.is_of_use.lasts_or_is_validated
+    none_applies TooLarge = may.has_room.not_too_large
+    none_applies Overtaken = may.is_of_use.not_overtaken
+    none_applies Serials = may.has_room.has_serial
+    none_applies SetCookie = cookie_applies asked answered facts may.is_within_the_words.cookies
+    none_applies ErrorStatus = error_applies asked answered facts may.is_within_the_words.errors
 
     pub is_stored : IsStored asked answered facts
-    is_stored = no_rule_found asked answered facts none_stands
+    is_stored = no_rule_found asked answered facts none_applies
 
   -- ---- what is never stored
 
   pub stored_may_be : IsFinal answered → IsStored asked answered facts → MayBeStored asked answered facts
-  stored_may_be final h = may_be_stored (λ any. no_rule_stands asked answered facts any h) final
+  stored_may_be final h = may_be_stored (λ any. no_rule_applies asked answered facts any h) final
 
   forbids : (says answered directive.NoStore ≡ true) → (says answered directive.MustUnderstand ≡ true → is_understood answered.status ≡ true → ⊥) → IsStored asked answered facts → ⊥
-  forbids no_store not_lifted h = at (not_forbidden (λ any. no_rule_stands asked answered facts any h))
+  forbids no_store not_lifted h = at (not_forbidden (λ any. no_rule_applies asked answered facts any h))
     where
       at : IsNotForbidden answered → ⊥
       at (inl absent) = never (sym no_store ∙ absent)
@@ -239,14 +239,14 @@ module _ (asked : Asked) (answered : Answered) (facts : Facts) where
   no_store_forbids_unless_understood p h = forbids p.0 (λ must understood. never (sym understood ∙ p.1)) h
 
   pub requests_no_store_forbids : asks asked directive.NoStore ≡ true → IsStored asked answered facts → ⊥
-  requests_no_store_forbids p h = never (sym p ∙ no_rule_stands asked answered facts RequestNoStore h)
+  requests_no_store_forbids p h = never (sym p ∙ no_rule_applies asked answered facts RequestNoStore h)
 
   pub private_forbids : says answered directive.Private ≡ true → IsStored asked answered facts → ⊥
-  private_forbids p h = never (sym p ∙ no_rule_stands asked answered facts Private h)
+  private_forbids p h = never (sym p ∙ no_rule_applies asked answered facts Private h)
 
   pub authorization_forbids : (has_line asked.fields (codes "Authorization") ≡ true) × (says answered directive.MustRevalidate ≡ false) × (says answered directive.Public ≡ false) × (says answered directive.SMaxage ≡ false)
       → IsStored asked answered facts → ⊥
-  authorization_forbids p h = at (shared_or_unauthorized (λ any. no_rule_stands asked answered facts any h))
+  authorization_forbids p h = at (shared_or_unauthorized (λ any. no_rule_applies asked answered facts any h))
     where
       at : (has_line asked.fields (codes "Authorization") ≡ false) ⊎ AllowsShared answered → ⊥
       at (inl absent) = never (sym p.0 ∙ absent)
@@ -255,11 +255,11 @@ module _ (asked : Asked) (answered : Answered) (facts : Facts) where
       at (inr (inr (inr shared))) = never (sym shared ∙ p.3)
 
   pub parts_forbid : (answered.status ≡ 206) ⊎ (answered.status ≡ 304) → IsStored asked answered facts → ⊥
-  parts_forbid (inl e) h = not_a_part (λ any. no_rule_stands asked answered facts any h) e
-  parts_forbid (inr e) h = not_a_304 (λ any. no_rule_stands asked answered facts any h) e
+  parts_forbid (inl e) h = not_a_part (λ any. no_rule_applies asked answered facts any h) e
+  parts_forbid (inr e) h = not_a_304 (λ any. no_rule_applies asked answered facts any h) e
 
   pub other_methods_forbid : ((asked.method ≡ codes "GET") → ⊥) → IsStored asked answered facts → ⊥
-  other_methods_forbid p h = p (is_get (λ any. no_rule_stands asked answered facts any h))
+  other_methods_forbid p h = p (is_get (λ any. no_rule_applies asked answered facts any h))
 
   pub operator_forbids : facts.policy.caches ≡ false → IsStored asked answered facts → ⊥
-  operator_forbids p h = never (sym (turned facts.policy.caches p) ∙ no_rule_stands asked answered facts Operator h)
+  operator_forbids p h = never (sym (turned facts.policy.caches p) ∙ no_rule_applies asked answered facts Operator h)

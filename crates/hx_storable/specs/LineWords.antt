@@ -17,7 +17,7 @@ use Rattle.hx_storable.specs.declared.rule.StoreRule.TheVariants.{ResponseNoStor
 use Rattle.hx_storable.specs.declared.rule.StoreRule.TheVariants.{Authorization, NothingAllows, VaryStar}
 use Rattle.hx_storable.specs.declared.rule.StoreRule.TheVariants.{ConnectionField, NothingToReuse, TooLarge, Overtaken}
 use Rattle.hx_storable.specs.declared.rule.StoreRule.TheVariants.{Serials, SetCookie, ErrorStatus}
-use Rattle.hx_storable.specs.Rules.{says, stands, storage_rule_of}
+use Rattle.hx_storable.specs.Rules.{says, applies, storage_rule_of}
 use Rattle.hx_storable.specs.Storable.{IsStored, IsWithinTheWords}
 
 -- where the operator stores no cookies, a response that sets one and hasn't public (RFC 9111, section 7.3)
@@ -51,15 +51,15 @@ WordsForbidNoMore = (asked : Asked) (answered : Answered) (facts : Facts) →
 -- a line without words stands against what it keeps from the store, and no rule of the words stands
 abbrev pub PlainLineIsTheOperators : Type 0
 PlainLineIsTheOperators = (caches : Bool) (asked : Asked) (answered : Answered) (facts : Facts) →
-    stands Operator asked answered (with_policy facts (plain caches)) ≡ not caches
+    applies Operator asked answered (with_policy facts (plain caches)) ≡ not caches
 
 abbrev pub PlainLineStoresCookies : Type 0
 PlainLineStoresCookies = (caches : Bool) (asked : Asked) (answered : Answered) (facts : Facts) →
-    stands SetCookie asked answered (with_policy facts (plain caches)) ≡ false
+    applies SetCookie asked answered (with_policy facts (plain caches)) ≡ false
 
 abbrev pub PlainLineStoresErrors : Type 0
 PlainLineStoresErrors = (caches : Bool) (asked : Asked) (answered : Answered) (facts : Facts) →
-    stands ErrorStatus asked answered (with_policy facts (plain caches)) ≡ false
+    applies ErrorStatus asked answered (with_policy facts (plain caches)) ≡ false
 
 -- the rules that ask for no word
 abbrev pub rules_without_words : List StoreRule
@@ -71,4 +71,4 @@ rules_without_words =
 abbrev pub PlainLineAsksTheOthers : Type 0
 PlainLineAsksTheOthers = (caches : Bool) (asked : Asked) (answered : Answered) (facts : Facts) →
     storage_rule_of asked answered (with_policy facts (plain caches))
-    ≡ find (λ rule. stands rule asked answered (with_policy facts (plain caches))) rules_without_words
+    ≡ find (λ rule. applies rule asked answered (with_policy facts (plain caches))) rules_without_words

@@ -3,7 +3,7 @@
 --
 -- is_understood: statuses     allows_storing, allows_shared: what a response says of it
 -- has_cookie_for_one, is_uncached_error: what the operator may keep from the store
--- stands: the condition of each rule        storage_rules, number_of: the rules by their numbers
+-- applies: the condition of each rule        storage_rules, number_of: the rules by their numbers
 -- storage_rule_of: the least that stands
 use Rattle.std.specs.Prelude.{ℕ, ◌==◌, nat_le, Bool, not, ◌&&◌, ◌||◌, List, [], ◌∷◌, ◌++◌, find, codes, bytes_eq}
 use Rattle.std.specs.Prelude.{Option}
@@ -57,46 +57,46 @@ abbrev pub is_uncached_error : ℕ → Bool
 is_uncached_error status = nat_le 400 status && not (is_heuristic status)
 
 -- the condition of each rule
-abbrev pub stands : StoreRule → Asked → Answered → Facts → Bool
+abbrev pub applies : StoreRule → Asked → Answered → Facts → Bool
 -- own: what the operator keeps from the store
-stands Operator asked answered facts = not facts.policy.caches
+applies Operator asked answered facts = not facts.policy.caches
 -- own: of all methods that it understands this cache stores answers to GET alone
-stands Method asked answered facts = not (bytes_eq asked.method (codes "GET"))
+applies Method asked answered facts = not (bytes_eq asked.method (codes "GET"))
 -- own: such a request goes past the cache, in both directions
-stands Bypass asked answered facts = (has_content asked || asks_for_range asked) || has_precondition asked
+applies Bypass asked answered facts = (has_content asked || asks_for_range asked) || has_precondition asked
 -- RFC 9111, sections 3 and 3.3
-stands Status asked answered facts = (answered.status == 206) || (answered.status == 304)
+applies Status asked answered facts = (answered.status == 206) || (answered.status == 304)
 -- RFC 9111, section 5.2.2.3
-stands MustUnderstand asked answered facts = says answered directive.MustUnderstand
+applies MustUnderstand asked answered facts = says answered directive.MustUnderstand
     && not (is_understood answered.status)
 -- RFC 9111, sections 5.2.2.3 and 5.2.2.5
-stands ResponseNoStore asked answered facts = says answered directive.NoStore
+applies ResponseNoStore asked answered facts = says answered directive.NoStore
     && not (says answered directive.MustUnderstand)
 -- RFC 9111, section 5.2.1.5
-stands RequestNoStore asked answered facts = asks asked directive.NoStore
+applies RequestNoStore asked answered facts = asks asked directive.NoStore
 -- RFC 9111, section 5.2.2.7; own: also where it names fields
-stands Private asked answered facts = says answered directive.Private
+applies Private asked answered facts = says answered directive.Private
 -- RFC 9111, section 3.5
-stands Authorization asked answered facts = has_line asked.fields (codes "Authorization")
+applies Authorization asked answered facts = has_line asked.fields (codes "Authorization")
     && not (allows_shared (occurrences_of answered.fields))
 -- RFC 9111, section 3
-stands NothingAllows asked answered facts = not (allows_storing answered)
+applies NothingAllows asked answered facts = not (allows_storing answered)
 -- own: such a response answers no other request (RFC 9111, section 4.1)
-stands VaryStar asked answered facts = facts.vary_star
+applies VaryStar asked answered facts = facts.vary_star
 -- own: a cache field that was meant for one connection isn't there to be kept (RFC 9110, section 7.6.1)
-stands ConnectionField asked answered facts = facts.listed
+applies ConnectionField asked answered facts = facts.listed
 -- own: it could never be sent, nor validated (RFC 9111, section 4.2.2 lets a lifetime be guessed)
-stands NothingToReuse asked answered facts = not facts.explicit && not facts.validator
+applies NothingToReuse asked answered facts = not facts.explicit && not facts.validator
 -- own: the operator's limit
-stands TooLarge asked answered facts = facts.too_large
+applies TooLarge asked answered facts = facts.too_large
 -- own: it may be what the invalidation was to drop (RFC 9111, section 4.4)
-stands Overtaken asked answered facts = facts.overtaken
+applies Overtaken asked answered facts = facts.overtaken
 -- own: each stored response has a number that no other ever has
-stands Serials asked answered facts = facts.no_serial
+applies Serials asked answered facts = facts.no_serial
 -- own: where the operator stores no cookies (RFC 9111, section 7.3)
-stands SetCookie asked answered facts = not facts.policy.stores_cookies && has_cookie_for_one answered
+applies SetCookie asked answered facts = not facts.policy.stores_cookies && has_cookie_for_one answered
 -- own: where the operator stores no errors
-stands ErrorStatus asked answered facts = not facts.policy.stores_errors && is_uncached_error answered.status
+applies ErrorStatus asked answered facts = not facts.policy.stores_errors && is_uncached_error answered.status
 
 -- the rules by their numbers; six ask for nothing but the facts, and the last two are the words of the operator's line
 abbrev pub rules_on_facts : List StoreRule
@@ -132,4 +132,4 @@ number_of ErrorStatus = 17
 
 -- the least rule that stands
 unfoldable pub storage_rule_of : Asked → Answered → Facts → Option StoreRule
-storage_rule_of asked answered facts = find (λ rule. stands rule asked answered facts) storage_rules
+storage_rule_of asked answered facts = find (λ rule. applies rule asked answered facts) storage_rules

@@ -15,7 +15,7 @@ use Rattle.hx_policy.specs.declared.words.Policy.{Policy}
 use Rattle.hx_policy.specs.Words.{is_heuristic}
 use Rattle.hx_storable.specs.declared.known_facts.Facts.{Facts}
 use Rattle.hx_storable.specs.declared.rule.StoreRule.{StoreRule}
-use Rattle.hx_storable.specs.Rules.{asks, says, is_understood, stands, number_of, storage_rule_of}
+use Rattle.hx_storable.specs.Rules.{asks, says, is_understood, applies, number_of, storage_rule_of}
 
 -- the status is final: the response isn't an interim one (RFC 9110, section 15)
 abbrev pub IsFinal : Answered → Type 0
@@ -99,8 +99,8 @@ pub record MayBeStored (asked : Asked) (answered : Answered) (facts : Facts) : T
 
 -- the rule stands, and none of a smaller number does
 pub record IsLeast (asked : Asked) (answered : Answered) (facts : Facts) (least : StoreRule) : Type 0 where
-  pub it_stands : stands least asked answered facts ≡ true
-  pub none_before : (other : StoreRule) → number_of other < number_of least → stands other asked answered facts ≡ false
+  pub it_applies : applies least asked answered facts ≡ true
+  pub none_before : (other : StoreRule) → number_of other < number_of least → applies other asked answered facts ≡ false
 
 -- no rule stands
 abbrev pub IsStored : Asked → Answered → Facts → Type 0
@@ -120,13 +120,13 @@ abbrev pub NamesTheLeast : Type 0
 NamesTheLeast = (asked : Asked) (answered : Answered) (facts : Facts) (least : StoreRule) →
     storage_rule_of asked answered facts ≡ Some least → IsLeast asked answered facts least
 
-abbrev pub NamesOneThatStands : Type 0
-NamesOneThatStands = (asked : Asked) (answered : Answered) (facts : Facts) (least : StoreRule) →
+abbrev pub NamesOneThatApplies : Type 0
+NamesOneThatApplies = (asked : Asked) (answered : Answered) (facts : Facts) (least : StoreRule) →
     IsLeast asked answered facts least → storage_rule_of asked answered facts ≡ Some least
 
-abbrev pub StoresWhereNoneStands : Type 0
-StoresWhereNoneStands = (asked : Asked) (answered : Answered) (facts : Facts) (any : StoreRule) →
-    IsStored asked answered facts → stands any asked answered facts ≡ false
+abbrev pub StoresWhereNoneApplies : Type 0
+StoresWhereNoneApplies = (asked : Asked) (answered : Answered) (facts : Facts) (any : StoreRule) →
+    IsStored asked answered facts → applies any asked answered facts ≡ false
 
 abbrev pub IsNeverStored : (Asked → Answered → Type 0) → Type 0
 IsNeverStored P = (asked : Asked) (answered : Answered) (facts : Facts) → P asked answered

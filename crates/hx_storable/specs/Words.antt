@@ -1,6 +1,6 @@
 -- The words of the storing rules, by which an answer that isn't stored tells why (RFC 9211, section 2.8).
 --
--- storing_word_of: the word of a rule     WordsTellStoringRulesApart: the statement that a law of `src/laws.rt` proves
+-- storing_word_of: the word of a rule     WordsOfStoringRulesDiffer: the statement that a law of `src/laws.rt` proves
 use Rattle.std.specs.Prelude.{◌≡◌, ℕ, List, codes}
 use Rattle.hx_storable.specs.declared.rule.StoreRule.{StoreRule}
 use Rattle.hx_storable.specs.declared.rule.StoreRule.TheVariants.{Operator, Method, Bypass, Status, MustUnderstand}
@@ -30,5 +30,5 @@ storing_word_of SetCookie = codes "set-cookie"
 storing_word_of ErrorStatus = codes "error-status"
 
 -- who reads the word knows the rule
-abbrev pub WordsTellStoringRulesApart : Type 0
-WordsTellStoringRulesApart = (rule other : StoreRule) → storing_word_of rule ≡ storing_word_of other → rule ≡ other
+abbrev pub WordsOfStoringRulesDiffer : Type 0
+WordsOfStoringRulesDiffer = (rule other : StoreRule) → storing_word_of rule ≡ storing_word_of other → rule ≡ other

@@ -3,10 +3,10 @@
 ghost use Rattle.std.specs.Prelude.{◌≡◌, ◌∷◌, [], codes, Some, None, true, false};
 ghost use Rattle.hx_fields.specs.Examples.{line};
 ghost use Rattle.hx_storable.specs.Tables.{RulesAreInOrder, EachRuleIsListed, WordsComeLast};
-ghost use Rattle.hx_storable.specs.Words.{WordsTellStoringRulesApart};
+ghost use Rattle.hx_storable.specs.Words.{WordsOfStoringRulesDiffer};
 ghost use Rattle.hx_storable.specs.Rules.{storage_rule_of};
 ghost use Rattle.hx_storable.specs.Storable.{StoresNothingElse, StoresWhatMayBeStored, NamesTheLeast};
-ghost use Rattle.hx_storable.specs.Storable.{NamesOneThatStands, StoresWhereNoneStands, NoStoreForbids};
+ghost use Rattle.hx_storable.specs.Storable.{NamesOneThatApplies, StoresWhereNoneApplies, NoStoreForbids};
 ghost use Rattle.hx_storable.specs.Storable.{NoStoreForbidsUnlessUnderstood, RequestsNoStoreForbids, PrivateForbids};
 ghost use Rattle.hx_storable.specs.Storable.{AuthorizationForbids, PartsAreNeverStored, OnlyGetIsStored};
 ghost use Rattle.hx_storable.specs.Storable.{OperatorForbids};
@@ -28,12 +28,12 @@ pub fn stored_where_it_may_be_stored()
 /// The rule that is named stands, and none of a smaller number does; where none is named none stands.
 pub fn the_least_storage_rule_is_named()
     ensures least { NamesTheLeast }
-    ensures every { NamesOneThatStands }
-    ensures none { StoresWhereNoneStands }
+    ensures every { NamesOneThatApplies }
+    ensures none { StoresWhereNoneApplies }
 {}
 
 /// no-store forbids storing, whether the response has it (where must-understand doesn't lift it) or the request.
-pub fn what_is_told_not_to_be_stored_never_is()
+pub fn what_may_not_be_stored_never_is()
     ensures response { NoStoreForbids }
     ensures not_understood { NoStoreForbidsUnlessUnderstood }
     ensures request { RequestsNoStoreForbids }
@@ -164,6 +164,6 @@ pub fn the_tables_of_the_storing_rules_agree()
 {}
 
 /// The word of a rule tells it from each other.
-pub fn words_tell_the_storing_rule()
-    ensures { WordsTellStoringRulesApart }
+pub fn words_name_the_storing_rule()
+    ensures { WordsOfStoringRulesDiffer }
 {}

@@ -17,8 +17,8 @@ pub use crate::laws::{
     must_understand_overrides_no_store, nothing_is_stored_against_the_operator,
     nothing_private_is_stored, only_whole_answers_to_get_are_stored, status_alone_allows_storing,
     stored_where_it_may_be_stored, the_least_storage_rule_is_named,
-    the_tables_of_the_storing_rules_agree, what_is_told_not_to_be_stored_never_is,
-    words_only_forbid_storing, words_tell_the_storing_rule,
+    the_tables_of_the_storing_rules_agree, what_may_not_be_stored_never_is,
+    words_name_the_storing_rule, words_only_forbid_storing,
 };
 pub use crate::rule::StoreRule;
 pub use crate::storing::first_rule_against;

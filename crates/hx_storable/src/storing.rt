@@ -10,7 +10,7 @@ ghost use Rattle.hx_hop.specs.Bypass.{has_content, asks_for_range, has_precondit
 ghost use Rattle.hx_storable.specs.declared.known_facts.Facts.{Facts as Known};
 ghost use Rattle.hx_policy.specs.Words.{is_heuristic};
 ghost use Rattle.hx_storable.specs.Rules.{is_understood, allows_shared, allows_storing, has_cookie_for_one};
-ghost use Rattle.hx_storable.specs.Rules.{is_uncached_error, stands, rules_on_facts, rules_of_words, storage_rule_of};
+ghost use Rattle.hx_storable.specs.Rules.{is_uncached_error, applies, rules_on_facts, rules_of_words, storage_rule_of};
 
 use crate::{Facts, StoreRule};
 use hx_directives::{Directive, Directives};
@@ -149,7 +149,7 @@ fn rule_after_the_head(
 ) -> Option<StoreRule>
     requires { directives.now ≡ occurrences_of answered.now.fields }
     ensures { (asked : AskedFor) → result
-        ≡ find (λ r. stands r asked answered.now facts) (rules_on_facts ++ rules_of_words) }
+        ≡ find (λ r. applies r asked answered.now facts) (rules_on_facts ++ rules_of_words) }
 {
     match rule_on_facts(facts) {
         Some(rule) => Some(rule),
@@ -160,7 +160,7 @@ fn rule_after_the_head(
 /// The least of the rules that ask for nothing but what is known besides the head.
 fn rule_on_facts(facts: Facts) -> Option<StoreRule>
     ensures { (asked : AskedFor) (answered : AnsweredWith)
-        → result ≡ find (λ r. stands r asked answered facts) rules_on_facts }
+        → result ≡ find (λ r. applies r asked answered facts) rules_on_facts }
 {
     if facts.vary_star {
         Some(StoreRule::VaryStar)
@@ -183,7 +183,7 @@ fn rule_on_facts(facts: Facts) -> Option<StoreRule>
 fn rule_of_words(answered: &Answered, directives: &Directives, policy: Policy) -> Option<StoreRule>
     requires { directives.now ≡ occurrences_of answered.now.fields }
     ensures { (asked : AskedFor) (facts : Known) → facts.policy ≡ policy
-        → result ≡ find (λ r. stands r asked answered.now facts) rules_of_words }
+        → result ≡ find (λ r. applies r asked answered.now facts) rules_of_words }
 {
     if !policy.stores_cookies && has_cookie_for_one(answered, directives) {
         Some(StoreRule::SetCookie)

@@ -69,7 +69,7 @@ impl Model for Entry {
 }
 
 impl Entry {
-    /// A copy of the whole entry. Fails for want of memory alone.
+    /// A copy of the whole entry. Fails only where memory runs out.
     pub fn copy(&self, alloc: Global) -> Result<Entry, AllocError>
         ensures { IfOk result (λ copied. copied ≡ self.now) }
     {

@@ -46,7 +46,7 @@ impl Model for EntryCache {
 }
 
 impl EntryCache {
-    /// None. Fails for want of memory alone.
+    /// None. Fails only where memory runs out.
     pub(crate) fn new(alloc: Global) -> Result<EntryCache, AllocError>
         ensures { IfOk result (λ cache. cache ≡ []) }
     {
@@ -77,7 +77,7 @@ impl EntryCache {
     }
 
     /// Those of some serials whose entries nominate what the request has. Mostly all do, and no
-    /// other list is made. Fails for want of memory alone.
+    /// other list is made. Fails only where memory runs out.
     fn matching(
         &self,
         alloc: Global,
@@ -92,7 +92,7 @@ impl EntryCache {
         self.those_that_match(alloc, serials.as_slice(), request)
     }
 
-    /// Whether the entries of all of these serials nominate what the request has. Fails for want of memory alone.
+    /// Whether the entries of all of these serials nominate what the request has. Fails only where memory runs out.
     fn all_match(
         &self,
         alloc: Global,
@@ -127,7 +127,7 @@ impl EntryCache {
         Ok(found)
     }
 
-    /// Whether the entry of this serial is here and nominates what the request has. Fails for want of memory alone.
+    /// Whether the entry of this serial is here and nominates what the request has. Fails only where memory runs out.
     fn is_match(&self, alloc: Global, serial: u64, request: &Fields) -> Result<bool, AllocError>
         ensures { IfOk result (λ is. is ≡ is_match request.now (find_entry serial self.now)) }
     {
@@ -159,7 +159,7 @@ impl EntryCache {
         self.matching_by(alloc, marked.as_slice(), &asked)
     }
 
-    /// Those of some serials whose entries nominate what these values have. Fails for want of memory alone.
+    /// Those of some serials whose entries nominate what these values have. Fails only where memory runs out.
     fn matching_by(
         &self,
         alloc: Global,
@@ -178,7 +178,7 @@ impl EntryCache {
         Ok(found)
     }
 
-    /// Whether the entry of this serial is here and nominates what these values have. Fails for want of memory alone.
+    /// Whether the entry of this serial is here and nominates what these values have. Fails only where memory runs out.
     fn is_match_by(&self, serial: u64, asked: &RequestValues) -> Result<bool, AllocError>
         ensures { IfOk result (λ is. is ≡ is_match_by asked.now.values (find_entry serial self.now)) }
     {

@@ -57,7 +57,7 @@ impl Model for IndexedEntries {
 }
 
 impl IndexedEntries {
-    /// None, to be marked by a seed. Fails for want of memory alone.
+    /// None, to be marked by a seed. Fails only where memory runs out.
     pub(crate) fn new(alloc: Global, seed: u64) -> Result<IndexedEntries, AllocError>
         ensures { IfOk result (λ held. held ≡ []) }
     {
@@ -90,7 +90,7 @@ impl IndexedEntries {
         self.entries.peek(serial)
     }
 
-    /// The serials of the entries with this key, ascending. Fails for want of memory alone.
+    /// The serials of the entries with this key, ascending. Fails only where memory runs out.
     pub(crate) fn find(&self, alloc: Global, key: &Key) -> Result<Serials, AllocError>
         ensures found { IfOk result (λ found. found ≡ serials_of key.now self.now) }
         ensures distinct { Distinct (serials self.now) }
@@ -114,7 +114,7 @@ impl IndexedEntries {
     }
 
     /// The serials of the entries with this key whose nominated values the request has, ascending. Where there
-    /// are several, an entry is looked at only where its mark may match. Fails for want of memory alone.
+    /// are several, an entry is looked at only where its mark may match. Fails only where memory runs out.
     pub(crate) fn find_matching(
         &self,
         alloc: Global,

@@ -72,7 +72,7 @@ impl KeyMarks {
         }
     }
 
-    /// The serials. Fails for want of memory alone.
+    /// The serials. Fails only where memory runs out.
     pub(crate) fn list(&self, alloc: Global) -> Result<Serials, AllocError>
         ensures { IfOk result (λ list. list ≡ keys_of self.now) }
     {
@@ -89,7 +89,7 @@ impl KeyMarks {
         self.only.is_none() && self.more.len() > 1
     }
 
-    /// The serials whose marks don't keep the request from matching. Fails for want of memory alone.
+    /// The serials whose marks don't keep the request from matching. Fails only where memory runs out.
     pub(crate) fn list_marked(
         &self,
         alloc: Global,

@@ -44,7 +44,7 @@ pub fn found_matches_nominate_what_is_asked()
 {}
 
 /// The place of a serial is how many stand before it, and one that isn't listed has all before it.
-pub fn a_place_counts_what_stands_before()
+pub fn a_place_counts_what_comes_before()
     ensures listed { (serial : ℕ) (before behind : List ℕ) → is_in serial before ≡ false
         → place serial (before ++ serial ∷ behind) ≡ length before }
     ensures absent { (serial : ℕ) (all : List ℕ) → is_in serial all ≡ false → place serial all ≡ length all }

@@ -20,7 +20,7 @@ mod shelves;
 pub use entries::Entry;
 pub use indexed_shelf::IndexedShelf;
 pub use laws::{
-    a_place_counts_what_stands_before, found_matches_nominate_what_is_asked,
+    a_place_counts_what_comes_before, found_matches_nominate_what_is_asked,
     found_serials_are_those_of_the_key, shelf_calls, the_bounded_list_is_what_is_held,
     what_is_held_is_found,
 };

@@ -32,7 +32,7 @@ impl Serials {
         }
     }
 
-    /// None, and room for n. Fails for want of memory alone.
+    /// None, and room for n. Fails only where memory runs out.
     pub(crate) fn with_capacity(alloc: Global, n: usize) -> Result<Serials, AllocError>
         ensures { IfOk result (λ serials. serials ≡ []) }
     {
@@ -41,7 +41,7 @@ impl Serials {
         })
     }
 
-    /// Puts a serial before the first that isn't below it. Fails for want of memory alone.
+    /// Puts a serial before the first that isn't below it. Fails only where memory runs out.
     pub fn insert(&mut self, serial: u64) -> Result<(), AllocError>
         ensures ok { OnOk result (self.new ≡ insert_ascending serial self.old) }
         ensures err { OnErr result (self.new ≡ self.old) }
@@ -51,7 +51,7 @@ impl Serials {
         Ok(())
     }
 
-    /// Puts a serial behind the others, in whatever order. Fails for want of memory alone.
+    /// Puts a serial behind the others, in whatever order. Fails only where memory runs out.
     pub fn push(&mut self, serial: u64) -> Result<(), AllocError>
         ensures ok { OnOk result (self.new ≡ self.old ++ serial ∷ []) }
         ensures err { OnErr result (self.new ≡ self.old) }
@@ -60,7 +60,7 @@ impl Serials {
         Ok(())
     }
 
-    /// A copy of these serials. Fails for want of memory alone.
+    /// A copy of these serials. Fails only where memory runs out.
     pub fn copy(&self, alloc: Global) -> Result<Serials, AllocError>
         ensures { IfOk result (λ copied. copied ≡ self.now) }
     {

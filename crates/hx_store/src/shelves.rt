@@ -47,7 +47,7 @@ pub trait Shelf {
     fn peek(&self, serial: u64) -> Option<&Entry>
         ensures { option_copied result ≡ find_entry serial (entries self.now) };
 
-    /// The serials of the entries with this key, ascending. Fails for want of memory alone.
+    /// The serials of the entries with this key, ascending. Fails only where memory runs out.
     fn find(&self, alloc: Global, key: &Key) -> Result<Serials, AllocError>
         ensures found { IfOk result (λ found. found ≡ serials_of key.now (entries self.now)) }
         ensures distinct { Distinct (serials (entries self.now)) };

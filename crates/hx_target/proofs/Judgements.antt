@@ -13,7 +13,7 @@ use Rattle.hx_target.specs.declared.faults.TargetFault.TheVariants.{Form, Scheme
 use Rattle.hx_target.specs.declared.targets.Target.{Target}
 use Rattle.hx_target.specs.Paths.{has_bad_escape, has_dot_segment, table_path_of, is_normal}
 use Rattle.hx_target.proofs.NormalPaths.{table-normal}
-use Rattle.hx_target.specs.Judgement.{Question, Judged, question_of, judged_of, stands, first_fault, fault_or_target, target_of, table_path}
+use Rattle.hx_target.specs.Judgement.{Question, Judged, question_of, judged_of, applies, first_fault, fault_or_target, target_of, table_path}
 
 pub one_judgement : (target : List ℕ) (hosts : List (List ℕ)) (r s : Result Target TargetFault) → Judged target hosts r → Judged target hosts s → r ≡ s
 one_judgement target hosts r s (inl h) (inl k) = h.1 ∙ sym k.1
@@ -30,9 +30,9 @@ one_judgement target hosts r s (inr (inr (good, (u, cut, is)))) (inr (inr (good�
     is ∙ (ap judged_of e ∙ sym is₂)
 
 -- a fault that stands is not passed over
-pub none_stands : {A : Type 0} (b : Bool) (o : Option A) (x : A) → cond b (Some x) o ≡ None → (b ≡ false) × (o ≡ None)
-none_stands true o x e = cc
-none_stands false o x e = (refl, e)
+pub none_applies : {A : Type 0} (b : Bool) (o : Option A) (x : A) → cond b (Some x) o ≡ None → (b ≡ false) × (o ≡ None)
+none_applies true o x e = cc
+none_applies false o x e = (refl, e)
 
 abbrev pub PassedPath : Question → Type 0
 PassedPath q = (has_bad_escape (path_of q.kept) ≡ false) × (has_dot_segment (table_path q) ≡ false)
@@ -40,13 +40,13 @@ PassedPath q = (has_bad_escape (path_of q.kept) ≡ false) × (has_dot_segment (
 -- what has no fault has neither a bad escape nor a dot segment
 no_fault : (q : Question) → first_fault q ≡ None → PassedPath q
 no_fault q none =
-    let form = none_stands (stands Form q) (find (λ fault. stands fault q) (Scheme ∷ Host ∷ Port ∷ Userinfo ∷ Escape ∷ DotSegment ∷ TooLong ∷ [])) Form none in
-    let scheme = none_stands (stands Scheme q) (find (λ fault. stands fault q) (Host ∷ Port ∷ Userinfo ∷ Escape ∷ DotSegment ∷ TooLong ∷ [])) Scheme form.1 in
-    let host = none_stands (stands Host q) (find (λ fault. stands fault q) (Port ∷ Userinfo ∷ Escape ∷ DotSegment ∷ TooLong ∷ [])) Host scheme.1 in
-    let port = none_stands (stands Port q) (find (λ fault. stands fault q) (Userinfo ∷ Escape ∷ DotSegment ∷ TooLong ∷ [])) Port host.1 in
-    let userinfo = none_stands (stands Userinfo q) (find (λ fault. stands fault q) (Escape ∷ DotSegment ∷ TooLong ∷ [])) Userinfo port.1 in
-    let escape = none_stands (stands Escape q) (find (λ fault. stands fault q) (DotSegment ∷ TooLong ∷ [])) Escape userinfo.1 in
-    let dots = none_stands (stands DotSegment q) (find (λ fault. stands fault q) (TooLong ∷ [])) DotSegment escape.1 in
+    let form = none_applies (applies Form q) (find (λ fault. applies fault q) (Scheme ∷ Host ∷ Port ∷ Userinfo ∷ Escape ∷ DotSegment ∷ TooLong ∷ [])) Form none in
+    let scheme = none_applies (applies Scheme q) (find (λ fault. applies fault q) (Host ∷ Port ∷ Userinfo ∷ Escape ∷ DotSegment ∷ TooLong ∷ [])) Scheme form.1 in
+    let host = none_applies (applies Host q) (find (λ fault. applies fault q) (Port ∷ Userinfo ∷ Escape ∷ DotSegment ∷ TooLong ∷ [])) Host scheme.1 in
+    let port = none_applies (applies Port q) (find (λ fault. applies fault q) (Userinfo ∷ Escape ∷ DotSegment ∷ TooLong ∷ [])) Port host.1 in
+    let userinfo = none_applies (applies Userinfo q) (find (λ fault. applies fault q) (Escape ∷ DotSegment ∷ TooLong ∷ [])) Userinfo port.1 in
+    let escape = none_applies (applies Escape q) (find (λ fault. applies fault q) (DotSegment ∷ TooLong ∷ [])) Escape userinfo.1 in
+    let dots = none_applies (applies DotSegment q) (find (λ fault. applies fault q) (TooLong ∷ [])) DotSegment escape.1 in
     (escape.0, dots.0)
 
 passes : (q : Question) (o : Option TargetFault) (aim : Target) → first_fault q ≡ o → Ok aim ≡ fault_or_target o q → PassedPath q × (aim ≡ target_of q)

@@ -1,7 +1,7 @@
 -- What a request's target and Host lines are judged to be (RFC 9112, sections 3.2 and 3.3; RFC 9110, section 7.1).
 --
 -- Question: the parts of a target, and the values of the Host lines
--- stands: the condition of each fault, faults: by their numbers
+-- applies: the condition of each fault, faults: by their numbers
 -- judged_of: the least fault that stands, or the target
 -- Judged: the same of a text, with the cut of `http_uri` as a relation
 use Rattle.std.specs.Prelude.{◌≡◌, ◌⊎◌, ℕ, ◌==◌, nat_lt, Bool, true, false, not, ◌&&◌, ◌||◌, if◌then◌else◌, List, []}
@@ -103,16 +103,16 @@ path_query_of kept = if slice_index kept 0 == slash then kept else slash ∷ kep
 
 -- the condition of each fault
 -- own: in absolute form the Host line is judged too, though it names nothing then ("Host lines are always judged")
-abbrev pub stands : TargetFault → Question → Bool
-stands Form q = not (has_read_form q)
-stands Scheme q = has_other_scheme q.scheme
-stands Host q = is_none (host_value q.hosts) || not (has_valid_host (named q))
-stands Port q = is_none (host_port q.hosts) || is_none (port_part (named q))
-stands Userinfo q = has_userinfo q.authority
-stands Escape q = has_bad_escape (path_of q.kept)
-stands DotSegment q = has_dot_segment (table_path q)
-stands TooLong q = nat_lt 8192 (length q.target)
-stands OutOfMemory q = false
+abbrev pub applies : TargetFault → Question → Bool
+applies Form q = not (has_read_form q)
+applies Scheme q = has_other_scheme q.scheme
+applies Host q = is_none (host_value q.hosts) || not (has_valid_host (named q))
+applies Port q = is_none (host_port q.hosts) || is_none (port_part (named q))
+applies Userinfo q = has_userinfo q.authority
+applies Escape q = has_bad_escape (path_of q.kept)
+applies DotSegment q = has_dot_segment (table_path q)
+applies TooLong q = nat_lt 8192 (length q.target)
+applies OutOfMemory q = false
 
 -- by their numbers
 abbrev pub faults : List TargetFault
@@ -120,7 +120,7 @@ faults = Form ∷ Scheme ∷ Host ∷ Port ∷ Userinfo ∷ Escape ∷ DotSegmen
 
 -- the least fault that stands
 abbrev pub first_fault : Question → Option TargetFault
-first_fault q = find (λ fault. stands fault q) faults
+first_fault q = find (λ fault. applies fault q) faults
 
 -- what is asked for, where no fault stands
 abbrev pub target_of : Question → Target

@@ -50,8 +50,8 @@ pub fn worked_paths_are_normalised()
     ensures decoded { table_path_of (codes "/%41dmin%2fa%7e") ≡ codes "/Admin%2Fa~" }
     ensures once { table_path_of (codes "/%2541%20") ≡ codes "/%2541%20" }
     ensures bad { table_path_of (codes "/%zz%4") ≡ codes "/%zz%4" }
-    ensures bad_is_told { has_bad_escape (codes "/a%4") ≡ true }
-    ensures good_is_told { has_bad_escape (codes "/%2fa%C3") ≡ false }
+    ensures bad_is_found { has_bad_escape (codes "/a%4") ≡ true }
+    ensures good_is_found { has_bad_escape (codes "/%2fa%C3") ≡ false }
     ensures escaped_dots { has_dot_segment (table_path_of (codes "/a/%2e%2E/b")) ≡ true }
     ensures three_dots { has_dot_segment (table_path_of (codes "/.%2e./.%2F.")) ≡ false }
     ensures lower_digits { is_normal (codes "/%2f") ≡ false }

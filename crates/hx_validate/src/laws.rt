@@ -72,7 +72,7 @@ pub fn tags_are_compared()
 
 /// A validator stands once, and is well formed.
 #[tactic(auto, unfolding(httpdate::proofs::OnLiterals::httpdate_on_literals))]
-pub fn validators_stand_once()
+pub fn validators_come_once()
     ensures tag { conditions_of (tag_line (codes "W/\"e\"") ∷ []) ≡ record { etag = Some (codes "W/\"e\""); modified = None } }
     ensures date { conditions_of (modified_line (codes "Thu, 01 Jan 1970 00:00:05 GMT") ∷ [])
         ≡ record { etag = None; modified = Some (codes "Thu, 01 Jan 1970 00:00:05 GMT") } }

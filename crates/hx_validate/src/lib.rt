@@ -23,7 +23,7 @@ pub use laws::{
     client_304_after_validation, entity_tags_are_spelled_so, equality_goes_both_ways,
     if_modified_since_compares_dates, if_none_match_decides_alone, lines_are_replaced_by_name,
     lines_leave_room_for_what_is_added, lines_of_a_304, names_of_a_304_are_replaced,
-    tags_are_compared, the_rest_of_it_stays, the_same_tag_answers, validators_stand_once,
+    tags_are_compared, the_rest_of_it_stays, the_same_tag_answers, validators_come_once,
     which_304_answers,
 };
 pub use room::leaves_room;

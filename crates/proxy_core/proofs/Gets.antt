@@ -20,9 +20,9 @@ use Rattle.proxy_core.specs.declared.open.get_index.GetIndex.{GetIndex}
 use Rattle.proxy_core.specs.declared.open.stage.Stage.TheVariants.{Released}
 use Rattle.proxy_core.specs.Leading.{is_get, goes_alike, may_lead, is_forwarded, waits_for, leads, leader}
 use Rattle.proxy_core.specs.State.{release, overtake, goes_out, gone_out, sent_out}
-use Rattle.proxy_core.specs.Arrivals.{AreApart, Pass, Tells, on_all}
+use Rattle.proxy_core.specs.Arrivals.{AreApart, Pass, Indexes, on_all}
 use Rattle.proxy_core.specs.Gets.{asks_for, gets_in, GetsPass, IsGetEntered, GetHasLeft, AreSame, AreWithout}
-use Rattle.proxy_core.proofs.Told.{lookup-removed, not_told, tells-entered, tells-left, tells-on_all}
+use Rattle.proxy_core.proofs.Indexed.{lookup-removed, not_indexed, indexes-entered, indexes-left, indexes-on_all}
 use Rattle.proxy_core.proofs.Waiters.{pass-but, none_has, none_behind, not_at, at_is}
 
 abbrev Numbered : Type 0
@@ -31,27 +31,27 @@ Numbered = List (ℕ × Exchange)
 abbrev at : ℕ → ℕ → Bool
 at n k = is_at (nat_cmp n) k
 
-abbrev pub AllTold : GetIndex → Numbered → Type 0
-AllTold index es = (key : Key) → Tells (λ x. asks_for key x.asked) (gets_in index key) es
+abbrev pub AllIndexed : GetIndex → Numbered → Type 0
+AllIndexed index es = (key : Key) → Indexes (λ x. asks_for key x.asked) (gets_in index key) es
 
-pub gets-not : (n : ℕ) (es : Numbered) (index : GetIndex) → All (λ k. k < n) (keys_of es) → AllTold index es → AreWithout n index
-gets-not n es index l h key = not_told (λ x. asks_for key x.asked) (gets_in index key) n es (none_has n es l) (h key)
+pub gets-not : (n : ℕ) (es : Numbered) (index : GetIndex) → All (λ k. k < n) (keys_of es) → AllIndexed index es → AreWithout n index
+gets-not n es index l h key = not_indexed (λ x. asks_for key x.asked) (gets_in index key) n es (none_has n es l) (h key)
 
 pub gets-entered : (n : ℕ) (x : Exchange) (es : Numbered) (old new : GetIndex) → All (λ k. k < n) (keys_of es) → IsGetEntered x.asked n old new →
-    AllTold old es → AllTold new (es ++ (n, x) ∷ [])
-gets-entered n x es old new l k h key = tells-entered (λ y. asks_for key y.asked) n x (gets_in old key) (gets_in new key) es (none_has n es l) (k key) (h key)
+    AllIndexed old es → AllIndexed new (es ++ (n, x) ∷ [])
+gets-entered n x es old new l k h key = indexes-entered (λ y. asks_for key y.asked) n x (gets_in old key) (gets_in new key) es (none_has n es l) (k key) (h key)
 
-pub gets-again : (es : Numbered) (old new : GetIndex) → AreSame old new → AllTold old es → AllTold new es
+pub gets-again : (es : Numbered) (old new : GetIndex) → AreSame old new → AllIndexed old es → AllIndexed new es
 gets-again es old new k h key m = k key m ∙ h key m
 
 pub gets-closed : (n : ℕ) (x : Exchange) (es : Numbered) (old new : GetIndex) → AreApart es → lookup (at n) es ≡ Some x → GetHasLeft x.asked n old new →
-    AllTold old es → AllTold new (remove_entry (at n) es)
+    AllIndexed old es → AllIndexed new (remove_entry (at n) es)
 gets-closed n x es old new a there k h key =
-    tells-left (λ y. asks_for key y.asked) n x None (gets_in old key) (gets_in new key) es (remove_entry (at n) es) there refl (λ m. lookup-removed m n es a) (k key) (h key)
+    indexes-left (λ y. asks_for key y.asked) n x None (gets_in old key) (gets_in new key) es (remove_entry (at n) es) there refl (λ m. lookup-removed m n es a) (k key) (h key)
 
-pub gets-on_all : (f : Exchange → Exchange) → ((x : Exchange) → (f x).asked ≡ x.asked) → (es : Numbered) (index : GetIndex) → AllTold index es → AllTold index (on_all f es)
+pub gets-on_all : (f : Exchange → Exchange) → ((x : Exchange) → (f x).asked ≡ x.asked) → (es : Numbered) (index : GetIndex) → AllIndexed index es → AllIndexed index (on_all f es)
 gets-on_all f k es index h key =
-    tells-on_all (λ x. asks_for key x.asked) f (λ b. b) (gets_in index key) (gets_in index key) es refl (λ x. ap (asks_for key) (k x)) (λ m. refl) (h key)
+    indexes-on_all (λ x. asks_for key x.asked) f (λ b. b) (gets_in index key) (gets_in index key) es refl (λ x. ap (asks_for key) (k x)) (λ m. refl) (h key)
 
 pub sent_out-asked : (id now : ℕ) (rule : ReuseRule) (condition : Option Condition) (x : Exchange) → (sent_out id now rule condition x).asked ≡ x.asked
 sent_out-asked id now rule condition x = elim (eqb x.id id) as (λ b. (cond b (goes_out now rule condition x) x).asked ≡ x.asked) [ true ↦ refl | false ↦ refl ]

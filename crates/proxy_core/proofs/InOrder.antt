@@ -19,7 +19,7 @@ use Rattle.proxy_core.specs.Validating.{condition_at}
 use Rattle.proxy_core.specs.State.{overtake, release, left_open, closed, opened, queued, line_of, rule_of, named_by, gone_out, woken_out, invalidated_by, open_after}
 use Rattle.proxy_core.specs.Traces.{Item, begun, left, IsGood}
 use Rattle.proxy_core.specs.Promises.{is_arrival, NoneArrives}
-use Rattle.proxy_core.specs.Carrying.{ArrivesBefore, StandInOrder, ids_of, OpenInOrderOfArrival}
+use Rattle.proxy_core.specs.Carrying.{ArrivesBefore, AreInOrder, ids_of, OpenInOrderOfArrival}
 use Rattle.proxy_core.proofs.ExchangeLists.{gone_out-id, sent_out-id, release-id, overtake-id}
 use Rattle.proxy_core.proofs.Moves.{and_none}
 use Rattle.proxy_core.proofs.HeldLaw.{good_plain, exchanges_are_open}
@@ -144,39 +144,39 @@ all_but P id (n ∷ ids) h = by_id (eqb n id) (all_but P id ids h.1)
 -- ---- in order
 
 -- the ids arrived, each before those behind it
-record Stand (ids : List ℕ) (past : List Item) : Type 0 where
+record InOrder (ids : List ℕ) (past : List Item) : Type 0 where
   arrived : AllByRecursion (HasArrived past) ids
-  order : StandInOrder ids past
+  order : AreInOrder ids past
 
-stand_more : (i : Item) (past : List Item) (ids : List ℕ) → AllByRecursion (Apart i) ids → StandInOrder ids past → StandInOrder ids (i ∷ past)
-stand_more i past [] n h = tt
-stand_more i past (id ∷ ids) n h =
-    (all_both (Apart i) (λ m. ArrivesBefore id m past) (λ m. ArrivesBefore id m (i ∷ past)) ids (λ m. before_more i past id m n.0) n.1 h.0, stand_more i past ids n.1 h.1)
+in_order_more : (i : Item) (past : List Item) (ids : List ℕ) → AllByRecursion (Apart i) ids → AreInOrder ids past → AreInOrder ids (i ∷ past)
+in_order_more i past [] n h = tt
+in_order_more i past (id ∷ ids) n h =
+    (all_both (Apart i) (λ m. ArrivesBefore id m past) (λ m. ArrivesBefore id m (i ∷ past)) ids (λ m. before_more i past id m n.0) n.1 h.0, in_order_more i past ids n.1 h.1)
 
-further : (i : Item) (past : List Item) (ids : List ℕ) → AllByRecursion (Apart i) ids → Stand ids past → Stand ids (i ∷ past)
-further i past ids n h = record { arrived = all_both (Apart i) (HasArrived past) (HasArrived (i ∷ past)) ids (arrived_more i past) n h.arrived; order = stand_more i past ids n h.order }
+further : (i : Item) (past : List Item) (ids : List ℕ) → AllByRecursion (Apart i) ids → InOrder ids past → InOrder ids (i ∷ past)
+further i past ids n h = record { arrived = all_both (Apart i) (HasArrived past) (HasArrived (i ∷ past)) ids (arrived_more i past) n h.arrived; order = in_order_more i past ids n h.order }
 
-stand_but : (id : ℕ) (ids : List ℕ) (past : List Item) → StandInOrder ids past → StandInOrder (but id ids) past
-stand_but id [] past h = tt
-stand_but id (n ∷ ids) past h = by_id (eqb n id) (stand_but id ids past h.1)
+in_order_but : (id : ℕ) (ids : List ℕ) (past : List Item) → AreInOrder ids past → AreInOrder (but id ids) past
+in_order_but id [] past h = tt
+in_order_but id (n ∷ ids) past h = by_id (eqb n id) (in_order_but id ids past h.1)
   where
-    by_id : (b : Bool) → StandInOrder (but id ids) past → StandInOrder (cond (not b) (n ∷ but id ids) (but id ids)) past
+    by_id : (b : Bool) → AreInOrder (but id ids) past → AreInOrder (cond (not b) (n ∷ but id ids) (but id ids)) past
     by_id true rest = rest
     by_id false rest = (all_but (λ m. ArrivesBefore n m past) id ids h.0, rest)
 
-without_one : (id : ℕ) (ids : List ℕ) (past : List Item) → Stand ids past → Stand (but id ids) past
-without_one id ids past h = record { arrived = all_but (HasArrived past) id ids h.arrived; order = stand_but id ids past h.order }
+without_one : (id : ℕ) (ids : List ℕ) (past : List Item) → InOrder ids past → InOrder (but id ids) past
+without_one id ids past h = record { arrived = all_but (HasArrived past) id ids h.arrived; order = in_order_but id ids past h.order }
 
-stand_push : (i : Item) (past : List Item) (ids : List ℕ) → is_arrival i.event ≡ true → AllByRecursion (Apart i) ids → AllByRecursion (HasArrived past) ids → StandInOrder ids past →
-    StandInOrder (ids ++ id_of i.event ∷ []) (i ∷ past)
-stand_push i past [] a n h o = (tt, tt)
-stand_push i past (id ∷ ids) a n h o = (
+in_order_push : (i : Item) (past : List Item) (ids : List ℕ) → is_arrival i.event ≡ true → AllByRecursion (Apart i) ids → AllByRecursion (HasArrived past) ids → AreInOrder ids past →
+    AreInOrder (ids ++ id_of i.event ∷ []) (i ∷ past)
+in_order_push i past [] a n h o = (tt, tt)
+in_order_push i past (id ∷ ids) a n h o = (
   all_push (λ m. ArrivesBefore id m (i ∷ past)) ids (id_of i.event)
       (all_both (Apart i) (λ m. ArrivesBefore id m past) (λ m. ArrivesBefore id m (i ∷ past)) ids (λ m. before_more i past id m n.0) n.1 o.0) (before_first i past id a n.0 h.0),
-  stand_push i past ids a n.1 h.1 o.1,
+  in_order_push i past ids a n.1 h.1 o.1,
 )
 
-with_one : (i : Item) (past : List Item) (ids : List ℕ) → is_arrival i.event ≡ true → AllByRecursion (Apart i) ids → Stand ids past → Stand (ids ++ id_of i.event ∷ []) (i ∷ past)
+with_one : (i : Item) (past : List Item) (ids : List ℕ) → is_arrival i.event ≡ true → AllByRecursion (Apart i) ids → InOrder ids past → InOrder (ids ++ id_of i.event ∷ []) (i ∷ past)
 with_one i past ids a n h = record {
   arrived = all_push (HasArrived (i ∷ past)) ids (id_of i.event) (all_both (Apart i) (HasArrived past) (HasArrived (i ∷ past)) ids (arrived_more i past) n h.arrived) (record {
     since = [];
@@ -187,7 +187,7 @@ with_one i past ids a n h = record {
     id_is = refl;
     none_since = tt;
   });
-  order = stand_push i past ids a n h.arrived h.order;
+  order = in_order_push i past ids a n h.arrived h.order;
 }
 
 -- ---- a step
@@ -209,18 +209,18 @@ new_apart now id asked o (x ∷ xs) h = by_id (λ k. new_apart now id asked o xs
     by_id rest true e h = absurd (cc)
     by_id rest false e h = (ap (λ b. b && true) (other_way id x.id e), rest h)
 
-same_ids : {past : List Item} {a b : List ℕ} → a ≡ b → Stand b past → Stand a past
-same_ids {past} {a} {b} e h = subst (λ ids. Stand ids past) (sym e) h
+same_ids : {past : List Item} {a b : List ℕ} → a ≡ b → InOrder b past → InOrder a past
+same_ids {past} {a} {b} e h = subst (λ ids. InOrder ids past) (sym e) h
 
-stand_step : (table : Table) (es : List Stored) (xs : List Exchange) (past : List Item) (event : Event) (o : Outcome) → fault_of (find_exchange (id_of event) xs) event ≡ None → Stand (ids_of xs) past →
-    Stand (ids_of (open_after table es xs event o)) (record { event = event; outcome = o } ∷ past)
-stand_step table es xs past (Arrive now id asked) o free h = by_outcome o (was_free (find_exchange id xs) refl free)
+in_order_step : (table : Table) (es : List Stored) (xs : List Exchange) (past : List Item) (event : Event) (o : Outcome) → fault_of (find_exchange (id_of event) xs) event ≡ None → InOrder (ids_of xs) past →
+    InOrder (ids_of (open_after table es xs event o)) (record { event = event; outcome = o } ∷ past)
+in_order_step table es xs past (Arrive now id asked) o free h = by_outcome o (was_free (find_exchange id xs) refl free)
   where
     was_free : (w : Option Exchange) → find_exchange id xs ≡ w → fault_of w (Arrive now id asked) ≡ None → find_exchange id xs ≡ None
     was_free None e f = e
     was_free (Some x) e f = absurd (cc)
 
-    by_outcome : (o : Outcome) → find_exchange id xs ≡ None → Stand (ids_of (open_after table es xs (Arrive now id asked) o)) (record { event = Arrive now id asked; outcome = o } ∷ past)
+    by_outcome : (o : Outcome) → find_exchange id xs ≡ None → InOrder (ids_of (open_after table es xs (Arrive now id asked) o)) (record { event = Arrive now id asked; outcome = o } ∷ past)
     by_outcome (Forward line bytes) f =
         let i : Item = record { event = Arrive now id asked; outcome = Forward line bytes } in
         same_ids (ids-push xs (opened table es now id asked line)) (with_one i past (ids_of xs) refl (new_apart now id asked (Forward line bytes) xs f) h)
@@ -229,44 +229,44 @@ stand_step table es xs past (Arrive now id asked) o free h = by_outcome o (was_f
         same_ids (ids-push xs (queued table es now id asked (line_of (verdict_of table.lines asked.method asked.target)) leader)) (with_one i past (ids_of xs) refl (new_apart now id asked (Waits leader) xs f) h)
     by_outcome (Reply r) f = further (record { event = Arrive now id asked; outcome = Reply r }) past (ids_of xs) (new_apart now id asked (Reply r) xs f) h
     by_outcome Ended f = further (record { event = Arrive now id asked; outcome = Ended }) past (ids_of xs) (new_apart now id asked Ended xs f) h
-stand_step table es xs past (Answer now id r) (Forward line bytes) free h =
+in_order_step table es xs past (Answer now id r) (Forward line bytes) free h =
     let i : Item = record { event = Answer now id r; outcome = Forward line bytes } in
     same_ids (ids-map (gone_out id now) (gone_out-id id now) xs) (further i past (ids_of xs) (late_apart i (ids_of xs) refl) h)
-stand_step table es xs past (Answer now id r) (Reply reply) free h =
+in_order_step table es xs past (Answer now id r) (Reply reply) free h =
     let i : Item = record { event = Answer now id r; outcome = Reply reply } in
     same_ids (ids-left_open (invalidated_by (find_exchange id xs) r) id xs) (without_one id (ids_of xs) (i ∷ past) (further i past (ids_of xs) (late_apart i (ids_of xs) refl) h))
-stand_step table es xs past (Answer now id r) (Waits leader) free h =
+in_order_step table es xs past (Answer now id r) (Waits leader) free h =
     let i : Item = record { event = Answer now id r; outcome = Waits leader } in
     same_ids (ids-left_open (invalidated_by (find_exchange id xs) r) id xs) (without_one id (ids_of xs) (i ∷ past) (further i past (ids_of xs) (late_apart i (ids_of xs) refl) h))
-stand_step table es xs past (Answer now id r) Ended free h =
+in_order_step table es xs past (Answer now id r) Ended free h =
     let i : Item = record { event = Answer now id r; outcome = Ended } in
     same_ids (ids-left_open (invalidated_by (find_exchange id xs) r) id xs) (without_one id (ids_of xs) (i ∷ past) (further i past (ids_of xs) (late_apart i (ids_of xs) refl) h))
-stand_step table es xs past (Fail now id kind) o free h =
+in_order_step table es xs past (Fail now id kind) o free h =
     let i : Item = record { event = Fail now id kind; outcome = o } in
     same_ids (ids-closed id xs) (without_one id (ids_of xs) (i ∷ past) (further i past (ids_of xs) (late_apart i (ids_of xs) refl) h))
-stand_step table es xs past (Wake now id) (Forward line bytes) free h =
+in_order_step table es xs past (Wake now id) (Forward line bytes) free h =
     let i : Item = record { event = Wake now id; outcome = Forward line bytes } in
     same_ids (ids-woken table es id now (find_exchange id xs) xs) (further i past (ids_of xs) (late_apart i (ids_of xs) refl) h)
-stand_step table es xs past (Wake now id) (Reply reply) free h =
+in_order_step table es xs past (Wake now id) (Reply reply) free h =
     let i : Item = record { event = Wake now id; outcome = Reply reply } in
     same_ids (ids-closed id xs) (without_one id (ids_of xs) (i ∷ past) (further i past (ids_of xs) (late_apart i (ids_of xs) refl) h))
-stand_step table es xs past (Wake now id) (Waits leader) free h =
+in_order_step table es xs past (Wake now id) (Waits leader) free h =
     let i : Item = record { event = Wake now id; outcome = Waits leader } in
     same_ids (ids-closed id xs) (without_one id (ids_of xs) (i ∷ past) (further i past (ids_of xs) (late_apart i (ids_of xs) refl) h))
-stand_step table es xs past (Wake now id) Ended free h =
+in_order_step table es xs past (Wake now id) Ended free h =
     let i : Item = record { event = Wake now id; outcome = Ended } in
     same_ids (ids-closed id xs) (without_one id (ids_of xs) (i ∷ past) (further i past (ids_of xs) (late_apart i (ids_of xs) refl) h))
-stand_step table es xs past (Abandon id) o free h =
+in_order_step table es xs past (Abandon id) o free h =
     let i : Item = record { event = Abandon id; outcome = o } in
     same_ids (ids-closed id xs) (without_one id (ids_of xs) (i ∷ past) (further i past (ids_of xs) (late_apart i (ids_of xs) refl) h))
 
-stand_all : (table : Table) (limit first : ℕ) (past : List Item) → IsGood (begun table limit first) past → Stand (ids_of (left (begun table limit first) past).exchanges) past
-stand_all table limit first [] g = record { arrived = tt; order = tt }
-stand_all table limit first (i ∷ past) g =
+in_order_all : (table : Table) (limit first : ℕ) (past : List Item) → IsGood (begun table limit first) past → InOrder (ids_of (left (begun table limit first) past).exchanges) past
+in_order_all table limit first [] g = record { arrived = tt; order = tt }
+in_order_all table limit first (i ∷ past) g =
     let s = left (begun table limit first) past in
-    stand_step s.table s.entries s.exchanges past i.event i.outcome g.0.allowed (stand_all table limit first past g.1)
+    in_order_step s.table s.entries s.exchanges past i.event i.outcome g.0.allowed (in_order_all table limit first past g.1)
 
 pub open_in_order_of_arrival : OpenInOrderOfArrival
 open_in_order_of_arrival table limit first trace g =
     let p = good_plain table limit first trace g in
-    subst (λ (xs : List Exchange). StandInOrder (ids_of xs) trace) (exchanges_are_open table limit first trace p) (stand_all table limit first trace p).order
+    subst (λ (xs : List Exchange). AreInOrder (ids_of xs) trace) (exchanges_are_open table limit first trace p) (in_order_all table limit first trace p).order

@@ -29,7 +29,7 @@ pub mod OneOutcome
 pub mod Refusals
 pub mod Driven
 pub mod Waits
-pub mod Told
+pub mod Indexed
 pub mod Waiters
 pub mod Releases
 pub mod GetIndices

@@ -42,7 +42,7 @@ use Rattle.proxy_core.specs.declared.event.Event.{Event}
 use Rattle.proxy_core.specs.declared.event.Event.TheVariants.{Arrive, Answer, Fail, Wake, Abandon}
 use Rattle.proxy_core.specs.Moments.{too_late}
 use Rattle.proxy_core.specs.Leading.{leader_for}
-use Rattle.proxy_core.specs.Storing.{rule_told, is_unasked, replaced_by}
+use Rattle.proxy_core.specs.Storing.{rule_shown, is_unasked, replaced_by}
 use Rattle.proxy_core.specs.Validating.{condition_at, is_validation, validated}
 use Rattle.proxy_core.specs.Replies.{stored_text, passed_text, refused_text, is_head}
 use Rattle.proxy_core.specs.Outcomes.{as_hit, find_exchange, id_of, outcome_by, refused, forwarded_as, forward_text, or_fault, not_forwarded, not_ready, fault_of, fault_by}
@@ -50,7 +50,7 @@ use Rattle.proxy_core.specs.State.{stored_in, used_in, removed_in, used_form}
 use Rattle.proxy_core.specs.Traces.{Item}
 use Rattle.proxy_core.specs.Histories.{held_entries, open_exchanges, next_serial, IsGoodHistory}
 use Rattle.proxy_core.specs.Promises.{key_by_answer}
-use Rattle.proxy_core.specs.Sending.{IsReusable, MayBeSentAt, GoesForward, NobodyLeads, WaitsForTheFirst, IsReached, IsTurnedAway, WordAfterError, WordAtAnswer, TellsHow, IsAbout, IsThatResponse}
+use Rattle.proxy_core.specs.Sending.{IsReusable, MayBeSentAt, GoesForward, NobodyLeads, WaitsForTheFirst, IsReached, IsTurnedAway, WordAfterError, WordAtAnswer, ShowsHow, IsAbout, IsThatResponse}
 use Rattle.proxy_core.specs.GoingOn.{MayCome, IsReply, GoesOnBy}
 use Rattle.proxy_core.specs.Naming.{NamesErrorRule, NamesOnError, NamesByEvent, NamesFirst}
 use Rattle.proxy_core.specs.StoredAnswers.{held_for, not_kept, removed_at}
@@ -94,9 +94,9 @@ module _ (policy : Policy) (es : List Stored) (asked : Asked) (now : ℕ) where
   one_error rule a b (inl m) (inl n) = m.1 ∙ sym n.1
   one_error rule a b (inl m) (inr n) = no_true (sym m.0 ∙ n.0)
   one_error rule a b (inr m) (inl n) = no_true (sym n.0 ∙ m.0)
-  one_error rule a b (inr (late, (e, least, chosen, stands, is))) (inr (late2, (f, most, chosen2, stands2, is2))) =
+  one_error rule a b (inr (late, (e, least, chosen, applies, is))) (inr (late2, (f, most, chosen2, stands2, is2))) =
       let same : e ≡ f = same_Some e f (sym chosen ∙ chosen2) in
-      let one : error_rule_on policy e (occurrences_of asked.fields) now ≡ Some least = named_on_error policy e (occurrences_of asked.fields) now least stands in
+      let one : error_rule_on policy e (occurrences_of asked.fields) now ≡ Some least = named_on_error policy e (occurrences_of asked.fields) now least applies in
       let other : error_rule_on policy f (occurrences_of asked.fields) now ≡ Some most = named_on_error policy f (occurrences_of asked.fields) now most stands2 in
       is ∙ sym one ∙ ap (λ (x : Stored). error_rule_on policy x (occurrences_of asked.fields) now) same ∙ other ∙ sym is2
 
@@ -198,7 +198,7 @@ module _ (table : Table) (es : List Stored) (distinct : Distinct (serials es)) w
       by_entry (Some e) k = v.0 (ap is_some k) ∙ sym (w.0 (ap is_some k))
       by_entry None k = by_validation k (is_validation x r) refl
 
-  how_same : (x : Option Exchange) (event : Event) (s : ℕ) (h k : CacheStatusInfo) → TellsHow table es x event s h → TellsHow table es x event s k → h ≡ k
+  how_same : (x : Option Exchange) (event : Event) (s : ℕ) (h k : CacheStatusInfo) → ShowsHow table es x event s h → ShowsHow table es x event s k → h ≡ k
   how_same x (Arrive now id asked) s h k (n, v, is) (m, w, is2) =
       let same : n ≡ m = same_line n m (sym v ∙ w) in
       is ∙ ap (λ l. as_hit (policy_of table.lines l)) same ∙ sym is2
@@ -215,7 +215,7 @@ module _ (table : Table) (es : List Stored) (distinct : Distinct (serials es)) w
   bytes_same : (x : Option Exchange) (event : Event) (o p : Outcome) (s : ℕ) (a : IsThatResponse table es x event o s) (b : IsThatResponse table es x event p s) → a.reply.bytes ≡ b.reply.bytes
   bytes_same x event o p s a b =
       let about = about_same x event a.now b.now a.asked b.asked a.about b.about in
-      let info = how_same x event s a.info b.info a.tells_how b.tells_how in
+      let info = how_same x event s a.info b.info a.shows_how b.shows_how in
       let response = same_Some a.response b.response (sym a.is_held ∙ b.is_held) in
       a.bytes_are
       ∙ ap (λ e. stored_text table.name (used_form x event e) a.now a.info a.asked) response
@@ -336,7 +336,7 @@ module _ (table : Table) (limit first : ℕ) (past : List Item) (distinct : Dist
             NamesByEvent table limit past (next_serial first past) (Some x) (Answer now id r) n.bytes n.stored → m.bytes ≡ n.bytes
         by_unasked u is m n h k (inl (i, (kept, one))) (inl (j, (kept2, two))) =
             one
-            ∙ ap (λ (s : Option ℕ). passed_text (policy_of table.lines x.line) table.name x r now (is_some s) (rule_told table x r now (next_serial first past))) (stored_same (Some x) (Answer now id r) o p a b final m.stored n.stored (ap stored_in h) (ap stored_in k))
+            ∙ ap (λ (s : Option ℕ). passed_text (policy_of table.lines x.line) table.name x r now (is_some s) (rule_shown table x r now (next_serial first past))) (stored_same (Some x) (Answer now id r) o p a b final m.stored n.stored (ap stored_in h) (ap stored_in k))
             ∙ sym two
         by_unasked u is m n h k (inl (i, one)) (inr (j, two)) = no_true (sym i ∙ j)
         by_unasked u is m n h k (inr (i, one)) (inl (j, two)) = no_true (sym j ∙ i)

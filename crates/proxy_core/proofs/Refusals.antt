@@ -68,9 +68,9 @@ refuse before event outcome test final passes fails h =
 -- the event can't come
 pub never_comes : (before : List Event) (event : Event) (outcome : Outcome) (fault : CoreFault) → finals (wrong before event outcome) ≡ true →
     fault_by (open_exchanges edge 2 (goes_well before)) event ≡ Some fault → Refuses (wrong before event outcome)
-never_comes before event outcome fault final stands h =
+never_comes before event outcome fault final applies h =
     let allowed = (no_other_trace_has_it edge 2 1 (wrong before event outcome) h (all_final (wrong before event outcome) final)).0.allowed in
-    let never : Some fault ≡ None = sym stands ∙ allowed in
+    let never : Some fault ≡ None = sym applies ∙ allowed in
     absurd (cc)
 
 -- ---- tests of outcomes

@@ -40,7 +40,7 @@ use Rattle.proxy_core.specs.Leading.{leader_for}
 use Rattle.proxy_core.specs.Outcomes.{find_exchange, id_of, sent, sent_text, as_hit, forwarded_as, collapsed_as, arrived, allowed, sent_on, unanswered, woken, is_only_if_cached, error_rule_at, fallback_by, fallback_for, failed, is_error_status, passed_unless, revalidated, answered, outcome_of}
 use Rattle.proxy_core.specs.State.{used_in, used_form}
 use Rattle.proxy_core.specs.Histories.{held_entries, open_exchanges, next_serial}
-use Rattle.proxy_core.specs.Sending.{IsReusable, WordAfterError, WordAtAnswer, IsAbout, TellsHow, IsThatResponse, SendsWhatIsHeld}
+use Rattle.proxy_core.specs.Sending.{IsReusable, WordAfterError, WordAtAnswer, IsAbout, ShowsHow, IsThatResponse, SendsWhatIsHeld}
 use Rattle.proxy_core.proofs.Leaving.{unanswered as never_answered, same_at, serial_stays, validated_is}
 use Rattle.proxy_core.proofs.SendLaws.{named_is, reusable_hit}
 use Rattle.proxy_core.proofs.FirstRules.{held_distinct}
@@ -99,7 +99,7 @@ module _ (table : Table) (es : List Stored) (distinct : Distinct (serials es)) w
 
   -- sent as it is held
   as_held : (x : Option Exchange) (event : Event) (s now : ℕ) (info : CacheStatusInfo) (asked : Asked) (f : IsFound es s) → used_form x event f.0 ≡ f.0 →
-      IsAbout x event now asked → TellsHow table es x event s info → IsThatResponse table es x event (sent table es s now info asked) s
+      IsAbout x event now asked → ShowsHow table es x event s info → IsThatResponse table es x event (sent table es s now info asked) s
   as_held x event s now info asked f same about how = record {
     response = f.0;
     is_held = f.1;
@@ -107,7 +107,7 @@ module _ (table : Table) (es : List Stored) (distinct : Distinct (serials es)) w
     asked = asked;
     about = about;
     info = info;
-    tells_how = how;
+    shows_how = how;
     reply = record { bytes = sent_text table.name (find_entry s es) now info asked; close = asked.close; stored = None; used = Some s; removed = _ };
     outcome_is = refl;
     bytes_are = ap (λ (o : Option Stored). sent_text table.name o now info asked) f.1 ∙ ap (λ (e : Stored). stored_text table.name e now info asked) (sym same);
@@ -148,7 +148,7 @@ module _ (table : Table) (es : List Stored) (distinct : Distinct (serials es)) w
   -- after an error
   fallback_sends : (x : Exchange) (event : Event) (now : ℕ) (kind : FailKind) (came : Option ℕ) (s : ℕ) (fallback : Fallback) →
       fallback_for (policy_of table.lines x.line) es x.asked now (decision_of (policy_of table.lines x.line) es x.asked now) ≡ fallback → ((e : Stored) → used_form (Some x) event e ≡ e) → IsAbout (Some x) event now x.asked →
-      ((t : ℕ) (detail : Option Detail) → WordAfterError (policy_of table.lines x.line) es x.asked now t detail → TellsHow table es (Some x) event t (forwarded_as (policy_of table.lines x.line) x came detail)) →
+      ((t : ℕ) (detail : Option Detail) → WordAfterError (policy_of table.lines x.line) es x.asked now t detail → ShowsHow table es (Some x) event t (forwarded_as (policy_of table.lines x.line) x came detail)) →
       used_in (failed table es now x kind came fallback) ≡ Some s → IsThatResponse table es (Some x) event (failed table es now x kind came fallback) s
   fallback_sends x event now kind came s (Sends t detail) k same about how h =
       let f = found_fallback (policy_of table.lines x.line) x.asked now t detail (decision_of (policy_of table.lines x.line) es x.asked now) refl k in
@@ -194,7 +194,7 @@ module _ (table : Table) (es : List Stored) (distinct : Distinct (serials es)) w
           asked = x.asked;
           about = (refl, refl);
           info = forwarded_as (policy_of table.lines x.line) x (Some r.status) None;
-          tells_how = (None, refl, (λ some. refl, λ is none. absurd (some_is_not e (sym v ∙ none)), λ n. absurd (false≢true (sym n ∙ y))));
+          shows_how = (None, refl, (λ some. refl, λ is none. absurd (some_is_not e (sym v ∙ none)), λ n. absurd (false≢true (sym n ∙ y))));
           reply = record {
             bytes = stored_text table.name (refreshed x r now e) now (forwarded_as (policy_of table.lines x.line) x (Some r.status) None) x.asked;
             close = x.asked.close;

@@ -36,7 +36,7 @@ use Rattle.proxy_core.specs.declared.outcome.Outcome.{Outcome}
 use Rattle.proxy_core.specs.declared.event.Event.{Event}
 use Rattle.proxy_core.specs.declared.event.Event.TheVariants.{Arrive, Answer, Fail, Wake, Abandon}
 use Rattle.proxy_core.specs.Validating.{condition_at, is_validation, validated, refreshed}
-use Rattle.proxy_core.specs.Storing.{rule_told, is_unasked, is_storable, replaced_by, made}
+use Rattle.proxy_core.specs.Storing.{rule_shown, is_unasked, is_storable, replaced_by, made}
 use Rattle.proxy_core.specs.Leading.{leader_for}
 use Rattle.proxy_core.specs.Outcomes.{find_exchange, id_of, sent, allowed, arrived, sent_on, unanswered, woken, is_only_if_cached, error_rule_at, fallback_by, fallback_for, failed, is_error_status, passed, passed_unless, revalidated, answered, outcome_of}
 use Rattle.proxy_core.specs.State.{State, NoneFrom, stored_in, used_in, removed_in, stored_form}
@@ -163,8 +163,8 @@ module _ (table : Table) (es : List Stored) (now id : ℕ) (x : Exchange) (r : R
       KindOf es (Some x) (Answer now id r) next (passed_unless table es now x r next b fallback)
   unfolding KindOf
   kind_unless true (Sends s detail) g f = let r = f s detail refl in uses s r.0 refl refl r.1
-  kind_unless true (Refuses rule error) g f = kind_passed (rule_told table x r now next) (is_storable table x r now next) next refl g
-  kind_unless false fallback g f = kind_passed (rule_told table x r now next) (is_storable table x r now next) next refl g
+  kind_unless true (Refuses rule error) g f = kind_passed (rule_shown table x r now next) (is_storable table x r now next) next refl g
+  kind_unless false fallback g f = kind_passed (rule_shown table x r now next) (is_storable table x r now next) next refl g
 
   kind_revalidated : (o : Option Stored) (d : Decision) → validated es x r now ≡ o → decision_of (policy_of table.lines x.line) es x.asked now ≡ d →
       KindOf es (Some x) (Answer now id r) next (revalidated table es now x r o d)

@@ -6,7 +6,7 @@ use Rattle.hx_vary.specs.Vary.{is_star}
 use Rattle.hx_hop.specs.Answering.{answered_of}
 use Rattle.hx_allow.specs.Lines.{Table}
 use Rattle.hx_storable.specs.Rules.{storage_rule_of}
-use Rattle.hx_storable.specs.Storable.{StoresWhereNoneStands}
+use Rattle.hx_storable.specs.Storable.{StoresWhereNoneApplies}
 use Rattle.hx_storable.specs.declared.rule.StoreRule.{StoreRule}
 use Rattle.hx_storable.specs.declared.rule.StoreRule.TheVariants.{VaryStar}
 use Rattle.proxy_core.specs.declared.open.exchange.Exchange.{Exchange}
@@ -19,7 +19,7 @@ none_of None h = refl
 none_of (Some rule) h = cc
 
 -- what nominates nothing that can be compared isn't stored
-pub no_star : StoresWhereNoneStands → (table : Table) (x : Exchange) (r : Response) (now : ℕ) (next : Option ℕ) → is_storable table x r now next ≡ true
+pub no_star : StoresWhereNoneApplies → (table : Table) (x : Exchange) (r : Response) (now : ℕ) (next : Option ℕ) → is_storable table x r now next ≡ true
     → is_star (answered_of r now).fields ≡ true → ⊥
 no_star law table x r now next storable star =
     let a = answered_of r now in

@@ -35,7 +35,7 @@ use Rattle.proxy_core.specs.declared.steps.fallback.Fallback.TheVariants.{Sends,
 use Rattle.proxy_core.specs.Leading.{leader_for}
 use Rattle.proxy_core.specs.Outcomes.{allowed, answered, arrived, failed, fallback_for, find_exchange, forward_text, forwarded_as, id_of, is_error_status, is_only_if_cached, outcome_of, passed, passed_unless, refused, removed_by, revalidated, sent, sent_on, sent_refreshed, stored_serial, unanswered, woken}
 use Rattle.proxy_core.specs.State.{stored_in, used_in, removed_in}
-use Rattle.proxy_core.specs.Storing.{rule_told, facts_of, is_storable, is_unasked}
+use Rattle.proxy_core.specs.Storing.{rule_shown, facts_of, is_storable, is_unasked}
 use Rattle.proxy_core.specs.Validating.{asked_about, condition_at, if_answered, is_kept, is_validation, refreshed, validated}
 use Rattle.proxy_core.specs.Traces.{Item}
 use Rattle.proxy_core.specs.Histories.{held_entries, IsGoodHistory, next_serial, open_exchanges}
@@ -91,8 +91,8 @@ module _ (table : Table) (x : Exchange) (r : Response) (now : ℕ) (next : Optio
   storable may = ap is_none (is_stored x.asked (answered_of r now) (facts_of table x r now next) (may_by_rules may))
 
   may_be : is_storable table x r now next ≡ true → IsFinal (answered_of r now) → MayBeStoredAt table next x r now
-  may_be stands final =
-      may_by_words (stored_may_be x.asked (answered_of r now) (facts_of table x r now next) final (none_of (storage_rule_of x.asked (answered_of r now) (facts_of table x r now next)) stands))
+  may_be applies final =
+      may_by_words (stored_may_be x.asked (answered_of r now) (facts_of table x r now next) final (none_of (storage_rule_of x.asked (answered_of r now) (facts_of table x r now next)) applies))
 
   -- a 304 is never stored
   no_304 : MayBeStoredAt table next x r now → (r.status == 304) ≡ false
@@ -106,9 +106,9 @@ module _ (table : Table) (x : Exchange) (r : Response) (now : ℕ) (next : Optio
 
     passed_on : (error : Bool) (fallback : Fallback) → is_storable table x r now next ≡ true → used_in (passed_unless table es now x r next error fallback) ≡ None
         → stored_in (passed_unless table es now x r next error fallback) ≡ next
-    passed_on true (Sends serial detail) stands unused = absurd cc
-    passed_on true (Refuses rule error) stands unused = rw stands refl
-    passed_on false fallback stands unused = rw stands refl
+    passed_on true (Sends serial detail) applies unused = absurd cc
+    passed_on true (Refuses rule error) applies unused = rw applies refl
+    passed_on false fallback applies unused = rw applies refl
 
     stored_answer : MayBeStoredAt table next x r now → used_in (answered table es now x r next d) ≡ None → stored_in (answered table es now x r next d) ≡ next
     stored_answer may unused =
@@ -266,8 +266,8 @@ module _ (table : Table) (es : List Stored) (now : ℕ) (x : Exchange) (r : Resp
 
   unless_goes : is_validation x r ≡ false → is_unasked x.asked r ≡ false → (b : Bool) → is_error_status r.status ≡ b → (fallback : Fallback) → Goes (passed_unless table es now x r next b fallback)
   unless_goes n u true e (Sends serial detail) = sym (nothing_held_for (sent table es serial now (forwarded_as (policy_of table.lines x.line) x (Some r.status) (Some detail)) x.asked) refl ∙ no_304_goes n)
-  unless_goes n u true e (Refuses rule error) = passed_goes (rule_told table x r now next) (stored_serial table x r now next) n u
-  unless_goes n u false e fallback = passed_goes (rule_told table x r now next) (stored_serial table x r now next) n u
+  unless_goes n u true e (Refuses rule error) = passed_goes (rule_shown table x r now next) (stored_serial table x r now next) n u
+  unless_goes n u false e fallback = passed_goes (rule_shown table x r now next) (stored_serial table x r now next) n u
 
   revalidated_goes : (o : Option Stored) (d : Decision) → validated es x r now ≡ o → Goes (revalidated table es now x r o d)
   revalidated_goes (Some e) d v =

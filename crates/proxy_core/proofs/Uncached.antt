@@ -27,7 +27,7 @@ use Rattle.proxy_core.specs.Traces.{Item}
 use Rattle.proxy_core.specs.Histories.{held_entries, open_exchanges, next_serial}
 use Rattle.proxy_core.specs.Carrying.{WentOnce, WentAgain, StillWaits, Judged}
 use Rattle.proxy_core.specs.Sending.{IsReusable, IsFallback, MayBeSentAt}
-use Rattle.proxy_core.specs.Uncached.{IsOver, IsToldByTheOperator, StoresNothingOverIt, SendsNothingOverIt, GoesForwardOverIt}
+use Rattle.proxy_core.specs.Uncached.{IsOver, IsNamedByTheOperator, StoresNothingOverIt, SendsNothingOverIt, GoesForwardOverIt}
 use Rattle.proxy_core.proofs.Carries.{carries_its_arrival}
 use Rattle.proxy_core.proofs.SendLaws.{sends_nothing_else, arrival_is, allowed_by}
 use Rattle.proxy_core.proofs.Moves.{and_none}
@@ -116,7 +116,7 @@ goes_forward_over_it table limit first now id line asked item past g e v off =
     in
     by_word (is_only_if_cached asked) refl is
   where
-    by_word : (b : Bool) → is_only_if_cached asked ≡ b → item.outcome ≡ unanswered table (open_exchanges table limit past) line now asked Operator None b → IsToldByTheOperator table now asked line item.outcome
+    by_word : (b : Bool) → is_only_if_cached asked ≡ b → item.outcome ≡ unanswered table (open_exchanges table limit past) line now asked Operator None b → IsNamedByTheOperator table now asked line item.outcome
     by_word true k is = inr (k, is)
     by_word false k is = inl (
       k,

@@ -22,7 +22,7 @@ use Rattle.hx_store.proofs.Recency.{held_more, is_in-take, is_in-after}
 use Rattle.hx_store.proofs.EntryLists.{find-serial, find_holds}
 use Rattle.hx_storable.specs.declared.rule.StoreRule.TheVariants.{Operator, Method, Overtaken}
 use Rattle.hx_storable.specs.Rules.{storage_rule_of}
-use Rattle.hx_storable.proofs.LeastRule.{no_rule_stands}
+use Rattle.hx_storable.proofs.LeastRule.{no_rule_applies}
 use Rattle.hx_reuse.specs.Rules.{decision_of}
 use Rattle.hx_reuse.specs.declared.rule.ReuseRule.{ReuseRule}
 use Rattle.hx_reuse.specs.declared.decision.Decision.{Decision}
@@ -37,7 +37,7 @@ use Rattle.proxy_core.specs.declared.outcome.Outcome.{Outcome}
 use Rattle.proxy_core.specs.declared.event.Event.{Event}
 use Rattle.proxy_core.specs.declared.event.Event.TheVariants.{Arrive, Answer, Fail, Wake, Abandon}
 use Rattle.proxy_core.specs.Validating.{condition_at, is_validation, is_answered, validated, refreshed}
-use Rattle.proxy_core.specs.Storing.{rule_told, facts_of, is_storable, is_unasked, invalidates, key_invalidated}
+use Rattle.proxy_core.specs.Storing.{rule_shown, facts_of, is_storable, is_unasked, invalidates, key_invalidated}
 use Rattle.proxy_core.specs.Leading.{leader_for, is_forwarded}
 use Rattle.proxy_core.specs.Outcomes.{find_exchange, id_of, arrived, allowed, sent_on, unanswered, woken, fault_of, is_only_if_cached, fallback_for, failed, is_error_status, passed, passed_unless, removed_by, stored_serial, revalidated, answered, outcome_of}
 use Rattle.proxy_core.specs.State.{stored_in, used_in, removed_in, next_after, next_of, stored_form, used_form}
@@ -86,9 +86,9 @@ storable_is table x r now next h =
     let facts = facts_of table x r now next in
     let none : storage_rule_of x.asked a facts ≡ None = none_of (storage_rule_of x.asked a facts) h in
     record {
-      safe = or_left (bytes_eq x.asked.method (codes "GET")) _ (not_false (bytes_eq x.asked.method (codes "GET")) (no_rule_stands x.asked a facts Method none));
-      in_time = no_rule_stands x.asked a facts Overtaken none;
-      cached = not_false (policy_of table.lines x.line).caches (no_rule_stands x.asked a facts Operator none);
+      safe = or_left (bytes_eq x.asked.method (codes "GET")) _ (not_false (bytes_eq x.asked.method (codes "GET")) (no_rule_applies x.asked a facts Method none));
+      in_time = no_rule_applies x.asked a facts Overtaken none;
+      cached = not_false (policy_of table.lines x.line).caches (no_rule_applies x.asked a facts Operator none);
     }
 
 pub record Storing (table : Table) (w : Option Exchange) (event : Event) (next : Option ℕ) (s : ℕ) : Type 0 where
@@ -196,7 +196,7 @@ key_parts x r k h = by_test (invalidates x r) h
 passed_at : (table : Table) (es : List Stored) (now : ℕ) (x : Exchange) (r : Response) (next : Option ℕ) (d : Decision) (v n e : Bool) → v ≡ false → n ≡ false → e ≡ false →
     cond v (revalidated table es now x r (validated es x r now) d)
     (cond n (failed table es now x BadAnswer (Some r.status) (fallback_for (policy_of table.lines x.line) es x.asked now d)) (passed_unless table es now x r next e (fallback_for (policy_of table.lines x.line) es x.asked now d)))
-    ≡ passed table es now x r (rule_told table x r now next) (stored_serial table x r now next)
+    ≡ passed table es now x r (rule_shown table x r now next) (stored_serial table x r now next)
 passed_at table es now x r next d true n e hv hn he = absurd (false≢true (sym hv))
 passed_at table es now x r next d false true e hv hn he = absurd (false≢true (sym hn))
 passed_at table es now x r next d false false true hv hn he = absurd (false≢true (sym he))
@@ -301,14 +301,14 @@ key_kept x event st us look s n =
 
 module _ (table : Table) (limit first : ℕ) where
   -- an item that a stored and held serial lives through: it was held before, and the item doesn't invalidate its key
-  record Lives (s : ℕ) (k : Key) (i : Item) (past : List Item) : Type 0 where
+  record Executes (s : ℕ) (k : Key) (i : Item) (past : List Item) : Type 0 where
     held_before : is_in s (held_serials limit past) ≡ true
     clean : invalidates_key k i past ≡ false
 
-  lives : (s : ℕ) (k : Key) (i : Item) (past : List Item) → IsGood (begun table limit first) (i ∷ past) → Below s (left (begun table limit first) past).next →
-      key_of (held_entry table limit past s) ≡ Some k → is_in s (held_serials limit (i ∷ past)) ≡ true → Lives s k i past
+  executes : (s : ℕ) (k : Key) (i : Item) (past : List Item) → IsGood (begun table limit first) (i ∷ past) → Below s (left (begun table limit first) past).next →
+      key_of (held_entry table limit past s) ≡ Some k → is_in s (held_serials limit (i ∷ past)) ≡ true → Executes s k i past
   unfolding key_of
-  lives s k i past g l q m =
+  executes s k i past g l q m =
       let p = stands_for table limit first past g.1 in
       let st = left (begun table limit first) past in
       let es = st.entries in
@@ -363,7 +363,7 @@ module _ (table : Table) (limit first : ℕ) where
         below = d.below;
         key = key_kept v i.event (stored_in i.outcome) (used_in i.outcome) (held_entry table limit all) s d.not_stored ∙ so.key;
         clean = λ m.
-            let r = lives s k i all g so.below so.key m in
+            let r = executes s k i all g so.below so.key m in
             (r.clean, so.clean r.held_before);
       }
 

@@ -24,9 +24,9 @@ use Rattle.hx_target.specs.declared.keys.Key.{Key}
 use Rattle.hx_target.specs.Keys.{same_key}
 use Rattle.proxy_core.specs.State.{release, overtake}
 use Rattle.proxy_core.specs.Waiters.{waits_in, IsEntered, HasLeft, IsEmptied, IsSameIndex, IsNotIn, HasMembers, IsTrim, IsTrimBeside}
-use Rattle.proxy_core.specs.Arrivals.{on_all, AreApart, Pass, Tells, WaitersPass}
+use Rattle.proxy_core.specs.Arrivals.{on_all, AreApart, Pass, Indexes, WaitersPass}
 use Rattle.proxy_core.proofs.ExchangeLists.{cond_none}
-use Rattle.proxy_core.proofs.Told.{lookup-removed, lookup-set, not_told, tells-entered, tells-left, tells-on_all}
+use Rattle.proxy_core.proofs.Indexed.{lookup-removed, lookup-set, not_indexed, indexes-entered, indexes-left, indexes-on_all}
 
 abbrev Numbered : Type 0
 Numbered = List (ℕ × Exchange)
@@ -179,29 +179,29 @@ rest-released q n x ns (e ∷ es) s there h = elim (cases_Bool (at n e.0)) [
 
 -- ---- the index
 
-abbrev pub AllTold : WaitIndex → Numbered → Type 0
-AllTold index es = (id : ℕ) → Tells (λ x. waits_for id x.stage) (waits_in index id) es
+abbrev pub AllIndexed : WaitIndex → Numbered → Type 0
+AllIndexed index es = (id : ℕ) → Indexes (λ x. waits_for id x.stage) (waits_in index id) es
 
-pub waiters-not : (n : ℕ) (es : Numbered) (index : WaitIndex) → All (λ k. k < n) (keys_of es) → AllTold index es → IsNotIn n index
-waiters-not n es index l h id = not_told (λ x. waits_for id x.stage) (waits_in index id) n es (none_has n es l) (h id)
+pub waiters-not : (n : ℕ) (es : Numbered) (index : WaitIndex) → All (λ k. k < n) (keys_of es) → AllIndexed index es → IsNotIn n index
+waiters-not n es index l h id = not_indexed (λ x. waits_for id x.stage) (waits_in index id) n es (none_has n es l) (h id)
 
 pub waiters-entered : (n : ℕ) (x : Exchange) (es : Numbered) (old new : WaitIndex) → All (λ k. k < n) (keys_of es) → IsEntered x.stage n old new →
-    AllTold old es → AllTold new (es ++ (n, x) ∷ [])
-waiters-entered n x es old new l k h id = tells-entered (λ y. waits_for id y.stage) n x (waits_in old id) (waits_in new id) es (none_has n es l) (k id) (h id)
+    AllIndexed old es → AllIndexed new (es ++ (n, x) ∷ [])
+waiters-entered n x es old new l k h id = indexes-entered (λ y. waits_for id y.stage) n x (waits_in old id) (waits_in new id) es (none_has n es l) (k id) (h id)
 
-pub waiters-again : (es : Numbered) (old new : WaitIndex) → IsSameIndex old new → AllTold old es → AllTold new es
+pub waiters-again : (es : Numbered) (old new : WaitIndex) → IsSameIndex old new → AllIndexed old es → AllIndexed new es
 waiters-again es old new k h id m = k id m ∙ h id m
 
 pub waiters-closed : (n : ℕ) (x : Exchange) (es : Numbered) (old new : WaitIndex) → AreApart es → lookup (at n) es ≡ Some x → HasLeft x.stage n old new →
-    AllTold old es → AllTold new (remove_entry (at n) es)
+    AllIndexed old es → AllIndexed new (remove_entry (at n) es)
 waiters-closed n x es old new a there k h id =
-    tells-left (λ y. waits_for id y.stage) n x None (waits_in old id) (waits_in new id) es (remove_entry (at n) es) there refl (λ m. lookup-removed m n es a) (k id) (h id)
+    indexes-left (λ y. waits_for id y.stage) n x None (waits_in old id) (waits_in new id) es (remove_entry (at n) es) there refl (λ m. lookup-removed m n es a) (k id) (h id)
 
 -- one that waits for none any more was written at its number
 pub waiters-written : (n : ℕ) (x y : Exchange) (es : Numbered) (old new : WaitIndex) → lookup (at n) es ≡ Some x → is_forwarded y.stage ≡ true → HasLeft x.stage n old new →
-    AllTold old es → AllTold new (set_value (at n) es y)
+    AllIndexed old es → AllIndexed new (set_value (at n) es y)
 waiters-written n x y es old new there out k h id =
-    tells-left (λ z. waits_for id z.stage) n x (Some y) (waits_in old id) (waits_in new id) es (set_value (at n) es y) there (at_the_origin y.stage out) (λ m. lookup-set m n x y es there) (k id) (h id)
+    indexes-left (λ z. waits_for id z.stage) n x (Some y) (waits_in old id) (waits_in new id) es (set_value (at n) es y) there (at_the_origin y.stage out) (λ m. lookup-set m n x y es there) (k id) (h id)
   where
     at_the_origin : (s : Stage) → is_forwarded s ≡ true → waits_for id s ≡ false
     at_the_origin Forwarded h = refl
@@ -209,13 +209,13 @@ waiters-written n x y es old new there out k h id =
     at_the_origin Released h = absurd (false≢true h)
 
 -- a change that leaves each where it stands
-pub waiters-on_all : (f : Exchange → Exchange) → ((x : Exchange) → (f x).stage ≡ x.stage) → (es : Numbered) (index : WaitIndex) → AllTold index es → AllTold index (on_all f es)
+pub waiters-on_all : (f : Exchange → Exchange) → ((x : Exchange) → (f x).stage ≡ x.stage) → (es : Numbered) (index : WaitIndex) → AllIndexed index es → AllIndexed index (on_all f es)
 waiters-on_all f k es index h id =
-    tells-on_all (λ x. waits_for id x.stage) f (λ b. b) (waits_in index id) (waits_in index id) es refl (λ x. ap (waits_for id) (k x)) (λ m. refl) (h id)
+    indexes-on_all (λ x. waits_for id x.stage) f (λ b. b) (waits_in index id) (waits_in index id) es refl (λ x. ap (waits_for id) (k x)) (λ m. refl) (h id)
 
-pub waiters-released : (q : ℕ) (es : Numbered) (old new : WaitIndex) → IsEmptied q old new → AllTold old es → AllTold new (on_all (release q) es)
+pub waiters-released : (q : ℕ) (es : Numbered) (old new : WaitIndex) → IsEmptied q old new → AllIndexed old es → AllIndexed new (on_all (release q) es)
 waiters-released q es old new k h id =
-    tells-on_all (λ x. waits_for id x.stage) (release q) (λ b. not (eqb q id) && b) (waits_in old id) (waits_in new id) es (none (eqb q id)) (λ x. still_waits x) (k id) (h id)
+    indexes-on_all (λ x. waits_for id x.stage) (release q) (λ b. not (eqb q id) && b) (waits_in old id) (waits_in new id) es (none (eqb q id)) (λ x. still_waits x) (k id) (h id)
   where
     none : (b : Bool) → (not b && false) ≡ false
     none true = refl

@@ -39,7 +39,7 @@ use Rattle.proxy_core.specs.State.{State, overtake, release, opened, queued, rul
 use Rattle.proxy_core.specs.Traces.{Item, begun, left, IsGood}
 use Rattle.proxy_core.specs.Histories.{held_entries, open_exchanges, next_serial, IsGoodHistory}
 use Rattle.proxy_core.specs.Promises.{goes_forward, ends, is_arrival, NoneArrives, key_by_step}
-use Rattle.proxy_core.specs.Carrying.{ArrivesBefore, StandInOrder, ids_of}
+use Rattle.proxy_core.specs.Carrying.{ArrivesBefore, AreInOrder, ids_of}
 use Rattle.proxy_core.specs.Sending.{IsReusable}
 use Rattle.proxy_core.specs.Waiting.{CouldWait, WaitsWhereOneLeads, IsToWait, WaitsNowhereElse, has_closed, OneGoesForward, PlainLinesWaitForMisses, is_wake, was_woken, NoneOf, stage_of, IsReady, WaitsUntilItsLeaderEnds, WokenOnceBehindItsLeader, ReadyInOrderOfArrival, WokenExactlyWhereReady, WokenIsJudgedAnew}
 use Rattle.proxy_core.proofs.Leads.{led_by, led_for, first_leads, is_led}
@@ -334,10 +334,10 @@ module _ (table : Table) (limit first l : ℕ) (before : List Item) (arrival : I
       fate_more i items (exchange items) (exchange (i ∷ items)) _ n.0 (move_of table (left start (items ++ arrival ∷ before)) i id (same_table start (items ++ arrival ∷ before)) g.0) (fate items g.1 w n.1)
 
   -- while nothing happens to it
-  stands : (items : List Item) → IsGood start (items ++ arrival ∷ before) → arrival.outcome ≡ Waits l → NoneOf id items → StandsBy id l items (exchange items)
-  stands [] g w n = at_first g w
-  stands (i ∷ items) g w n =
-      by_move (stands items g.1 w n.1) (exchange (i ∷ items)) (move_of table (left start (items ++ arrival ∷ before)) i id (same_table start (items ++ arrival ∷ before)) g.0)
+  applies : (items : List Item) → IsGood start (items ++ arrival ∷ before) → arrival.outcome ≡ Waits l → NoneOf id items → StandsBy id l items (exchange items)
+  applies [] g w n = at_first g w
+  applies (i ∷ items) g w n =
+      by_move (applies items g.1 w n.1) (exchange (i ∷ items)) (move_of table (left start (items ++ arrival ∷ before)) i id (same_table start (items ++ arrival ∷ before)) g.0)
     where
       not_it : (e : Event) → i.event ≡ e → id_of e ≡ id → ⊥
       not_it e q same = false≢true (sym n.0 ∙ eq-eqb (id_of i.event) id (ap id_of q ∙ same))
@@ -354,7 +354,7 @@ module _ (table : Table) (limit first l : ℕ) (before : List Item) (arrival : I
 pub waits_until_its_leader_ends : WaitsUntilItsLeaderEnds
 waits_until_its_leader_ends table limit first l items before arrival g w n =
     let p = good_plain table limit first (items ++ arrival ∷ before) g in
-    let s = stands table limit first l before arrival items p w n in
+    let s = applies table limit first l before arrival items p w n in
     ap (λ xs. stage_of (find_exchange (id_of arrival.event) xs)) (sym (exchanges_are_open table limit first (items ++ arrival ∷ before) p))
     ∙ (ap stage_of s.y_is ∙ ap (λ (t : Stage). Some t) s.stage)
 
@@ -403,11 +403,11 @@ all_ready P (x ∷ xs) h = by_test (is_released x.stage) (all_ready P xs h.1)
     by_test true rest = (h.0, rest)
     by_test false rest = rest
 
-ready_in_order : (xs : List Exchange) (past : List Item) → StandInOrder (ids_of xs) past → StandInOrder (ready_ids xs) past
+ready_in_order : (xs : List Exchange) (past : List Item) → AreInOrder (ids_of xs) past → AreInOrder (ready_ids xs) past
 ready_in_order [] past h = tt
 ready_in_order (x ∷ xs) past h = by_test (is_released x.stage) (ready_in_order xs past h.1)
   where
-    by_test : (b : Bool) → StandInOrder (ready_ids xs) past → StandInOrder (cond b (x.id ∷ ready_ids xs) (ready_ids xs)) past
+    by_test : (b : Bool) → AreInOrder (ready_ids xs) past → AreInOrder (cond b (x.id ∷ ready_ids xs) (ready_ids xs)) past
     by_test true rest = (all_ready (λ m. ArrivesBefore x.id m past) xs h.0, rest)
     by_test false rest = rest
 
@@ -426,7 +426,7 @@ id_is_in id P (n ∷ ids) h m = by_test (λ k. id_is_in id P ids h.1 k) (eqb n i
     by_test rest true e m = subst P (eqb-true n id e) h.0
     by_test rest false e m = rest m
 
-ready_found : (id : ℕ) (xs : List Exchange) (past : List Item) → StandInOrder (ids_of xs) past → is_in id (ready_ids xs) ≡ true → IsReady id xs
+ready_found : (id : ℕ) (xs : List Exchange) (past : List Item) → AreInOrder (ids_of xs) past → is_in id (ready_ids xs) ≡ true → IsReady id xs
 ready_found id [] past o m = absurd (false≢true m)
 ready_found id (x ∷ xs) past o m = by_id (λ k. ready_found id xs past o.1 k) (eqb x.id id) refl (is_released x.stage) refl m
   where

@@ -2,7 +2,7 @@
 --
 -- arrival_of: the arrival of an id     AreApart: no two have one number, no two one id
 -- IsIndexed: the index tells the arrival of each id     Pass: some exchanges have numbers that pass a test
--- WaitersPass: so those do that wait for an id     Tells: the numbers that pass are those of some open exchanges
+-- WaitersPass: so those do that wait for an id     Indexes: the numbers that pass are those of some open exchanges
 -- AreIndexed: what the indexes say of the exchanges
 use Rattle.std.specs.Prelude.{◌≡◌, ℕ, ◌==◌, Bool, true, false, List, [], ◌∷◌, map, Option, Some, None, cond}
 use Rattle.std.specs.Option.{option_map_or}
@@ -37,8 +37,8 @@ abbrev pub has : (Exchange → Bool) → List (ℕ × Exchange) → ℕ → Bool
 has which es n = option_map_or which (lookup (is_at (nat_cmp n)) es) false
 
 -- the numbers that pass are those of such exchanges: each of them, and none that is over
-abbrev pub Tells : (Exchange → Bool) → (ℕ → Bool) → List (ℕ × Exchange) → Type 0
-Tells which test es = (n : ℕ) → test n ≡ has which es n
+abbrev pub Indexes : (Exchange → Bool) → (ℕ → Bool) → List (ℕ × Exchange) → Type 0
+Indexes which test es = (n : ℕ) → test n ≡ has which es n
 
 abbrev pub WaitersPass : ℕ → (ℕ → Bool) → List (ℕ × Exchange) → Type 0
 WaitersPass id test es = Pass (λ x. waits_for id x.stage) test es
@@ -50,4 +50,4 @@ on_all f es = map (λ e. (e.0, f e.1)) es
 -- the indexes tell the arrival of each id, and who waits for it: nothing else stands there
 pub record AreIndexed (es : List (ℕ × Exchange)) (arrivals : ℕ → Option ℕ) (waiting : ℕ → ℕ → Bool) : Type 0 where
   pub ids : IsIndexed es arrivals
-  pub waiters : (id : ℕ) → Tells (λ x. waits_for id x.stage) (waiting id) es
+  pub waiters : (id : ℕ) → Indexes (λ x. waits_for id x.stage) (waiting id) es

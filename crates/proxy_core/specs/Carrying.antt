@@ -4,7 +4,7 @@
 -- judges: an arrival, and a wake                  Judged: its request was judged there, and has the line that allows it
 -- LeastWhenJudged: the rule that it kept
 -- WentOnce, WentAgain, StillWaits: how it went forward last, or that it waits
--- ArrivesBefore, StandInOrder: the order of arrival
+-- ArrivesBefore, AreInOrder: the order of arrival
 -- Below them are the statements that a law of `src/laws.rt` proves.
 use Rattle.std.specs.Prelude.{◌≡◌, ◌⊎◌, ℕ, ◌==◌, ◌&&◌, Bool, true, false, List, [], ◌∷◌, ◌++◌, map, Option, Some, None}
 use Rattle.std.specs.List.{AllByRecursion}
@@ -124,9 +124,9 @@ pub record ArrivesBefore (id other : ℕ) (past : List Item) : Type 0 where
   pub none_of_the_other : NoneArrives other since
 
 -- of these ids each arrived before those behind it
-abbrev pub StandInOrder : List ℕ → List Item → Type 0
-StandInOrder [] past = Unit {0}
-StandInOrder (id ∷ ids) past = AllByRecursion (λ (other : ℕ). ArrivesBefore id other past) ids × StandInOrder ids past
+abbrev pub AreInOrder : List ℕ → List Item → Type 0
+AreInOrder [] past = Unit {0}
+AreInOrder (id ∷ ids) past = AllByRecursion (λ (other : ℕ). ArrivesBefore id other past) ids × AreInOrder ids past
 
 abbrev pub ids_of : List Exchange → List ℕ
 ids_of exchanges = map (λ (x : Exchange). x.id) exchanges
@@ -140,4 +140,4 @@ CarriesItsArrival =
 
 abbrev pub OpenInOrderOfArrival : Type 0
 OpenInOrderOfArrival = (table : Table) (limit first : ℕ) (trace : List Item) → IsGoodHistory table limit first trace →
-    StandInOrder (ids_of (open_exchanges table limit trace)) trace
+    AreInOrder (ids_of (open_exchanges table limit trace)) trace

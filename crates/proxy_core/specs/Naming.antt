@@ -30,7 +30,7 @@ use Rattle.proxy_core.specs.declared.outcome.Outcome.TheVariants.{Reply, Forward
 use Rattle.proxy_core.specs.declared.event.Event.{Event}
 use Rattle.proxy_core.specs.declared.event.Event.TheVariants.{Arrive, Answer, Fail, Wake, Abandon}
 use Rattle.proxy_core.specs.Replies.{passed_text, refused_text, is_head}
-use Rattle.proxy_core.specs.Storing.{is_unasked, rule_told}
+use Rattle.proxy_core.specs.Storing.{is_unasked, rule_shown}
 use Rattle.proxy_core.specs.Outcomes.{find_exchange, id_of, is_only_if_cached}
 use Rattle.proxy_core.specs.Traces.{Item}
 use Rattle.proxy_core.specs.Histories.{held_entries, open_exchanges, next_serial, IsGoodHistory}
@@ -70,7 +70,7 @@ NamesOnError table held now x kind bytes =
 abbrev pub NamesItsRule : Table → ℕ → List Item → Option ℕ → ℕ → Exchange → Response → List ℕ → Option ℕ → Type 0
 NamesItsRule table limit past next now x r bytes stored =
     LeastWhenJudged table limit x past × (bytes
-    ≡ passed_text (policy_of table.lines x.line) table.name x r now (is_some stored) (rule_told table x r now next))
+    ≡ passed_text (policy_of table.lines x.line) table.name x r now (is_some stored) (rule_shown table x r now next))
 
 -- by its event and the exchange that it is of; a 304 that nobody asked for is a failure
 abbrev pub NamesByEvent : Table → ℕ → List Item → Option ℕ → Option Exchange → Event → List ℕ → Option ℕ → Type 0

@@ -51,7 +51,7 @@ use Rattle.proxy_core.specs.Moments.{too_late}
 use Rattle.proxy_core.specs.Leading.{is_forwarded, is_released, leader_for}
 use Rattle.proxy_core.specs.Replies.{stored_text, passed_text, refused_text, is_head}
 use Rattle.proxy_core.specs.Validating.{sent_with, condition_at, is_validation, validated, refreshed, is_kept}
-use Rattle.proxy_core.specs.Storing.{is_storable, rule_told, replaced_by, is_unasked, invalidates}
+use Rattle.proxy_core.specs.Storing.{is_storable, rule_shown, replaced_by, is_unasked, invalidates}
 
 -- the open exchange of an id
 abbrev pub find_exchange : ℕ → List Exchange → Option Exchange
@@ -181,9 +181,9 @@ abbrev pub passed_unless : Table → List Stored → ℕ → Exchange → Respon
 passed_unless table es now x r next true (Sends serial detail) =
     sent table es serial now (forwarded_as (policy_of table.lines x.line) x (Some r.status) (Some detail)) x.asked
 passed_unless table es now x r next true (Refuses rule error) = passed table es now x r
-    (rule_told table x r now next) (stored_serial table x r now next)
+    (rule_shown table x r now next) (stored_serial table x r now next)
 passed_unless table es now x r next false fallback =
-    passed table es now x r (rule_told table x r now next) (stored_serial table x r now next)
+    passed table es now x r (rule_shown table x r now next) (stored_serial table x r now next)
 
 -- a freshened response is sent, and kept where no storing rule stands and its head leaves room
 abbrev pub sent_refreshed : Table → Exchange → Response → ℕ → Stored → Outcome

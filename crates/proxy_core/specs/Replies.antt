@@ -61,14 +61,14 @@ lines_sent name status fields e now info =
     ++ line (codes "Cache-Status") (member_text name (status_sent status e now info)) ∷ []
 
 -- no length where the status has none (RFC 9110, section 8.6)
-abbrev pub length_told : ℕ → Option ℕ → Option ℕ
-length_told status length = cond ((status == 204) || (status == 304)) None length
+abbrev pub length_shown : ℕ → Option ℕ → Option ℕ
+length_shown status length = cond ((status == 204) || (status == 304)) None length
 
 -- a stored response is sent whole
 abbrev pub whole_text : List ℕ → Stored → ℕ → CacheStatusInfo → Asked → List ℕ
 whole_text name e now info asked =
     response_text e.status (lines_sent name e.status e.fields e now info)
-    (length_told e.status (Some (length e.content))) asked.close
+    (length_shown e.status (Some (length e.content))) asked.close
     (content_sent (is_head asked) e.content)
 
 -- the client has it already (RFC 9110, section 15.4.5)
@@ -83,7 +83,7 @@ stored_text name e now info asked =
 
 -- to HEAD an answer of the origin has the length that it announced
 abbrev pub length_passed : Bool → Response → Option ℕ
-length_passed head r = length_told r.status (cond head r.announced (Some (length r.content)))
+length_passed head r = length_shown r.status (cond head r.announced (Some (length r.content)))
 
 abbrev pub ttl_passed : Policy → Exchange → ℕ → List Field → ℕ → Bool → Option ℤ
 ttl_passed policy x status fields now false = None

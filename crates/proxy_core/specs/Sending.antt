@@ -17,7 +17,7 @@ use Rattle.hx_allow.specs.Matching.{verdict_of, policy_of}
 use Rattle.hx_allow.specs.declared.verdicts.Verdict.TheVariants.{Allowed, DeniedBy, NoLine as Unmatched}
 use Rattle.hx_store.specs.Stored.{Stored}
 use Rattle.hx_store.specs.Shelf.{find_entry}
-use Rattle.hx_reuse.specs.Rules.{stands, names_entry}
+use Rattle.hx_reuse.specs.Rules.{applies, names_entry}
 use Rattle.hx_reuse.specs.Meaning.{IsChosen, IsLeast, NamesTheResponse}
 use Rattle.hx_reuse.specs.Reusable.{MayBeReused}
 use Rattle.hx_reuse.specs.OnError.{MayBeSentOnError}
@@ -54,7 +54,7 @@ pub record MayBeSentInstead (policy : Policy) (held : List Stored) (asked : Aske
     (response : Stored) : Type 0 where
   pub operator_allows : policy.caches ≡ true
   pub is_chosen : IsChosen held asked response
-  pub is_for_the_cache : (rule : ReuseRule) → names_entry rule ≡ false → stands rule policy held asked now ≡ false
+  pub is_for_the_cache : (rule : ReuseRule) → names_entry rule ≡ false → applies rule policy held asked now ≡ false
   pub may_be_sent : MayBeSentOnError policy response (occurrences_of asked.fields) now
 
 -- after a failure or an error: one that may be sent anyway, or in place of the error
@@ -150,20 +150,20 @@ WordAtAnswer policy held x now r s detail =
 
 -- what Cache-Status tells of a stored response (RFC 9211): a hit, or why the request had gone
 -- forward, what came, and the word of the step
-abbrev pub TellsHow : Table → List Stored → Option Exchange → Event → ℕ → CacheStatusInfo → Type 0
-TellsHow table held x (Arrive now id asked) s h = (line : ℕ)
+abbrev pub ShowsHow : Table → List Stored → Option Exchange → Event → ℕ → CacheStatusInfo → Type 0
+ShowsHow table held x (Arrive now id asked) s h = (line : ℕ)
     × (verdict_of table.lines asked.method asked.target ≡ Allowed line) × (h ≡ as_hit (policy_of table.lines line))
-TellsHow table held (Some x) (Answer now id r) s h = (detail : Option Detail)
+ShowsHow table held (Some x) (Answer now id r) s h = (detail : Option Detail)
     × (h ≡ forwarded_as (policy_of table.lines x.line) x (Some r.status) detail)
     × WordAtAnswer (policy_of table.lines x.line) held x now r s detail
-TellsHow table held (Some x) (Fail now id kind) s h = (detail : Option Detail)
+ShowsHow table held (Some x) (Fail now id kind) s h = (detail : Option Detail)
     × (h ≡ forwarded_as (policy_of table.lines x.line) x None detail)
     × WordAfterError (policy_of table.lines x.line) held x.asked now s detail
-TellsHow table held (Some x) (Wake now id) s h = h ≡ collapsed_as (policy_of table.lines x.line) x
-TellsHow table held None (Answer now id r) s h = ⊥
-TellsHow table held None (Fail now id kind) s h = ⊥
-TellsHow table held None (Wake now id) s h = ⊥
-TellsHow table held x (Abandon id) s h = ⊥
+ShowsHow table held (Some x) (Wake now id) s h = h ≡ collapsed_as (policy_of table.lines x.line) x
+ShowsHow table held None (Answer now id r) s h = ⊥
+ShowsHow table held None (Fail now id kind) s h = ⊥
+ShowsHow table held None (Wake now id) s h = ⊥
+ShowsHow table held x (Abandon id) s h = ⊥
 
 -- the moment of an event, and the request that it is about
 abbrev pub IsAbout : Option Exchange → Event → ℕ → Asked → Type 0
@@ -186,7 +186,7 @@ pub record IsThatResponse (table : Table) (held : List Stored) (x : Option Excha
   pub asked : Asked
   pub about : IsAbout x event now asked
   pub info : CacheStatusInfo
-  pub tells_how : TellsHow table held x event s info
+  pub shows_how : ShowsHow table held x event s info
   pub reply : Reply
   pub outcome_is : outcome ≡ Replied reply
   pub bytes_are : reply.bytes ≡ stored_text table.name (used_form x event response) now info asked

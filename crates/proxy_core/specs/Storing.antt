@@ -51,8 +51,8 @@ abbrev pub is_storable : Table → Exchange → Response → ℕ → Option ℕ 
 is_storable table x r now next = is_none (storage_rule_of x.asked (answered_of r now) (facts_of table x r now next))
 
 -- the first storing rule against an answer, where the line of its exchange tells it (RFC 9211, section 2.8)
-abbrev pub rule_told : Table → Exchange → Response → ℕ → Option ℕ → Option StoreRule
-rule_told table x r now next =
+abbrev pub rule_shown : Table → Exchange → Response → ℕ → Option ℕ → Option StoreRule
+rule_shown table x r now next =
     cond (policy_of table.lines x.line).explains_storing
     (storage_rule_of x.asked (answered_of r now) (facts_of table x r now next)) None
 

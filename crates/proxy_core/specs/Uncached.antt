@@ -1,6 +1,6 @@
 -- What a line without cache comes to: nothing that goes over it is stored, and nothing is answered from the store.
 --
--- IsOver: an event's request goes over a line     IsToldByTheOperator: what becomes of one that arrives
+-- IsOver: an event's request goes over a line     IsNamedByTheOperator: what becomes of one that arrives
 -- Below them are the statements that the laws of `src/laws.rt` prove.
 use Rattle.std.specs.Prelude.{◌≡◌, ◌⊎◌, ℕ, true, false, List, ◌∷◌, Option, Some, None}
 use Rattle.hx_hop.specs.declared.request_view.Asked.{Asked}
@@ -33,8 +33,8 @@ IsOver table None (Abandon id) line = ⊥
 
 -- a request goes forward as the client's own, or where it takes no response but a stored one it is
 -- told the operator's rule
-abbrev pub IsToldByTheOperator : Table → ℕ → Asked → ℕ → Outcome → Type 0
-IsToldByTheOperator table now asked line outcome =
+abbrev pub IsNamedByTheOperator : Table → ℕ → Asked → ℕ → Outcome → Type 0
+IsNamedByTheOperator table now asked line outcome =
     ((is_only_if_cached asked ≡ false) × (outcome ≡ Forward line (forward_text table asked None)))
     ⊎ ((is_only_if_cached asked ≡ true) × (outcome ≡ refused now (OnlyIfCached Operator) asked))
 
@@ -62,4 +62,4 @@ GoesForwardOverIt = (table : Table) (limit first now id line : ℕ) (asked : Ask
     → IsGoodHistory table limit first (item ∷ past) →
     item.event ≡ Arrive now id asked → verdict_of table.lines asked.method asked.target ≡ Allowed line
     → (policy_of table.lines line).caches ≡ false →
-    IsToldByTheOperator table now asked line item.outcome
+    IsNamedByTheOperator table now asked line item.outcome

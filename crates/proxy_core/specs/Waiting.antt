@@ -33,7 +33,7 @@ use Rattle.proxy_core.specs.State.{used_in}
 use Rattle.proxy_core.specs.Traces.{Item}
 use Rattle.proxy_core.specs.Histories.{held_entries, open_exchanges, IsGoodHistory}
 use Rattle.proxy_core.specs.Promises.{ends, is_arrival, NoneArrives}
-use Rattle.proxy_core.specs.Carrying.{StandInOrder}
+use Rattle.proxy_core.specs.Carrying.{AreInOrder}
 use Rattle.proxy_core.specs.Sending.{IsReusable}
 
 -- ---- who waits
@@ -163,7 +163,7 @@ WokenOnceBehindItsLeader =
 -- those that may be woken stand in the order of arrival, so the first of them arrived first
 abbrev pub ReadyInOrderOfArrival : Type 0
 ReadyInOrderOfArrival = (table : Table) (limit first : ℕ) (trace : List Item) → IsGoodHistory table limit first trace →
-    StandInOrder (ready_ids (open_exchanges table limit trace)) trace
+    AreInOrder (ready_ids (open_exchanges table limit trace)) trace
 
 -- a wake is accepted exactly of those, at a moment that can be told
 abbrev pub WokenExactlyWhereReady : Type 0

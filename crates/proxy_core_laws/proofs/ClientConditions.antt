@@ -94,8 +94,8 @@ module _ (request : List Field) where
 -- ---- the laws
 
 pub answers_the_condition : AnswersTheCondition
-answers_the_condition asked entry (status, inl (stands, fails)) =
-    rw (eq-eqb entry.status 200 status, stands) (names asked.fields entry.fields fails)
+answers_the_condition asked entry (status, inl (applies, fails)) =
+    rw (eq-eqb entry.status 200 status, applies) (names asked.fields entry.fields fails)
 answers_the_condition asked entry (status, inr (absent, fails)) =
     rw (eq-eqb entry.status 200 status, absent) (since asked.fields entry fails)
 

@@ -32,13 +32,13 @@ use Rattle.hx_hop_laws.proofs.SentRequests.{line_of}
 use Rattle.hx_hop_laws.specs.OneResponse.{AreAdded, FitsAReader, sent_on}
 use Rattle.hx_hop_laws.proofs.SentResponses.{clean, dated_fit, sent_without}
 use Rattle.proxy_core.specs.Replies.{content_sent, is_head, line, status_passed}
-use Rattle.proxy_core_laws.specs.OneResponse.{PassesOneResponse, RefusesAsOneResponse, told_by_the_proxy}
+use Rattle.proxy_core_laws.specs.OneResponse.{PassesOneResponse, RefusesAsOneResponse, shown_by_the_proxy}
 use Rattle.proxy_core_laws.proofs.StoredReplies.{widened}
 use Rattle.proxy_core_laws.proofs.ReplyValues.{member_value, plain_value, text_value}
 
-told_name : list_all is_token_byte (codes "Cache-Status") ≡ true
+shown_name : list_all is_token_byte (codes "Cache-Status") ≡ true
 unfolding is_token_byte
-told_name = refl
+shown_name = refl
 
 date_name : list_all is_token_byte (codes "Date") ≡ true
 unfolding is_token_byte
@@ -67,16 +67,16 @@ module _ (h g ended close : Bool) (max_body most now : ℕ) (bytes rest : List �
             (dated_fit (stripped r.fields) now early (All-filter (λ f. not (is_hop_line r.fields f)) IsWritableField r.fields is.fields)) are.fields;
         lengths = sent_without r.fields added now (codes "content-length") is.lengths are.lengths refl;
         codings = sent_without r.fields added now (codes "transfer-encoding") is.codings are.codings refl;
-        small = told_small g is.announced limits.content;
+        small = shown_small g is.announced limits.content;
         without = none_sent g is.without;
-        behind = told g;
+        behind = shown g;
         few = limits.few;
         short = limits.short;
       }) limits.content
     where
-      told_small : (g : Bool) → IfSome r.announced (λ n. n < 2 ^ 64) → length (cond g [] r.content) ≤ most
+      shown_small : (g : Bool) → IfSome r.announced (λ n. n < 2 ^ 64) → length (cond g [] r.content) ≤ most
           → IfSome (cond ((r.status == 204) || (r.status == 304)) None (cond g r.announced (Some (length r.content)))) (λ n. n < 2 ^ 64)
-      told_small g announced within = by_status ((r.status == 204) || (r.status == 304)) g announced within
+      shown_small g announced within = by_status ((r.status == 204) || (r.status == 304)) g announced within
         where
           by_status : (t g : Bool) → IfSome r.announced (λ n. n < 2 ^ 64) → length (cond g [] r.content) ≤ most
               → IfSome (cond t None (cond g r.announced (Some (length r.content)))) (λ n. n < 2 ^ 64)
@@ -88,10 +88,10 @@ module _ (h g ended close : Bool) (max_body most now : ℕ) (bytes rest : List �
       none_sent true none without = refl
       none_sent false none without = none (widened h r.status without)
 
-      told : (g : Bool) → is_without_content g r.status ≡ false
+      shown : (g : Bool) → is_without_content g r.status ≡ false
           → cond ((r.status == 204) || (r.status == 304)) None (cond g r.announced (Some (length r.content))) ≡ Some (length (cond g [] r.content))
-      told true some = absurd cc
-      told false some = by_tests (is_interim r.status) (r.status == 204) (r.status == 304) some
+      shown true some = absurd cc
+      shown false some = by_tests (is_interim r.status) (r.status == 204) (r.status == 304) some
         where
           by_tests : (i s t : Bool) → (false || i || s || t) ≡ false → cond (s || t) None (Some (length r.content)) ≡ Some (length r.content)
           by_tests true s t h = absurd cc
@@ -101,10 +101,10 @@ module _ (h g ended close : Bool) (max_body most now : ℕ) (bytes rest : List �
 
 pub passes_one_response : PassesOneResponse
 passes_one_response max_body most now to_head ended stored bytes rest name policy rule x r reads early token small limits over behind =
-    let told : List ℕ = member_text name (status_passed policy x r.status (answered_of r now).fields now stored rule) in
-    let value : IsFieldValue told = member_value name (status_passed policy x r.status (answered_of r now).fields now stored rule) token in
-    goes_on to_head (is_head x.asked) ended x.asked.close max_body most now bytes rest r (line (codes "Cache-Status") told ∷ []) (record {
-      fields = All-cons IsWritableField (line (codes "Cache-Status") told) [] (line_of (codes "Cache-Status") told told_name (omega arith) value) (All-nil IsWritableField);
+    let shown : List ℕ = member_text name (status_passed policy x r.status (answered_of r now).fields now stored rule) in
+    let value : IsFieldValue shown = member_value name (status_passed policy x r.status (answered_of r now).fields now stored rule) token in
+    goes_on to_head (is_head x.asked) ended x.asked.close max_body most now bytes rest r (line (codes "Cache-Status") shown ∷ []) (record {
+      fields = All-cons IsWritableField (line (codes "Cache-Status") shown) [] (line_of (codes "Cache-Status") shown shown_name (omega arith) value) (All-nil IsWritableField);
       lengths = refl;
       codings = refl;
     }) reads early small limits over behind
@@ -142,7 +142,7 @@ refuses_as_one_response most now cause close head early small length_small limit
     let is = own_status cause in
     let date : List ℕ = date_text_of now in
     let text : List ℕ = text_of cause in
-    response_is_read_back head (told_by_the_proxy now cause close head) most over behind (record {
+    response_is_read_back head (shown_by_the_proxy now cause close head) most over behind (record {
       status = (is.low, is.high);
       fields =
           All-cons IsWritableField (line (codes "Date") date) (line (codes "Content-Type") (codes "text/plain") ∷ line (codes "Refusal") text ∷ [])
@@ -154,7 +154,7 @@ refuses_as_one_response most now cause close head early small length_small limit
       codings = refl;
       small = length_small;
       without = none_sent head;
-      behind = told head;
+      behind = shown head;
       few = limits.few;
       short = limits.short;
     }) limits.content
@@ -163,6 +163,6 @@ refuses_as_one_response most now cause close head early small length_small limit
     none_sent true none = refl
     none_sent false none = let some : is_without_content false (status_of cause) ≡ false = (own_status cause).has_content in absurd cc
 
-    told : (h : Bool) → is_without_content h (status_of cause) ≡ false → Some (length (text_of cause)) ≡ Some (length (content_sent h (text_of cause)))
-    told true some = absurd cc
-    told false some = refl
+    shown : (h : Bool) → is_without_content h (status_of cause) ≡ false → Some (length (text_of cause)) ≡ Some (length (content_sent h (text_of cause)))
+    shown true some = absurd cc
+    shown false some = refl

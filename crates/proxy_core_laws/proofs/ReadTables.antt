@@ -57,9 +57,9 @@ text_is_token (Some text) h = name_is_token text h
 
 -- ---- what stands in a table without a fault
 
-name_stands : (t : Members) → table_fault t ≡ None → is_some_and is_name (text_at (codes "name") t) ≡ true
+name_is_present : (t : Members) → table_fault t ≡ None → is_some_and is_name (text_at (codes "name") t) ≡ true
 unfolding table_fault
-name_stands t none = by_keys (first_unknown Top t) refl
+name_is_present t none = by_keys (first_unknown Top t) refl
   where
     so : (b : Bool) → not b ≡ false → b ≡ true
     so true e = refl
@@ -102,13 +102,13 @@ pub names_a_token : NamesAToken
 unfolding table_of
 names_a_token table read =
     let is = read_as table read in
-    subst (λ (u : Table). IsToken u.name) is.1 (text_is_token (text_at (codes "name") is.0) (name_stands is.0 is.2))
+    subst (λ (u : Table). IsToken u.name) is.1 (text_is_token (text_at (codes "name") is.0) (name_is_present is.0 is.2))
 
 pub names_are_short : (table : Table) → IsReadTable table → length table.name ≤ 32
 unfolding table_of
 names_are_short table read =
     let is = read_as table read in
-    subst (λ (u : Table). length u.name ≤ 32) is.1 (text_is_short (text_at (codes "name") is.0) (name_stands is.0 is.2))
+    subst (λ (u : Table). length u.name ≤ 32) is.1 (text_is_short (text_at (codes "name") is.0) (name_is_present is.0 is.2))
 
 pub stores_none_too_long : StoresNoneTooLong
 unfolding table_of

@@ -25,8 +25,8 @@ use Rattle.hx_store.specs.Stored.{Stored}
 use Rattle.hx_validate.specs.NotModified.{is_carried, not_modified_of}
 use Rattle.hx_validate.specs.Room.{leaves_room}
 use Rattle.proxy_core.specs.Replies.{line}
-use Rattle.proxy_core_laws.specs.HeldHeads.{FitsAs304WhereRoomIsLeft, FitsWhereRoomIsLeft, IsCounted, IsTold}
-use Rattle.proxy_core_laws.specs.StoredReplies.{lines_told}
+use Rattle.proxy_core_laws.specs.HeldHeads.{FitsAs304WhereRoomIsLeft, FitsWhereRoomIsLeft, IsCounted, IsShown}
+use Rattle.proxy_core_laws.specs.StoredReplies.{lines_shown}
 use Rattle.proxy_core_laws.proofs.ReadHeads.{AreWithin, within_fewer}
 
 -- ---- the member of Cache-Status
@@ -92,16 +92,16 @@ short_or None (Some rule) none h = absurd cc
 seven : (a b c d e f g : List ℕ) (n : ℕ) → length (a ++ b ++ c ++ d ++ e ++ f ++ g) ≡ n → n ≡ length a + length b + length c + length d + length e + length f + length g
 seven a b c d e f g n whole = let parts = simp length-append at whole in omega (arith, parts)
 
-member_short : (name : List ℕ) (told : Status) → length name ≤ 32 → IsTold told → length (member_text name told) ≤ 119
-member_short name told named is =
-    let how = how_short told.how in
-    let came = came_short told.fwd_status is.came in
-    let left = ttl_short told.ttl is.left in
-    let stored = flag_short told.stored (codes ";stored") 7 (omega arith) in
-    let collapsed = flag_short told.collapsed (codes ";collapsed") 10 (omega arith) in
-    let word = short_or (detail_or told.detail told.how) told.not_stored is.is_held (named_short told.detail told.how) in
-    let all = seven name (how_text told.how) (fwd_status_text told.fwd_status) (ttl_text told.ttl) (flag_text told.stored (codes ";stored")) (flag_text told.collapsed (codes ";collapsed")) (detail_text told)
-    (length (member_text name told)) refl in
+member_short : (name : List ℕ) (shown : Status) → length name ≤ 32 → IsShown shown → length (member_text name shown) ≤ 119
+member_short name shown named is =
+    let how = how_short shown.how in
+    let came = came_short shown.fwd_status is.came in
+    let left = ttl_short shown.ttl is.left in
+    let stored = flag_short shown.stored (codes ";stored") 7 (omega arith) in
+    let collapsed = flag_short shown.collapsed (codes ";collapsed") 10 (omega arith) in
+    let word = short_or (detail_or shown.detail shown.how) shown.not_stored is.is_held (named_short shown.detail shown.how) in
+    let all = seven name (how_text shown.how) (fwd_status_text shown.fwd_status) (ttl_text shown.ttl) (flag_text shown.stored (codes ";stored")) (flag_text shown.collapsed (codes ";collapsed")) (detail_text shown)
+    (length (member_text name shown)) refl in
     omega (arith, named, how, came, left, stored, collapsed, word, all)
 
 -- ---- the lines that are added
@@ -115,27 +115,27 @@ capped_low n = omega arith
 age_short : (e : Stored) (now : ℕ) → length (decimal (age_of e.times now)) ≤ 10
 age_short e now = counted_short (age_of e.times now) (capped_low _)
 
-module _ (name : List ℕ) (fields : List Field) (e : Stored) (now : ℕ) (told : Status) (named : length name ≤ 32) (is : IsTold told) where
+module _ (name : List ℕ) (fields : List Field) (e : Stored) (now : ℕ) (shown : Status) (named : length name ≤ 32) (is : IsShown shown) where
   abbrev age : List Field
   age = line (codes "Age") (decimal (age_of e.times now)) ∷ []
 
   abbrev status : List Field
-  status = line (codes "Cache-Status") (member_text name told) ∷ []
+  status = line (codes "Cache-Status") (member_text name shown) ∷ []
 
-  told_lines : length (lines_told name fields e now told) ≡ length fields + 2
-  told_lines =
+  shown_lines : length (lines_shown name fields e now shown) ≡ length fields + 2
+  shown_lines =
       let outer = length-append (fields ++ age) status in
       let inner = length-append fields age in
       omega (arith, outer, inner)
 
-  told_bytes : length (field_lines (lines_told name fields e now told)) ≤ length (field_lines fields) + 152
-  told_bytes =
+  shown_bytes : length (field_lines (lines_shown name fields e now shown)) ≤ length (field_lines fields) + 152
+  shown_bytes =
       let outer = ap length (flat_map-append field_line (fields ++ age) status) ∙ length-append (field_lines (fields ++ age)) (field_lines status) in
       let inner = ap length (flat_map-append field_line fields age) ∙ length-append (field_lines fields) (field_lines age) in
       let first = one_line (codes "Age") (decimal (age_of e.times now)) (length (field_lines age)) refl in
-      let second = one_line (codes "Cache-Status") (member_text name told) (length (field_lines status)) refl in
+      let second = one_line (codes "Cache-Status") (member_text name shown) (length (field_lines status)) refl in
       let digits = age_short e now in
-      let member = member_short name told named is in
+      let member = member_short name shown named is in
       omega (arith, outer, inner, first, second, digits, member)
 
 -- ---- the head
@@ -181,43 +181,43 @@ room_left fields room =
     let bytes = leb-true (length (field_lines fields) + 256) 32768 parts.1 in
     record { few = omega (arith, lines); short = omega (arith, bytes) }
 
-module _ (name : List ℕ) (fields : List Field) (e : Stored) (now : ℕ) (told : Status) (named : length name ≤ 32) (is : IsTold told) (are : AreWithin 96 32512 fields) (length_is : Option ℕ) (close : Bool) where
-  lines_fit : length (lines_told name fields e now told ++ length_fields length_is ++ close_fields close) ≤ 100
+module _ (name : List ℕ) (fields : List Field) (e : Stored) (now : ℕ) (shown : Status) (named : length name ≤ 32) (is : IsShown shown) (are : AreWithin 96 32512 fields) (length_is : Option ℕ) (close : Bool) where
+  lines_fit : length (lines_shown name fields e now shown ++ length_fields length_is ++ close_fields close) ≤ 100
   lines_fit =
-      let all = three (lines_told name fields e now told) (length_fields length_is) (close_fields close) (length (lines_told name fields e now told ++ length_fields length_is ++ close_fields close)) refl in
-      let lines = told_lines name fields e now told named is in
+      let all = three (lines_shown name fields e now shown) (length_fields length_is) (close_fields close) (length (lines_shown name fields e now shown ++ length_fields length_is ++ close_fields close)) refl in
+      let lines = shown_lines name fields e now shown named is in
       let one = length_few length_is in
       let other = close_few close in
       let few = are.few in
       omega (arith, all, lines, one, other, few)
 
   bytes_fit : (status : ℕ) → status ≤ 999 → IfSome length_is (λ k. k < 2 ^ 64)
-      → length (status_line status ++ field_lines (lines_told name fields e now told) ++ length_line length_is ++ close_line close ++ codes "\r\n") ≤ 32768
+      → length (status_line status ++ field_lines (lines_shown name fields e now shown) ++ length_line length_is ++ close_line close ++ codes "\r\n") ≤ 32768
   bytes_fit status low small =
-      let all = five (status_line status) (field_lines (lines_told name fields e now told)) (length_line length_is) (close_line close) (codes "\r\n")
-      (length (status_line status ++ field_lines (lines_told name fields e now told) ++ length_line length_is ++ close_line close ++ codes "\r\n")) refl in
+      let all = five (status_line status) (field_lines (lines_shown name fields e now shown)) (length_line length_is) (close_line close) (codes "\r\n")
+      (length (status_line status ++ field_lines (lines_shown name fields e now shown) ++ length_line length_is ++ close_line close ++ codes "\r\n")) refl in
       let first = status_short status low in
-      let lines = told_bytes name fields e now told named is in
+      let lines = shown_bytes name fields e now shown named is in
       let one = length_short length_is small in
       let other = close_short close in
       let short = are.short in
       omega (arith, all, first, lines, one, other, short)
 
 pub fits_where_room_is_left : FitsWhereRoomIsLeft
-fits_where_room_is_left most now name e told asked room named is final small within = record {
-  few = lines_fit name e.fields e now told named is (room_left e.fields room) (cond ((e.status == 204) || (e.status == 304)) None (Some (length e.content))) asked.close;
-  short = bytes_fit name e.fields e now told named is (room_left e.fields room) (cond ((e.status == 204) || (e.status == 304)) None (Some (length e.content))) asked.close e.status (omega (arith, final)) (told_small ((e.status == 204) || (e.status == 304)));
+fits_where_room_is_left most now name e shown asked room named is final small within = record {
+  few = lines_fit name e.fields e now shown named is (room_left e.fields room) (cond ((e.status == 204) || (e.status == 304)) None (Some (length e.content))) asked.close;
+  short = bytes_fit name e.fields e now shown named is (room_left e.fields room) (cond ((e.status == 204) || (e.status == 304)) None (Some (length e.content))) asked.close e.status (omega (arith, final)) (shown_small ((e.status == 204) || (e.status == 304)));
   content = within;
 }
   where
-    told_small : (t : Bool) → IfSome (cond t None (Some (length e.content))) (λ n. n < 2 ^ 64)
-    told_small true = tt
-    told_small false = small
+    shown_small : (t : Bool) → IfSome (cond t None (Some (length e.content))) (λ n. n < 2 ^ 64)
+    shown_small true = tt
+    shown_small false = small
 
 pub fits_as_304_where_room_is_left : FitsAs304WhereRoomIsLeft
-fits_as_304_where_room_is_left most now name e told asked room named is =
+fits_as_304_where_room_is_left most now name e shown asked room named is =
     let carried = within_fewer 96 32512 (is_carried (has e.fields (codes "ETag"))) e.fields (room_left e.fields room) in record {
-      few = lines_fit name (not_modified_of e.fields) e now told named is carried None asked.close;
-      short = bytes_fit name (not_modified_of e.fields) e now told named is carried None asked.close 304 (omega arith) tt;
+      few = lines_fit name (not_modified_of e.fields) e now shown named is carried None asked.close;
+      short = bytes_fit name (not_modified_of e.fields) e now shown named is carried None asked.close 304 (omega arith) tt;
       content = omega arith;
     }

@@ -38,7 +38,7 @@ use Rattle.hx_validate.specs.Validators.{conditions_of, has_validator}
 use Rattle.hx_hop_laws.specs.OneMessage.{AreFieldValues, IsWithinLimits}
 use Rattle.hx_hop_laws.proofs.SentRequests.{forwards_one_request}
 use Rattle.hx_storable.specs.declared.rule.StoreRule.{StoreRule}
-use Rattle.proxy_core.specs.Storing.{rule_told}
+use Rattle.proxy_core.specs.Storing.{rule_shown}
 use Rattle.proxy_core.specs.declared.steps.condition.Condition.{Condition}
 use Rattle.proxy_core.specs.declared.open.exchange.Exchange.{Exchange}
 use Rattle.proxy_core.specs.declared.steps.fallback.Fallback.{Fallback}
@@ -59,7 +59,7 @@ use Rattle.proxy_core.specs.Storing.{is_unasked}
 use Rattle.proxy_core.specs.Traces.{Item}
 use Rattle.proxy_core.specs.Validating.{condition_at, condition_on, is_validation, refreshed, sent_with, validated}
 use Rattle.proxy_core.proofs.SentResponses.{sends_what_is_held}
-use Rattle.proxy_core_laws.specs.OneResponse.{passed_on, told_by_the_proxy}
+use Rattle.proxy_core_laws.specs.OneResponse.{passed_on, shown_by_the_proxy}
 use Rattle.proxy_core_laws.specs.StoredReplies.{IsSendable, sent_as_304, sent_whole}
 use Rattle.proxy_core_laws.specs.SentMessages.{AreHandedWhatWasRead, IsHandedWhatWasRead, IsOneMessage, IsOneRequest, IsOneResponse, IsReadRequest, OneRequestIsAll, OneResponseIsAll, SendsOneMessageEachTime, is_to_head}
 use Rattle.proxy_core_laws.proofs.OneResponse.{passes_one_response, refuses_as_one_response}
@@ -81,18 +81,18 @@ one_request name asked conditions token is are = record {
   alone = subst (λ (a : Asked). (most : ℕ) → most < 2 ^ 64 → IsWithinLimits most (forwarded_of a name conditions) → (over continued : Bool) (behind : List ℕ)
       → ReadsRequest most over continued (request_text (forwarded_of a name conditions) ++ behind) (Spelled (read_back (forwarded_of a name conditions)) behind)) (sym is.asked_is)
       (λ most small limits over continued behind.
-      forwards_one_request is.max_body most is.ended is.told is.bytes is.rest is.request is.target name conditions is.reads is.judged token are small limits over continued behind);
+      forwards_one_request is.max_body most is.ended is.continue_sent is.bytes is.rest is.request is.target name conditions is.reads is.judged token are small limits over continued behind);
 }
 
 -- ---- one response
 
 -- the text of a refusal stands in its head, so it is no longer than that
-short_text : (now : ℕ) (cause : Cause) (close head : Bool) → length (sent_head_text (told_by_the_proxy now cause close head)) ≤ 32768 → length (text_of cause) < 2 ^ 64
+short_text : (now : ℕ) (cause : Cause) (close head : Bool) → length (sent_head_text (shown_by_the_proxy now cause close head)) ≤ 32768 → length (text_of cause) < 2 ^ 64
 short_text now cause close head short = let parts = simp length-append at short in omega (arith, parts)
 
 pub one_refusal : (now : ℕ) (cause : Cause) (close head : Bool) → now < END_OF_TIME → IsOneResponse head (refused_text (date_text_of now) cause close head)
 one_refusal now cause close head early = record {
-  sent = told_by_the_proxy now cause close head;
+  sent = shown_by_the_proxy now cause close head;
   text_is = refl;
   alone = λ most small limits over behind. refuses_as_one_response most now cause close head early small (short_text now cause close head limits.short) limits over behind;
 }
@@ -149,8 +149,8 @@ module _ (table : Table) (es : List Stored) (token : IsToken table.name) (fit : 
 
       passed_unless_one : (next : Option ℕ) (b : Bool) (f : Fallback) → used_in (passed_unless table es now x r next b f) ≡ None → IsOneMessage table.name (is_head x.asked) (passed_unless table es now x r next b f)
       passed_unless_one next true (Sends serial detail) unused = never serial unused
-      passed_unless_one next true (Refuses rule error) unused = passed_one (rule_told table x r now next) (stored_serial table x r now next)
-      passed_unless_one next false f unused = passed_one (rule_told table x r now next) (stored_serial table x r now next)
+      passed_unless_one next true (Refuses rule error) unused = passed_one (rule_shown table x r now next) (stored_serial table x r now next)
+      passed_unless_one next false f unused = passed_one (rule_shown table x r now next) (stored_serial table x r now next)
 
       revalidated_one : (o : Option Stored) (d : Decision) → used_in (revalidated table es now x r o d) ≡ None → IsOneMessage table.name (is_head x.asked) (revalidated table es now x r o d)
       revalidated_one (Some e) d unused = never (refreshed x r now e).serial unused

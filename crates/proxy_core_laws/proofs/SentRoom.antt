@@ -35,7 +35,7 @@ use Rattle.proxy_core.specs.Replies.{fwd_status_of, is_head, not_modified_text, 
 use Rattle.proxy_core.specs.Sending.{IsThatResponse}
 use Rattle.proxy_core.specs.State.{used_form}
 use Rattle.proxy_core.proofs.SentResponses.{sends_what_is_held}
-use Rattle.proxy_core_laws.specs.HeldHeads.{IsCounted, IsOneAnyway, IsTold, SendsWhatLeavesRoom}
+use Rattle.proxy_core_laws.specs.HeldHeads.{IsCounted, IsOneAnyway, IsShown, SendsWhatLeavesRoom}
 use Rattle.proxy_core_laws.specs.SentMessages.{IsHandedWhatWasRead, is_to_head}
 use Rattle.proxy_core_laws.specs.StoredReplies.{IsSendable, sent_as_304, sent_whole}
 use Rattle.proxy_core_laws.proofs.HeldReplies.{holds_sendable, left_so}
@@ -99,20 +99,20 @@ left_counted : (policy : Policy) (e : Stored) (now : ℕ) → IsCounted (ttl_at 
 left_counted policy e now =
     counted (lifetime_under policy e.status e.fields).seconds (age_of e.times now) (lifetime_under_low policy e.status e.fields) (age_low e now)
 
-told_of : (table : Table) (held : List Stored) (x : Option Exchange) (event : Event) (outcome : Outcome) (s : ℕ) (is : IsThatResponse table held x event outcome s) → IsHandedWhatWasRead event
-    → (status : ℕ) (e : Stored) → IsTold (status_sent status e is.now is.info)
-told_of table held x (Arrive now id asked) outcome s is read status e =
-    subst IsTold (sym (ap (status_sent status e is.now) is.tells_how.2)) (record { came = tt; left = left_counted (policy_of table.lines is.tells_how.0) e is.now; is_held = refl })
-told_of table held (Some x) (Answer now id r) outcome s is read status e =
-    subst IsTold (sym (ap (status_sent status e is.now) is.tells_how.1)) (record { came = came_low (Some r.status) status (read_low r read); left = left_counted (policy_of table.lines x.line) e is.now; is_held = refl })
-told_of table held (Some x) (Fail now id kind) outcome s is read status e =
-    subst IsTold (sym (ap (status_sent status e is.now) is.tells_how.1)) (record { came = tt; left = left_counted (policy_of table.lines x.line) e is.now; is_held = refl })
-told_of table held (Some x) (Wake now id) outcome s is read status e =
-    subst IsTold (sym (ap (status_sent status e is.now) is.tells_how)) (record { came = tt; left = left_counted (policy_of table.lines x.line) e is.now; is_held = refl })
-told_of table held None (Answer now id r) outcome s is read status e = absurd is.tells_how
-told_of table held None (Fail now id kind) outcome s is read status e = absurd is.tells_how
-told_of table held None (Wake now id) outcome s is read status e = absurd is.tells_how
-told_of table held x (Abandon id) outcome s is read status e = absurd is.tells_how
+shown_of : (table : Table) (held : List Stored) (x : Option Exchange) (event : Event) (outcome : Outcome) (s : ℕ) (is : IsThatResponse table held x event outcome s) → IsHandedWhatWasRead event
+    → (status : ℕ) (e : Stored) → IsShown (status_sent status e is.now is.info)
+shown_of table held x (Arrive now id asked) outcome s is read status e =
+    subst IsShown (sym (ap (status_sent status e is.now) is.shows_how.2)) (record { came = tt; left = left_counted (policy_of table.lines is.shows_how.0) e is.now; is_held = refl })
+shown_of table held (Some x) (Answer now id r) outcome s is read status e =
+    subst IsShown (sym (ap (status_sent status e is.now) is.shows_how.1)) (record { came = came_low (Some r.status) status (read_low r read); left = left_counted (policy_of table.lines x.line) e is.now; is_held = refl })
+shown_of table held (Some x) (Fail now id kind) outcome s is read status e =
+    subst IsShown (sym (ap (status_sent status e is.now) is.shows_how.1)) (record { came = tt; left = left_counted (policy_of table.lines x.line) e is.now; is_held = refl })
+shown_of table held (Some x) (Wake now id) outcome s is read status e =
+    subst IsShown (sym (ap (status_sent status e is.now) is.shows_how)) (record { came = tt; left = left_counted (policy_of table.lines x.line) e is.now; is_held = refl })
+shown_of table held None (Answer now id r) outcome s is read status e = absurd is.shows_how
+shown_of table held None (Fail now id kind) outcome s is read status e = absurd is.shows_how
+shown_of table held None (Wake now id) outcome s is read status e = absurd is.shows_how
+shown_of table held x (Abandon id) outcome s is read status e = absurd is.shows_how
 
 -- ---- what is sent
 
@@ -129,14 +129,14 @@ module _ (table : Table) (held : List Stored) (x : Option Exchange) (event : Eve
         text_is = refl;
         alone = λ most little within over behind.
             sends_a_304_as_one most is.now table.name form (status_sent 304 form is.now is.info) is.asked sendable token
-            (fits_as_304_where_room_is_left most is.now table.name form (status_sent 304 form is.now is.info) is.asked room short (told_of table held x event outcome s is read 304 form)) over behind;
+            (fits_as_304_where_room_is_left most is.now table.name form (status_sent 304 form is.now is.info) is.asked room short (shown_of table held x event outcome s is read 304 form)) over behind;
       }
       by_test false = record {
         sent = sent_whole table.name form is.now (status_sent form.status form is.now is.info) is.asked;
         text_is = refl;
         alone = λ most little within over behind.
             sends_whole_as_one most is.now table.name form (status_sent form.status form is.now is.info) is.asked sendable token small
-            (fits_where_room_is_left most is.now table.name form (status_sent form.status form is.now is.info) is.asked room short (told_of table held x event outcome s is read form.status form) sendable.status.1 small within) over behind;
+            (fits_where_room_is_left most is.now table.name form (status_sent form.status form is.now is.info) is.asked room short (shown_of table held x event outcome s is read form.status form) sendable.status.1 small within) over behind;
       }
 
 same_reply : (a b : Reply) → Replied a ≡ Replied b → a ≡ b

@@ -25,7 +25,7 @@ use Rattle.hx_validate.specs.NotModified.{is_carried, not_modified_of}
 use Rattle.hx_hop_laws.proofs.SentRequests.{line_of}
 use Rattle.hx_hop_laws.proofs.SentResponses.{IsCleanAnswer, clean, dated_fit, dated_without, stripped_without}
 use Rattle.proxy_core.specs.Replies.{content_sent, is_head, line}
-use Rattle.proxy_core_laws.specs.StoredReplies.{FreshensSendable, SendsA304AsOne, SendsWholeAsOne, StoresSendable, lines_told, sent_as_304, sent_whole}
+use Rattle.proxy_core_laws.specs.StoredReplies.{FreshensSendable, SendsA304AsOne, SendsWholeAsOne, StoresSendable, lines_shown, sent_as_304, sent_whole}
 use Rattle.proxy_core_laws.proofs.ReplyValues.{decimal_value, member_value}
 
 -- ---- what is stored
@@ -82,39 +82,39 @@ status_name : list_all is_token_byte (codes "Cache-Status") ≡ true
 unfolding is_token_byte
 status_name = refl
 
-module _ (name : List ℕ) (fields : List Field) (e : Stored) (now : ℕ) (told : Status) where
-  lines_fit : IsToken name → All IsWritableField fields → All IsWritableField (lines_told name fields e now told)
+module _ (name : List ℕ) (fields : List Field) (e : Stored) (now : ℕ) (shown : Status) where
+  lines_fit : IsToken name → All IsWritableField fields → All IsWritableField (lines_shown name fields e now shown)
   lines_fit token all =
-      All-append IsWritableField (fields ++ line (codes "Age") (decimal (age_of e.times now)) ∷ []) (line (codes "Cache-Status") (member_text name told) ∷ [])
+      All-append IsWritableField (fields ++ line (codes "Age") (decimal (age_of e.times now)) ∷ []) (line (codes "Cache-Status") (member_text name shown) ∷ [])
       (All-append IsWritableField fields (line (codes "Age") (decimal (age_of e.times now)) ∷ []) all
       (All-cons IsWritableField (line (codes "Age") (decimal (age_of e.times now))) []
       (line_of (codes "Age") (decimal (age_of e.times now)) age_name (omega arith) (decimal_value (age_of e.times now))) (All-nil IsWritableField)))
-      (All-cons IsWritableField (line (codes "Cache-Status") (member_text name told)) []
-      (line_of (codes "Cache-Status") (member_text name told) status_name (omega arith) (member_value name told token)) (All-nil IsWritableField))
+      (All-cons IsWritableField (line (codes "Cache-Status") (member_text name shown)) []
+      (line_of (codes "Cache-Status") (member_text name shown) status_name (omega arith) (member_value name shown token)) (All-nil IsWritableField))
 
   lines_without : (other : List ℕ) → has fields other ≡ false → is_named other (line (codes "Age") (decimal (age_of e.times now))) ≡ false
-      → is_named other (line (codes "Cache-Status") (member_text name told)) ≡ false → has (lines_told name fields e now told) other ≡ false
+      → is_named other (line (codes "Cache-Status") (member_text name shown)) ≡ false → has (lines_shown name fields e now shown) other ≡ false
   lines_without other none no_age no_status =
-      list_any-append (is_named other) (fields ++ line (codes "Age") (decimal (age_of e.times now)) ∷ []) (line (codes "Cache-Status") (member_text name told) ∷ [])
+      list_any-append (is_named other) (fields ++ line (codes "Age") (decimal (age_of e.times now)) ∷ []) (line (codes "Cache-Status") (member_text name shown) ∷ [])
       ∙ or_from _ _ (list_any-append (is_named other) fields (line (codes "Age") (decimal (age_of e.times now)) ∷ []) ∙ or_from _ _ none (or_from _ _ no_age refl)) (or_from _ _ no_status refl)
 
 pub sends_whole_as_one : SendsWholeAsOne
-sends_whole_as_one most now name e told asked sendable token small limits over behind =
-    response_is_read_back (is_head asked) (sent_whole name e now told asked) most over behind (record {
+sends_whole_as_one most now name e shown asked sendable token small limits over behind =
+    response_is_read_back (is_head asked) (sent_whole name e now shown asked) most over behind (record {
       status = sendable.status;
-      fields = lines_fit name e.fields e now told token sendable.fields;
-      lengths = lines_without name e.fields e now told (codes "content-length") sendable.lengths refl refl;
-      codings = lines_without name e.fields e now told (codes "transfer-encoding") sendable.codings refl refl;
-      small = told_small ((e.status == 204) || (e.status == 304));
+      fields = lines_fit name e.fields e now shown token sendable.fields;
+      lengths = lines_without name e.fields e now shown (codes "content-length") sendable.lengths refl refl;
+      codings = lines_without name e.fields e now shown (codes "transfer-encoding") sendable.codings refl refl;
+      small = shown_small ((e.status == 204) || (e.status == 304));
       without = none_sent (is_head asked);
       behind = announced (is_head asked);
       few = limits.few;
       short = limits.short;
     }) limits.content
   where
-    told_small : (t : Bool) → IfSome (cond t None (Some (length e.content))) (λ n. n < 2 ^ 64)
-    told_small true = tt
-    told_small false = small
+    shown_small : (t : Bool) → IfSome (cond t None (Some (length e.content))) (λ n. n < 2 ^ 64)
+    shown_small true = tt
+    shown_small false = small
 
     none_sent : (h : Bool) → is_without_content h e.status ≡ true → content_sent h e.content ≡ []
     none_sent true none = refl
@@ -132,12 +132,12 @@ sends_whole_as_one most now name e told asked sendable token small limits over b
         by_tests false false false h = refl
 
 pub sends_a_304_as_one : SendsA304AsOne
-sends_a_304_as_one most now name e told asked sendable token limits over behind =
-    response_is_read_back (is_head asked) (sent_as_304 name e now told asked) most over behind (record {
+sends_a_304_as_one most now name e shown asked sendable token limits over behind =
+    response_is_read_back (is_head asked) (sent_as_304 name e now shown asked) most over behind (record {
       status = (omega arith, omega arith);
-      fields = lines_fit name (not_modified_of e.fields) e now told token (All-filter carried IsWritableField e.fields sendable.fields);
-      lengths = lines_without name (not_modified_of e.fields) e now told (codes "content-length") (list_any_fewer carried (is_named (codes "content-length")) e.fields sendable.lengths) refl refl;
-      codings = lines_without name (not_modified_of e.fields) e now told (codes "transfer-encoding") (list_any_fewer carried (is_named (codes "transfer-encoding")) e.fields sendable.codings) refl refl;
+      fields = lines_fit name (not_modified_of e.fields) e now shown token (All-filter carried IsWritableField e.fields sendable.fields);
+      lengths = lines_without name (not_modified_of e.fields) e now shown (codes "content-length") (list_any_fewer carried (is_named (codes "content-length")) e.fields sendable.lengths) refl refl;
+      codings = lines_without name (not_modified_of e.fields) e now shown (codes "transfer-encoding") (list_any_fewer carried (is_named (codes "transfer-encoding")) e.fields sendable.codings) refl refl;
       small = tt;
       without = λ none. refl;
       behind = λ some. absurd (never (is_head asked) some);

@@ -47,10 +47,10 @@ abbrev pub IsCounted : ℤ → Type 0
 IsCounted (pos n) = n ≤ 2147483648
 IsCounted (negsuc n) = suc n ≤ 2147483648
 
-pub record IsTold (told : Status) : Type 0 where
-  pub came : IfSome told.fwd_status (λ status. status ≤ 999)
-  pub left : IfSome told.ttl IsCounted
-  pub is_held : told.not_stored ≡ None
+pub record IsShown (shown : Status) : Type 0 where
+  pub came : IfSome shown.fwd_status (λ status. status ≤ 999)
+  pub left : IfSome shown.ttl IsCounted
+  pub is_held : shown.not_stored ≡ None
 
 -- ---- the statements
 
@@ -107,17 +107,17 @@ HoldsBounded = (table : Table) (limit first : ℕ) (trace : List Item) → IsGoo
 -- has at most 32 bytes.
 abbrev pub FitsWhereRoomIsLeft : Type 0
 FitsWhereRoomIsLeft =
-    (most now : ℕ) (name : List ℕ) (e : Stored) (told : Status) (asked : Asked) → leaves_room e.fields ≡ true
+    (most now : ℕ) (name : List ℕ) (e : Stored) (shown : Status) (asked : Asked) → leaves_room e.fields ≡ true
     → length name ≤ 32
-    → IsTold told → e.status ≤ 599 → length e.content < 2 ^ 64
-    → length (sent_whole name e now told asked).content ≤ most
-    → FitsAReader most (sent_whole name e now told asked)
+    → IsShown shown → e.status ≤ 599 → length e.content < 2 ^ 64
+    → length (sent_whole name e now shown asked).content ≤ most
+    → FitsAReader most (sent_whole name e now shown asked)
 
 abbrev pub FitsAs304WhereRoomIsLeft : Type 0
 FitsAs304WhereRoomIsLeft =
-    (most now : ℕ) (name : List ℕ) (e : Stored) (told : Status) (asked : Asked) → leaves_room e.fields ≡ true
+    (most now : ℕ) (name : List ℕ) (e : Stored) (shown : Status) (asked : Asked) → leaves_room e.fields ≡ true
     → length name ≤ 32
-    → IsTold told → FitsAReader most (sent_as_304 name e now told asked)
+    → IsShown shown → FitsAReader most (sent_as_304 name e now shown asked)
 
 -- The bytes are the text of a response that is read back as it was sent, and what stands behind it is left, by each
 -- reader that takes so much content: nothing is asked of its head.

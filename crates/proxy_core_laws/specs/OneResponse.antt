@@ -27,11 +27,11 @@ passed_on policy name x r now stored rule =
     (status_passed policy x r.status (answered_of r now).fields now stored rule)) ∷ []) x.asked.close
 
 -- the proxy's own answer
-abbrev pub told_by_the_proxy : ℕ → Cause → Bool → Bool → SentResponse
-told_by_the_proxy now cause close head = record {
+abbrev pub shown_by_the_proxy : ℕ → Cause → Bool → Bool → SentResponse
+shown_by_the_proxy now cause close head = record {
   status = status_of cause;
   fields = lines_refused (date_text_of now) (text_of cause);
-  told = Some (length (text_of cause));
+  shown = Some (length (text_of cause));
   close = close;
   content = content_sent head (text_of cause);
 }
@@ -55,7 +55,7 @@ abbrev pub RefusesAsOneResponse : Type 0
 RefusesAsOneResponse =
     (most now : ℕ) (cause : Cause) (close head : Bool)
     → now < END_OF_TIME → most < 2 ^ 64 → length (text_of cause) < 2 ^ 64
-    → FitsAReader most (told_by_the_proxy now cause close head)
+    → FitsAReader most (shown_by_the_proxy now cause close head)
     → (over : Bool) (behind : List ℕ)
     → Reads most head over (refused_text (date_text_of now) cause close head ++ behind)
-    (Spelled (response_back head (told_by_the_proxy now cause close head)) behind)
+    (Spelled (response_back head (shown_by_the_proxy now cause close head)) behind)

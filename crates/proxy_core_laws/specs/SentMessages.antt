@@ -51,12 +51,12 @@ IsReadTable table = (text : List ℕ) × ReadsAs text (Ok table)
 pub record IsReadRequest (asked : Asked) : Type 0 where
   pub max_body : ℕ
   pub ended : Bool
-  pub told : Bool
+  pub continue_sent : Bool
   pub bytes : List ℕ
   pub rest : List ℕ
   pub request : Request
   pub target : Target
-  pub reads : ReadsRequest max_body ended told bytes (Spelled request rest)
+  pub reads : ReadsRequest max_body ended continue_sent bytes (Spelled request rest)
   pub judged : Judged request.target (values_of request.fields (codes "Host")) (Ok target)
   pub asked_is : asked ≡ asked_of request target
 

@@ -30,7 +30,7 @@ use Rattle.hx_hop_laws.specs.OneResponse.{FitsAReader}
 use Rattle.proxy_core.specs.declared.open.exchange.Exchange.{Exchange}
 use Rattle.proxy_core.specs.Histories.{IsGoodHistory, held_entry}
 use Rattle.proxy_core.specs.ReadAnswers.{IsReadEvent}
-use Rattle.proxy_core.specs.Replies.{content_sent, is_head, length_told, line}
+use Rattle.proxy_core.specs.Replies.{content_sent, is_head, length_shown, line}
 use Rattle.proxy_core.specs.Storing.{made}
 use Rattle.proxy_core.specs.Traces.{Item}
 
@@ -45,26 +45,26 @@ pub record IsSendable (e : Stored) : Type 0 where
 
 -- its lines as they are sent: these of them, Age, and what Cache-Status tells (`lines_sent` of the core, whatever is
 -- told)
-abbrev pub lines_told : List ℕ → List Field → Stored → ℕ → Status → List Field
-lines_told name fields e now told =
+abbrev pub lines_shown : List ℕ → List Field → Stored → ℕ → Status → List Field
+lines_shown name fields e now shown =
     (fields ++ line (codes "Age") (decimal (age_of e.times now)) ∷ [])
-    ++ line (codes "Cache-Status") (member_text name told) ∷ []
+    ++ line (codes "Cache-Status") (member_text name shown) ∷ []
 
 -- it as it is sent whole (`whole_text` of the core), and as a 304 (`not_modified_text`)
 abbrev pub sent_whole : List ℕ → Stored → ℕ → Status → Asked → SentResponse
-sent_whole name e now told asked = record {
+sent_whole name e now shown asked = record {
   status = e.status;
-  fields = lines_told name e.fields e now told;
-  told = length_told e.status (Some (length e.content));
+  fields = lines_shown name e.fields e now shown;
+  shown = length_shown e.status (Some (length e.content));
   close = asked.close;
   content = content_sent (is_head asked) e.content;
 }
 
 abbrev pub sent_as_304 : List ℕ → Stored → ℕ → Status → Asked → SentResponse
-sent_as_304 name e now told asked = record {
+sent_as_304 name e now shown asked = record {
   status = 304;
-  fields = lines_told name (not_modified_of e.fields) e now told;
-  told = None;
+  fields = lines_shown name (not_modified_of e.fields) e now shown;
+  shown = None;
   close = asked.close;
   content = [];
 }
@@ -90,15 +90,15 @@ HoldsSendable = (table : Table) (limit first : ℕ) (trace : List Item) → IsGo
     → held_entry table limit trace serial ≡ Some e → IsSendable e
 
 abbrev pub SendsWholeAsOne : Type 0
-SendsWholeAsOne = (most now : ℕ) (name : List ℕ) (e : Stored) (told : Status) (asked : Asked)
-    → IsSendable e → IsToken name → length e.content < 2 ^ 64 → FitsAReader most (sent_whole name e now told asked)
+SendsWholeAsOne = (most now : ℕ) (name : List ℕ) (e : Stored) (shown : Status) (asked : Asked)
+    → IsSendable e → IsToken name → length e.content < 2 ^ 64 → FitsAReader most (sent_whole name e now shown asked)
     → (over : Bool) (behind : List ℕ)
-    → Reads most (is_head asked) over (sent_text (sent_whole name e now told asked) ++ behind)
-    (Spelled (response_back (is_head asked) (sent_whole name e now told asked)) behind)
+    → Reads most (is_head asked) over (sent_text (sent_whole name e now shown asked) ++ behind)
+    (Spelled (response_back (is_head asked) (sent_whole name e now shown asked)) behind)
 
 abbrev pub SendsA304AsOne : Type 0
-SendsA304AsOne = (most now : ℕ) (name : List ℕ) (e : Stored) (told : Status) (asked : Asked)
-    → IsSendable e → IsToken name → FitsAReader most (sent_as_304 name e now told asked)
+SendsA304AsOne = (most now : ℕ) (name : List ℕ) (e : Stored) (shown : Status) (asked : Asked)
+    → IsSendable e → IsToken name → FitsAReader most (sent_as_304 name e now shown asked)
     → (over : Bool) (behind : List ℕ)
-    → Reads most (is_head asked) over (sent_text (sent_as_304 name e now told asked) ++ behind)
-    (Spelled (response_back (is_head asked) (sent_as_304 name e now told asked)) behind)
+    → Reads most (is_head asked) over (sent_text (sent_as_304 name e now shown asked) ++ behind)
+    (Spelled (response_back (is_head asked) (sent_as_304 name e now shown asked)) behind)

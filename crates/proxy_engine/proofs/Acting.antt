@@ -21,53 +21,53 @@ use Rattle.proxy_engine.specs.declared.endpoints.ends.Connection.{Connection}
 use Rattle.proxy_engine.specs.declared.endpoints.ends.Link.{Link}
 
 -- the only effect
-pub told_one : (before now : List Effect) (e : Effect) → now ≡ before ++ e ∷ [] → before ≡ [] → now ≡ e ∷ []
-told_one before now e is none = is ∙ ap (λ (b : List Effect). b ++ e ∷ []) none
+pub emitted_one : (before now : List Effect) (e : Effect) → now ≡ before ++ e ∷ [] → before ≡ [] → now ≡ e ∷ []
+emitted_one before now e is none = is ∙ ap (λ (b : List Effect). b ++ e ∷ []) none
 
-refuses_same : (s : EngineModel) (now i : ℕ) (a b : Cause) (c d : Bool) (told : List Effect) (after : EngineModel) → action.Refuse a c ≡ action.Refuse b d → Refuses s now i a c told after → Refuses s now i b d told after
-refuses_same s now i a b c d told after e h =
+refuses_same : (s : EngineModel) (now i : ℕ) (a b : Cause) (c d : Bool) (emitted : List Effect) (after : EngineModel) → action.Refuse a c ≡ action.Refuse b d → Refuses s now i a c emitted after → Refuses s now i b d emitted after
+refuses_same s now i a b c d emitted after e h =
     let why : a ≡ b = cc in
     let head : c ≡ d = cc in
-    subst (λ (x : Bool). Refuses s now i b x told after) head (subst (λ (x : Cause). Refuses s now i x c told after) why h)
+    subst (λ (x : Bool). Refuses s now i b x emitted after) head (subst (λ (x : Cause). Refuses s now i x c emitted after) why h)
 
-refused_frame : (s : EngineModel) (now i : ℕ) (f : FrameFault) (why : Cause) (head : Bool) (told : List Effect) (after : EngineModel) → action.Refuse why head ≡ action_by f → Refuses s now i why head told after → Served s now i (next.Refused f) told after
-refused_frame s now i frame.Truncated why head told after e h = cc
-refused_frame s now i frame.Head why head told after e h = refuses_same s now i why (cause.Frame frame.Head) head false told after e h
-refused_frame s now i frame.Version why head told after e h = refuses_same s now i why (cause.Frame frame.Version) head false told after e h
-refused_frame s now i frame.BothLengths why head told after e h = refuses_same s now i why (cause.Frame frame.BothLengths) head false told after e h
-refused_frame s now i frame.Length why head told after e h = refuses_same s now i why (cause.Frame frame.Length) head false told after e h
-refused_frame s now i frame.Coding why head told after e h = refuses_same s now i why (cause.Frame frame.Coding) head false told after e h
-refused_frame s now i frame.Chunk why head told after e h = refuses_same s now i why (cause.Frame frame.Chunk) head false told after e h
-refused_frame s now i frame.TooLarge why head told after e h = refuses_same s now i why (cause.Frame frame.TooLarge) head false told after e h
-refused_frame s now i frame.Expect why head told after e h = refuses_same s now i why (cause.Frame frame.Expect) head false told after e h
-refused_frame s now i frame.Status why head told after e h = refuses_same s now i why (cause.Frame frame.Status) head false told after e h
+refused_frame : (s : EngineModel) (now i : ℕ) (f : FrameFault) (why : Cause) (head : Bool) (emitted : List Effect) (after : EngineModel) → action.Refuse why head ≡ action_by f → Refuses s now i why head emitted after → Served s now i (next.Refused f) emitted after
+refused_frame s now i frame.Truncated why head emitted after e h = cc
+refused_frame s now i frame.Head why head emitted after e h = refuses_same s now i why (cause.Frame frame.Head) head false emitted after e h
+refused_frame s now i frame.Version why head emitted after e h = refuses_same s now i why (cause.Frame frame.Version) head false emitted after e h
+refused_frame s now i frame.BothLengths why head emitted after e h = refuses_same s now i why (cause.Frame frame.BothLengths) head false emitted after e h
+refused_frame s now i frame.Length why head emitted after e h = refuses_same s now i why (cause.Frame frame.Length) head false emitted after e h
+refused_frame s now i frame.Coding why head emitted after e h = refuses_same s now i why (cause.Frame frame.Coding) head false emitted after e h
+refused_frame s now i frame.Chunk why head emitted after e h = refuses_same s now i why (cause.Frame frame.Chunk) head false emitted after e h
+refused_frame s now i frame.TooLarge why head emitted after e h = refuses_same s now i why (cause.Frame frame.TooLarge) head false emitted after e h
+refused_frame s now i frame.Expect why head emitted after e h = refuses_same s now i why (cause.Frame frame.Expect) head false emitted after e h
+refused_frame s now i frame.Status why head emitted after e h = refuses_same s now i why (cause.Frame frame.Status) head false emitted after e h
 
-pub refused_served : (s : EngineModel) (now i : ℕ) (a : Next Request) (why : Cause) (head : Bool) (told : List Effect) (after : EngineModel) → IsAction a (action.Refuse why head) → Refuses s now i why head told after → Served s now i a told after
-refused_served s now i next.More why head told after w h = absurd w
-refused_served s now i next.NeedsContinue why head told after w h = cc
-refused_served s now i (next.Message r) why head told after w h =
+pub refused_served : (s : EngineModel) (now i : ℕ) (a : Next Request) (why : Cause) (head : Bool) (emitted : List Effect) (after : EngineModel) → IsAction a (action.Refuse why head) → Refuses s now i why head emitted after → Served s now i a emitted after
+refused_served s now i next.More why head emitted after w h = absurd w
+refused_served s now i next.NeedsContinue why head emitted after w h = cc
+refused_served s now i (next.Message r) why head emitted after w h =
     (Err (record { why = why; head = head }), w, h)
-refused_served s now i (next.Refused f) why head told after w h = refused_frame s now i f why head told after w h
-refused_served s now i next.End why head told after w h = cc
+refused_served s now i (next.Refused f) why head emitted after w h = refused_frame s now i f why head emitted after w h
+refused_served s now i next.End why head emitted after w h = cc
 
-closed_frame : (s : EngineModel) (now i : ℕ) (f : FrameFault) (told : List Effect) (after : EngineModel) → action.Close ≡ action_by f → Closes s i told after → Served s now i (next.Refused f) told after
-closed_frame s now i frame.Truncated told after e h = h
-closed_frame s now i frame.Head told after e h = cc
-closed_frame s now i frame.Version told after e h = cc
-closed_frame s now i frame.BothLengths told after e h = cc
-closed_frame s now i frame.Length told after e h = cc
-closed_frame s now i frame.Coding told after e h = cc
-closed_frame s now i frame.Chunk told after e h = cc
-closed_frame s now i frame.TooLarge told after e h = cc
-closed_frame s now i frame.Expect told after e h = cc
-closed_frame s now i frame.Status told after e h = cc
+closed_frame : (s : EngineModel) (now i : ℕ) (f : FrameFault) (emitted : List Effect) (after : EngineModel) → action.Close ≡ action_by f → Closes s i emitted after → Served s now i (next.Refused f) emitted after
+closed_frame s now i frame.Truncated emitted after e h = h
+closed_frame s now i frame.Head emitted after e h = cc
+closed_frame s now i frame.Version emitted after e h = cc
+closed_frame s now i frame.BothLengths emitted after e h = cc
+closed_frame s now i frame.Length emitted after e h = cc
+closed_frame s now i frame.Coding emitted after e h = cc
+closed_frame s now i frame.Chunk emitted after e h = cc
+closed_frame s now i frame.TooLarge emitted after e h = cc
+closed_frame s now i frame.Expect emitted after e h = cc
+closed_frame s now i frame.Status emitted after e h = cc
 
-pub closed_served : (s : EngineModel) (now i : ℕ) (a : Next Request) (told : List Effect) (after : EngineModel) → IsAction a action.Close → Closes s i told after → Served s now i a told after
-closed_served s now i next.More told after w h = absurd w
-closed_served s now i next.NeedsContinue told after w h = cc
-closed_served s now i (next.Message r) told after w h = absurd w
-closed_served s now i (next.Refused f) told after w h = closed_frame s now i f told after w h
-closed_served s now i next.End told after w h = h
+pub closed_served : (s : EngineModel) (now i : ℕ) (a : Next Request) (emitted : List Effect) (after : EngineModel) → IsAction a action.Close → Closes s i emitted after → Served s now i a emitted after
+closed_served s now i next.More emitted after w h = absurd w
+closed_served s now i next.NeedsContinue emitted after w h = cc
+closed_served s now i (next.Message r) emitted after w h = absurd w
+closed_served s now i (next.Refused f) emitted after w h = closed_frame s now i f emitted after w h
+closed_served s now i next.End emitted after w h = h
 
 no_arrival : (f : FrameFault) (asked : Asked) {C : Type 0} → action.Arrive asked ≡ action_by f → C
 no_arrival frame.Truncated asked e = cc

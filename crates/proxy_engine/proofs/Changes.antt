@@ -15,7 +15,7 @@ use Rattle.proxy_engine.specs.Acts.{doing, with_opened, closing}
 use Rattle.hx_framing.specs.ResponseState.{State as ResponseState}
 use Rattle.hx_framing.specs.declared.messages.Response.{Response}
 use Rattle.proxy_engine.specs.declared.endpoints.peeked.Peeked.{Peeked}
-use Rattle.proxy_engine.specs.Peeked.{ResponseStands}
+use Rattle.proxy_engine.specs.Peeked.{ResponseRepresents}
 use Rattle.proxy_engine.specs.EngineModel.{EngineModel, ConnectionModel, LinkModel, opened, no_connection, no_link, connection_at, link_at, with_connection, with_link, with_core}
 use Rattle.proxy_engine.specs.Pairing.{activity_of}
 use Rattle.proxy_engine.specs.State.{Both, ConnectionRepresents, LinkRepresents, Represents, state, action_at, action_seen, action_load, is_free, gone_at, finish_at, connection_load}
@@ -52,11 +52,11 @@ changed_core cs ks core first new s h = record { connections = h.connections; li
 
 -- a link is opened for the connection at i, which has it already
 pub opened_link : (cs : List (Option Connection)) (ks : List (Option Link)) (core : CoreState) (first max_body place : ℕ) (to_head : Bool) (s : EngineModel) (i : ℕ) (w : Peeked ResponseState Response)
-    → place ≡ length ks → core.table.max_body ≡ max_body → ResponseStands w (start max_body to_head) → first + length ks < 2 ^ 64 → Represents (state cs ks core first) (with_connection s i (doing (Forwarded place)))
+    → place ≡ length ks → core.table.max_body ≡ max_body → ResponseRepresents w (start max_body to_head) → first + length ks < 2 ^ 64 → Represents (state cs ks core first) (with_connection s i (doing (Forwarded place)))
     → Represents (state cs (ks ++ Some (record { reader = w; ended = false; failed = None; connection = i }) ∷ []) core first) (with_opened s i to_head)
 opened_link cs ks core first max_body place to_head s i w at most fresh small h =
     let same = both_length LinkRepresents ks s.links h.links in
-    let reader : ResponseStands w (start s.core.table.max_body to_head) = subst (λ (n : ℕ). ResponseStands w (start n to_head)) (sym most ∙ ap (λ (k : CoreState). k.table.max_body) h.core) fresh in
+    let reader : ResponseRepresents w (start s.core.table.max_body to_head) = subst (λ (n : ℕ). ResponseRepresents w (start n to_head)) (sym most ∙ ap (λ (k : CoreState). k.table.max_body) h.core) fresh in
     record {
       connections = subst (λ (n : ℕ). Both ConnectionRepresents cs (set s.connections i (doing (Forwarded n) (connection_at s i)))) (at ∙ same) h.connections;
       links = both_push LinkRepresents ks s.links (Some (record { reader = w; ended = false; failed = None; connection = i })) (opened s.core.table.max_body to_head i) h.links record { reader = reader; ended = refl; failed = refl; still = refl; connection = refl };

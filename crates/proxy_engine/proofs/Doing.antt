@@ -20,14 +20,14 @@ use Rattle.proxy_engine.specs.Admitted.{Refusal, IsAdmitted}
 use Rattle.proxy_engine.specs.EngineModel.{EngineModel, with_core}
 use Rattle.proxy_engine.specs.Due.{Act, Abandons, Finishes, Wakes, Serves, Gives, Breaks}
 use Rattle.proxy_engine.specs.Acts.{came, after_on, effects_on, next_number, StepsOn, Arrives, Served, Refuses, Closes}
-use Rattle.proxy_engine.specs.Lives.{Step, Took, Worked, Leads, IsEventOf, HasNoEvent, IsTold, Adds, ActsInOneWay, HasOneTrace}
+use Rattle.proxy_engine.specs.Executions.{Step, Took, Worked, Leads, IsEventOf, HasNoEvent, IsEmitted, Adds, ActsInOneWay, HasOneTrace}
 
 -- the same effects, and the same model behind them
 abbrev Same : List Effect → List Effect → EngineModel → EngineModel → Type 0
-Same told more t u = (told ≡ more) × (t ≡ u)
+Same emitted more t u = (emitted ≡ more) × (t ≡ u)
 
-same_by : (told more effects : List Effect) (t u after : EngineModel) → (told ≡ effects) × (t ≡ after) → (more ≡ effects) × (u ≡ after) → Same told more t u
-same_by told more effects t u after h k = (h.0 ∙ sym k.0, h.1 ∙ sym k.1)
+same_by : (emitted more effects : List Effect) (t u after : EngineModel) → (emitted ≡ effects) × (t ≡ after) → (more ≡ effects) × (u ≡ after) → Same emitted more t u
+same_by emitted more effects t u after h k = (h.0 ∙ sym k.0, h.1 ∙ sym k.1)
 
 -- a step of the core gives one outcome, and leaves one core
 outcome_once : (s : CoreState) (event : Event) (o p : Outcome) (t u : CoreState) → Steps s event o t → Steps s event p u → o ≡ p
@@ -36,21 +36,21 @@ outcome_once s event o p t u h k = h.outcome_is ∙ sym k.outcome_is
 core_once : (s : CoreState) (event : Event) (o p : Outcome) (t u : CoreState) → Steps s event o t → Steps s event p u → t ≡ u
 core_once s event o p t u h k = h.leaves ∙ (ap (core_after s event) (outcome_once s event o p t u h k) ∙ sym k.leaves)
 
-stepped_once : (s t : EngineModel) (i : ℕ) (to_head : Bool) (event : Event) (before told more : List Effect) (v w : EngineModel) → StepsOn s t i to_head event before told v → StepsOn s t i to_head event before more w → Same told more v w
-stepped_once s t i to_head event before told more v w h k =
+stepped_once : (s t : EngineModel) (i : ℕ) (to_head : Bool) (event : Event) (before emitted more : List Effect) (v w : EngineModel) → StepsOn s t i to_head event before emitted v → StepsOn s t i to_head event before more w → Same emitted more v w
+stepped_once s t i to_head event before emitted more v w h k =
     let outcome : h.outcome ≡ k.outcome = outcome_once s.core event h.outcome k.outcome h.core k.core h.steps k.steps in
     let core : h.core ≡ k.core = core_once s.core event h.outcome k.outcome h.core k.core h.steps k.steps in (
-      h.told_is ∙ (ap (λ (o : Outcome). before ++ effects_on i (next_number s) (came s.core.table o)) outcome ∙ sym k.told_is),
+      h.emitted_is ∙ (ap (λ (o : Outcome). before ++ effects_on i (next_number s) (came s.core.table o)) outcome ∙ sym k.emitted_is),
       h.after_is
           ∙ (ap (λ (o : Outcome). after_on i to_head (came s.core.table o) (with_core t h.core)) outcome
           ∙ (ap (λ (c : CoreState). after_on i to_head (came s.core.table k.outcome) (with_core t c)) core ∙ sym k.after_is)),
     )
 
-refused_once : (s : EngineModel) (now i : ℕ) (why : Cause) (head : Bool) (told more : List Effect) (t u : EngineModel) → Refuses s now i why head told t → Refuses s now i why head more u → Same told more t u
-refused_once s now i why head told more t u h k = (h.told_is ∙ sym k.told_is, h.after_is ∙ sym k.after_is)
+refused_once : (s : EngineModel) (now i : ℕ) (why : Cause) (head : Bool) (emitted more : List Effect) (t u : EngineModel) → Refuses s now i why head emitted t → Refuses s now i why head more u → Same emitted more t u
+refused_once s now i why head emitted more t u h k = (h.emitted_is ∙ sym k.emitted_is, h.after_is ∙ sym k.after_is)
 
-closed_once : (s : EngineModel) (i : ℕ) (told more : List Effect) (t u : EngineModel) → Closes s i told t → Closes s i more u → Same told more t u
-closed_once s i told more t u h k = (h.0 ∙ sym k.0, h.1 ∙ sym k.1)
+closed_once : (s : EngineModel) (i : ℕ) (emitted more : List Effect) (t u : EngineModel) → Closes s i emitted t → Closes s i more u → Same emitted more t u
+closed_once s i emitted more t u h k = (h.0 ∙ sym k.0, h.1 ∙ sym k.1)
 
 -- where a request is asked in one way
 module _ (asked_once : (request : Request) (r s : Result Asked TargetFault) → IsAsked request r → IsAsked request s → r ≡ s) where
@@ -66,41 +66,41 @@ module _ (asked_once : (request : Request) (r s : Result Asked TargetFault) → 
       let fault : h.0 ≡ k.0 = cc in
       h.2 ∙ (ap (λ (f : TargetFault). record { why = cause.Target f; head = bytes_eq r.method (codes "HEAD") }) fault ∙ sym k.2)
 
-  arrives_once : (s : EngineModel) (now i : ℕ) (r : Request) (a b : Result Asked Refusal) (told more : List Effect) (t u : EngineModel) → IsAdmitted r a → IsAdmitted r b →
-      Arrives s now i r a told t → Arrives s now i r b more u → Same told more t u
-  arrives_once s now i r (Ok a) (Ok b) told more t u p q h k =
-      stepped_once s _ i _ _ [] told more t u h.1 (subst (λ (x : Asked). Arrives s now i r (Ok x) more u) (sym (one_request r a b p q)) k).1
-  arrives_once s now i r (Ok a) (Err b) told more t u p q h k = not_both r a b p q
-  arrives_once s now i r (Err a) (Ok b) told more t u p q h k = not_both r b a q p
-  arrives_once s now i r (Err a) (Err b) told more t u p q h k =
-      refused_once s now i a.why a.head told more t u h (subst (λ (x : Refusal). Refuses s now i x.why x.head more u) (sym (one_refusal r a b p q)) k)
+  arrives_once : (s : EngineModel) (now i : ℕ) (r : Request) (a b : Result Asked Refusal) (emitted more : List Effect) (t u : EngineModel) → IsAdmitted r a → IsAdmitted r b →
+      Arrives s now i r a emitted t → Arrives s now i r b more u → Same emitted more t u
+  arrives_once s now i r (Ok a) (Ok b) emitted more t u p q h k =
+      stepped_once s _ i _ _ [] emitted more t u h.1 (subst (λ (x : Asked). Arrives s now i r (Ok x) more u) (sym (one_request r a b p q)) k).1
+  arrives_once s now i r (Ok a) (Err b) emitted more t u p q h k = not_both r a b p q
+  arrives_once s now i r (Err a) (Ok b) emitted more t u p q h k = not_both r b a q p
+  arrives_once s now i r (Err a) (Err b) emitted more t u p q h k =
+      refused_once s now i a.why a.head emitted more t u h (subst (λ (x : Refusal). Refuses s now i x.why x.head more u) (sym (one_refusal r a b p q)) k)
 
-  served_once : (s : EngineModel) (now i : ℕ) (action : Next Request) (told more : List Effect) (t u : EngineModel) → Served s now i action told t → Served s now i action more u → Same told more t u
-  served_once s now i next.More told more t u h k = absurd h
-  served_once s now i next.NeedsContinue told more t u h k = (h.0 ∙ sym k.0, h.1 ∙ sym k.1)
-  served_once s now i (next.Message r) told more t u h k = arrives_once s now i r h.0 k.0 told more t u h.1 k.1 h.2 k.2
-  served_once s now i (next.Refused frame.Truncated) told more t u h k = closed_once s i told more t u h k
-  served_once s now i (next.Refused frame.Head) told more t u h k = refused_once s now i _ _ told more t u h k
-  served_once s now i (next.Refused frame.Version) told more t u h k = refused_once s now i _ _ told more t u h k
-  served_once s now i (next.Refused frame.BothLengths) told more t u h k = refused_once s now i _ _ told more t u h k
-  served_once s now i (next.Refused frame.Length) told more t u h k = refused_once s now i _ _ told more t u h k
-  served_once s now i (next.Refused frame.Coding) told more t u h k = refused_once s now i _ _ told more t u h k
-  served_once s now i (next.Refused frame.Chunk) told more t u h k = refused_once s now i _ _ told more t u h k
-  served_once s now i (next.Refused frame.TooLarge) told more t u h k = refused_once s now i _ _ told more t u h k
-  served_once s now i (next.Refused frame.Expect) told more t u h k = refused_once s now i _ _ told more t u h k
-  served_once s now i (next.Refused frame.Status) told more t u h k = refused_once s now i _ _ told more t u h k
-  served_once s now i next.End told more t u h k = closed_once s i told more t u h k
+  served_once : (s : EngineModel) (now i : ℕ) (action : Next Request) (emitted more : List Effect) (t u : EngineModel) → Served s now i action emitted t → Served s now i action more u → Same emitted more t u
+  served_once s now i next.More emitted more t u h k = absurd h
+  served_once s now i next.NeedsContinue emitted more t u h k = (h.0 ∙ sym k.0, h.1 ∙ sym k.1)
+  served_once s now i (next.Message r) emitted more t u h k = arrives_once s now i r h.0 k.0 emitted more t u h.1 k.1 h.2 k.2
+  served_once s now i (next.Refused frame.Truncated) emitted more t u h k = closed_once s i emitted more t u h k
+  served_once s now i (next.Refused frame.Head) emitted more t u h k = refused_once s now i _ _ emitted more t u h k
+  served_once s now i (next.Refused frame.Version) emitted more t u h k = refused_once s now i _ _ emitted more t u h k
+  served_once s now i (next.Refused frame.BothLengths) emitted more t u h k = refused_once s now i _ _ emitted more t u h k
+  served_once s now i (next.Refused frame.Length) emitted more t u h k = refused_once s now i _ _ emitted more t u h k
+  served_once s now i (next.Refused frame.Coding) emitted more t u h k = refused_once s now i _ _ emitted more t u h k
+  served_once s now i (next.Refused frame.Chunk) emitted more t u h k = refused_once s now i _ _ emitted more t u h k
+  served_once s now i (next.Refused frame.TooLarge) emitted more t u h k = refused_once s now i _ _ emitted more t u h k
+  served_once s now i (next.Refused frame.Expect) emitted more t u h k = refused_once s now i _ _ emitted more t u h k
+  served_once s now i (next.Refused frame.Status) emitted more t u h k = refused_once s now i _ _ emitted more t u h k
+  served_once s now i next.End emitted more t u h k = closed_once s i emitted more t u h k
 
   pub acts_in_one_way : ActsInOneWay
-  acts_in_one_way s now (Abandons i l) told more t u h k = stepped_once s _ i _ _ _ told more t u h k
-  acts_in_one_way s now (Finishes j (Gives r)) told more t u h k = stepped_once s _ _ _ _ _ told more t u h.1 k.1
-  acts_in_one_way s now (Finishes j (Breaks kind)) told more t u h k = stepped_once s _ _ _ _ _ told more t u h k
-  acts_in_one_way s now (Wakes i) told more t u h k = stepped_once s _ _ _ _ _ told more t u h.1 k.1
-  acts_in_one_way s now (Serves i action) told more t u h k = served_once s now i action told more t u h k
+  acts_in_one_way s now (Abandons i l) emitted more t u h k = stepped_once s _ i _ _ _ emitted more t u h k
+  acts_in_one_way s now (Finishes j (Gives r)) emitted more t u h k = stepped_once s _ _ _ _ _ emitted more t u h.1 k.1
+  acts_in_one_way s now (Finishes j (Breaks kind)) emitted more t u h k = stepped_once s _ _ _ _ _ emitted more t u h k
+  acts_in_one_way s now (Wakes i) emitted more t u h k = stepped_once s _ _ _ _ _ emitted more t u h.1 k.1
+  acts_in_one_way s now (Serves i action) emitted more t u h k = served_once s now i action emitted more t u h k
 
   leads_once : (s : EngineModel) (step : Step) (t u : EngineModel) → Leads s step t → Leads s step u → t ≡ u
   leads_once s (Took h) t u l m = l.1 ∙ sym m.1
-  leads_once s (Worked now act told) t u l m = (acts_in_one_way s now act told told t u l.1 m.1).1
+  leads_once s (Worked now act emitted) t u l m = (acts_in_one_way s now act emitted emitted t u l.1 m.1).1
 
   -- an act asks the core one thing, or nothing
   event_once : (s : EngineModel) (now : ℕ) (act : Act) (e f : Event) → IsEventOf s now act e → IsEventOf s now act f → e ≡ f
@@ -124,8 +124,8 @@ module _ (asked_once : (request : Request) (r s : Result Asked TargetFault) → 
   event_or_none {P} s now (Serves i (next.Refused fault)) e h k = absurd h
   event_or_none {P} s now (Serves i next.End) e h k = absurd h
 
-  item_once : (table : Table) (s : EngineModel) (now : ℕ) (act : Act) (i j : Item) (told : List Effect) (t : EngineModel) → IsTold table s now act i told t → IsTold table s now act j told t → i ≡ j
-  item_once table s now act i j told t h k =
+  item_once : (table : Table) (s : EngineModel) (now : ℕ) (act : Act) (i j : Item) (emitted : List Effect) (t : EngineModel) → IsEmitted table s now act i emitted t → IsEmitted table s now act j emitted t → i ≡ j
+  item_once table s now act i j emitted t h k =
       let event : i.event ≡ j.event = event_once s now act i.event j.event h.event_is k.event_is in
       let steps : Steps s.core i.event j.outcome t.core = subst (λ (e : Event). Steps s.core e j.outcome t.core) (sym event) k.steps in
       let outcome : i.outcome ≡ j.outcome = outcome_once s.core i.event i.outcome j.outcome t.core t.core h.steps steps in
@@ -133,10 +133,10 @@ module _ (asked_once : (request : Request) (r s : Result Asked TargetFault) → 
 
   adds_once : (table : Table) (s : EngineModel) (step : Step) (t : EngineModel) (past trace other : List Item) → Adds table s step t past trace → Adds table s step t past other → trace ≡ other
   adds_once table s (Took h) t past trace other l m = l ∙ sym m
-  adds_once table s (Worked now act told) t past trace other (inl l) (inl m) = l.1 ∙ (ap (λ (i : Item). i ∷ past) (item_once table s now act l.0 m.0 told t l.2 m.2) ∙ sym m.1)
-  adds_once table s (Worked now act told) t past trace other (inl l) (inr m) = event_or_none s now act l.0.event l.2.event_is m.1
-  adds_once table s (Worked now act told) t past trace other (inr l) (inl m) = event_or_none s now act m.0.event m.2.event_is l.1
-  adds_once table s (Worked now act told) t past trace other (inr l) (inr m) = l.0 ∙ sym m.0
+  adds_once table s (Worked now act emitted) t past trace other (inl l) (inl m) = l.1 ∙ (ap (λ (i : Item). i ∷ past) (item_once table s now act l.0 m.0 emitted t l.2 m.2) ∙ sym m.1)
+  adds_once table s (Worked now act emitted) t past trace other (inl l) (inr m) = event_or_none s now act l.0.event l.2.event_is m.1
+  adds_once table s (Worked now act emitted) t past trace other (inr l) (inl m) = event_or_none s now act m.0.event m.2.event_is l.1
+  adds_once table s (Worked now act emitted) t past trace other (inr l) (inr m) = l.0 ∙ sym m.0
 
   pub has_one_trace : HasOneTrace
   has_one_trace table s [] t u trace other h k = (h.0 ∙ sym k.0, h.1 ∙ sym k.1)

@@ -16,13 +16,13 @@ use Rattle.proxy_engine.specs.Happenings.{Accepts, Sends, Hears, Ends, Leaves, S
 use Rattle.proxy_engine.specs.EngineModel.{EngineModel, LinkModel, no_link, opened, link_at, heard_by, shut, failed_by, with_core, with_connection}
 use Rattle.proxy_engine.specs.Due.{Abandons, Finishes, Wakes, Serves, Gives, Breaks}
 use Rattle.proxy_engine.specs.Acts.{Came, Replies, Forwards, Nothing, came, effects_on, next_number, after_on, freed, dropping, StepsOn, Served, Arrives, Refuses, Closes, Queues, doing}
-use Rattle.proxy_engine.specs.Drops.{DropsNone, OnlyFirstDrops, ActsAreShort, ActsTellDrops, TakesDropNone}
+use Rattle.proxy_engine.specs.Drops.{DropsNone, OnlyFirstDrops, ActsAreShort, ActsEmitDrops, TakesDropNone}
 
 -- ---- how many effects
 
 -- two at most, and none of them drops a link
 abbrev IsPlain : List Effect → Type 0
-IsPlain told = (length told ≤ 2) × DropsNone told
+IsPlain emitted = (length emitted ≤ 2) × DropsNone emitted
 
 on_plain : (i n : ℕ) (q : Came) → IsPlain (effects_on i n q)
 on_plain i n (Replies bytes true) = (omega arith, (refl, (refl, tt)))
@@ -32,57 +32,57 @@ on_plain i n Queues = (omega arith, tt)
 on_plain i n Nothing = (omega arith, tt)
 
 abbrev IsShort : List Effect → Type 0
-IsShort told = (length told ≤ 3) × OnlyFirstDrops told
+IsShort emitted = (length emitted ≤ 3) × OnlyFirstDrops emitted
 
-first_drops : (told : List Effect) → DropsNone told → OnlyFirstDrops told
+first_drops : (emitted : List Effect) → DropsNone emitted → OnlyFirstDrops emitted
 first_drops [] h = tt
-first_drops (e ∷ told) h = h.1
+first_drops (e ∷ emitted) h = h.1
 
-short_of : (told said : List Effect) → told ≡ said → IsPlain said → IsShort told
-short_of told said e h = subst IsShort (sym e) (let few = h.0 in omega (arith, few), first_drops said h.1)
+short_of : (emitted said : List Effect) → emitted ≡ said → IsPlain said → IsShort emitted
+short_of emitted said e h = subst IsShort (sym e) (let few = h.0 in omega (arith, few), first_drops said h.1)
 
-short_behind : (told said : List Effect) (l : ℕ) → told ≡ effects.Drop l ∷ said → IsPlain said → IsShort told
-short_behind told said l e h = subst IsShort (sym e) (let few = h.0 in omega (arith, few), h.1)
+short_behind : (emitted said : List Effect) (l : ℕ) → emitted ≡ effects.Drop l ∷ said → IsPlain said → IsShort emitted
+short_behind emitted said l e h = subst IsShort (sym e) (let few = h.0 in omega (arith, few), h.1)
 
-stepped_short : (s t : EngineModel) (i l : ℕ) (to_head : Bool) (event : Event) (told : List Effect) (after : EngineModel) → StepsOn s t i to_head event (effects.Drop l ∷ []) told after → IsShort told
-stepped_short s t i l to_head event told after h = short_behind told _ l h.told_is (on_plain i (next_number s) (came s.core.table h.outcome))
+stepped_short : (s t : EngineModel) (i l : ℕ) (to_head : Bool) (event : Event) (emitted : List Effect) (after : EngineModel) → StepsOn s t i to_head event (effects.Drop l ∷ []) emitted after → IsShort emitted
+stepped_short s t i l to_head event emitted after h = short_behind emitted _ l h.emitted_is (on_plain i (next_number s) (came s.core.table h.outcome))
 
-plain_short : (s t : EngineModel) (i : ℕ) (to_head : Bool) (event : Event) (told : List Effect) (after : EngineModel) → StepsOn s t i to_head event [] told after → IsShort told
-plain_short s t i to_head event told after h = short_of told _ h.told_is (on_plain i (next_number s) (came s.core.table h.outcome))
+plain_short : (s t : EngineModel) (i : ℕ) (to_head : Bool) (event : Event) (emitted : List Effect) (after : EngineModel) → StepsOn s t i to_head event [] emitted after → IsShort emitted
+plain_short s t i to_head event emitted after h = short_of emitted _ h.emitted_is (on_plain i (next_number s) (came s.core.table h.outcome))
 
-refused_short : (s : EngineModel) (now i : ℕ) (why : Cause) (head : Bool) (told : List Effect) (after : EngineModel) → Refuses s now i why head told after → IsShort told
-refused_short s now i why head told after h = short_of told _ h.told_is (omega arith, (refl, (refl, tt)))
+refused_short : (s : EngineModel) (now i : ℕ) (why : Cause) (head : Bool) (emitted : List Effect) (after : EngineModel) → Refuses s now i why head emitted after → IsShort emitted
+refused_short s now i why head emitted after h = short_of emitted _ h.emitted_is (omega arith, (refl, (refl, tt)))
 
-closed_short : (s : EngineModel) (i : ℕ) (told : List Effect) (after : EngineModel) → Closes s i told after → IsShort told
-closed_short s i told after h = short_of told _ h.0 (omega arith, (refl, tt))
+closed_short : (s : EngineModel) (i : ℕ) (emitted : List Effect) (after : EngineModel) → Closes s i emitted after → IsShort emitted
+closed_short s i emitted after h = short_of emitted _ h.0 (omega arith, (refl, tt))
 
-arrived_short : (s : EngineModel) (now i : ℕ) (r : Request) (judged : Result Asked Refusal) (told : List Effect) (after : EngineModel) → Arrives s now i r judged told after → IsShort told
-arrived_short s now i r (Ok asked) told after h = short_of told _ h.1.told_is (on_plain i (next_number s) (came s.core.table h.1.outcome))
-arrived_short s now i r (Err refusal) told after h = refused_short s now i _ _ told after h
+arrived_short : (s : EngineModel) (now i : ℕ) (r : Request) (judged : Result Asked Refusal) (emitted : List Effect) (after : EngineModel) → Arrives s now i r judged emitted after → IsShort emitted
+arrived_short s now i r (Ok asked) emitted after h = short_of emitted _ h.1.emitted_is (on_plain i (next_number s) (came s.core.table h.1.outcome))
+arrived_short s now i r (Err refusal) emitted after h = refused_short s now i _ _ emitted after h
 
-served_short : (s : EngineModel) (now i : ℕ) (w : Next Request) (told : List Effect) (after : EngineModel) → Served s now i w told after → IsShort told
-served_short s now i next.More told after h = absurd h
-served_short s now i next.NeedsContinue told after h = short_of told _ h.0 (omega arith, (refl, tt))
-served_short s now i (next.Message r) told after h = arrived_short s now i r h.0 told after h.2
-served_short s now i (next.Refused frame.Truncated) told after h = closed_short s i told after h
-served_short s now i (next.Refused frame.Head) told after h = refused_short s now i _ _ told after h
-served_short s now i (next.Refused frame.Version) told after h = refused_short s now i _ _ told after h
-served_short s now i (next.Refused frame.BothLengths) told after h = refused_short s now i _ _ told after h
-served_short s now i (next.Refused frame.Length) told after h = refused_short s now i _ _ told after h
-served_short s now i (next.Refused frame.Coding) told after h = refused_short s now i _ _ told after h
-served_short s now i (next.Refused frame.Chunk) told after h = refused_short s now i _ _ told after h
-served_short s now i (next.Refused frame.TooLarge) told after h = refused_short s now i _ _ told after h
-served_short s now i (next.Refused frame.Expect) told after h = refused_short s now i _ _ told after h
-served_short s now i (next.Refused frame.Status) told after h = refused_short s now i _ _ told after h
-served_short s now i next.End told after h = closed_short s i told after h
+served_short : (s : EngineModel) (now i : ℕ) (w : Next Request) (emitted : List Effect) (after : EngineModel) → Served s now i w emitted after → IsShort emitted
+served_short s now i next.More emitted after h = absurd h
+served_short s now i next.NeedsContinue emitted after h = short_of emitted _ h.0 (omega arith, (refl, tt))
+served_short s now i (next.Message r) emitted after h = arrived_short s now i r h.0 emitted after h.2
+served_short s now i (next.Refused frame.Truncated) emitted after h = closed_short s i emitted after h
+served_short s now i (next.Refused frame.Head) emitted after h = refused_short s now i _ _ emitted after h
+served_short s now i (next.Refused frame.Version) emitted after h = refused_short s now i _ _ emitted after h
+served_short s now i (next.Refused frame.BothLengths) emitted after h = refused_short s now i _ _ emitted after h
+served_short s now i (next.Refused frame.Length) emitted after h = refused_short s now i _ _ emitted after h
+served_short s now i (next.Refused frame.Coding) emitted after h = refused_short s now i _ _ emitted after h
+served_short s now i (next.Refused frame.Chunk) emitted after h = refused_short s now i _ _ emitted after h
+served_short s now i (next.Refused frame.TooLarge) emitted after h = refused_short s now i _ _ emitted after h
+served_short s now i (next.Refused frame.Expect) emitted after h = refused_short s now i _ _ emitted after h
+served_short s now i (next.Refused frame.Status) emitted after h = refused_short s now i _ _ emitted after h
+served_short s now i next.End emitted after h = closed_short s i emitted after h
 
 pub acts_are_short : ActsAreShort
-acts_are_short s now (Abandons i (Some l)) told after h = stepped_short s _ i _ _ _ told after h
-acts_are_short s now (Abandons i None) told after h = plain_short s _ i _ _ told after h
-acts_are_short s now (Finishes j (Gives r)) told after h = stepped_short s _ _ _ _ _ told after h.1
-acts_are_short s now (Finishes j (Breaks kind)) told after h = stepped_short s _ _ _ _ _ told after h
-acts_are_short s now (Wakes i) told after h = plain_short s _ i _ _ told after h.1
-acts_are_short s now (Serves i w) told after h = served_short s now i w told after h
+acts_are_short s now (Abandons i (Some l)) emitted after h = stepped_short s _ i _ _ _ emitted after h
+acts_are_short s now (Abandons i None) emitted after h = plain_short s _ i _ _ emitted after h
+acts_are_short s now (Finishes j (Gives r)) emitted after h = stepped_short s _ _ _ _ _ emitted after h.1
+acts_are_short s now (Finishes j (Breaks kind)) emitted after h = stepped_short s _ _ _ _ _ emitted after h
+acts_are_short s now (Wakes i) emitted after h = plain_short s _ i _ _ emitted after h.1
+acts_are_short s now (Serves i w) emitted after h = served_short s now i w emitted after h
 
 -- ---- what is told of a link that is dropped
 
@@ -115,49 +115,49 @@ dropped_on i to_head Nothing s j h = h
 dropped_equal : (s t : EngineModel) (j : ℕ) → s ≡ t → IsDropped s.links j → IsDropped t.links j
 dropped_equal s t j e h = subst (λ (u : EngineModel). IsDropped u.links j) e h
 
-abbrev IsTold : EngineModel → List Effect → ℕ → Type 0
-IsTold s told j = IsDropped s.links j ⊎ ((rest : List Effect) × (told ≡ effects.Drop (s.first + j) ∷ rest))
+abbrev IsEmitted : EngineModel → List Effect → ℕ → Type 0
+IsEmitted s emitted j = IsDropped s.links j ⊎ ((rest : List Effect) × (emitted ≡ effects.Drop (s.first + j) ∷ rest))
 
-stepped_told : (s : EngineModel) (k c i : ℕ) (to_head : Bool) (event : Event) (told : List Effect) (after : EngineModel) (j : ℕ) → StepsOn s (freed s k c) i to_head event (effects.Drop (s.first + k) ∷ []) told after →
-    IsDropped after.links j → IsTold s told j
-stepped_told s k c i to_head event told after j h d =
+stepped_emitted : (s : EngineModel) (k c i : ℕ) (to_head : Bool) (event : Event) (emitted : List Effect) (after : EngineModel) (j : ℕ) → StepsOn s (freed s k c) i to_head event (effects.Drop (s.first + k) ∷ []) emitted after →
+    IsDropped after.links j → IsEmitted s emitted j
+stepped_emitted s k c i to_head event emitted after j h d =
     by_place (dropped_set s.links k (dropping (link_at s k)) j (dropped_on i to_head (came s.core.table h.outcome) (with_core (freed s k c) h.core) j (dropped_equal after _ j h.after_is d)))
   where
-    by_place : (j ≡ k) ⊎ IsDropped s.links j → IsTold s told j
-    by_place (inl e) = inr (_, h.told_is ∙ ap (λ n. effects.Drop (s.first + n) ∷ effects_on i (next_number s) (came s.core.table h.outcome)) (sym e))
+    by_place : (j ≡ k) ⊎ IsDropped s.links j → IsEmitted s emitted j
+    by_place (inl e) = inr (_, h.emitted_is ∙ ap (λ n. effects.Drop (s.first + n) ∷ effects_on i (next_number s) (came s.core.table h.outcome)) (sym e))
     by_place (inr before) = inl before
 
-plain_told : (s : EngineModel) (i : ℕ) (to_head : Bool) (event : Event) (told : List Effect) (after : EngineModel) (j : ℕ) → StepsOn s (with_connection s i (doing Free)) i to_head event [] told after → IsDropped after.links j → IsDropped s.links j
-plain_told s i to_head event told after j h d =
+plain_emitted : (s : EngineModel) (i : ℕ) (to_head : Bool) (event : Event) (emitted : List Effect) (after : EngineModel) (j : ℕ) → StepsOn s (with_connection s i (doing Free)) i to_head event [] emitted after → IsDropped after.links j → IsDropped s.links j
+plain_emitted s i to_head event emitted after j h d =
     dropped_on i to_head (came s.core.table h.outcome) (with_core (with_connection s i (doing Free)) h.core) j (dropped_equal after _ j h.after_is d)
 
-arrived_told : (s : EngineModel) (now i : ℕ) (r : Request) (judged : Result Asked Refusal) (told : List Effect) (after : EngineModel) (j : ℕ) → Arrives s now i r judged told after → IsDropped after.links j → IsDropped s.links j
-arrived_told s now i r (Ok asked) told after j h d = dropped_on i _ (came s.core.table h.1.outcome) _ j (dropped_equal after _ j h.1.after_is d)
-arrived_told s now i r (Err refusal) told after j h d = dropped_equal after _ j h.after_is d
+arrived_emitted : (s : EngineModel) (now i : ℕ) (r : Request) (judged : Result Asked Refusal) (emitted : List Effect) (after : EngineModel) (j : ℕ) → Arrives s now i r judged emitted after → IsDropped after.links j → IsDropped s.links j
+arrived_emitted s now i r (Ok asked) emitted after j h d = dropped_on i _ (came s.core.table h.1.outcome) _ j (dropped_equal after _ j h.1.after_is d)
+arrived_emitted s now i r (Err refusal) emitted after j h d = dropped_equal after _ j h.after_is d
 
-served_told : (s : EngineModel) (now i : ℕ) (w : Next Request) (told : List Effect) (after : EngineModel) (j : ℕ) → Served s now i w told after → IsDropped after.links j → IsDropped s.links j
-served_told s now i next.More told after j h d = absurd h
-served_told s now i next.NeedsContinue told after j h d = dropped_equal after _ j h.1 d
-served_told s now i (next.Message r) told after j h d = arrived_told s now i r h.0 told after j h.2 d
-served_told s now i (next.Refused frame.Truncated) told after j h d = dropped_equal after _ j h.1 d
-served_told s now i (next.Refused frame.Head) told after j h d = dropped_equal after _ j h.after_is d
-served_told s now i (next.Refused frame.Version) told after j h d = dropped_equal after _ j h.after_is d
-served_told s now i (next.Refused frame.BothLengths) told after j h d = dropped_equal after _ j h.after_is d
-served_told s now i (next.Refused frame.Length) told after j h d = dropped_equal after _ j h.after_is d
-served_told s now i (next.Refused frame.Coding) told after j h d = dropped_equal after _ j h.after_is d
-served_told s now i (next.Refused frame.Chunk) told after j h d = dropped_equal after _ j h.after_is d
-served_told s now i (next.Refused frame.TooLarge) told after j h d = dropped_equal after _ j h.after_is d
-served_told s now i (next.Refused frame.Expect) told after j h d = dropped_equal after _ j h.after_is d
-served_told s now i (next.Refused frame.Status) told after j h d = dropped_equal after _ j h.after_is d
-served_told s now i next.End told after j h d = dropped_equal after _ j h.1 d
+served_emitted : (s : EngineModel) (now i : ℕ) (w : Next Request) (emitted : List Effect) (after : EngineModel) (j : ℕ) → Served s now i w emitted after → IsDropped after.links j → IsDropped s.links j
+served_emitted s now i next.More emitted after j h d = absurd h
+served_emitted s now i next.NeedsContinue emitted after j h d = dropped_equal after _ j h.1 d
+served_emitted s now i (next.Message r) emitted after j h d = arrived_emitted s now i r h.0 emitted after j h.2 d
+served_emitted s now i (next.Refused frame.Truncated) emitted after j h d = dropped_equal after _ j h.1 d
+served_emitted s now i (next.Refused frame.Head) emitted after j h d = dropped_equal after _ j h.after_is d
+served_emitted s now i (next.Refused frame.Version) emitted after j h d = dropped_equal after _ j h.after_is d
+served_emitted s now i (next.Refused frame.BothLengths) emitted after j h d = dropped_equal after _ j h.after_is d
+served_emitted s now i (next.Refused frame.Length) emitted after j h d = dropped_equal after _ j h.after_is d
+served_emitted s now i (next.Refused frame.Coding) emitted after j h d = dropped_equal after _ j h.after_is d
+served_emitted s now i (next.Refused frame.Chunk) emitted after j h d = dropped_equal after _ j h.after_is d
+served_emitted s now i (next.Refused frame.TooLarge) emitted after j h d = dropped_equal after _ j h.after_is d
+served_emitted s now i (next.Refused frame.Expect) emitted after j h d = dropped_equal after _ j h.after_is d
+served_emitted s now i (next.Refused frame.Status) emitted after j h d = dropped_equal after _ j h.after_is d
+served_emitted s now i next.End emitted after j h d = dropped_equal after _ j h.1 d
 
-pub acts_tell_drops : ActsTellDrops
-acts_tell_drops s now (Abandons i (Some l)) told after j h below d = stepped_told s l i i _ _ told after j h (below, d)
-acts_tell_drops s now (Abandons i None) told after j h below d = inl (plain_told s i _ _ told after j h (below, d))
-acts_tell_drops s now (Finishes k (Gives r)) told after j h below d = stepped_told s k (link_at s k).connection (link_at s k).connection _ _ told after j h.1 (below, d)
-acts_tell_drops s now (Finishes k (Breaks kind)) told after j h below d = stepped_told s k (link_at s k).connection (link_at s k).connection _ _ told after j h (below, d)
-acts_tell_drops s now (Wakes i) told after j h below d = inl (plain_told s i _ _ told after j h.1 (below, d))
-acts_tell_drops s now (Serves i w) told after j h below d = inl (served_told s now i w told after j h (below, d))
+pub acts_emit_drops : ActsEmitDrops
+acts_emit_drops s now (Abandons i (Some l)) emitted after j h below d = stepped_emitted s l i i _ _ emitted after j h (below, d)
+acts_emit_drops s now (Abandons i None) emitted after j h below d = inl (plain_emitted s i _ _ emitted after j h (below, d))
+acts_emit_drops s now (Finishes k (Gives r)) emitted after j h below d = stepped_emitted s k (link_at s k).connection (link_at s k).connection _ _ emitted after j h.1 (below, d)
+acts_emit_drops s now (Finishes k (Breaks kind)) emitted after j h below d = stepped_emitted s k (link_at s k).connection (link_at s k).connection _ _ emitted after j h (below, d)
+acts_emit_drops s now (Wakes i) emitted after j h below d = inl (plain_emitted s i _ _ emitted after j h.1 (below, d))
+acts_emit_drops s now (Serves i w) emitted after j h below d = inl (served_emitted s now i w emitted after j h (below, d))
 
 -- ---- what happens drops no link
 

@@ -18,7 +18,7 @@ use Rattle.proxy_core.specs.ReadAnswers.{IsRead, IsReadEvent}
 use Rattle.proxy_core.specs.Traces.{Item}
 use Rattle.proxy_engine.specs.EngineModel.{EngineModel, ConnectionModel, LinkModel, connection_at, link_at}
 use Rattle.proxy_engine.specs.Due.{Act, Abandons, Finishes, Wakes, Serves, Gives, Breaks, IsDueFirst, FinishBy, ActionBy, finish_of, is_busy, action_of}
-use Rattle.proxy_engine.specs.Lives.{Took, Worked, IsEventOf}
+use Rattle.proxy_engine.specs.Executions.{Took, Worked, IsEventOf}
 use Rattle.proxy_engine.specs.FinalAnswers.{ActsAreSpelled, AnswersAreFinal, AnswersAreRead, HasFinalStatus, SpellsAnswer, SpellsRequest}
 
 -- ---- what an act is about is what a stream spells
@@ -50,9 +50,9 @@ finished p r (next.Message m) kind h e = subst (λ (q : Response). IsAnswer p q)
     same : r ≡ m
     same = cc
 
-stood : (k : LinkModel) (r : Response) (dropped : Bool) → k.dropped ≡ dropped → FinishBy dropped k (Some (Gives r)) → SpellsAnswer k r
-stood k r true is h = absurd cc
-stood k r false is h =
+finish_due : (k : LinkModel) (r : Response) (dropped : Bool) → k.dropped ≡ dropped → FinishBy dropped k (Some (Gives r)) → SpellsAnswer k r
+finish_due k r true is h = absurd cc
+finish_due k r false is h =
     let answer = finished k.progress r h.0 k.failed h.1 h.2 in
     record { still = is; none_given = answer.0; rest = answer.1.0; reads = answer.1.1 }
 
@@ -73,12 +73,12 @@ wanted c r false is h =
       behind = answer.rest;
       given = answer.spells;
       rest = read.0;
-      reads = subst (λ (reading : Reading Request). ReadsRequest c.progress.max_body c.progress.ended c.progress.told answer.rest reading) read.1 answer.reads;
+      reads = subst (λ (reading : Reading Request). ReadsRequest c.progress.max_body c.progress.ended c.progress.continue_sent answer.rest reading) read.1 answer.reads;
     }
 
 pub acts_are_spelled : ActsAreSpelled
 acts_are_spelled s (Abandons i l) due = tt
-acts_are_spelled s (Finishes j (Gives r)) due = stood (link_at s j) r (link_at s j).dropped refl due.1.1
+acts_are_spelled s (Finishes j (Gives r)) due = finish_due (link_at s j) r (link_at s j).dropped refl due.1.1
 acts_are_spelled s (Finishes j (Breaks kind)) due = tt
 acts_are_spelled s (Wakes i) due = tt
 acts_are_spelled s (Serves i (next.Message r)) due =
@@ -109,12 +109,12 @@ AreRead = AllByRecursion (λ item. IsReadEvent item.event)
 
 pub answers_are_read : AnswersAreRead
 answers_are_read table begin last [] trace h = subst AreRead (sym h.1) tt
-answers_are_read table begin last (Took happening ∷ steps) trace (before, past, tells, leads, adds) =
-    subst AreRead (sym adds) (answers_are_read table begin before steps past tells)
-answers_are_read table begin last (Worked now act told ∷ steps) trace (before, past, tells, leads, inl (item, is, one)) =
-    subst AreRead (sym is) (event_read before now act item.event leads.0 one.event_is, answers_are_read table begin before steps past tells)
-answers_are_read table begin last (Worked now act told ∷ steps) trace (before, past, tells, leads, inr (same, none, own)) =
-    subst AreRead (sym same) (answers_are_read table begin before steps past tells)
+answers_are_read table begin last (Took happening ∷ steps) trace (before, past, has_trace, leads, adds) =
+    subst AreRead (sym adds) (answers_are_read table begin before steps past has_trace)
+answers_are_read table begin last (Worked now act emitted ∷ steps) trace (before, past, has_trace, leads, inl (item, is, one)) =
+    subst AreRead (sym is) (event_read before now act item.event leads.0 one.event_is, answers_are_read table begin before steps past has_trace)
+answers_are_read table begin last (Worked now act emitted ∷ steps) trace (before, past, has_trace, leads, inr (same, none, own)) =
+    subst AreRead (sym same) (answers_are_read table begin before steps past has_trace)
 
 -- ---- what is read has a final status
 

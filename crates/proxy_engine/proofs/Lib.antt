@@ -12,7 +12,7 @@ pub mod Finding
 pub mod Once
 pub mod Ending
 pub mod Acting
-pub mod Spending
+pub mod Exhausting
 pub mod Stepping
 pub mod Pairs
 pub mod Ordering

@@ -19,13 +19,13 @@ use Rattle.proxy_engine.specs.EngineModel.{EngineModel, heard, with_core}
 use Rattle.proxy_engine.specs.Due.{Act, Abandons, Finishes, Wakes, Serves, Gives, Breaks}
 use Rattle.proxy_engine.specs.Acts.{Came, Replies, Forwards, Nothing, came, after_on, effects_on, next_number, StepsOn, Does, Arrives, Served, Refuses as IsRefused, Closes as IsClosed, Queues}
 use Rattle.proxy_engine.specs.State.{begun}
-use Rattle.proxy_engine.specs.Lives.{Step, Took, Worked, Leads, Lives, place_of, drops_of, IsEventOf, HasNoEvent, IsTold, IsOwn, Continues, Refuses, Closes, Tells, LivesAreRuns}
+use Rattle.proxy_engine.specs.Executions.{Step, Took, Worked, Leads, Executes, place_of, drops_of, IsEventOf, HasNoEvent, IsEmitted, IsOwn, Continues, Refuses, Closes, HasTrace, ExecutionsAreRuns}
 
 module _ (table : Table) where
   -- an act is one step of the core, or none
   abbrev Goes : EngineModel → ℕ → Act → List Effect → EngineModel → Type 0
-  Goes s now act told after =
-      ((item : Item) × IsTold table s now act item told after) ⊎ ((after.core ≡ s.core) × HasNoEvent act × IsOwn now (place_of s act) told)
+  Goes s now act emitted after =
+      ((item : Item) × IsEmitted table s now act item emitted after) ⊎ ((after.core ≡ s.core) × HasNoEvent act × IsOwn now (place_of s act) emitted)
 
   core_after : (i : ℕ) (to_head : Bool) (q : Came) (s : EngineModel) → (after_on i to_head q s).core ≡ s.core
   core_after i to_head (Replies bytes close) s = refl
@@ -33,54 +33,54 @@ module _ (table : Table) where
   core_after i to_head Queues s = refl
   core_after i to_head Nothing s = refl
 
-  pub step_told : (now : ℕ) (act : Act) (s t : EngineModel) (to_head : Bool) (event : Event) (told : List Effect) (after : EngineModel) → s.core.table ≡ table → IsEventOf s now act event
-      → StepsOn s t (place_of s act) to_head event (drops_of s act) told after → (item : Item) × IsTold table s now act item told after
-  step_told now act s t to_head event told after config is h =
+  pub step_emitted : (now : ℕ) (act : Act) (s t : EngineModel) (to_head : Bool) (event : Event) (emitted : List Effect) (after : EngineModel) → s.core.table ≡ table → IsEventOf s now act event
+      → StepsOn s t (place_of s act) to_head event (drops_of s act) emitted after → (item : Item) × IsEmitted table s now act item emitted after
+  step_emitted now act s t to_head event emitted after config is h =
       let item : Item = record { event = event; outcome = h.outcome } in
       let core : after.core ≡ h.core = ap (λ (u : EngineModel). u.core) h.after_is ∙ core_after (place_of s act) to_head (came s.core.table h.outcome) (with_core t h.core) in
-      let is_told : IsTold table s now act item told after = record {
+      let is_emitted : IsEmitted table s now act item emitted after = record {
         event_is = is;
         steps = subst (λ (u : CoreState). Steps s.core event h.outcome u) (sym core) h.steps;
-        told_is = h.told_is ∙ ap (λ (c : Table). drops_of s act ++ effects_on (place_of s act) (next_number s) (came c h.outcome)) config;
+        emitted_is = h.emitted_is ∙ ap (λ (c : Table). drops_of s act ++ effects_on (place_of s act) (next_number s) (came c h.outcome)) config;
       } in
-      (item, is_told)
+      (item, is_emitted)
 
-  stepped : (now : ℕ) (act : Act) (s t : EngineModel) (to_head : Bool) (event : Event) (told : List Effect) (after : EngineModel) → s.core.table ≡ table → IsEventOf s now act event
-      → StepsOn s t (place_of s act) to_head event (drops_of s act) told after → Goes s now act told after
-  stepped now act s t to_head event told after config is h = inl (step_told now act s t to_head event told after config is h)
+  stepped : (now : ℕ) (act : Act) (s t : EngineModel) (to_head : Bool) (event : Event) (emitted : List Effect) (after : EngineModel) → s.core.table ≡ table → IsEventOf s now act event
+      → StepsOn s t (place_of s act) to_head event (drops_of s act) emitted after → Goes s now act emitted after
+  stepped now act s t to_head event emitted after config is h = inl (step_emitted now act s t to_head event emitted after config is h)
 
-  refused : (now : ℕ) (s : EngineModel) (i : ℕ) (action : Next Request) (why : Cause) (head : Bool) (told : List Effect) (after : EngineModel) → HasNoEvent (Serves i action) → IsRefused s now i why head told after → Goes s now (Serves i action) told after
-  refused now s i action why head told after none h = inr (ap (λ (u : EngineModel). u.core) h.after_is, none, Refuses why head h.told_is)
+  refused : (now : ℕ) (s : EngineModel) (i : ℕ) (action : Next Request) (why : Cause) (head : Bool) (emitted : List Effect) (after : EngineModel) → HasNoEvent (Serves i action) → IsRefused s now i why head emitted after → Goes s now (Serves i action) emitted after
+  refused now s i action why head emitted after none h = inr (ap (λ (u : EngineModel). u.core) h.after_is, none, Refuses why head h.emitted_is)
 
-  shut : (now : ℕ) (s : EngineModel) (i : ℕ) (action : Next Request) (told : List Effect) (after : EngineModel) → HasNoEvent (Serves i action) → IsClosed s i told after → Goes s now (Serves i action) told after
-  shut now s i action told after none h = inr (ap (λ (u : EngineModel). u.core) h.1, none, Closes h.0)
+  shut : (now : ℕ) (s : EngineModel) (i : ℕ) (action : Next Request) (emitted : List Effect) (after : EngineModel) → HasNoEvent (Serves i action) → IsClosed s i emitted after → Goes s now (Serves i action) emitted after
+  shut now s i action emitted after none h = inr (ap (λ (u : EngineModel). u.core) h.1, none, Closes h.0)
 
-  arrives : (now : ℕ) (s : EngineModel) (i : ℕ) (r : Request) (judged : Result Asked Refusal) (told : List Effect) (after : EngineModel) → s.core.table ≡ table → IsAdmitted r judged → Arrives s now i r judged told after → Goes s now (Serves i (next.Message r)) told after
-  arrives now s i r (Ok asked) told after config a h = stepped now (Serves i (next.Message r)) s _ _ _ told after config (asked, a, refl) h.1
-  arrives now s i r (Err refusal) told after config a h = refused now s i (next.Message r) _ _ told after (refusal, a) h
+  arrives : (now : ℕ) (s : EngineModel) (i : ℕ) (r : Request) (judged : Result Asked Refusal) (emitted : List Effect) (after : EngineModel) → s.core.table ≡ table → IsAdmitted r judged → Arrives s now i r judged emitted after → Goes s now (Serves i (next.Message r)) emitted after
+  arrives now s i r (Ok asked) emitted after config a h = stepped now (Serves i (next.Message r)) s _ _ _ emitted after config (asked, a, refl) h.1
+  arrives now s i r (Err refusal) emitted after config a h = refused now s i (next.Message r) _ _ emitted after (refusal, a) h
 
-  serves : (now : ℕ) (s : EngineModel) (i : ℕ) (action : Next Request) (told : List Effect) (after : EngineModel) → s.core.table ≡ table → Served s now i action told after → Goes s now (Serves i action) told after
-  serves now s i next.More told after config h = absurd h
-  serves now s i next.NeedsContinue told after config h = inr (ap (λ (u : EngineModel). u.core) h.1, tt, Continues h.0)
-  serves now s i (next.Message r) told after config h = arrives now s i r h.0 told after config h.1 h.2
-  serves now s i (next.Refused frame.Truncated) told after config h = shut now s i (next.Refused frame.Truncated) told after tt h
-  serves now s i (next.Refused frame.Head) told after config h = refused now s i (next.Refused frame.Head) _ _ told after tt h
-  serves now s i (next.Refused frame.Version) told after config h = refused now s i (next.Refused frame.Version) _ _ told after tt h
-  serves now s i (next.Refused frame.BothLengths) told after config h = refused now s i (next.Refused frame.BothLengths) _ _ told after tt h
-  serves now s i (next.Refused frame.Length) told after config h = refused now s i (next.Refused frame.Length) _ _ told after tt h
-  serves now s i (next.Refused frame.Coding) told after config h = refused now s i (next.Refused frame.Coding) _ _ told after tt h
-  serves now s i (next.Refused frame.Chunk) told after config h = refused now s i (next.Refused frame.Chunk) _ _ told after tt h
-  serves now s i (next.Refused frame.TooLarge) told after config h = refused now s i (next.Refused frame.TooLarge) _ _ told after tt h
-  serves now s i (next.Refused frame.Expect) told after config h = refused now s i (next.Refused frame.Expect) _ _ told after tt h
-  serves now s i (next.Refused frame.Status) told after config h = refused now s i (next.Refused frame.Status) _ _ told after tt h
-  serves now s i next.End told after config h = shut now s i next.End told after tt h
+  serves : (now : ℕ) (s : EngineModel) (i : ℕ) (action : Next Request) (emitted : List Effect) (after : EngineModel) → s.core.table ≡ table → Served s now i action emitted after → Goes s now (Serves i action) emitted after
+  serves now s i next.More emitted after config h = absurd h
+  serves now s i next.NeedsContinue emitted after config h = inr (ap (λ (u : EngineModel). u.core) h.1, tt, Continues h.0)
+  serves now s i (next.Message r) emitted after config h = arrives now s i r h.0 emitted after config h.1 h.2
+  serves now s i (next.Refused frame.Truncated) emitted after config h = shut now s i (next.Refused frame.Truncated) emitted after tt h
+  serves now s i (next.Refused frame.Head) emitted after config h = refused now s i (next.Refused frame.Head) _ _ emitted after tt h
+  serves now s i (next.Refused frame.Version) emitted after config h = refused now s i (next.Refused frame.Version) _ _ emitted after tt h
+  serves now s i (next.Refused frame.BothLengths) emitted after config h = refused now s i (next.Refused frame.BothLengths) _ _ emitted after tt h
+  serves now s i (next.Refused frame.Length) emitted after config h = refused now s i (next.Refused frame.Length) _ _ emitted after tt h
+  serves now s i (next.Refused frame.Coding) emitted after config h = refused now s i (next.Refused frame.Coding) _ _ emitted after tt h
+  serves now s i (next.Refused frame.Chunk) emitted after config h = refused now s i (next.Refused frame.Chunk) _ _ emitted after tt h
+  serves now s i (next.Refused frame.TooLarge) emitted after config h = refused now s i (next.Refused frame.TooLarge) _ _ emitted after tt h
+  serves now s i (next.Refused frame.Expect) emitted after config h = refused now s i (next.Refused frame.Expect) _ _ emitted after tt h
+  serves now s i (next.Refused frame.Status) emitted after config h = refused now s i (next.Refused frame.Status) _ _ emitted after tt h
+  serves now s i next.End emitted after config h = shut now s i next.End emitted after tt h
 
-  acts : (now : ℕ) (act : Act) (s : EngineModel) (told : List Effect) (after : EngineModel) → s.core.table ≡ table → Does s now act told after → Goes s now act told after
-  acts now (Abandons i l) s told after config h = stepped now (Abandons i l) s _ _ _ told after config refl h
-  acts now (Finishes j (Gives r)) s told after config h = stepped now (Finishes j (Gives r)) s _ _ _ told after config refl h.1
-  acts now (Finishes j (Breaks kind)) s told after config h = stepped now (Finishes j (Breaks kind)) s _ _ _ told after config refl h
-  acts now (Wakes i) s told after config h = stepped now (Wakes i) s _ _ _ told after config refl h.1
-  acts now (Serves i action) s told after config h = serves now s i action told after config h
+  acts : (now : ℕ) (act : Act) (s : EngineModel) (emitted : List Effect) (after : EngineModel) → s.core.table ≡ table → Does s now act emitted after → Goes s now act emitted after
+  acts now (Abandons i l) s emitted after config h = stepped now (Abandons i l) s _ _ _ emitted after config refl h
+  acts now (Finishes j (Gives r)) s emitted after config h = stepped now (Finishes j (Gives r)) s _ _ _ emitted after config refl h.1
+  acts now (Finishes j (Breaks kind)) s emitted after config h = stepped now (Finishes j (Breaks kind)) s _ _ _ emitted after config refl h
+  acts now (Wakes i) s emitted after config h = stepped now (Wakes i) s _ _ _ emitted after config refl h.1
+  acts now (Serves i action) s emitted after config h = serves now s i action emitted after config h
 
 heard_core : (s : EngineModel) (h : Said) → (heard s h).core ≡ s.core
 heard_core s (Accepted n) = refl
@@ -97,20 +97,20 @@ module _ (table : Table) (limit first : ℕ) (begin : EngineModel) where
     pub trace : List Item
     pub has_run : HasRun table limit first trace t.core
     pub config : t.core.table ≡ table
-    pub tells : Tells table begin steps t trace
+    pub has_trace : HasTrace table begin steps t trace
 
-  worked : (steps : List Step) (now : ℕ) (act : Act) (told : List Effect) (s t : EngineModel) → Leads s (Worked now act told) t → (run : Runs steps s) → Goes table s now act told t → Runs (Worked now act told ∷ steps) t
-  worked steps now act told s t leads run (inl h) = record {
+  worked : (steps : List Step) (now : ℕ) (act : Act) (emitted : List Effect) (s t : EngineModel) → Leads s (Worked now act emitted) t → (run : Runs steps s) → Goes table s now act emitted t → Runs (Worked now act emitted ∷ steps) t
+  worked steps now act emitted s t leads run (inl h) = record {
     trace = h.0 ∷ run.trace;
     has_run = (s.core, run.has_run, h.1.steps);
     config = ap (λ (u : CoreState). u.table) h.1.steps.leaves ∙ run.config;
-    tells = (s, run.trace, run.tells, leads, inl (h.0, refl, h.1));
+    has_trace = (s, run.trace, run.has_trace, leads, inl (h.0, refl, h.1));
   }
-  worked steps now act told s t leads run (inr h) = record {
+  worked steps now act emitted s t leads run (inr h) = record {
     trace = run.trace;
     has_run = subst (λ (u : CoreState). HasRun table limit first run.trace u) (sym h.0) run.has_run;
     config = ap (λ (u : CoreState). u.table) h.0 ∙ run.config;
-    tells = (s, run.trace, run.tells, leads, inr (refl, h.1, h.2));
+    has_trace = (s, run.trace, run.has_trace, leads, inr (refl, h.1, h.2));
   }
 
   step_on : (steps : List Step) (step : Step) (s t : EngineModel) → Leads s step t → Runs steps s → Runs (step ∷ steps) t
@@ -120,17 +120,17 @@ module _ (table : Table) (limit first : ℕ) (begin : EngineModel) where
         trace = run.trace;
         has_run = subst (λ (u : CoreState). HasRun table limit first run.trace u) (sym same) run.has_run;
         config = ap (λ (u : CoreState). u.table) same ∙ run.config;
-        tells = (s, run.trace, run.tells, l, refl);
+        has_trace = (s, run.trace, run.has_trace, l, refl);
       }
-  step_on steps (Worked now act told) s t l run = worked steps now act told s t l run (acts table now act s told t run.config l.1)
+  step_on steps (Worked now act emitted) s t l run = worked steps now act emitted s t l run (acts table now act s emitted t run.config l.1)
 
-  pub lives : begin.core ≡ core_begun table limit first → (steps : List Step) (t : EngineModel) → Lives begin steps t → Runs steps t
-  lives e [] t h =
+  pub executes : begin.core ≡ core_begun table limit first → (steps : List Step) (t : EngineModel) → Executes begin steps t → Runs steps t
+  executes e [] t h =
       let core : t.core ≡ core_begun table limit first = ap (λ (u : EngineModel). u.core) h ∙ e in
-      record { trace = []; has_run = core; config = ap (λ (u : CoreState). u.table) core; tells = (h, refl) }
-  lives e (step ∷ steps) t h = step_on steps step h.0 t h.2 (lives e steps h.0 h.1)
+      record { trace = []; has_run = core; config = ap (λ (u : CoreState). u.table) core; has_trace = (h, refl) }
+  executes e (step ∷ steps) t h = step_on steps step h.0 t h.2 (executes e steps h.0 h.1)
 
-pub lives_are_runs : LivesAreRuns
-lives_are_runs table limit first link steps t h =
-    let run = lives table limit first (begun (core_begun table limit first) link) refl steps t h in
-    record { trace = run.trace; keeps = promises_of_a_driven_core table limit first run.trace t.core run.has_run; tells = run.tells }
+pub executions_are_runs : ExecutionsAreRuns
+executions_are_runs table limit first link steps t h =
+    let run = executes table limit first (begun (core_begun table limit first) link) refl steps t h in
+    record { trace = run.trace; keeps = promises_of_a_driven_core table limit first run.trace t.core run.has_run; has_trace = run.has_trace }

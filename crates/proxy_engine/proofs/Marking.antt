@@ -15,17 +15,17 @@ use Rattle.proxy_engine.specs.declared.endpoints.lookahead.Lookahead.{Lookahead}
 use Rattle.proxy_engine.specs.declared.endpoints.lookahead.Lookahead.TheVariants.{Unknown, Quiet, Due}
 use Rattle.proxy_engine.specs.Lookahead.{Shows, is_due, may_show}
 use Rattle.proxy_engine.specs.EngineModel.{ConnectionModel, LinkModel}
-use Rattle.proxy_engine.specs.Due.{Breaks, Lost, Stood, Wanted, ActionBy, FinishBy, is_busy}
+use Rattle.proxy_engine.specs.Due.{Breaks, Lost, FinishDue, Wanted, ActionBy, FinishBy, is_busy}
 use Rattle.proxy_engine.specs.State.{ConnectionRepresents, LinkRepresents, action_seen}
 use Rattle.proxy_engine.specs.ReadyList.{Kept, Falls, AllBelow, IsLeast, IsMarked}
 use Rattle.proxy_engine.specs.Held.{GrowsConnection, GrowsLink}
-use Rattle.proxy_engine.specs.Marked.{EndList, may_be_lost, may_want, may_stand, Alike, AtEach, NoneBelow, NoneAtAll, lost_at}
+use Rattle.proxy_engine.specs.Marked.{EndList, may_be_lost, may_want, may_finish, Alike, AtEach, NoneBelow, NoneAtAll, lost_at}
 use Rattle.proxy_engine.specs.declared.endpoints.activities.Activity.{Activity}
 use Rattle.proxy_engine.specs.declared.endpoints.ends.Connection.{Connection}
 use Rattle.proxy_engine.specs.declared.endpoints.ends.Link.{Link}
 use Rattle.proxy_engine.proofs.Keeping.{fits}
 use Rattle.proxy_engine.proofs.Falling.{falls_none}
-use Rattle.proxy_engine.proofs.Shown.{stood, wanted, wanted_busy, finish_by, action_by}
+use Rattle.proxy_engine.proofs.Shown.{finish_due, wanted, wanted_busy, finish_by, action_by}
 
 pub some_same : {B : Type 0} {a b : B} → Some a ≡ Some b → a ≡ b
 some_same h = cc
@@ -220,8 +220,8 @@ grown_want x y r f =
     sym (ap (λ (b : Bool). not (is_busy b false y.activity) && may_show y.reader.ahead) r.alike.gone ∙ (ap (λ (a : Activity). not (is_busy x.gone false a) && may_show y.reader.ahead) r.alike.activity
     ∙ ap (λ (l : Lookahead Request). not (is_busy x.gone false x.activity) && may_show l) r.ahead)) ∙ f
 
-pub grown_stand : (x y : Link) → GrowsLink x y → may_stand y ≡ true → may_stand x ≡ true
-grown_stand x y r f = sym (ap (λ (l : Lookahead Response). may_show l || is_some y.failed) r.ahead ∙ ap (λ (o : Option FailKind). may_show x.reader.ahead || is_some o) r.failed) ∙ f
+pub grown_finish : (x y : Link) → GrowsLink x y → may_finish y ≡ true → may_finish x ≡ true
+grown_finish x y r f = sym (ap (λ (l : Lookahead Response). may_show l || is_some y.failed) r.ahead ∙ ap (λ (o : Option FailKind). may_show x.reader.ahead || is_some o) r.failed) ∙ f
 
 -- one look after another
 pub alike_trans : {A : Type 0} (R : A → A → Type 0) → ((x y z : A) → R x y → R y z → R x z) → (m k l : BTreeMap ℕ A) → AtEach R m k → AtEach R k l → AtEach R m l
@@ -294,19 +294,19 @@ unwanted_over s h = subst (λ (b : Bool). ActionBy b s None) (sym (by_over s.gon
     by_over false true e = refl
     by_over false false e = absurd (cc)
 
-pub unstood : (k : Link) (s : LinkModel) → may_stand k ≡ false → LinkRepresents (Some k) s → Stood s None
-unstood k s e h =
+pub no_finish_due : (k : Link) (s : LinkModel) → may_finish k ≡ false → LinkRepresents (Some k) s → FinishDue s None
+no_finish_due k s e h =
     let none = no_failure (may_show k.reader.ahead) k.failed e in
     let shows = quiet_shows k.reader.ahead none.0 in
-    subst (λ o. Stood s o) (finish_by k.reader.ahead k.failed next.More shows ∙ none.1) (stood k s next.More h shows)
+    subst (λ o. FinishDue s o) (finish_by k.reader.ahead k.failed next.More shows ∙ none.1) (finish_due k s next.More h shows)
   where
     no_failure : (quiet : Bool) (o : Option FailKind) → quiet || is_some o ≡ false → (quiet ≡ false) × (option_map Breaks o ≡ None)
     no_failure true o e = absurd cc
     no_failure false None e = (refl, refl)
     no_failure false (Some kind) e = absurd cc
 
-pub unstood_over : (s : LinkModel) → LinkRepresents None s → Stood s None
-unstood_over s h = subst (λ (b : Bool). FinishBy b s None) (sym h) refl
+pub no_finish_due_over : (s : LinkModel) → LinkRepresents None s → FinishDue s None
+no_finish_due_over s h = subst (λ (b : Bool). FinishBy b s None) (sym h) refl
 
 -- the link that was read of a gone connection
 pub no_mark : (c : Connection) → None ≡ lost_at (Some c) → may_be_lost c ≡ false

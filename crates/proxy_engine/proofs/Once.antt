@@ -6,7 +6,7 @@ use Rattle.hx_framing.specs.declared.messages.Next.{Next}
 use Rattle.hx_framing.proofs.RequestOnce.{answered_once_lem as requests_once}
 use Rattle.hx_framing.proofs.ResponseOnce.{answered_once_lem as responses_once}
 use Rattle.proxy_engine.specs.EngineModel.{EngineModel, ConnectionModel, LinkModel, no_connection, no_link}
-use Rattle.proxy_engine.specs.Due.{Act, Abandons, Finishes, Wakes, Serves, Finish, IsFirst, IsDueFirst, Lost, Stood, FinishBy, Wanted, ActionBy, action_of, finish_of, is_busy}
+use Rattle.proxy_engine.specs.Due.{Act, Abandons, Finishes, Wakes, Serves, Finish, IsFirst, IsDueFirst, Lost, FinishDue, FinishBy, Wanted, ActionBy, action_of, finish_of, is_busy}
 
 none_some : {B : Type 0} {b : B} {C : Type 0} → ◌≡◌ {A = Option B} None (Some b) → C
 none_some h = cc
@@ -31,12 +31,12 @@ first_once {A} {B} R d xs (Some p) (Some q) once h k = by_order (cases_lt p.0 q.
 lost_once : (x : ConnectionModel) (o p : Option (Option ℕ)) → Lost x o → Lost x p → o ≡ p
 lost_once x o p h k = h ∙ sym k
 
-stood_by : (b : Bool) (x : LinkModel) (o p : Option Finish) → FinishBy b x o → FinishBy b x p → o ≡ p
-stood_by true x o p h k = h ∙ sym k
-stood_by false x o p h k = h.2 ∙ (ap (λ a. finish_of a x.failed) (responses_once x.progress h.0 k.0 h.1 k.1) ∙ sym k.2)
+finish_due_by : (b : Bool) (x : LinkModel) (o p : Option Finish) → FinishBy b x o → FinishBy b x p → o ≡ p
+finish_due_by true x o p h k = h ∙ sym k
+finish_due_by false x o p h k = h.2 ∙ (ap (λ a. finish_of a x.failed) (responses_once x.progress h.0 k.0 h.1 k.1) ∙ sym k.2)
 
-pub stood_once : (x : LinkModel) (o p : Option Finish) → Stood x o → Stood x p → o ≡ p
-stood_once x o p h k = stood_by x.dropped x o p h k
+pub finish_due_once : (x : LinkModel) (o p : Option Finish) → FinishDue x o → FinishDue x p → o ≡ p
+finish_due_once x o p h k = finish_due_by x.dropped x o p h k
 
 wanted_by : (b : Bool) (x : ConnectionModel) (o p : Option (Next Request)) → ActionBy b x o → ActionBy b x p → o ≡ p
 wanted_by true x o p h k = h ∙ sym k
@@ -48,8 +48,8 @@ wanted_once x o p h k = wanted_by (is_busy x.gone x.closed x.activity) x o p h k
 pub lost_same : (s : EngineModel) (a b : Option (ℕ × Option ℕ)) → IsFirst Lost no_connection s.connections a → IsFirst Lost no_connection s.connections b → a ≡ b
 lost_same s a b h k = first_once Lost no_connection s.connections a b lost_once h k
 
-pub stood_same : (s : EngineModel) (a b : Option (ℕ × Finish)) → IsFirst Stood no_link s.links a → IsFirst Stood no_link s.links b → a ≡ b
-stood_same s a b h k = first_once Stood no_link s.links a b stood_once h k
+pub finish_due_same : (s : EngineModel) (a b : Option (ℕ × Finish)) → IsFirst FinishDue no_link s.links a → IsFirst FinishDue no_link s.links b → a ≡ b
+finish_due_same s a b h k = first_once FinishDue no_link s.links a b finish_due_once h k
 
 wanted_same : (s : EngineModel) (a b : Option (ℕ × Next Request)) → IsFirst Wanted no_connection s.connections a → IsFirst Wanted no_connection s.connections b → a ≡ b
 wanted_same s a b h k = first_once Wanted no_connection s.connections a b wanted_once h k
@@ -57,11 +57,11 @@ wanted_same s a b h k = first_once Wanted no_connection s.connections a b wanted
 pub due_first_once : (s : EngineModel) (a b : Option Act) → IsDueFirst s a → IsDueFirst s b → a ≡ b
 due_first_once s None None h k = refl
 due_first_once s None (Some (Abandons i l)) h k = none_some (lost_same s None (Some (i, l)) h.0 k)
-due_first_once s None (Some (Finishes j f)) h k = none_some (stood_same s None (Some (j, f)) h.1 k.1)
+due_first_once s None (Some (Finishes j f)) h k = none_some (finish_due_same s None (Some (j, f)) h.1 k.1)
 due_first_once s None (Some (Wakes i)) h k = none_some (sym h.2 ∙ k.2)
 due_first_once s None (Some (Serves i d)) h k = none_some (wanted_same s None (Some (i, d)) h.3 k.3)
 due_first_once s (Some (Abandons i l)) None h k = none_some (lost_same s None (Some (i, l)) k.0 h)
-due_first_once s (Some (Finishes j f)) None h k = none_some (stood_same s None (Some (j, f)) k.1 h.1)
+due_first_once s (Some (Finishes j f)) None h k = none_some (finish_due_same s None (Some (j, f)) k.1 h.1)
 due_first_once s (Some (Wakes i)) None h k = none_some (sym k.2 ∙ h.2)
 due_first_once s (Some (Serves i d)) None h k = none_some (wanted_same s None (Some (i, d)) k.3 h.3)
 due_first_once s (Some (Abandons i l)) (Some (Abandons j m)) h k = let e = some_same (lost_same s (Some (i, l)) (Some (j, m)) h k) in ap (λ (p : ℕ × Option ℕ). Some (Abandons p.0 p.1)) e
@@ -69,17 +69,17 @@ due_first_once s (Some (Abandons i l)) (Some (Finishes j f)) h k = none_some (lo
 due_first_once s (Some (Abandons i l)) (Some (Wakes j)) h k = none_some (lost_same s None (Some (i, l)) k.0 h)
 due_first_once s (Some (Abandons i l)) (Some (Serves j d)) h k = none_some (lost_same s None (Some (i, l)) k.0 h)
 due_first_once s (Some (Finishes j f)) (Some (Abandons i l)) h k = none_some (lost_same s None (Some (i, l)) h.0 k)
-due_first_once s (Some (Finishes j f)) (Some (Finishes i g)) h k = let e = some_same (stood_same s (Some (j, f)) (Some (i, g)) h.1 k.1) in ap (λ (p : ℕ × Finish). Some (Finishes p.0 p.1)) e
-due_first_once s (Some (Finishes j f)) (Some (Wakes i)) h k = none_some (stood_same s None (Some (j, f)) k.1 h.1)
-due_first_once s (Some (Finishes j f)) (Some (Serves i d)) h k = none_some (stood_same s None (Some (j, f)) k.1 h.1)
+due_first_once s (Some (Finishes j f)) (Some (Finishes i g)) h k = let e = some_same (finish_due_same s (Some (j, f)) (Some (i, g)) h.1 k.1) in ap (λ (p : ℕ × Finish). Some (Finishes p.0 p.1)) e
+due_first_once s (Some (Finishes j f)) (Some (Wakes i)) h k = none_some (finish_due_same s None (Some (j, f)) k.1 h.1)
+due_first_once s (Some (Finishes j f)) (Some (Serves i d)) h k = none_some (finish_due_same s None (Some (j, f)) k.1 h.1)
 due_first_once s (Some (Wakes i)) (Some (Abandons j l)) h k = none_some (lost_same s None (Some (j, l)) h.0 k)
-due_first_once s (Some (Wakes i)) (Some (Finishes j f)) h k = none_some (stood_same s None (Some (j, f)) h.1 k.1)
+due_first_once s (Some (Wakes i)) (Some (Finishes j f)) h k = none_some (finish_due_same s None (Some (j, f)) h.1 k.1)
 due_first_once s (Some (Wakes i)) (Some (Wakes j)) h k =
     let more : i + 1 ≡ j + 1 = some_same (sym h.2 ∙ k.2) in
     let same : i ≡ j = omega (arith, more) in
     ap (λ n. Some (Wakes n)) same
 due_first_once s (Some (Wakes i)) (Some (Serves j d)) h k = none_some (sym k.2 ∙ h.2)
 due_first_once s (Some (Serves i d)) (Some (Abandons j l)) h k = none_some (lost_same s None (Some (j, l)) h.0 k)
-due_first_once s (Some (Serves i d)) (Some (Finishes j f)) h k = none_some (stood_same s None (Some (j, f)) h.1 k.1)
+due_first_once s (Some (Serves i d)) (Some (Finishes j f)) h k = none_some (finish_due_same s None (Some (j, f)) h.1 k.1)
 due_first_once s (Some (Serves i d)) (Some (Wakes j)) h k = none_some (sym h.2 ∙ k.2)
 due_first_once s (Some (Serves i d)) (Some (Serves j e)) h k = let q = some_same (wanted_same s (Some (i, d)) (Some (j, e)) h.3 k.3) in ap (λ (p : ℕ × Next Request). Some (Serves p.0 p.1)) q

@@ -604,7 +604,7 @@ early_by now l = ap (λ (b : Bool). cond b None (Some MomentTooLate)) (lt-ltb no
 -- an arrival at a free id, in time, is refused only where memory runs out
 pub arrival_refused : (xs : List Exchange) (now id : ℕ) (asked : Asked) (fault : CoreFault) → is_some (find_exchange id xs) ≡ false → now < END_OF_TIME
     → (fault_by xs (Arrive now id asked) ≡ Some fault) ⊎ ((fault_by xs (Arrive now id asked) ≡ None) × (fault ≡ OutOfMemory)) → fault ≡ OutOfMemory
-arrival_refused xs now id asked fault free early (inl stands) = refused_by (find_exchange id xs) free stands
+arrival_refused xs now id asked fault free early (inl represents) = refused_by (find_exchange id xs) free represents
   where
     refused_by : (o : Option Exchange) → is_some o ≡ false → fault_of o (Arrive now id asked) ≡ Some fault → fault ≡ OutOfMemory
     refused_by (Some x) f h = cc
@@ -619,7 +619,7 @@ module _ (xs : List Exchange) (now id : ℕ) (fault : CoreFault) (out_now : forw
   -- so is any event that asks of its exchange to be at the origin
   out_refused : (e : Event) → ((x : Exchange) → fault_of (Some x) e ≡ or_fault (too_late now) (not_forwarded x.stage))
       → (fault_of (find_exchange id xs) e ≡ Some fault) ⊎ ((fault_of (find_exchange id xs) e ≡ None) × (fault ≡ OutOfMemory)) → fault ≡ OutOfMemory
-  out_refused e asks (inl stands) = refused_by (find_exchange id xs) out_now stands
+  out_refused e asks (inl represents) = refused_by (find_exchange id xs) out_now represents
     where
       refused_by : (o : Option Exchange) → out o ≡ Some true → fault_of o e ≡ Some fault → fault ≡ OutOfMemory
       refused_by None h f = absurd (cc)
@@ -638,10 +638,10 @@ module _ (xs : List Exchange) (now id : ℕ) (fault : CoreFault) (out_now : forw
 
 -- and a wake of one that may be woken
 pub wake_refused : (xs : List Exchange) (now id : ℕ) (fault : CoreFault) → IsReady id xs → now < END_OF_TIME → (fault_by xs (Wake now id) ≡ Some fault) ⊎ ((fault_by xs (Wake now id) ≡ None) × (fault ≡ OutOfMemory)) → fault ≡ OutOfMemory
-wake_refused xs now id fault r early (inl stands) =
+wake_refused xs now id fault r early (inl represents) =
     let none : fault_by xs (Wake now id) ≡ None =
     ap (λ (w : Option Exchange). fault_of w (Wake now id)) r.is_open
     ∙ (ap (λ (a : Option CoreFault). or_fault a (not_ready r.x.stage)) (early_by now early) ∙ ap (λ (b : Bool). cond b None (Some NotReady)) r.stage) in
-    let no : None ≡ Some fault = sym none ∙ stands in
+    let no : None ≡ Some fault = sym none ∙ represents in
     absurd (cc)
 wake_refused xs now id fault r early (inr memory) = memory.1

@@ -10,19 +10,19 @@ use Rattle.hx_framing.specs.Progress.{Progress, start}
 use Rattle.hx_framing.specs.Reading.{Incomplete}
 use Rattle.hx_framing.specs.RequestReading.{Reads}
 use Rattle.hx_framing.specs.RequestStream.{StreamSpells, Answers as RequestAnswers}
-use Rattle.hx_framing.specs.ResponseState.{State, StandsFor, KeepsBy}
+use Rattle.hx_framing.specs.ResponseState.{State, RepresentsStream, KeepsBy}
 use Rattle.hx_framing.specs.ResponseStream.{Answers as ResponseAnswers}
 use Rattle.proxy_engine.specs.declared.endpoints.lookahead.Lookahead.{Lookahead}
 use Rattle.proxy_engine.specs.declared.endpoints.lookahead.Lookahead.TheVariants.{Unknown, Quiet, Due}
 use Rattle.proxy_engine.specs.declared.endpoints.peeked.Peeked.{Peeked}
 use Rattle.proxy_engine.specs.Lookahead.{Shows}
-use Rattle.proxy_engine.specs.Peeked.{StandsBy, Represents}
+use Rattle.proxy_engine.specs.Peeked.{RepresentsBy, Represents}
 
 -- what is shown is the answer of each stream that it stands for
-pub answers_shown : {S M : Type 0} (StandsFor : S → Progress M → Type 0) (Answers : Progress M → Next M → Type 0) (w : Peeked S M) (p : Progress M) (a : Next M) → Represents StandsFor Answers w p → Shows w.ahead a → Answers p a
-answers_shown {S} {M} StandsFor Answers w p a h s = shown w.ahead h s
+pub answers_shown : {S M : Type 0} (RepresentsStream : S → Progress M → Type 0) (Answers : Progress M → Next M → Type 0) (w : Peeked S M) (p : Progress M) (a : Next M) → Represents RepresentsStream Answers w p → Shows w.ahead a → Answers p a
+answers_shown {S} {M} RepresentsStream Answers w p a h s = shown w.ahead h s
   where
-    shown : (l : Lookahead M) → StandsBy StandsFor Answers w.inner l p → Shows l a → Answers p a
+    shown : (l : Lookahead M) → RepresentsBy RepresentsStream Answers w.inner l p → Shows l a → Answers p a
     shown Unknown h s = absurd s
     shown Quiet h s = subst (λ (x : Next M). Answers p x) (sym s) h.1
     shown (Due b) h s = subst (λ (x : Next M). Answers p x) (sym s) h.1
@@ -47,9 +47,9 @@ spare_keeps r k p phase.Given (message ∷ more) h = h
 spare_keeps r k p (phase.Faulty f) [] h = h
 spare_keeps r k p (phase.Faulty f) (message ∷ more) h = h
 
-pub spare_stands : (r s : State) (p : Progress Response) → s ≡ record r { spare = s.spare } → StandsFor r p → StandsFor s p
-spare_stands r s p same h =
-    subst (λ (t : State). StandsFor t p) (sym same)
+pub spare_represents : (r s : State) (p : Progress Response) → s ≡ record r { spare = s.spare } → RepresentsStream r p → RepresentsStream s p
+spare_represents r s p same h =
+    subst (λ (t : State). RepresentsStream t p) (sym same)
     (record { max_body = h.max_body; to_head = h.to_head; ended = h.ended; spells = h.spells; keeps = spare_keeps r s.spare p r.phase p.given h.keeps })
 
 -- ---- each byte that came is of a message given, and more may come
@@ -63,6 +63,6 @@ quiet_answers p still spells = record {
   rest = [];
   reading = Incomplete;
   spells = spells;
-  reads = subst (λ (e : Bool). Reads p.max_body e p.told [] Incomplete) (sym still) refl;
+  reads = subst (λ (e : Bool). Reads p.max_body e p.continue_sent [] Incomplete) (sym still) refl;
   answer_is = refl;
 }

@@ -187,9 +187,9 @@ by_place m k i here others q = elim (cases_eq q i) [
 ]
 
 -- the links with a flag, by their numbers
-pub links_told : (flag : LinkModel → Bool) (cs : List (Option Connection)) (ks : List (Option Link)) (core : CoreState) (first : ℕ) (s : EngineModel) → Represents (state cs ks core first) s → (before told : List End) → before ≡ []
-    → ((ss : List LinkModel) → Both LinkRepresents ks ss → first + length ss ≤ 2 ^ 64 → told ≡ before ++ map (link_end first) (places_with flag 0 ss)) → told ≡ map (link_end s.first) (places_with flag 0 s.links)
-links_told flag cs ks core first s h before told none is =
+pub links_emitted : (flag : LinkModel → Bool) (cs : List (Option Connection)) (ks : List (Option Link)) (core : CoreState) (first : ℕ) (s : EngineModel) → Represents (state cs ks core first) s → (before emitted : List End) → before ≡ []
+    → ((ss : List LinkModel) → Both LinkRepresents ks ss → first + length ss ≤ 2 ^ 64 → emitted ≡ before ++ map (link_end first) (places_with flag 0 ss)) → emitted ≡ map (link_end s.first) (places_with flag 0 s.links)
+links_emitted flag cs ks core first s h before emitted none is =
     let fits : first + length s.links ≤ 2 ^ 64 = subst (λ (n : ℕ). n + length s.links ≤ 2 ^ 64) (sym h.first) h.numbers in
     is s.links h.links fits ∙ (ap (λ (es : List End). es ++ map (link_end first) (places_with flag 0 s.links)) none ∙ ap (λ (n : ℕ). map (link_end n) (places_with flag 0 s.links)) h.first)
 
@@ -203,12 +203,12 @@ both_so true false e f = absurd cc
 both_so false b e f = absurd cc
 
 -- the number behind the last, where one is left
-pub number_told : (o : Option ℕ) (n m : ℕ) → n ≡ m → SomeIff o (n + 1 < 2 ^ 64) (n + 1) → o ≡ cond (nat_lt (m + 1) (2 ^ 64)) (Some (m + 1)) None
-number_told None n m same none =
+pub number_shown : (o : Option ℕ) (n m : ℕ) → n ≡ m → SomeIff o (n + 1 < 2 ^ 64) (n + 1) → o ≡ cond (nat_lt (m + 1) (2 ^ 64)) (Some (m + 1)) None
+number_shown None n m same none =
     let full : 2 ^ 64 ≤ m + 1 = elim (cases_order (m + 1) (2 ^ 64)) [
       | inl is ↦ omega (arith, is)
       | inr (inl less) ↦ absurd (none (omega (arith, less, same)))
       | inr (inr more) ↦ omega (arith, more)
     ] in
     ap (λ (b : Bool). cond b (Some (m + 1)) None) (sym (not_below (m + 1) (2 ^ 64) full))
-number_told (Some k) n m same some = ap Some some.1 ∙ (ap (λ (j : ℕ). Some (j + 1)) same ∙ ap (λ (b : Bool). cond b (Some (m + 1)) None) (sym (below (m + 1) (2 ^ 64) (omega (arith, some.0, same)))))
+number_shown (Some k) n m same some = ap Some some.1 ∙ (ap (λ (j : ℕ). Some (j + 1)) same ∙ ap (λ (b : Bool). cond b (Some (m + 1)) None) (sym (below (m + 1) (2 ^ 64) (omega (arith, some.0, same)))))

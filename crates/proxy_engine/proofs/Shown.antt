@@ -7,13 +7,13 @@ use Rattle.hx_framing.specs.declared.messages.Next.TheVariants as next
 use Rattle.proxy_engine.specs.declared.endpoints.lookahead.Lookahead.{Lookahead}
 use Rattle.proxy_engine.specs.declared.endpoints.lookahead.Lookahead.TheVariants.{Unknown, Quiet, Due}
 use Rattle.proxy_engine.specs.Lookahead.{Shows, is_due}
-use Rattle.hx_framing.specs.RequestState.{StandsFor as RequestStandsFor}
+use Rattle.hx_framing.specs.RequestState.{RepresentsStream as RequestRepresentsStream}
 use Rattle.hx_framing.specs.RequestStream.{Answers as RequestAnswers}
-use Rattle.hx_framing.specs.ResponseState.{StandsFor as ResponseStandsFor}
+use Rattle.hx_framing.specs.ResponseState.{RepresentsStream as ResponseRepresentsStream}
 use Rattle.hx_framing.specs.ResponseStream.{Answers as ResponseAnswers}
 use Rattle.proxy_engine.proofs.Peeking.{answers_shown}
 use Rattle.proxy_engine.specs.EngineModel.{LinkModel, ConnectionModel}
-use Rattle.proxy_engine.specs.Due.{Stood, FinishBy, Wanted, ActionBy, finish_of, action_of, is_busy}
+use Rattle.proxy_engine.specs.Due.{FinishDue, FinishBy, Wanted, ActionBy, finish_of, action_of, is_busy}
 use Rattle.proxy_engine.specs.State.{LinkRepresents, ConnectionRepresents, finish_seen, finish_at, action_seen, action_at, gone_at}
 use Rattle.proxy_engine.specs.Activities.{link_of, has_exchange}
 use Rattle.proxy_engine.specs.Pairing.{activity_of}
@@ -56,11 +56,11 @@ action_by Quiet a s = ap (λ (a : Next Request). action_of a) (sym s)
 action_by (Due b) a s = ap (λ (a : Next Request). action_of a) (sym s)
 
 -- a link that was looked at
-pub stood : (k : Link) (s : LinkModel) (a : Next Response) → LinkRepresents (Some k) s → Shows k.reader.ahead a → Stood s (finish_at (Some k))
-stood k s a h shows =
+pub finish_due : (k : Link) (s : LinkModel) (a : Next Response) → LinkRepresents (Some k) s → Shows k.reader.ahead a → FinishDue s (finish_at (Some k))
+finish_due k s a h shows =
     subst (λ (b : Bool). FinishBy b s (finish_at (Some k))) (sym h.still) (
       a,
-      answers_shown ResponseStandsFor ResponseAnswers k.reader s.progress a h.reader shows,
+      answers_shown ResponseRepresentsStream ResponseAnswers k.reader s.progress a h.reader shows,
       finish_by k.reader.ahead k.failed a shows ∙ ap (finish_of a) h.failed,
     )
 
@@ -71,7 +71,7 @@ pub wanted : (c : Connection) (s : ConnectionModel) (a : Next Request) → is_bu
 wanted c s a idle h shows =
     subst (λ (b : Bool). ActionBy b s (action_at (Some c))) (sym idle ∙ busy_same c s h) (
       a,
-      answers_shown RequestStandsFor RequestAnswers c.reader s.progress a h.reader shows,
+      answers_shown RequestRepresentsStream RequestAnswers c.reader s.progress a h.reader shows,
       ap (λ (b : Bool). cond b None (action_seen c.reader.ahead)) idle ∙ action_by c.reader.ahead a shows,
     )
 

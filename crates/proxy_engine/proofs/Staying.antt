@@ -135,8 +135,8 @@ stays_freed s j i = stays_on s (with_link s j dropping) (freed s j i) (stays_lin
 stays_equal : (s t after : EngineModel) → after ≡ t → Stays s t → Stays s after
 stays_equal s t after e h = subst (λ (x : EngineModel). Stays s x) (sym e) h
 
-stays_stepped : (s t : EngineModel) (i : ℕ) (to_head : Bool) (event : Event) (before told : List Effect) (after : EngineModel) → Stays s t → StepsOn s t i to_head event before told after → Stays s after
-stays_stepped s t i to_head event before told after h d =
+stays_stepped : (s t : EngineModel) (i : ℕ) (to_head : Bool) (event : Event) (before emitted : List Effect) (after : EngineModel) → Stays s t → StepsOn s t i to_head event before emitted after → Stays s after
+stays_stepped s t i to_head event before emitted after h d =
     let now = with_core t d.core in
     stays_equal s (after_on i to_head (came s.core.table d.outcome) now) after d.after_is
     (stays_on s t (after_on i to_head (came s.core.table d.outcome) now) h (stays_on t now (after_on i to_head (came s.core.table d.outcome) now) (stays_here t d.core) (stays_after now i to_head (came s.core.table d.outcome))))
@@ -144,30 +144,30 @@ stays_stepped s t i to_head event before told after h d =
 stays_passed : (s : EngineModel) (i : ℕ) (m : Next Request) → Stays s (with_connection s i (passing m))
 stays_passed s i m = stays_connection s i (passing m) (λ c e. e) (λ c e. e)
 
-stays_arrived : (s : EngineModel) (now i : ℕ) (r : Request) (judged : Result Asked Refusal) (told : List Effect) (after : EngineModel) → Arrives s now i r judged told after → Stays s after
-stays_arrived s now i r (Ok asked) told after d = stays_stepped s (with_connection s i (passing (next.Message r))) i _ _ _ told after (stays_passed s i (next.Message r)) d.1
-stays_arrived s now i r (Err fault) told after d = stays_equal s _ after d.after_is (stays_closing s i true)
+stays_arrived : (s : EngineModel) (now i : ℕ) (r : Request) (judged : Result Asked Refusal) (emitted : List Effect) (after : EngineModel) → Arrives s now i r judged emitted after → Stays s after
+stays_arrived s now i r (Ok asked) emitted after d = stays_stepped s (with_connection s i (passing (next.Message r))) i _ _ _ emitted after (stays_passed s i (next.Message r)) d.1
+stays_arrived s now i r (Err fault) emitted after d = stays_equal s _ after d.after_is (stays_closing s i true)
 
-stays_served : (s : EngineModel) (now i : ℕ) (w : Next Request) (told : List Effect) (after : EngineModel) → Served s now i w told after → Stays s after
-stays_served s now i next.More told after d = absurd d
-stays_served s now i next.NeedsContinue told after d = stays_equal s _ after d.1 (stays_passed s i next.NeedsContinue)
-stays_served s now i (next.Message r) told after d = stays_arrived s now i r d.0 told after d.2
-stays_served s now i (next.Refused frame.Truncated) told after d = stays_equal s _ after d.1 (stays_closing s i true)
-stays_served s now i (next.Refused frame.Head) told after d = stays_equal s _ after d.after_is (stays_closing s i true)
-stays_served s now i (next.Refused frame.Version) told after d = stays_equal s _ after d.after_is (stays_closing s i true)
-stays_served s now i (next.Refused frame.BothLengths) told after d = stays_equal s _ after d.after_is (stays_closing s i true)
-stays_served s now i (next.Refused frame.Length) told after d = stays_equal s _ after d.after_is (stays_closing s i true)
-stays_served s now i (next.Refused frame.Coding) told after d = stays_equal s _ after d.after_is (stays_closing s i true)
-stays_served s now i (next.Refused frame.Chunk) told after d = stays_equal s _ after d.after_is (stays_closing s i true)
-stays_served s now i (next.Refused frame.TooLarge) told after d = stays_equal s _ after d.after_is (stays_closing s i true)
-stays_served s now i (next.Refused frame.Expect) told after d = stays_equal s _ after d.after_is (stays_closing s i true)
-stays_served s now i (next.Refused frame.Status) told after d = stays_equal s _ after d.after_is (stays_closing s i true)
-stays_served s now i next.End told after d = stays_equal s _ after d.1 (stays_closing s i true)
+stays_served : (s : EngineModel) (now i : ℕ) (w : Next Request) (emitted : List Effect) (after : EngineModel) → Served s now i w emitted after → Stays s after
+stays_served s now i next.More emitted after d = absurd d
+stays_served s now i next.NeedsContinue emitted after d = stays_equal s _ after d.1 (stays_passed s i next.NeedsContinue)
+stays_served s now i (next.Message r) emitted after d = stays_arrived s now i r d.0 emitted after d.2
+stays_served s now i (next.Refused frame.Truncated) emitted after d = stays_equal s _ after d.1 (stays_closing s i true)
+stays_served s now i (next.Refused frame.Head) emitted after d = stays_equal s _ after d.after_is (stays_closing s i true)
+stays_served s now i (next.Refused frame.Version) emitted after d = stays_equal s _ after d.after_is (stays_closing s i true)
+stays_served s now i (next.Refused frame.BothLengths) emitted after d = stays_equal s _ after d.after_is (stays_closing s i true)
+stays_served s now i (next.Refused frame.Length) emitted after d = stays_equal s _ after d.after_is (stays_closing s i true)
+stays_served s now i (next.Refused frame.Coding) emitted after d = stays_equal s _ after d.after_is (stays_closing s i true)
+stays_served s now i (next.Refused frame.Chunk) emitted after d = stays_equal s _ after d.after_is (stays_closing s i true)
+stays_served s now i (next.Refused frame.TooLarge) emitted after d = stays_equal s _ after d.after_is (stays_closing s i true)
+stays_served s now i (next.Refused frame.Expect) emitted after d = stays_equal s _ after d.after_is (stays_closing s i true)
+stays_served s now i (next.Refused frame.Status) emitted after d = stays_equal s _ after d.after_is (stays_closing s i true)
+stays_served s now i next.End emitted after d = stays_equal s _ after d.1 (stays_closing s i true)
 
 pub acts_stay : ActsStay
-acts_stay s now (Abandons i (Some l)) told after d = stays_stepped s (freed s l i) i _ _ _ told after (stays_freed s l i) d
-acts_stay s now (Abandons i None) told after d = stays_stepped s (with_connection s i (doing Free)) i _ _ _ told after (stays_connection s i (doing Free) (λ c e. e) (λ c e. e)) d
-acts_stay s now (Finishes j (Gives r)) told after d = stays_stepped s (freed s j _) _ _ _ _ told after (stays_freed s j _) d.1
-acts_stay s now (Finishes j (Breaks kind)) told after d = stays_stepped s (freed s j _) _ _ _ _ told after (stays_freed s j _) d
-acts_stay s now (Wakes i) told after d = stays_stepped s (with_connection s i (doing Free)) i _ _ _ told after (stays_connection s i (doing Free) (λ c e. e) (λ c e. e)) d.1
-acts_stay s now (Serves i w) told after d = stays_served s now i w told after d
+acts_stay s now (Abandons i (Some l)) emitted after d = stays_stepped s (freed s l i) i _ _ _ emitted after (stays_freed s l i) d
+acts_stay s now (Abandons i None) emitted after d = stays_stepped s (with_connection s i (doing Free)) i _ _ _ emitted after (stays_connection s i (doing Free) (λ c e. e) (λ c e. e)) d
+acts_stay s now (Finishes j (Gives r)) emitted after d = stays_stepped s (freed s j _) _ _ _ _ emitted after (stays_freed s j _) d.1
+acts_stay s now (Finishes j (Breaks kind)) emitted after d = stays_stepped s (freed s j _) _ _ _ _ emitted after (stays_freed s j _) d
+acts_stay s now (Wakes i) emitted after d = stays_stepped s (with_connection s i (doing Free)) i _ _ _ emitted after (stays_connection s i (doing Free) (λ c e. e) (λ c e. e)) d.1
+acts_stay s now (Serves i w) emitted after d = stays_served s now i w emitted after d

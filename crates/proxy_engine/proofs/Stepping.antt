@@ -33,13 +33,13 @@ use Rattle.proxy_engine.proofs.Parts.{both_length}
 use Rattle.proxy_engine.proofs.Changes.{changed_core}
 
 -- a request has arrived
-pub arrived_done : (s : EngineModel) (cs1 cs2 : List (Option Connection)) (ks1 ks2 : List (Option Link)) (core core1 : CoreState) (first now i max_body : ℕ) (r : Request) (asked : Asked) (o : Outcome) (address : List ℕ) (to_head : Bool) (told : List Effect)
+pub arrived_done : (s : EngineModel) (cs1 cs2 : List (Option Connection)) (ks1 ks2 : List (Option Link)) (core core1 : CoreState) (first now i max_body : ℕ) (r : Request) (asked : Asked) (o : Outcome) (address : List ℕ) (to_head : Bool) (emitted : List Effect)
     → IsAdmitted r (Ok asked) → Steps core (events.Arrive now (i + 1) asked) o core1 → first + length ks1 < 2 ^ 64
     → came_at address o ≡ came core.table o → max_body ≡ core.table.max_body → to_head ≡ is_head asked
-    → told ≡ effects_on i (first + length ks1) (came_at address o)
+    → emitted ≡ effects_on i (first + length ks1) (came_at address o)
     → ((t : EngineModel) (k : CoreState) → k.table.max_body ≡ max_body → Represents (state cs1 ks1 k first) t → Represents (state cs2 ks2 k first) (after_on i to_head (came_at address o) t))
-    → Represents (state cs1 ks1 core first) (with_connection s i (passing (next.Message r))) → Done s now (Serves i (next.Message r)) told (state cs2 ks2 core1 first)
-arrived_done s cs1 cs2 ks1 ks2 core core1 first now i max_body r asked o address to_head told is_asked steps small upstream most head tells applies before =
+    → Represents (state cs1 ks1 core first) (with_connection s i (passing (next.Message r))) → Done s now (Serves i (next.Message r)) emitted (state cs2 ks2 core1 first)
+arrived_done s cs1 cs2 ks1 ks2 core core1 first now i max_body r asked o address to_head emitted is_asked steps small upstream most head has_trace applies before =
     let passed = with_connection s i (passing (next.Message r)) in
     let core_is : core ≡ s.core = before.core in
     let stepped : Represents (state cs1 ks1 core1 first) (with_core passed core1) = changed_core cs1 ks1 core first core1 passed before in
@@ -60,12 +60,12 @@ arrived_done s cs1 cs2 ks1 ks2 core core1 first now i max_body r asked o address
             outcome = o;
             core = core1;
             steps = subst (λ (k : CoreState). Steps k (events.Arrive now (i + 1) asked) o core1) core_is steps;
-            told_is = tells ∙ (ap (λ n. effects_on i n (came_at address o)) number ∙ ap (effects_on i (next_number s)) coming);
+            emitted_is = has_trace ∙ (ap (λ n. effects_on i n (came_at address o)) number ∙ ap (effects_on i (next_number s)) coming);
             after_is = refl;
           },
         ),
       );
-      stands = subst (λ (b : Bool). Represents (state cs2 ks2 core1 first) (after_on i b (came s.core.table o) (with_core passed core1))) head
+      represents = subst (λ (b : Bool). Represents (state cs2 ks2 core1 first) (after_on i b (came s.core.table o) (with_core passed core1))) head
           (subst (λ (q : Came). Represents (state cs2 ks2 core1 first) (after_on i to_head q (with_core passed core1))) coming done);
     }
 
@@ -74,9 +74,9 @@ abandoned_by table es xs None next id = refl
 abandoned_by table es xs (Some x) next id = refl
 
 -- a link whose connection is gone is dropped
-pub abandoned_done : (s : EngineModel) (cs1 : List (Option Connection)) (ks1 : List (Option Link)) (core core1 : CoreState) (first now i l : ℕ) (o : Outcome) (told : List Effect) → Steps core (events.Abandon (i + 1)) o core1
-    → told ≡ effects.Drop (first + l) ∷ [] → first ≡ s.first → core ≡ s.core → Represents (state cs1 ks1 core first) (freed s l i) → Done s now (Abandons i (Some l)) told (state cs1 ks1 core1 first)
-abandoned_done s cs1 ks1 core core1 first now i l o told steps is first_is core_is h =
+pub abandoned_done : (s : EngineModel) (cs1 : List (Option Connection)) (ks1 : List (Option Link)) (core core1 : CoreState) (first now i l : ℕ) (o : Outcome) (emitted : List Effect) → Steps core (events.Abandon (i + 1)) o core1
+    → emitted ≡ effects.Drop (first + l) ∷ [] → first ≡ s.first → core ≡ s.core → Represents (state cs1 ks1 core first) (freed s l i) → Done s now (Abandons i (Some l)) emitted (state cs1 ks1 core1 first)
+abandoned_done s cs1 ks1 core core1 first now i l o emitted steps is first_is core_is h =
     let ends : o ≡ outcomes.Ended = steps.outcome_is ∙ abandoned_by core.table core.entries core.exchanges (find_exchange (i + 1) core.exchanges) core.next (i + 1) in
     record {
       after = after_on i false (came s.core.table o) (with_core (freed s l i) core1);
@@ -84,16 +84,16 @@ abandoned_done s cs1 ks1 core core1 first now i l o told steps is first_is core_
         outcome = o;
         core = core1;
         steps = subst (λ (k : CoreState). Steps k (events.Abandon (i + 1)) o core1) core_is steps;
-        told_is = is ∙ (ap (λ n. effects.Drop (n + l) ∷ []) first_is ∙ sym (ap (λ (q : Outcome). effects.Drop (s.first + l) ∷ effects_on i (next_number s) (came s.core.table q)) ends));
+        emitted_is = is ∙ (ap (λ n. effects.Drop (n + l) ∷ []) first_is ∙ sym (ap (λ (q : Outcome). effects.Drop (s.first + l) ∷ effects_on i (next_number s) (came s.core.table q)) ends));
         after_is = refl;
       };
-      stands = subst (λ (q : Outcome). Represents (state cs1 ks1 core1 first) (after_on i false (came s.core.table q) (with_core (freed s l i) core1))) (sym ends) (changed_core cs1 ks1 core first core1 (freed s l i) h);
+      represents = subst (λ (q : Outcome). Represents (state cs1 ks1 core1 first) (after_on i false (came s.core.table q) (with_core (freed s l i) core1))) (sym ends) (changed_core cs1 ks1 core first core1 (freed s l i) h);
     }
 
 -- one whose request waits has no link
-pub given_up_done : (s : EngineModel) (cs1 : List (Option Connection)) (ks1 : List (Option Link)) (core core1 : CoreState) (first now i : ℕ) (o : Outcome) (told : List Effect) → Steps core (events.Abandon (i + 1)) o core1
-    → told ≡ [] → core ≡ s.core → Represents (state cs1 ks1 core first) (with_connection s i (doing Free)) → Done s now (Abandons i None) told (state cs1 ks1 core1 first)
-given_up_done s cs1 ks1 core core1 first now i o told steps is core_is h =
+pub given_up_done : (s : EngineModel) (cs1 : List (Option Connection)) (ks1 : List (Option Link)) (core core1 : CoreState) (first now i : ℕ) (o : Outcome) (emitted : List Effect) → Steps core (events.Abandon (i + 1)) o core1
+    → emitted ≡ [] → core ≡ s.core → Represents (state cs1 ks1 core first) (with_connection s i (doing Free)) → Done s now (Abandons i None) emitted (state cs1 ks1 core1 first)
+given_up_done s cs1 ks1 core core1 first now i o emitted steps is core_is h =
     let ends : o ≡ outcomes.Ended = steps.outcome_is ∙ abandoned_by core.table core.entries core.exchanges (find_exchange (i + 1) core.exchanges) core.next (i + 1) in
     let free = with_connection s i (doing Free) in
     record {
@@ -102,20 +102,20 @@ given_up_done s cs1 ks1 core core1 first now i o told steps is core_is h =
         outcome = o;
         core = core1;
         steps = subst (λ (k : CoreState). Steps k (events.Abandon (i + 1)) o core1) core_is steps;
-        told_is = is ∙ sym (ap (λ (q : Outcome). effects_on i (next_number s) (came s.core.table q)) ends);
+        emitted_is = is ∙ sym (ap (λ (q : Outcome). effects_on i (next_number s) (came s.core.table q)) ends);
         after_is = refl;
       };
-      stands = subst (λ (q : Outcome). Represents (state cs1 ks1 core1 first) (after_on i false (came s.core.table q) (with_core free core1))) (sym ends) (changed_core cs1 ks1 core first core1 free h);
+      represents = subst (λ (q : Outcome). Represents (state cs1 ks1 core1 first) (after_on i false (came s.core.table q) (with_core free core1))) (sym ends) (changed_core cs1 ks1 core first core1 free h);
     }
 
 -- a request that waited was judged anew
-pub woken_done : (s : EngineModel) (cs1 cs2 : List (Option Connection)) (ks1 ks2 : List (Option Link)) (core core1 : CoreState) (first now i max_body : ℕ) (o : Outcome) (address : List ℕ) (to_head : Bool) (told : List Effect)
+pub woken_done : (s : EngineModel) (cs1 cs2 : List (Option Connection)) (ks1 ks2 : List (Option Link)) (core core1 : CoreState) (first now i max_body : ℕ) (o : Outcome) (address : List ℕ) (to_head : Bool) (emitted : List Effect)
     → Steps core (events.Wake now (i + 1)) o core1 → first + length ks1 < 2 ^ 64
     → came_at address o ≡ came core.table o → max_body ≡ core.table.max_body → to_head ≡ asks_head (find_exchange (i + 1) core.exchanges)
-    → told ≡ effects_on i (first + length ks1) (came_at address o)
+    → emitted ≡ effects_on i (first + length ks1) (came_at address o)
     → ((t : EngineModel) (k : CoreState) → k.table.max_body ≡ max_body → Represents (state cs1 ks1 k first) t → Represents (state cs2 ks2 k first) (after_on i to_head (came_at address o) t))
-    → Represents (state cs1 ks1 core first) (with_connection s i (doing Free)) → Done s now (Wakes i) told (state cs2 ks2 core1 first)
-woken_done s cs1 cs2 ks1 ks2 core core1 first now i max_body o address to_head told steps small upstream most head tells applies before =
+    → Represents (state cs1 ks1 core first) (with_connection s i (doing Free)) → Done s now (Wakes i) emitted (state cs2 ks2 core1 first)
+woken_done s cs1 cs2 ks1 ks2 core core1 first now i max_body o address to_head emitted steps small upstream most head has_trace applies before =
     let free = with_connection s i (doing Free) in
     let core_is : core ≡ s.core = before.core in
     let stepped : Represents (state cs1 ks1 core1 first) (with_core free core1) = changed_core cs1 ks1 core first core1 free before in
@@ -134,73 +134,73 @@ woken_done s cs1 cs2 ks1 ks2 core core1 first now i max_body o address to_head t
           outcome = o;
           core = core1;
           steps = subst (λ (k : CoreState). Steps k (events.Wake now (i + 1)) o core1) core_is steps;
-          told_is = tells ∙ (ap (λ n. effects_on i n (came_at address o)) number ∙ ap (effects_on i (next_number s)) coming);
+          emitted_is = has_trace ∙ (ap (λ n. effects_on i n (came_at address o)) number ∙ ap (effects_on i (next_number s)) coming);
           after_is = refl;
         },
       );
-      stands = subst (λ (b : Bool). Represents (state cs2 ks2 core1 first) (after_on i b (came s.core.table o) (with_core free core1))) heads
+      represents = subst (λ (b : Bool). Represents (state cs2 ks2 core1 first) (after_on i b (came s.core.table o) (with_core free core1))) heads
           (subst (λ (q : Came). Represents (state cs2 ks2 core1 first) (after_on i to_head q (with_core free core1))) coming done);
     }
 
 -- what stands on a link, where it goes
-finished_steps : (s : EngineModel) (core core1 : CoreState) (first now i j : ℕ) (event : Event) (o : Outcome) (to_head : Bool) (told : List Effect) → Steps core event o core1 → told ≡ effects.Drop (first + j) ∷ effects_on i (next_number s) (came core.table o)
-    → first ≡ s.first → core ≡ s.core → StepsOn s (freed s j i) i to_head event (effects.Drop (s.first + j) ∷ []) told (after_on i to_head (came s.core.table o) (with_core (freed s j i) core1))
-finished_steps s core core1 first now i j event o to_head told steps is first_is core_is = record {
+finished_steps : (s : EngineModel) (core core1 : CoreState) (first now i j : ℕ) (event : Event) (o : Outcome) (to_head : Bool) (emitted : List Effect) → Steps core event o core1 → emitted ≡ effects.Drop (first + j) ∷ effects_on i (next_number s) (came core.table o)
+    → first ≡ s.first → core ≡ s.core → StepsOn s (freed s j i) i to_head event (effects.Drop (s.first + j) ∷ []) emitted (after_on i to_head (came s.core.table o) (with_core (freed s j i) core1))
+finished_steps s core core1 first now i j event o to_head emitted steps is first_is core_is = record {
   outcome = o;
   core = core1;
   steps = subst (λ (k : CoreState). Steps k event o core1) core_is steps;
-  told_is = is ∙ (ap (λ n. effects.Drop (n + j) ∷ effects_on i (next_number s) (came core.table o)) first_is ∙ ap (λ (k : CoreState). effects.Drop (s.first + j) ∷ effects_on i (next_number s) (came k.table o)) core_is);
+  emitted_is = is ∙ (ap (λ n. effects.Drop (n + j) ∷ effects_on i (next_number s) (came core.table o)) first_is ∙ ap (λ (k : CoreState). effects.Drop (s.first + j) ∷ effects_on i (next_number s) (came k.table o)) core_is);
   after_is = refl;
 }
 
-finished_by : (s : EngineModel) (core core1 : CoreState) (first now i j : ℕ) (f : Finish) (o : Outcome) (told : List Effect) → (gives f ≡ true → next_number s < 2 ^ 64)
-    → IsFinishedBy core now (i + 1) f o core1 → told ≡ effects.Drop (first + j) ∷ effects_on i (next_number s) (came core.table o) → first ≡ s.first → core ≡ s.core
-    → Finished s now j i f told (after_on i (asks_head (find_exchange (i + 1) s.core.exchanges)) (came s.core.table o) (with_core (freed s j i) core1))
-finished_by s core core1 first now i j (Gives r) o told left steps is first_is core_is =
-    (left refl, finished_steps s core core1 first now i j (events.Answer now (i + 1) r) o (asks_head (find_exchange (i + 1) s.core.exchanges)) told steps is first_is core_is)
-finished_by s core core1 first now i j (Breaks kind) o told left steps is first_is core_is =
-    finished_steps s core core1 first now i j (events.Fail now (i + 1) kind) o (asks_head (find_exchange (i + 1) s.core.exchanges)) told steps is first_is core_is
+finished_by : (s : EngineModel) (core core1 : CoreState) (first now i j : ℕ) (f : Finish) (o : Outcome) (emitted : List Effect) → (gives f ≡ true → next_number s < 2 ^ 64)
+    → IsFinishedBy core now (i + 1) f o core1 → emitted ≡ effects.Drop (first + j) ∷ effects_on i (next_number s) (came core.table o) → first ≡ s.first → core ≡ s.core
+    → Finished s now j i f emitted (after_on i (asks_head (find_exchange (i + 1) s.core.exchanges)) (came s.core.table o) (with_core (freed s j i) core1))
+finished_by s core core1 first now i j (Gives r) o emitted left steps is first_is core_is =
+    (left refl, finished_steps s core core1 first now i j (events.Answer now (i + 1) r) o (asks_head (find_exchange (i + 1) s.core.exchanges)) emitted steps is first_is core_is)
+finished_by s core core1 first now i j (Breaks kind) o emitted left steps is first_is core_is =
+    finished_steps s core core1 first now i j (events.Fail now (i + 1) kind) o (asks_head (find_exchange (i + 1) s.core.exchanges)) emitted steps is first_is core_is
 
 pub ends_table : (core core1 : CoreState) (now id : ℕ) (f : Finish) (o : Outcome) → IsFinishedBy core now id f o core1 → core1.table ≡ core.table
 ends_table core core1 now id (Gives r) o h = ap (λ (k : CoreState). k.table) h.leaves
 ends_table core core1 now id (Breaks kind) o h = ap (λ (k : CoreState). k.table) h.leaves
 
 -- an exchange was finished, or goes forward once more
-pub finished_done : (s : EngineModel) (cs1 cs2 : List (Option Connection)) (ks1 ks2 : List (Option Link)) (core core1 : CoreState) (first now i j max_body : ℕ) (f : Finish) (o : Outcome) (address : List ℕ) (to_head : Bool) (told : List Effect)
+pub finished_done : (s : EngineModel) (cs1 cs2 : List (Option Connection)) (ks1 ks2 : List (Option Link)) (core core1 : CoreState) (first now i j max_body : ℕ) (f : Finish) (o : Outcome) (address : List ℕ) (to_head : Bool) (emitted : List Effect)
     → is_some (find_exchange (i + 1) core.exchanges) ≡ true → (gives f ≡ true → next_number s < 2 ^ 64) → IsFinishedBy core now (i + 1) f o core1 → came_at address o ≡ came core.table o → max_body ≡ core.table.max_body
-    → to_head ≡ asks_head (find_exchange (i + 1) core.exchanges) → first + length ks1 ≡ next_number s → told ≡ effects.Drop (first + j) ∷ effects_on i (first + length ks1) (came_at address o) → first ≡ s.first → core ≡ s.core → i ≡ (link_at s j).connection
+    → to_head ≡ asks_head (find_exchange (i + 1) core.exchanges) → first + length ks1 ≡ next_number s → emitted ≡ effects.Drop (first + j) ∷ effects_on i (first + length ks1) (came_at address o) → first ≡ s.first → core ≡ s.core → i ≡ (link_at s j).connection
     → Represents (state cs1 ks1 core first) (freed s j i) → ((t : EngineModel) (k : CoreState) → k.table.max_body ≡ max_body → Represents (state cs1 ks1 k first) t → Represents (state cs2 ks2 k first) (after_on i to_head (came_at address o) t))
-    → Done s now (Finishes j f) told (state cs2 ks2 core1 first)
-finished_done s cs1 cs2 ks1 ks2 core core1 first now i j max_body f o address to_head told there left steps upstream most head number is first_is core_is owner gone applies =
+    → Done s now (Finishes j f) emitted (state cs2 ks2 core1 first)
+finished_done s cs1 cs2 ks1 ks2 core core1 first now i j max_body f o address to_head emitted there left steps upstream most head number is first_is core_is owner gone applies =
     let behind = with_core (freed s j i) core1 in
-    let tells : told ≡ effects.Drop (first + j) ∷ effects_on i (next_number s) (came core.table o) =
+    let has_trace : emitted ≡ effects.Drop (first + j) ∷ effects_on i (next_number s) (came core.table o) =
     is ∙ (ap (λ n. effects.Drop (first + j) ∷ effects_on i n (came_at address o)) number ∙ ap (λ (q : Came). effects.Drop (first + j) ∷ effects_on i (next_number s) q) upstream) in
     let most_after : core1.table.max_body ≡ max_body = ap (λ (t : Table). t.max_body) (ends_table core core1 now (i + 1) f o steps) ∙ sym most in
     let stepped = applies behind core1 most_after (changed_core cs1 ks1 core first core1 (freed s j i) gone) in
-    let told_way : Represents (state cs2 ks2 core1 first) (after_on i to_head (came s.core.table o) behind) =
+    let emitted_way : Represents (state cs2 ks2 core1 first) (after_on i to_head (came s.core.table o) behind) =
     subst (λ (q : Came). Represents (state cs2 ks2 core1 first) (after_on i to_head q behind)) (upstream ∙ ap (λ (k : CoreState). came k.table o) core_is) stepped in
-    let told_head : Represents (state cs2 ks2 core1 first) (after_on i (asks_head (find_exchange (i + 1) s.core.exchanges)) (came s.core.table o) behind) =
-    subst (λ (b : Bool). Represents (state cs2 ks2 core1 first) (after_on i b (came s.core.table o) behind)) (head ∙ ap (λ (k : CoreState). asks_head (find_exchange (i + 1) k.exchanges)) core_is) told_way in
+    let emitted_head : Represents (state cs2 ks2 core1 first) (after_on i (asks_head (find_exchange (i + 1) s.core.exchanges)) (came s.core.table o) behind) =
+    subst (λ (b : Bool). Represents (state cs2 ks2 core1 first) (after_on i b (came s.core.table o) behind)) (head ∙ ap (λ (k : CoreState). asks_head (find_exchange (i + 1) k.exchanges)) core_is) emitted_way in
     let after = after_on i (asks_head (find_exchange (i + 1) s.core.exchanges)) (came s.core.table o) behind in
     record {
       after = after;
-      does = subst (λ (n : ℕ). Finished s now j n f told after) owner (finished_by s core core1 first now i j f o told left steps tells first_is core_is);
-      stands = told_head;
+      does = subst (λ (n : ℕ). Finished s now j n f emitted after) owner (finished_by s core core1 first now i j f o emitted left steps has_trace first_is core_is);
+      represents = emitted_head;
     }
 
 -- an exchange that isn't finished, since no number is left
-pub spent_failed : (s : EngineModel) (j : ℕ) (f : Finish) → gives f ≡ true → 2 ^ 64 ≤ next_number s → IsDueFirst s (Some (Finishes j f)) → Failed s Spent
-spent_failed s j (Gives r) may many due = (Finishes j (Gives r), due, tt, many)
-spent_failed s j (Breaks kind) may many due = absurd (cc)
+pub exhausted_failed : (s : EngineModel) (j : ℕ) (f : Finish) → gives f ≡ true → 2 ^ 64 ≤ next_number s → IsDueFirst s (Some (Finishes j f)) → Failed s Spent
+exhausted_failed s j (Gives r) may many due = (Finishes j (Gives r), due, tt, many)
+exhausted_failed s j (Breaks kind) may many due = absurd (cc)
 
-pub spent_told : (spent : Bool) (f : Finish) → spent ≡ true → gives f ≡ true → EndFault spent f Spent
-spent_told spent (Gives r) none may = none
-spent_told spent (Breaks kind) none may = absurd (cc)
+pub exhausted_found : (exhausted : Bool) (f : Finish) → exhausted ≡ true → gives f ≡ true → EndFault exhausted f Spent
+exhausted_found exhausted (Gives r) none may = none
+exhausted_found exhausted (Breaks kind) none may = absurd (cc)
 
 -- one that isn't finished because memory ran out, where a number is left or none is asked for
-pub memory_told : (spent : Bool) (f : Finish) → (gives f ≡ true → spent ≡ false) → EndFault spent f OutOfMemory
-memory_told spent (Gives r) left = left refl
-memory_told spent (Breaks kind) left = tt
+pub memory_found : (exhausted : Bool) (f : Finish) → (gives f ≡ true → exhausted ≡ false) → EndFault exhausted f OutOfMemory
+memory_found exhausted (Gives r) left = left refl
+memory_found exhausted (Breaks kind) left = tt
 
 -- a link on which something stands counts two
 pub link_counts : (k : Option Link) (f : Finish) → finish_at k ≡ Some f → link_load k ≡ 2

@@ -8,7 +8,7 @@ use Rattle.proxy_engine.specs.Happenings.{Accepts}
 use Rattle.hx_framing.specs.declared.messages.Request.{Request}
 use Rattle.hx_framing.specs.RequestState.{State as RequestState}
 use Rattle.proxy_engine.specs.declared.endpoints.peeked.Peeked.{Peeked}
-use Rattle.proxy_engine.specs.Peeked.{RequestStands}
+use Rattle.proxy_engine.specs.Peeked.{RequestRepresents}
 use Rattle.proxy_engine.specs.EngineModel.{EngineModel, ConnectionModel, LinkModel, accepted, no_connection, no_link, connection_at, link_at, with_connection, with_link, connection_fault, link_fault, heard, fault_of, sent, ended, left, heard_by, shut, failed_by, keeps_bytes, keeps_answer}
 use Rattle.proxy_engine.specs.State.{ConnectionRepresents, LinkRepresents, Represents, state, IsRefusal}
 use Rattle.proxy_engine.specs.Pairing.{activity_of}
@@ -118,11 +118,11 @@ link_keeps cs ks core first s l j x place within e read h =
     (ap (λ (b : Bool). not (b || (is_some k.failed || k.progress.ended))) q.still ∙ (ap (λ o. not (is_some o || k.progress.ended)) (sym q.failed) ∙ (ap (λ (b : Bool). not (is_some x.failed || b)) (sym q.ended) ∙ ap not read)))
 
 -- a connection more
-pub accepted_more : (cs : List (Option Connection)) (ks : List (Option Link)) (core : CoreState) (first : ℕ) (s : EngineModel) (max_body : ℕ) (w : Peeked RequestState Request) → core.table.max_body ≡ max_body → RequestStands w (start max_body false) → Represents (state cs ks core first) s
+pub accepted_more : (cs : List (Option Connection)) (ks : List (Option Link)) (core : CoreState) (first : ℕ) (s : EngineModel) (max_body : ℕ) (w : Peeked RequestState Request) → core.table.max_body ≡ max_body → RequestRepresents w (start max_body false) → Represents (state cs ks core first) s
     → Represents (state (cs ++ Some (record { reader = w; ended = false; gone = false; activity = Free }) ∷ []) ks core first) (heard s (Accepts 0))
 accepted_more cs ks core first s max_body w most fresh h = record {
   connections = both_push ConnectionRepresents cs s.connections (Some (record { reader = w; ended = false; gone = false; activity = Free })) (accepted s.core.table.max_body) h.connections
-      record { reader = subst (λ (n : ℕ). RequestStands w (start n false)) (sym most ∙ ap (λ (k : CoreState). k.table.max_body) h.core) fresh; ended = refl; gone = refl; activity = refl; still = refl; used = λ e. absurd (cc) };
+      record { reader = subst (λ (n : ℕ). RequestRepresents w (start n false)) (sym most ∙ ap (λ (k : CoreState). k.table.max_body) h.core) fresh; ended = refl; gone = refl; activity = refl; still = refl; used = λ e. absurd (cc) };
   links = h.links;
   core = h.core;
   first = h.first;

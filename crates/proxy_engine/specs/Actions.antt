@@ -60,12 +60,12 @@ gives (Breaks kind) = false
 
 -- Why an exchange isn't finished, where no link number is left or one is. Out of memory never hides that none is left.
 abbrev pub EndFault : Bool → Finish → EngineFault → Type 0
-EndFault spent finish WrongNumber = ⊥
-EndFault spent finish NotAccepted = ⊥
-EndFault spent (Gives r) OutOfMemory = spent ≡ false
-EndFault spent (Breaks kind) OutOfMemory = Unit {0}
-EndFault spent (Gives r) Spent = spent ≡ true
-EndFault spent (Breaks kind) Spent = ⊥
+EndFault exhausted finish WrongNumber = ⊥
+EndFault exhausted finish NotAccepted = ⊥
+EndFault exhausted (Gives r) OutOfMemory = exhausted ≡ false
+EndFault exhausted (Breaks kind) OutOfMemory = Unit {0}
+EndFault exhausted (Gives r) Spent = exhausted ≡ true
+EndFault exhausted (Breaks kind) Spent = ⊥
 
 abbrev pub goes_forward : Outcome → Bool
 goes_forward (outcomes.Reply reply) = false

@@ -121,12 +121,12 @@ next_number s = s.first + length s.links
 
 -- The core was stepped by this event, on the connection at i; before that the model was t, with s's core and links.
 -- Links that it opens answer a HEAD or not; the effects `before` come first.
-pub record StepsOn (s t : EngineModel) (i : ℕ) (to_head : Bool) (event : Event) (before told : List Effect)
+pub record StepsOn (s t : EngineModel) (i : ℕ) (to_head : Bool) (event : Event) (before emitted : List Effect)
     (after : EngineModel) : Type 0 where
   pub outcome : Outcome
   pub core : CoreState
   pub steps : Steps s.core event outcome core
-  pub told_is : told ≡ before ++ effects_on i (next_number s) (came s.core.table outcome)
+  pub emitted_is : emitted ≡ before ++ effects_on i (next_number s) (came s.core.table outcome)
   pub after_is : after ≡ after_on i to_head (came s.core.table outcome) (with_core t core)
 
 -- 100 Continue (RFC 9110, section 15.2.1)
@@ -134,64 +134,71 @@ abbrev pub continue_text : List ℕ
 continue_text = codes "HTTP/1.1 100 Continue\r\n\r\n"
 
 -- the proxy answers by itself, and closes
-pub record Refuses (s : EngineModel) (now i : ℕ) (why : Cause) (head : Bool) (told : List Effect)
+pub record Refuses (s : EngineModel) (now i : ℕ) (why : Cause) (head : Bool) (emitted : List Effect)
     (after : EngineModel) : Type 0 where
-  pub told_is : told ≡ effects.Client (i + 1) (refused_text (date_text_of now) why true head) ∷ effects.Close (i + 1)
+  pub emitted_is : emitted ≡ effects.Client (i + 1) (refused_text (date_text_of now) why true head)
+      ∷ effects.Close (i + 1)
       ∷ []
   pub after_is : after ≡ with_connection s i (closing true)
 
 abbrev pub Closes : EngineModel → ℕ → List Effect → EngineModel → Type 0
-Closes s i told after = (told ≡ effects.Close (i + 1) ∷ []) × (after ≡ with_connection s i (closing true))
+Closes s i emitted after = (emitted ≡ effects.Close (i + 1) ∷ []) × (after ≡ with_connection s i (closing true))
 
 -- a request arrives at the core, or is refused
 abbrev pub Arrives : EngineModel → ℕ → ℕ → Request → Result Asked Refusal → List Effect → EngineModel → Type 0
-Arrives s now i r (Ok asked) told after =
+Arrives s now i r (Ok asked) emitted after =
     (next_number s < 2 ^ 64) × StepsOn s (with_connection s i (passing (next.Message r))) i (is_head asked)
-    (events.Arrive now (i + 1) asked) [] told after
-Arrives s now i r (Err refusal) told after = Refuses s now i refusal.why refusal.head told after
+    (events.Arrive now (i + 1) asked) [] emitted after
+Arrives s now i r (Err refusal) emitted after = Refuses s now i refusal.why refusal.head emitted after
 
 -- what a client's stream asks for is done
 abbrev pub Served : EngineModel → ℕ → ℕ → Next Request → List Effect → EngineModel → Type 0
-Served s now i next.More told after = ⊥
-Served s now i next.NeedsContinue told after =
-    (told ≡ effects.Client (i + 1) continue_text ∷ []) × (after ≡ with_connection s i (passing next.NeedsContinue))
-Served s now i (next.Message r) told after =
-    (judged : Result Asked Refusal) × IsAdmitted r judged × Arrives s now i r judged told after
-Served s now i (next.Refused frame.Truncated) told after = Closes s i told after
-Served s now i (next.Refused frame.Head) told after = Refuses s now i (cause.Frame frame.Head) false told after
-Served s now i (next.Refused frame.Version) told after = Refuses s now i (cause.Frame frame.Version) false told after
-Served s now i (next.Refused frame.BothLengths) told after =
-    Refuses s now i (cause.Frame frame.BothLengths) false told after
-Served s now i (next.Refused frame.Length) told after = Refuses s now i (cause.Frame frame.Length) false told after
-Served s now i (next.Refused frame.Coding) told after = Refuses s now i (cause.Frame frame.Coding) false told after
-Served s now i (next.Refused frame.Chunk) told after = Refuses s now i (cause.Frame frame.Chunk) false told after
-Served s now i (next.Refused frame.TooLarge) told after = Refuses s now i (cause.Frame frame.TooLarge) false told after
-Served s now i (next.Refused frame.Expect) told after = Refuses s now i (cause.Frame frame.Expect) false told after
-Served s now i (next.Refused frame.Status) told after = Refuses s now i (cause.Frame frame.Status) false told after
-Served s now i next.End told after = Closes s i told after
+Served s now i next.More emitted after = ⊥
+Served s now i next.NeedsContinue emitted after =
+    (emitted ≡ effects.Client (i + 1) continue_text ∷ []) × (after ≡ with_connection s i (passing next.NeedsContinue))
+Served s now i (next.Message r) emitted after =
+    (judged : Result Asked Refusal) × IsAdmitted r judged × Arrives s now i r judged emitted after
+Served s now i (next.Refused frame.Truncated) emitted after = Closes s i emitted after
+Served s now i (next.Refused frame.Head) emitted after = Refuses s now i (cause.Frame frame.Head) false emitted after
+Served s now i (next.Refused frame.Version) emitted after =
+    Refuses s now i (cause.Frame frame.Version) false emitted after
+Served s now i (next.Refused frame.BothLengths) emitted after =
+    Refuses s now i (cause.Frame frame.BothLengths) false emitted after
+Served s now i (next.Refused frame.Length) emitted after =
+    Refuses s now i (cause.Frame frame.Length) false emitted after
+Served s now i (next.Refused frame.Coding) emitted after =
+    Refuses s now i (cause.Frame frame.Coding) false emitted after
+Served s now i (next.Refused frame.Chunk) emitted after = Refuses s now i (cause.Frame frame.Chunk) false emitted after
+Served s now i (next.Refused frame.TooLarge) emitted after =
+    Refuses s now i (cause.Frame frame.TooLarge) false emitted after
+Served s now i (next.Refused frame.Expect) emitted after =
+    Refuses s now i (cause.Frame frame.Expect) false emitted after
+Served s now i (next.Refused frame.Status) emitted after =
+    Refuses s now i (cause.Frame frame.Status) false emitted after
+Served s now i next.End emitted after = Closes s i emitted after
 
 -- the exchange on the link at j, of the connection at i, is finished
 abbrev pub Finished : EngineModel → ℕ → ℕ → ℕ → Finish → List Effect → EngineModel → Type 0
-Finished s now j i (Gives r) told after =
+Finished s now j i (Gives r) emitted after =
     (next_number s < 2 ^ 64) × StepsOn s (freed s j i) i (asks_head (find_exchange (i + 1) s.core.exchanges))
-    (events.Answer now (i + 1) r) (effects.Drop (s.first + j) ∷ []) told after
-Finished s now j i (Breaks kind) told after =
+    (events.Answer now (i + 1) r) (effects.Drop (s.first + j) ∷ []) emitted after
+Finished s now j i (Breaks kind) emitted after =
     StepsOn s (freed s j i) i (asks_head (find_exchange (i + 1) s.core.exchanges)) (events.Fail now (i + 1) kind)
-    (effects.Drop (s.first + j) ∷ []) told after
+    (effects.Drop (s.first + j) ∷ []) emitted after
 
 -- the request of the connection at i waited, and is judged anew
 abbrev pub Woken : EngineModel → ℕ → ℕ → List Effect → EngineModel → Type 0
-Woken s now i told after =
+Woken s now i emitted after =
     (next_number s < 2 ^ 64) × StepsOn s (with_connection s i (doing Free)) i
-    (asks_head (find_exchange (i + 1) s.core.exchanges)) (events.Wake now (i + 1)) [] told after
+    (asks_head (find_exchange (i + 1) s.core.exchanges)) (events.Wake now (i + 1)) [] emitted after
 
 -- an act was done, with these effects
 abbrev pub Does : EngineModel → ℕ → Act → List Effect → EngineModel → Type 0
-Does s now (Abandons i l) told after =
-    StepsOn s (freed_by s l i) i false (events.Abandon (i + 1)) (drops_on s.first l) told after
-Does s now (Finishes j finish) told after = Finished s now j (link_at s j).connection finish told after
-Does s now (Wakes i) told after = Woken s now i told after
-Does s now (Serves i action) told after = Served s now i action told after
+Does s now (Abandons i l) emitted after =
+    StepsOn s (freed_by s l i) i false (events.Abandon (i + 1)) (drops_on s.first l) emitted after
+Does s now (Finishes j finish) emitted after = Finished s now j (link_at s j).connection finish emitted after
+Does s now (Wakes i) emitted after = Woken s now i emitted after
+Does s now (Serves i action) emitted after = Served s now i action emitted after
 
 -- an arrival, an answer or a wake, which may go forward
 abbrev pub MayForward : Act → Type 0

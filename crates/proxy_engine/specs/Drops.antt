@@ -1,7 +1,7 @@
 -- Which links an act drops, and how many effects it has.
 --
 -- drop_of: the link that an effect drops     OnlyFirstDrops: an act drops one link at most, before all else
--- ActsAreShort, ActsTellDrops, TakesDropNone: the laws
+-- ActsAreShort, ActsEmitDrops, TakesDropNone: the laws
 use Rattle.std.specs.Prelude.{◌≡◌, ◌⊎◌, ℕ, ◌+◌, ◌<◌, ◌≤◌, List, [], ◌∷◌, length, true, Option, None, Some}
 use Rattle.std.specs.List.{AllByRecursion}
 use Rattle.proxy_script.specs.declared.effect_list.Effect.{Effect}
@@ -18,25 +18,25 @@ drop_of (effects.Close n) = None
 drop_of (effects.Drop l) = Some l
 
 abbrev pub DropsNone : List Effect → Type 0
-DropsNone told = AllByRecursion (λ (e : Effect). drop_of e ≡ None) told
+DropsNone emitted = AllByRecursion (λ (e : Effect). drop_of e ≡ None) emitted
 
 -- what follows the first effect drops no link
 abbrev pub OnlyFirstDrops : List Effect → Type 0
 OnlyFirstDrops [] = Unit {0}
-OnlyFirstDrops (e ∷ told) = DropsNone told
+OnlyFirstDrops (e ∷ emitted) = DropsNone emitted
 
 abbrev pub ActsAreShort : Type 0
 ActsAreShort =
-    (s : EngineModel) (now : ℕ) (act : Act) (told : List Effect) (after : EngineModel) → Does s now act told after
-    → (length told ≤ 3) × OnlyFirstDrops told
+    (s : EngineModel) (now : ℕ) (act : Act) (emitted : List Effect) (after : EngineModel) → Does s now act emitted after
+    → (length emitted ≤ 3) × OnlyFirstDrops emitted
 
 -- a link that is dropped behind an act was dropped before it, or the act tells that
-abbrev pub ActsTellDrops : Type 0
-ActsTellDrops =
-    (s : EngineModel) (now : ℕ) (act : Act) (told : List Effect) (after : EngineModel) (j : ℕ)
-    → Does s now act told after → j < length after.links → (link_at after j).dropped ≡ true →
+abbrev pub ActsEmitDrops : Type 0
+ActsEmitDrops =
+    (s : EngineModel) (now : ℕ) (act : Act) (emitted : List Effect) (after : EngineModel) (j : ℕ)
+    → Does s now act emitted after → j < length after.links → (link_at after j).dropped ≡ true →
     ((j < length s.links) × ((link_at s j).dropped ≡ true))
-    ⊎ ((rest : List Effect) × (told ≡ effects.Drop (s.first + j) ∷ rest))
+    ⊎ ((rest : List Effect) × (emitted ≡ effects.Drop (s.first + j) ∷ rest))
 
 -- what happens drops no link
 abbrev pub TakesDropNone : Type 0

@@ -64,8 +64,8 @@ FinishBy true k o = o ≡ None
 FinishBy false k o = (a : Next Response) × ResponseAnswers k.progress a × (o ≡ finish_of a k.failed)
 
 -- what stands on a link
-abbrev pub Stood : LinkModel → Option Finish → Type 0
-Stood k o = FinishBy k.dropped k o
+abbrev pub FinishDue : LinkModel → Option Finish → Type 0
+FinishDue k o = FinishBy k.dropped k o
 
 -- it is gone or closed, or has an open exchange
 abbrev pub is_busy : Bool → Bool → Activity → Bool
@@ -101,13 +101,13 @@ next_ready core = slice_get (ready_ids core.exchanges) 0
 abbrev pub IsDueFirst : EngineModel → Option Act → Type 0
 IsDueFirst s (Some (Abandons i l)) = IsFirst Lost no_connection s.connections (Some (i, l))
 IsDueFirst s (Some (Finishes j f)) =
-    IsFirst Lost no_connection s.connections None × IsFirst Stood no_link s.links (Some (j, f))
+    IsFirst Lost no_connection s.connections None × IsFirst FinishDue no_link s.links (Some (j, f))
 IsDueFirst s (Some (Wakes i)) =
-    IsFirst Lost no_connection s.connections None × IsFirst Stood no_link s.links None
+    IsFirst Lost no_connection s.connections None × IsFirst FinishDue no_link s.links None
     × (next_ready s.core ≡ Some (i + 1))
 IsDueFirst s (Some (Serves i w)) =
-    IsFirst Lost no_connection s.connections None × IsFirst Stood no_link s.links None × (next_ready s.core ≡ None)
+    IsFirst Lost no_connection s.connections None × IsFirst FinishDue no_link s.links None × (next_ready s.core ≡ None)
     × IsFirst Wanted no_connection s.connections (Some (i, w))
 IsDueFirst s None =
-    IsFirst Lost no_connection s.connections None × IsFirst Stood no_link s.links None × (next_ready s.core ≡ None)
+    IsFirst Lost no_connection s.connections None × IsFirst FinishDue no_link s.links None × (next_ready s.core ≡ None)
     × IsFirst Wanted no_connection s.connections None

@@ -19,7 +19,7 @@ use Rattle.proxy_core.specs.ReadAnswers.{IsReadEvent}
 use Rattle.proxy_core.specs.Traces.{Item}
 use Rattle.proxy_engine.specs.EngineModel.{EngineModel, ConnectionModel, LinkModel, connection_at, link_at}
 use Rattle.proxy_engine.specs.Due.{Act, Abandons, Finishes, Wakes, Serves, Gives, Breaks, IsDueFirst, is_busy}
-use Rattle.proxy_engine.specs.Lives.{Step, Tells}
+use Rattle.proxy_engine.specs.Executions.{Step, HasTrace}
 
 -- the link isn't dropped, and this is the response that its stream spells: none was given of it
 pub record SpellsAnswer (k : LinkModel) (response : Response) : Type 0 where
@@ -36,7 +36,7 @@ pub record SpellsRequest (c : ConnectionModel) (request : Request) : Type 0 wher
   pub behind : List ℕ
   pub given : StreamSpells c.progress.max_body c.progress.stream c.progress.given behind
   pub rest : List ℕ
-  pub reads : ReadsRequest c.progress.max_body c.progress.ended c.progress.told behind (Spelled request rest)
+  pub reads : ReadsRequest c.progress.max_body c.progress.ended c.progress.continue_sent behind (Spelled request rest)
 
 -- the message that an act is about is what the stream of its own end spells next
 abbrev pub IsSpelled : EngineModel → Act → Type 0
@@ -66,7 +66,7 @@ ActsAreSpelled = (s : EngineModel) (act : Act) → IsDueFirst s (Some act) → I
 abbrev pub AnswersAre : (Event → Type 0) → Type 0
 AnswersAre Is =
     (table : Table) (begin last : EngineModel) (steps : List Step) (trace : List Item)
-    → Tells table begin steps last trace →
+    → HasTrace table begin steps last trace →
     AllByRecursion (λ item. Is item.event) trace
 
 abbrev pub AnswersAreRead : Type 0

@@ -7,7 +7,7 @@ pub mod Admitted
 pub mod Due
 pub mod Acts
 pub mod State
-pub mod Spent
+pub mod Exhausted
 pub mod Room
 pub mod Reading
 pub mod ReadyList
@@ -18,7 +18,7 @@ pub mod Pairing
 pub mod OpenEnds
 pub mod Orderly
 pub mod Drops
-pub mod Lives
+pub mod Executions
 pub mod FinalAnswers
 pub mod OneRun
 pub mod ModelCases

@@ -1,9 +1,9 @@
 -- What is kept of the proxy's ends, and at which of them something may be due.
 --
 -- EndList: what contracts see of the connections and links
--- may_be_lost, may_want, may_stand: something may be due there
+-- may_be_lost, may_want, may_finish: something may be due there
 -- LooksLikeConnection, LooksLikeLink, AtEach: what a look leaves
--- NoneBelow, NoneAtAll: nothing may be due          lost_at, StandsThere, WantsThere: something is
+-- NoneBelow, NoneAtAll: nothing may be due          lost_at, FinishThere, WantsThere: something is
 use Rattle.std.specs.Prelude.{◌≡◌, ℕ, ◌<◌, ◌≤◌, List, Bool, true, false, ◌&&◌, ◌||◌, not, Option, None, Some, is_some}
 use Rattle.std.specs.Prelude.{if◌then◌else◌}
 use Rattle.std.specs.Ordering.{nat_cmp}
@@ -11,7 +11,7 @@ use Rattle.std.specs.BTreeMap.{BTreeMap, get}
 use Rattle.proxy_engine.specs.Activities.{link_of, has_exchange}
 use Rattle.proxy_engine.specs.Lookahead.{may_show}
 use Rattle.proxy_engine.specs.EngineModel.{ConnectionModel, LinkModel}
-use Rattle.proxy_engine.specs.Due.{is_busy, Stood, Wanted}
+use Rattle.proxy_engine.specs.Due.{is_busy, FinishDue, Wanted}
 use Rattle.proxy_engine.specs.State.{ConnectionRepresents, LinkRepresents, finish_at, action_at, connection_load}
 use Rattle.proxy_engine.specs.State.{link_load}
 use Rattle.proxy_engine.specs.declared.endpoints.ends.Connection.{Connection}
@@ -32,18 +32,18 @@ abbrev pub may_want : Connection → Bool
 may_want c = not (is_busy c.gone false c.activity) && may_show c.reader.ahead
 
 -- it has failed, or no look has found that no answer stands on it
-abbrev pub may_stand : Link → Bool
-may_stand k = may_show k.reader.ahead || is_some k.failed
+abbrev pub may_finish : Link → Bool
+may_finish k = may_show k.reader.ahead || is_some k.failed
 
 -- after a look: it represents the same models, and no more is to come
 pub record LooksLikeConnection (old new : Connection) : Type 0 where
-  pub stands : (s : ConnectionModel) → ConnectionRepresents (Some old) s → ConnectionRepresents (Some new) s
+  pub represents : (s : ConnectionModel) → ConnectionRepresents (Some old) s → ConnectionRepresents (Some new) s
   pub gone : new.gone ≡ old.gone
   pub activity : new.activity ≡ old.activity
   pub load : connection_load (Some new) ≤ connection_load (Some old)
 
 pub record LooksLikeLink (old new : Link) : Type 0 where
-  pub stands : (s : LinkModel) → LinkRepresents (Some old) s → LinkRepresents (Some new) s
+  pub represents : (s : LinkModel) → LinkRepresents (Some old) s → LinkRepresents (Some new) s
   pub connection : new.connection ≡ old.connection
   pub load : link_load (Some new) ≤ link_load (Some old)
 
@@ -76,8 +76,8 @@ abbrev pub ShownThere : {A B C : Type 0} → (Option A → B → Type 0) → (B 
     → Option A → Type 0
 ShownThere {A} {B} R P seen o = (is_some (seen o) ≡ true) × ((s : B) → R o s → P s (seen o))
 
-abbrev pub StandsThere : Option Link → Type 0
-StandsThere k = ShownThere LinkRepresents Stood finish_at k
+abbrev pub FinishThere : Option Link → Type 0
+FinishThere k = ShownThere LinkRepresents FinishDue finish_at k
 
 abbrev pub WantsThere : Option Connection → Type 0
 WantsThere c = ShownThere ConnectionRepresents Wanted action_at c

@@ -19,15 +19,15 @@ use Rattle.proxy_engine.specs.State.{begun}
 use Rattle.proxy_engine.specs.Pairing.{Paired}
 
 -- what a connection does
-abbrev pub activity_told : ConnectionModel → Activity
-activity_told c = c.activity
+abbrev pub model_activity : ConnectionModel → Activity
+model_activity c = c.activity
 
 -- the connection whose request went forward on a link that isn't dropped
-abbrev pub owner_told : LinkModel → Option ℕ
-owner_told k = if k.dropped then None else Some k.connection
+abbrev pub model_owner : LinkModel → Option ℕ
+model_owner k = if k.dropped then None else Some k.connection
 
 pub record IsOrderly (s : EngineModel) : Type 0 where
-  pub paired : Paired (map activity_told s.connections) (map owner_told s.links) s.core.exchanges
+  pub paired : Paired (map model_activity s.connections) (map model_owner s.links) s.core.exchanges
   pub free : (i : ℕ) → (connection_at s i).closed ≡ true → (connection_at s i).activity ≡ Free
 
 -- the connection of this number is neither closed nor gone
@@ -74,13 +74,13 @@ TakesInOrder = (s : EngineModel) (h : Said) → IsOrderly s → IsOrderly (heard
 
 abbrev pub ActsInOrder : Type 0
 ActsInOrder =
-    (s : EngineModel) (now : ℕ) (act : Act) (told : List Effect) (after : EngineModel) → IsOrderly s
-    → IsDueFirst s (Some act) → Does s now act told after → IsOrderly after × NamesOpen s after told
+    (s : EngineModel) (now : ℕ) (act : Act) (emitted : List Effect) (after : EngineModel) → IsOrderly s
+    → IsDueFirst s (Some act) → Does s now act emitted after → IsOrderly after × NamesOpen s after emitted
 
 abbrev pub TakesStay : Type 0
 TakesStay = (s : EngineModel) (h : Said) → Stays s (heard s h)
 
 abbrev pub ActsStay : Type 0
 ActsStay =
-    (s : EngineModel) (now : ℕ) (act : Act) (told : List Effect) (after : EngineModel) → Does s now act told after
+    (s : EngineModel) (now : ℕ) (act : Act) (emitted : List Effect) (after : EngineModel) → Does s now act emitted after
     → Stays s after

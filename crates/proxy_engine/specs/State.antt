@@ -19,10 +19,10 @@ use Rattle.proxy_engine.specs.Happenings.{Said}
 use Rattle.proxy_engine.specs.declared.endpoints.lookahead.Lookahead.{Lookahead}
 use Rattle.proxy_engine.specs.declared.endpoints.lookahead.Lookahead.TheVariants.{Unknown, Quiet, Due}
 use Rattle.proxy_engine.specs.Lookahead.{unsettled}
-use Rattle.proxy_engine.specs.Peeked.{RequestStands, ResponseStands, request_load}
+use Rattle.proxy_engine.specs.Peeked.{RequestRepresents, ResponseRepresents, request_load}
 use Rattle.proxy_engine.specs.EngineModel.{EngineModel, ConnectionModel, LinkModel, no_connection, no_link, fault_of}
 use Rattle.proxy_engine.specs.EngineModel.{heard}
-use Rattle.proxy_engine.specs.Due.{Finish, Breaks, finish_of, action_of, is_busy, IsFirst, Stood, Wanted, Act}
+use Rattle.proxy_engine.specs.Due.{Finish, Breaks, finish_of, action_of, is_busy, IsFirst, FinishDue, Wanted, Act}
 use Rattle.proxy_engine.specs.Due.{IsDueFirst}
 use Rattle.proxy_engine.specs.declared.endpoints.activities.Activity.{Activity}
 use Rattle.proxy_engine.specs.declared.endpoints.activities.Activity.TheVariants.{Free, Forwarded, Waiting}
@@ -53,7 +53,7 @@ Both R (x ∷ xs) (y ∷ ys) = R x y × Both R xs ys
 
 -- a connection that isn't over
 pub record ConnHolds (c : Connection) (s : ConnectionModel) : Type 0 where
-  pub reader : RequestStands c.reader s.progress
+  pub reader : RequestRepresents c.reader s.progress
   pub ended : c.ended ≡ s.progress.ended
   pub gone : c.gone ≡ s.gone
   pub activity : c.activity ≡ s.activity
@@ -66,7 +66,7 @@ ConnectionRepresents None s = (s.gone || s.closed ≡ true) × (s.activity ≡ F
 ConnectionRepresents (Some c) s = ConnHolds c s
 
 pub record LinkHolds (k : Link) (s : LinkModel) : Type 0 where
-  pub reader : ResponseStands k.reader s.progress
+  pub reader : ResponseRepresents k.reader s.progress
   pub ended : k.ended ≡ s.progress.ended
   pub failed : k.failed ≡ s.failed
   pub still : s.dropped ≡ false
@@ -98,7 +98,7 @@ state connections links core first =
 pub record TakesTo (s : EngineModel) (h : Said) (cs : List (Option Connection)) (ks : List (Option Link))
     (kept : CoreState) (number : ℕ) : Type 0 where
   pub free : fault_of s h ≡ None
-  pub stands : Tallies cs ks kept number (heard s h)
+  pub represents : Tallies cs ks kept number (heard s h)
 
 abbrev pub Takes : EngineModel → Said → State → Type 0
 Takes s h new = TakesTo s h new.connections new.links new.core new.first
@@ -160,7 +160,7 @@ Found {A} {B} R P d seen xs None = (ys : List B) → Both R xs ys → IsFirst P 
 Found R P d seen xs (Some i) = FoundAt R P d seen xs i
 
 abbrev pub FoundLinks : List (Option Link) → Option ℕ → Type 0
-FoundLinks ks r = Found LinkRepresents Stood no_link finish_at ks r
+FoundLinks ks r = Found LinkRepresents FinishDue no_link finish_at ks r
 
 abbrev pub FoundConnections : List (Option Connection) → Option ℕ → Type 0
 FoundConnections cs r = Found ConnectionRepresents Wanted no_connection action_at cs r
@@ -216,7 +216,7 @@ pub record DoneTo (s : EngineModel) (now : ℕ) (act : Act) (effects : List Effe
     (ks : List (Option Link)) (kept : CoreState) (number : ℕ) : Type 0 where
   pub after : EngineModel
   pub does : Does s now act effects after
-  pub stands : Tallies cs ks kept number after
+  pub represents : Tallies cs ks kept number after
 
 abbrev pub Done : EngineModel → ℕ → Act → List Effect → State → Type 0
 Done s now act effects new = DoneTo s now act effects new.connections new.links new.core new.first

@@ -101,7 +101,7 @@ impl<S: Shelf> Engine<S> {
                 bytes,
             ),
             Happening::End(n) => takes::finish_client(&mut self.ends.connections, n),
-            Happening::Gone(n) => takes::lose_client(&mut self.ends.connections, n),
+            Happening::Gone(n) => takes::disconnect_client(&mut self.ends.connections, n),
             Happening::Shut(l) => takes::shut_link(&mut self.ends.links, self.ends.first_link, l),
             Happening::Fail(l, kind) => takes::break_link(
                 &mut self.ends.links,
@@ -116,7 +116,7 @@ impl<S: Shelf> Engine<S> {
     /// 4,096 bytes for another end. An `Err` changes nothing.
     pub fn reserve(&mut self, alloc: Global, end: End) -> Result<(), AllocError>
         ensures ok { OnOk result (HasRoom self.new end) }
-        ensures stands { (s : EngineModel) → Represents self.old s → Represents self.new s }
+        ensures represents { (s : EngineModel) → Represents self.old s → Represents self.new s }
         ensures err { OnErr result (self.new ≡ self.old) }
     {
         match end {

@@ -2,10 +2,10 @@
 ghost use Rattle.std.specs.Prelude.{◌≡◌, Option};
 ghost use Rattle.proxy_engine.specs.EngineModel.{EngineModel};
 ghost use Rattle.proxy_engine.specs.Due.{Act, IsDueFirst};
-ghost use Rattle.proxy_engine.specs.Drops.{ActsAreShort, ActsTellDrops, TakesDropNone};
-ghost use Rattle.proxy_engine.specs.Lives.{ActsInOneWay, HasOneTrace, LivesAreRuns};
+ghost use Rattle.proxy_engine.specs.Drops.{ActsAreShort, ActsEmitDrops, TakesDropNone};
+ghost use Rattle.proxy_engine.specs.Executions.{ActsInOneWay, HasOneTrace, ExecutionsAreRuns};
 ghost use Rattle.proxy_engine.specs.FinalAnswers.{ActsAreSpelled, AnswersAreFinal, AnswersAreRead};
-ghost use Rattle.proxy_engine.specs.Spent.{HidesNoAnswer, HidesNoWake};
+ghost use Rattle.proxy_engine.specs.Exhausted.{HidesNoAnswer, HidesNoWake};
 ghost use Rattle.proxy_engine.specs.Orderly.{BeginsOrderly, TakesInOrder, ActsInOrder, TakesStay, ActsStay};
 
 pub(crate) mod model_cases;
@@ -39,8 +39,8 @@ pub fn an_act_has_three_effects_at_most()
 {}
 
 /// A link that is dropped was dropped by an act that told it; what happens drops none.
-pub fn each_drop_is_told()
-    ensures acts { ActsTellDrops }
+pub fn each_drop_is_emitted()
+    ensures acts { ActsEmitDrops }
     ensures takes { TakesDropNone }
 {}
 
@@ -63,8 +63,8 @@ pub fn a_life_has_one_trace()
 /// streams spell, the responses that the origins' streams spell, the failures and the clients that went away, each at
 /// its moment, and its effects are the texts of what the steps gave, in order. So whatever drives an engine, a script
 /// or sockets, has the promises of `proxy_core::run`.
-pub fn lives_are_runs()
-    ensures { LivesAreRuns }
+pub fn executions_are_runs()
+    ensures { ExecutionsAreRuns }
 {}
 
 /// The answer that an act hands to the core is the response that the stream of its own link spells, and the request
@@ -79,8 +79,8 @@ pub fn answers_are_final()
 }
 
 /// Where a waiting request or an answer is the first that is due, the links that come before it are known, and no
-/// number is left for one more link, `work` doesn't say that memory is wanting: `TellsSpent`, which it ensures then, is
-/// false of such a state.
+/// number is left for one more link, `work` doesn't say that memory is wanting: `ReportsExhausted`, which it ensures
+/// then, is false of such a state.
 pub fn memory_hides_no_lack_of_numbers()
     ensures wakes { HidesNoWake }
     ensures answers { HidesNoAnswer }

@@ -18,13 +18,13 @@ pub use crate::endpoints::peeked::Peeked;
 pub use crate::endpoints::readers::Reader;
 pub use crate::engine::Engine;
 pub use crate::laws::model_cases::{
-    what_acts_tell, what_happenings_add, what_is_due_by_its_words, what_steps_told,
+    what_acts_emit, what_happenings_add, what_is_due_by_its_words, what_steps_emitted,
     which_happenings_are_taken,
 };
 pub use crate::laws::run_laws::a_run_refuses_what_was_not_done;
 pub use crate::laws::{
     a_life_has_one_trace, an_act_has_three_effects_at_most, an_act_is_done_in_one_way,
-    answers_are_final, due_once, each_drop_is_told, effects_name_open_ends, lives_are_runs,
+    answers_are_final, due_once, each_drop_is_emitted, effects_name_open_ends, executions_are_runs,
     memory_hides_no_lack_of_numbers, what_ends_stays_ended,
 };
 pub use crate::work::{End, EngineFault, Work};

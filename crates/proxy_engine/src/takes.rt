@@ -48,7 +48,7 @@ fn link_place(links: &Links, first: u64, l: u64) -> Option<u64>
 }
 
 fn send(connection: &mut Connection, bytes: &[u8]) -> Result<(), AllocError>
-    ensures stands { OnOk result ((s : ConnectionModel) → ConnectionRepresents (Some connection.old) s
+    ensures represents { OnOk result ((s : ConnectionModel) → ConnectionRepresents (Some connection.old) s
         → ConnectionRepresents (Some connection.new) (sent bytes.now s)) }
     ensures err { OnErr result (connection.new ≡ connection.old) }
     ensures kept { OnErr result (connection.old.gone || connection.old.ended ≡ false) }
@@ -61,8 +61,8 @@ fn send(connection: &mut Connection, bytes: &[u8]) -> Result<(), AllocError>
     connection.reader.feed(bytes)
 }
 
-fn hear(link: &mut Link, bytes: &[u8]) -> Result<(), AllocError>
-    ensures stands { OnOk result ((s : LinkModel) → LinkRepresents (Some link.old) s
+fn feed_link(link: &mut Link, bytes: &[u8]) -> Result<(), AllocError>
+    ensures represents { OnOk result ((s : LinkModel) → LinkRepresents (Some link.old) s
         → LinkRepresents (Some link.new) (heard_by bytes.now s)) }
     ensures err { OnErr result (link.new ≡ link.old) }
     ensures kept { OnErr result (is_some link.old.failed || link.old.ended ≡ false) }
@@ -76,7 +76,7 @@ fn hear(link: &mut Link, bytes: &[u8]) -> Result<(), AllocError>
 }
 
 fn end(connection: &mut Connection)
-    ensures stands { (s : ConnectionModel) → ConnectionRepresents (Some connection.old) s
+    ensures represents { (s : ConnectionModel) → ConnectionRepresents (Some connection.old) s
         → ConnectionRepresents (Some connection.new) (ended s) }
     ensures activity { connection.new.activity ≡ connection.old.activity }
 {
@@ -87,8 +87,8 @@ fn end(connection: &mut Connection)
 }
 
 /// A client with an open exchange goes away.
-fn lose(connection: &mut Connection)
-    ensures stands { has_exchange connection.old.activity ≡ true → (s : ConnectionModel)
+fn disconnect(connection: &mut Connection)
+    ensures represents { has_exchange connection.old.activity ≡ true → (s : ConnectionModel)
         → ConnectionRepresents (Some connection.old) s → ConnectionRepresents (Some connection.new) (left s) }
     ensures activity { connection.new.activity ≡ connection.old.activity }
 {
@@ -96,7 +96,7 @@ fn lose(connection: &mut Connection)
 }
 
 fn close_link(link: &mut Link)
-    ensures stands { (s : LinkModel) → LinkRepresents (Some link.old) s → LinkRepresents (Some link.new) (shut s) }
+    ensures represents { (s : LinkModel) → LinkRepresents (Some link.old) s → LinkRepresents (Some link.new) (shut s) }
     ensures connection { link.new.connection ≡ link.old.connection }
 {
     if link.failed.is_none() {
@@ -106,7 +106,7 @@ fn close_link(link: &mut Link)
 }
 
 fn fail_link(link: &mut Link, kind: FailKind)
-    ensures stands { (s : LinkModel) → LinkRepresents (Some link.old) s
+    ensures represents { (s : LinkModel) → LinkRepresents (Some link.old) s
         → LinkRepresents (Some link.new) (failed_by kind s) }
     ensures connection { link.new.connection ≡ link.old.connection }
 {
@@ -200,7 +200,7 @@ pub(crate) fn finish_client(connections: &mut Connections, n: u64) -> Result<(),
     Ok(())
 }
 
-pub(crate) fn lose_client(connections: &mut Connections, n: u64) -> Result<(), EngineFault>
+pub(crate) fn disconnect_client(connections: &mut Connections, n: u64) -> Result<(), EngineFault>
     ensures ok { OnOk result ((s : EngineModel) → (links : List (Option Link)) → (core : CoreState) → (first : ℕ)
         → Represents (state connections.old.items links core first) s
         → Takes s (Leaves n) (state connections.new.items links core first)) }
@@ -214,9 +214,9 @@ pub(crate) fn lose_client(connections: &mut Connections, n: u64) -> Result<(), E
         return Err(EngineFault::NotAccepted);
     };
     if !connections.has_exchange(i) {
-        connections.let_go(i);
+        connections.release(i);
     } else if let Some(connection) = connections.at_mut(i) {
-        lose(connection);
+        disconnect(connection);
     }
     Ok(())
 }
@@ -241,7 +241,7 @@ pub(crate) fn answer(links: &mut Links, first: u64, l: u64, bytes: &[u8]) -> Res
     let Some(link) = links.at_mut(j) else {
         return Ok(());
     };
-    match hear(link, bytes) {
+    match feed_link(link, bytes) {
         Ok(()) => Ok(()),
         Err(_) => Err(EngineFault::OutOfMemory),
     }

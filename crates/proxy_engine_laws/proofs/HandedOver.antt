@@ -16,7 +16,7 @@ use Rattle.proxy_core_laws.specs.SentMessages.{AreHandedWhatWasRead, IsHandedWha
 use Rattle.proxy_engine.specs.EngineModel.{EngineModel, ConnectionModel, LinkModel, connection_at, link_at}
 use Rattle.proxy_engine.specs.Due.{Act, Abandons, Finishes, Wakes, Serves, Gives, Breaks, IsDueFirst}
 use Rattle.proxy_engine.specs.FinalAnswers.{SpellsAnswer, SpellsRequest}
-use Rattle.proxy_engine.specs.Lives.{Took, Worked, IsEventOf}
+use Rattle.proxy_engine.specs.Executions.{Took, Worked, IsEventOf}
 use Rattle.proxy_engine.proofs.FinalAnswers.{acts_are_spelled}
 use Rattle.proxy_engine_laws.specs.OneMessageEach.{HandsWhatWasRead}
 
@@ -28,7 +28,7 @@ pub read_request : (c : ConnectionModel) (r : Request) (asked : Asked) (judged :
 read_request c r asked (Ok target) is named same = record {
   max_body = c.progress.max_body;
   ended = c.progress.ended;
-  told = c.progress.told;
+  continue_sent = c.progress.continue_sent;
   bytes = is.behind;
   rest = is.rest;
   request = r;
@@ -56,9 +56,9 @@ event_read s now (Serves i next.End) event due is = absurd is
 
 pub hands_what_was_read : HandsWhatWasRead
 hands_what_was_read table begin last [] trace h = subst AreHandedWhatWasRead (sym h.1) tt
-hands_what_was_read table begin last (Took happening ∷ steps) trace (before, past, tells, leads, adds) =
-    subst AreHandedWhatWasRead (sym adds) (hands_what_was_read table begin before steps past tells)
-hands_what_was_read table begin last (Worked now act told ∷ steps) trace (before, past, tells, leads, inl (item, is, one)) =
-    subst AreHandedWhatWasRead (sym is) (event_read before now act item.event leads.0 one.event_is, hands_what_was_read table begin before steps past tells)
-hands_what_was_read table begin last (Worked now act told ∷ steps) trace (before, past, tells, leads, inr (same, none, own)) =
-    subst AreHandedWhatWasRead (sym same) (hands_what_was_read table begin before steps past tells)
+hands_what_was_read table begin last (Took happening ∷ steps) trace (before, past, has_trace, leads, adds) =
+    subst AreHandedWhatWasRead (sym adds) (hands_what_was_read table begin before steps past has_trace)
+hands_what_was_read table begin last (Worked now act emitted ∷ steps) trace (before, past, has_trace, leads, inl (item, is, one)) =
+    subst AreHandedWhatWasRead (sym is) (event_read before now act item.event leads.0 one.event_is, hands_what_was_read table begin before steps past has_trace)
+hands_what_was_read table begin last (Worked now act emitted ∷ steps) trace (before, past, has_trace, leads, inr (same, none, own)) =
+    subst AreHandedWhatWasRead (sym same) (hands_what_was_read table begin before steps past has_trace)

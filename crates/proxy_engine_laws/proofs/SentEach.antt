@@ -37,8 +37,8 @@ use Rattle.proxy_engine.specs.EngineModel.{EngineModel, link_at}
 use Rattle.proxy_engine.specs.Due.{Act, Abandons, Finishes, Wakes, Serves, Gives, Breaks, IsDueFirst}
 use Rattle.proxy_engine.specs.Acts.{Arrives, Refuses as IsRefused, Served, address_of, asks_head, came, continue_text, drops_on, effects_on, next_number}
 use Rattle.proxy_engine.specs.State.{begun}
-use Rattle.proxy_engine.specs.Lives.{Step, Took, Worked, IsEventOf, IsTold, Leads, Lives, drops_of, place_of, told_of}
-use Rattle.proxy_engine.proofs.Living.{Runs, lives, step_told}
+use Rattle.proxy_engine.specs.Executions.{Step, Took, Worked, IsEventOf, IsEmitted, Leads, Executes, drops_of, place_of, emitted_by}
+use Rattle.proxy_engine.proofs.Living.{Runs, executes, step_emitted}
 use Rattle.proxy_engine_laws.specs.OneMessageEach.{AnswersOneResponseEach, AreInTime, ForwardsOneRequestEach, GetsOneResponseEach, IsAnsweredAsOne, IsForwardedAsOne, answers_head}
 use Rattle.proxy_engine_laws.proofs.HandedOver.{event_read, hands_what_was_read}
 
@@ -118,54 +118,54 @@ module _ (table : Table) (now : ℕ) (h : Bool) where
   came_sent i number (outcomes.Waits leader) one = All-nil (IsSent table.name now h)
   came_sent i number outcomes.Ended one = All-nil (IsSent table.name now h)
 
-  continue_sent : (n : ℕ) (told : List Effect) → told ≡ effects.Client n continue_text ∷ [] → All (IsSent table.name now h) told
-  continue_sent n told is =
+  continue_sent : (n : ℕ) (emitted : List Effect) → emitted ≡ effects.Client n continue_text ∷ [] → All (IsSent table.name now h) emitted
+  continue_sent n emitted is =
       subst (All (IsSent table.name now h)) (sym is)
       (All-cons (IsSent table.name now h) (effects.Client n continue_text) [] (record { forwarded = tt; answered = λ early. inl refl }) (All-nil (IsSent table.name now h)))
 
-  refused_sent : (n : ℕ) (why : Cause) (head : Bool) (told : List Effect) → head ≡ h → told ≡ effects.Client n (refused_text (date_text_of now) why true head) ∷ effects.Close n ∷ []
-      → All (IsSent table.name now h) told
-  refused_sent n why head told same is =
+  refused_sent : (n : ℕ) (why : Cause) (head : Bool) (emitted : List Effect) → head ≡ h → emitted ≡ effects.Client n (refused_text (date_text_of now) why true head) ∷ effects.Close n ∷ []
+      → All (IsSent table.name now h) emitted
+  refused_sent n why head emitted same is =
       subst (All (IsSent table.name now h)) (sym is)
       (All-cons (IsSent table.name now h) (effects.Client n (refused_text (date_text_of now) why true head)) (effects.Close n ∷ [])
       (record { forwarded = tt; answered = λ early. inr (subst (λ (g : Bool). IsOneResponse g (refused_text (date_text_of now) why true head)) same (one_refusal now why true head early)) })
       (close_sent n))
 
-  closed_sent : (n : ℕ) (told : List Effect) → told ≡ effects.Close n ∷ [] → All (IsSent table.name now h) told
-  closed_sent n told is = subst (All (IsSent table.name now h)) (sym is) (close_sent n)
+  closed_sent : (n : ℕ) (emitted : List Effect) → emitted ≡ effects.Close n ∷ [] → All (IsSent table.name now h) emitted
+  closed_sent n emitted is = subst (All (IsSent table.name now h)) (sym is) (close_sent n)
 
 -- ---- acts
 
-module _ (table : Table) (read : IsReadTable table) (limit first link : ℕ) (past : List Step) (s : EngineModel) (lived : Lives (begun (core_begun table limit first) link) past s) where
+module _ (table : Table) (read : IsReadTable table) (limit first link : ℕ) (past : List Step) (s : EngineModel) (executed : Executes (begun (core_begun table limit first) link) past s) where
   run : Runs table limit first (begun (core_begun table limit first) link) past s
-  run = lives table limit first (begun (core_begun table limit first) link) refl past s lived
+  run = executes table limit first (begun (core_begun table limit first) link) refl past s executed
 
   keeps : KeepsThePromises table limit first run.trace s.core
   keeps = promises_of_a_driven_core table limit first run.trace s.core run.has_run
 
-  module _ (now : ℕ) (told : List Effect) (t : EngineModel) where
-    by_item : (act : Act) → IsDueFirst s (Some act) → (item : Item) × IsTold table s now act item told t → All (IsSent table.name now (answers_head s act)) told
+  module _ (now : ℕ) (emitted : List Effect) (t : EngineModel) where
+    by_item : (act : Act) → IsDueFirst s (Some act) → (item : Item) × IsEmitted table s now act item emitted t → All (IsSent table.name now (answers_head s act)) emitted
     by_item act due (item, is) =
         let promises = promises_of_a_driven_core table limit first (item ∷ run.trace) t.core (s.core, run.has_run, is.steps) in
-        let handed : AreHandedWhatWasRead (item ∷ run.trace) = (event_read s now act item.event due is.event_is, hands_what_was_read table (begun (core_begun table limit first) link) s past run.trace run.tells) in
+        let handed : AreHandedWhatWasRead (item ∷ run.trace) = (event_read s now act item.event due is.event_is, hands_what_was_read table (begun (core_begun table limit first) link) s past run.trace run.has_trace) in
         let one = sends_one_message_each_time table limit first item run.trace read promises.good handed in
         let head : is_to_head (find_exchange (id_of item.event) (open_exchanges table limit run.trace)) item.event ≡ answers_head s act =
         ap (λ (xs : List Exchange). is_to_head (find_exchange (id_of item.event) xs) item.event) (sym keeps.exchanges_are) ∙ about_act s now act item.event is.event_is in
-        subst (All (IsSent table.name now (answers_head s act))) (sym is.told_is)
+        subst (All (IsSent table.name now (answers_head s act))) (sym is.emitted_is)
         (All-append (IsSent table.name now (answers_head s act)) (drops_of s act) (effects_on (place_of s act) (next_number s) (came table item.outcome))
         (drops_of_act table now (answers_head s act) s act)
         (came_sent table now (answers_head s act) (place_of s act) (next_number s) item.outcome (subst (λ (h : Bool). IsOneMessage table.name h item.outcome) head one)))
 
-    arrives : (i : ℕ) (r : Request) (judged : Result Asked Refusal) → IsDueFirst s (Some (Serves i (next.Message r))) → IsAdmitted r judged → Arrives s now i r judged told t
-        → All (IsSent table.name now (bytes_eq r.method (codes "HEAD"))) told
-    arrives i r (Ok asked) due admitted h = by_item (Serves i (next.Message r)) due (step_told table now (Serves i (next.Message r)) s _ _ _ told t run.config (asked, admitted, refl) h.1)
-    arrives i r (Err refusal) due (fault, asked, is) h = refused_sent table now (bytes_eq r.method (codes "HEAD")) (i + 1) refusal.why refusal.head told (ap (λ (f : Refusal). f.head) is) h.told_is
+    arrives : (i : ℕ) (r : Request) (judged : Result Asked Refusal) → IsDueFirst s (Some (Serves i (next.Message r))) → IsAdmitted r judged → Arrives s now i r judged emitted t
+        → All (IsSent table.name now (bytes_eq r.method (codes "HEAD"))) emitted
+    arrives i r (Ok asked) due admitted h = by_item (Serves i (next.Message r)) due (step_emitted table now (Serves i (next.Message r)) s _ _ _ emitted t run.config (asked, admitted, refl) h.1)
+    arrives i r (Err refusal) due (fault, asked, is) h = refused_sent table now (bytes_eq r.method (codes "HEAD")) (i + 1) refusal.why refusal.head emitted (ap (λ (f : Refusal). f.head) is) h.emitted_is
 
-    refused : (i : ℕ) (why : Cause) → IsRefused s now i why false told t → All (IsSent table.name now false) told
-    refused i why h = refused_sent table now false (i + 1) why false told refl h.told_is
+    refused : (i : ℕ) (why : Cause) → IsRefused s now i why false emitted t → All (IsSent table.name now false) emitted
+    refused i why h = refused_sent table now false (i + 1) why false emitted refl h.emitted_is
 
-    framed : (i : ℕ) (fault : FrameFault) → Served s now i (next.Refused fault) told t → All (IsSent table.name now false) told
-    framed i frame.Truncated h = closed_sent table now false (i + 1) told h.0
+    framed : (i : ℕ) (fault : FrameFault) → Served s now i (next.Refused fault) emitted t → All (IsSent table.name now false) emitted
+    framed i frame.Truncated h = closed_sent table now false (i + 1) emitted h.0
     framed i frame.Head h = refused i (cause.Frame frame.Head) h
     framed i frame.Version h = refused i (cause.Frame frame.Version) h
     framed i frame.BothLengths h = refused i (cause.Frame frame.BothLengths) h
@@ -176,16 +176,16 @@ module _ (table : Table) (read : IsReadTable table) (limit first link : ℕ) (pa
     framed i frame.Expect h = refused i (cause.Frame frame.Expect) h
     framed i frame.Status h = refused i (cause.Frame frame.Status) h
 
-    sent_by : (act : Act) → Leads s (Worked now act told) t → All (IsSent table.name now (answers_head s act)) told
-    sent_by (Abandons i l) leads = by_item (Abandons i l) leads.0 (step_told table now (Abandons i l) s _ _ _ told t run.config refl leads.1)
-    sent_by (Finishes j (Gives r)) leads = by_item (Finishes j (Gives r)) leads.0 (step_told table now (Finishes j (Gives r)) s _ _ _ told t run.config refl leads.1.1)
-    sent_by (Finishes j (Breaks kind)) leads = by_item (Finishes j (Breaks kind)) leads.0 (step_told table now (Finishes j (Breaks kind)) s _ _ _ told t run.config refl leads.1)
-    sent_by (Wakes i) leads = by_item (Wakes i) leads.0 (step_told table now (Wakes i) s _ _ _ told t run.config refl leads.1.1)
+    sent_by : (act : Act) → Leads s (Worked now act emitted) t → All (IsSent table.name now (answers_head s act)) emitted
+    sent_by (Abandons i l) leads = by_item (Abandons i l) leads.0 (step_emitted table now (Abandons i l) s _ _ _ emitted t run.config refl leads.1)
+    sent_by (Finishes j (Gives r)) leads = by_item (Finishes j (Gives r)) leads.0 (step_emitted table now (Finishes j (Gives r)) s _ _ _ emitted t run.config refl leads.1.1)
+    sent_by (Finishes j (Breaks kind)) leads = by_item (Finishes j (Breaks kind)) leads.0 (step_emitted table now (Finishes j (Breaks kind)) s _ _ _ emitted t run.config refl leads.1)
+    sent_by (Wakes i) leads = by_item (Wakes i) leads.0 (step_emitted table now (Wakes i) s _ _ _ emitted t run.config refl leads.1.1)
     sent_by (Serves i next.More) leads = absurd leads.1
-    sent_by (Serves i next.NeedsContinue) leads = continue_sent table now false (i + 1) told leads.1.0
+    sent_by (Serves i next.NeedsContinue) leads = continue_sent table now false (i + 1) emitted leads.1.0
     sent_by (Serves i (next.Message r)) leads = arrives i r leads.1.0 leads.0 leads.1.1 leads.1.2
     sent_by (Serves i (next.Refused fault)) leads = framed i fault leads.1
-    sent_by (Serves i next.End) leads = closed_sent table now false (i + 1) told leads.1.0
+    sent_by (Serves i next.End) leads = closed_sent table now false (i + 1) emitted leads.1.0
 
 -- ---- the laws
 
@@ -193,12 +193,12 @@ contained : {X : Type 0} (P : X → Type 0) (xs : List X) (x : X) → All P xs �
 contained P xs x all has = subst P has.2 (all has.0 x has.1)
 
 module _ (table : Table) (read : IsReadTable table) (limit first link : ℕ) where
-  all_forwarded : (steps : List Step) (t : EngineModel) → Lives (begun (core_begun table limit first) link) steps t → All (IsForwardedAsOne table.name) (told_of steps)
+  all_forwarded : (steps : List Step) (t : EngineModel) → Executes (begun (core_begun table limit first) link) steps t → All (IsForwardedAsOne table.name) (emitted_by steps)
   all_forwarded [] t h = All-nil (IsForwardedAsOne table.name)
-  all_forwarded (Took happening ∷ past) t (s, lived, leads) = all_forwarded past s lived
-  all_forwarded (Worked now act told ∷ past) t (s, lived, leads) =
-      All-append (IsForwardedAsOne table.name) (told_of past) told (all_forwarded past s lived)
-      (All-weaker (IsSent table.name now (answers_head s act)) (IsForwardedAsOne table.name) (λ e is. is.forwarded) told (sent_by table read limit first link past s lived now told t act leads))
+  all_forwarded (Took happening ∷ past) t (s, executed, leads) = all_forwarded past s executed
+  all_forwarded (Worked now act emitted ∷ past) t (s, executed, leads) =
+      All-append (IsForwardedAsOne table.name) (emitted_by past) emitted (all_forwarded past s executed)
+      (All-weaker (IsSent table.name now (answers_head s act)) (IsForwardedAsOne table.name) (λ e is. is.forwarded) emitted (sent_by table read limit first link past s executed now emitted t act leads))
 
   -- a continue, or one response to a HEAD or not
   abbrev Gets : Effect → Type 0
@@ -214,22 +214,22 @@ module _ (table : Table) (read : IsReadTable table) (limit first link : ℕ) whe
   gets h (effects.Close n) is = tt
   gets h (effects.Drop l) is = tt
 
-  all_got : (steps : List Step) (t : EngineModel) → Lives (begun (core_begun table limit first) link) steps t → AreInTime steps → All Gets (told_of steps)
+  all_got : (steps : List Step) (t : EngineModel) → Executes (begun (core_begun table limit first) link) steps t → AreInTime steps → All Gets (emitted_by steps)
   all_got [] t h early = All-nil Gets
-  all_got (Took happening ∷ past) t (s, lived, leads) early = all_got past s lived early
-  all_got (Worked now act told ∷ past) t (s, lived, leads) early =
-      All-append Gets (told_of past) told (all_got past s lived early.1)
-      (All-weaker (IsSent table.name now (answers_head s act)) Gets (λ e is. gets (answers_head s act) e (is.answered early.0)) told (sent_by table read limit first link past s lived now told t act leads))
+  all_got (Took happening ∷ past) t (s, executed, leads) early = all_got past s executed early
+  all_got (Worked now act emitted ∷ past) t (s, executed, leads) early =
+      All-append Gets (emitted_by past) emitted (all_got past s executed early.1)
+      (All-weaker (IsSent table.name now (answers_head s act)) Gets (λ e is. gets (answers_head s act) e (is.answered early.0)) emitted (sent_by table read limit first link past s executed now emitted t act leads))
 
 pub forwards_one_request_each : ForwardsOneRequestEach
-forwards_one_request_each table limit first link steps t read lived l address bytes has =
-    contained (IsForwardedAsOne table.name) (told_of steps) (effects.Forward l address bytes) (all_forwarded table read limit first link steps t lived) has
+forwards_one_request_each table limit first link steps t read executed l address bytes has =
+    contained (IsForwardedAsOne table.name) (emitted_by steps) (effects.Forward l address bytes) (all_forwarded table read limit first link steps t executed) has
 
 pub answers_one_response_each : AnswersOneResponseEach
-answers_one_response_each table limit first link now past s t act told read lived early leads =
-    All-weaker (IsSent table.name now (answers_head s act)) (IsAnsweredAsOne (answers_head s act)) (λ e is. is.answered early) told
-    (sent_by table read limit first link past s lived now told t act leads)
+answers_one_response_each table limit first link now past s t act emitted read executed early leads =
+    All-weaker (IsSent table.name now (answers_head s act)) (IsAnsweredAsOne (answers_head s act)) (λ e is. is.answered early) emitted
+    (sent_by table read limit first link past s executed now emitted t act leads)
 
 pub gets_one_response_each : GetsOneResponseEach
-gets_one_response_each table limit first link steps t read lived early n bytes has =
-    contained (Gets table read limit first link) (told_of steps) (effects.Client n bytes) (all_got table read limit first link steps t lived early) has
+gets_one_response_each table limit first link steps t read executed early n bytes has =
+    contained (Gets table read limit first link) (emitted_by steps) (effects.Client n bytes) (all_got table read limit first link steps t executed early) has

@@ -19,13 +19,13 @@ use Rattle.proxy_engine.specs.EngineModel.{EngineModel, link_at}
 use Rattle.proxy_engine.specs.Due.{Act, Abandons, Finishes, Wakes, Serves}
 use Rattle.proxy_engine.specs.Acts.{asks_head, continue_text}
 use Rattle.proxy_engine.specs.State.{begun}
-use Rattle.proxy_engine.specs.Lives.{Step, Took, Worked, Leads, Lives, Tells, told_of}
+use Rattle.proxy_engine.specs.Executions.{Step, Took, Worked, Leads, Executes, HasTrace, emitted_by}
 
 -- each act was done before the year 10000, as `work` asks
 abbrev pub AreInTime : List Step → Type 0
 AreInTime [] = Unit {0}
 AreInTime (Took happening ∷ past) = AreInTime past
-AreInTime (Worked now act told ∷ past) = (now < END_OF_TIME) × AreInTime past
+AreInTime (Worked now act emitted ∷ past) = (now < END_OF_TIME) × AreInTime past
 
 -- the request that an act is about is a HEAD: that of the exchange that is open on its connection, or the one that its
 -- stream spells
@@ -59,30 +59,31 @@ IsAnsweredAsOne to_head (effects.Drop l) = Unit {0}
 abbrev pub HandsWhatWasRead : Type 0
 HandsWhatWasRead =
     (table : Table) (begin last : EngineModel) (steps : List Step) (trace : List Item)
-    → Tells table begin steps last trace → AreHandedWhatWasRead trace
+    → HasTrace table begin steps last trace → AreHandedWhatWasRead trace
 
 -- Whatever an engine with a table that was read lives through, each request that it forwards is one: within the limits
 -- of a reader it is read back as it was sent, and what stands behind it is left.
 abbrev pub ForwardsOneRequestEach : Type 0
 ForwardsOneRequestEach =
     (table : Table) (limit first link : ℕ) (steps : List Step) (t : EngineModel) → IsReadTable table
-    → Lives (begun (core_begun table limit first) link) steps t
-    → (l : ℕ) (address bytes : List ℕ) → Contains (told_of steps) (effects.Forward l address bytes)
+    → Executes (begun (core_begun table limit first) link) steps t
+    → (l : ℕ) (address bytes : List ℕ) → Contains (emitted_by steps) (effects.Forward l address bytes)
     → IsOneRequest table.name bytes
 
 -- And whatever act it does then, what a client gets for it is a continue or one response, for a client that knows
 -- whether it asked by HEAD.
 abbrev pub AnswersOneResponseEach : Type 0
 AnswersOneResponseEach =
-    (table : Table) (limit first link now : ℕ) (past : List Step) (s t : EngineModel) (act : Act) (told : List Effect)
-    → IsReadTable table → Lives (begun (core_begun table limit first) link) past s → now < END_OF_TIME
-    → Leads s (Worked now act told) t
-    → All (IsAnsweredAsOne (answers_head s act)) told
+    (table : Table) (limit first link now : ℕ) (past : List Step) (s t : EngineModel) (act : Act)
+    (emitted : List Effect)
+    → IsReadTable table → Executes (begun (core_begun table limit first) link) past s → now < END_OF_TIME
+    → Leads s (Worked now act emitted) t
+    → All (IsAnsweredAsOne (answers_head s act)) emitted
 
 -- so it is of all that clients ever got
 abbrev pub GetsOneResponseEach : Type 0
 GetsOneResponseEach =
     (table : Table) (limit first link : ℕ) (steps : List Step) (t : EngineModel) → IsReadTable table
-    → Lives (begun (core_begun table limit first) link) steps t → AreInTime steps
-    → (n : ℕ) (bytes : List ℕ) → Contains (told_of steps) (effects.Client n bytes)
+    → Executes (begun (core_begun table limit first) link) steps t → AreInTime steps
+    → (n : ℕ) (bytes : List ℕ) → Contains (emitted_by steps) (effects.Client n bytes)
     → (bytes ≡ continue_text) ⊎ ((to_head : Bool) × IsOneResponse to_head bytes)

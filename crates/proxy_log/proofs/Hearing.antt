@@ -5,7 +5,7 @@ use Rattle.std.proofs.lemmas.List.{append-nil, append_assoc}
 use Rattle.hx_framing.specs.declared.messages.Request.{Request}
 use Rattle.hx_framing.specs.declared.messages.Next.{Next}
 use Rattle.hx_framing.specs.Progress.{Progress}
-use Rattle.hx_framing.specs.RequestState.{State, StandsFor}
+use Rattle.hx_framing.specs.RequestState.{State, RepresentsStream}
 use Rattle.hx_framing.specs.RequestStream.{Answers}
 use Rattle.proxy_log.specs.Asked.{IsKept}
 use Rattle.proxy_log.specs.Hearing.{AskFor, after, HasRead, HasReadOn, HasReadSome, is_last, is_refusal}
@@ -18,11 +18,11 @@ AskFor-append (r ∷ rs) [] rs' qs' a b = absurd a
 AskFor-append (r ∷ rs) (q ∷ qs) rs' qs' a b = (a.0, AskFor-append rs qs rs' qs' a.1 b)
 
 -- nothing was given
-pub none_read : (p : Progress Request) (told : Bool) (reader : State) (before questions : List Question) (begun_before begun : Option Question)
-    → StandsFor reader (record p { told = told }) → questions ≡ before → ((p.told ≡ true → IsSome begun_before) → told ≡ true → IsSome begun)
-    → HasRead p [] told reader before questions begun_before begun
-none_read p told reader before questions begun_before begun stands same begins = record {
-  stands = subst (λ (given : List Request). StandsFor reader (record p { given = given; told = told })) (sym (append-nil p.given)) stands;
+pub none_read : (p : Progress Request) (continue_sent : Bool) (reader : State) (before questions : List Question) (begun_before begun : Option Question)
+    → RepresentsStream reader (record p { continue_sent = continue_sent }) → questions ≡ before → ((p.continue_sent ≡ true → IsSome begun_before) → continue_sent ≡ true → IsSome begun)
+    → HasRead p [] continue_sent reader before questions begun_before begun
+none_read p continue_sent reader before questions begun_before begun represents same begins = record {
+  represents = subst (λ (given : List Request). RepresentsStream reader (record p { given = given; continue_sent = continue_sent })) (sym (append-nil p.given)) represents;
   asked = [];
   asks = tt;
   kept = same ∙ sym (append-nil before);
@@ -30,10 +30,10 @@ none_read p told reader before questions begun_before begun stands same begins =
 }
 
 -- one after the other
-pub read_further : (p : Progress Request) (rs rs' : List Request) (told told' : Bool) (r1 r2 : State) (q0 q1 q2 : List Question) (b0 b1 b2 : Option Question)
-    → HasRead p rs told r1 q0 q1 b0 b1 → HasRead (after p rs told) rs' told' r2 q1 q2 b1 b2 → HasRead p (rs ++ rs') told' r2 q0 q2 b0 b2
-read_further p rs rs' told told' r1 r2 q0 q1 q2 b0 b1 b2 first second = record {
-  stands = subst (λ (given : List Request). StandsFor r2 (record p { given = given; told = told' })) (append_assoc p.given rs rs') second.stands;
+pub read_further : (p : Progress Request) (rs rs' : List Request) (continue_sent continue_sent' : Bool) (r1 r2 : State) (q0 q1 q2 : List Question) (b0 b1 b2 : Option Question)
+    → HasRead p rs continue_sent r1 q0 q1 b0 b1 → HasRead (after p rs continue_sent) rs' continue_sent' r2 q1 q2 b1 b2 → HasRead p (rs ++ rs') continue_sent' r2 q0 q2 b0 b2
+read_further p rs rs' continue_sent continue_sent' r1 r2 q0 q1 q2 b0 b1 b2 first second = record {
+  represents = subst (λ (given : List Request). RepresentsStream r2 (record p { given = given; continue_sent = continue_sent' })) (append_assoc p.given rs rs') second.represents;
   asked = first.asked ++ second.asked;
   asks = AskFor-append rs first.asked rs' second.asked first.asks second.asks;
   kept = second.kept ∙ ap (λ (qs : List Question). qs ++ second.asked) first.kept ∙ append_assoc q0 first.asked second.asked;
@@ -47,21 +47,21 @@ or_is_some (Some x) q b is = subst (λ (o : Option Question). IsSome o) (sym is)
 pub stays_some : (a : Option Question) (q : Question) (b : Option Question) → b ≡ option_or a (Some q) → IsSome a → IsSome b
 stays_some a q b is was = or_is_some a q b is
 
-pub at_first : (p : Progress Request) (reader : State) (questions : List Question) (begun : Option Question) → StandsFor reader p → HasReadSome p reader questions questions begun begun
-at_first p reader questions begun stands = record {
+pub at_first : (p : Progress Request) (reader : State) (questions : List Question) (begun : Option Question) → RepresentsStream reader p → HasReadSome p reader questions questions begun begun
+at_first p reader questions begun represents = record {
   requests = [];
-  told = p.told;
-  read = none_read p p.told reader questions questions begun begun stands refl (λ was. was);
+  continue_sent = p.continue_sent;
+  read = none_read p p.continue_sent reader questions questions begun begun represents refl (λ was. was);
 }
 
 -- a request and what it asks for
 pub message_read : (p : Progress Request) (m : Request) (reader : State) (before questions : List Question) (begun_before begun : Option Question)
-    → StandsFor reader (record p { given = p.given ++ m ∷ []; told = false }) → IsKept m before questions → HasReadSome p reader before questions begun_before begun
-message_read p m reader before questions begun_before begun stands kept = record {
+    → RepresentsStream reader (record p { given = p.given ++ m ∷ []; continue_sent = false }) → IsKept m before questions → HasReadSome p reader before questions begun_before begun
+message_read p m reader before questions begun_before begun represents kept = record {
   requests = m ∷ [];
-  told = false;
+  continue_sent = false;
   read = record {
-    stands = stands;
+    represents = represents;
     asked = kept.question ∷ [];
     asks = (kept.asks, tt);
     kept = kept.last;
@@ -71,21 +71,21 @@ message_read p m reader before questions begun_before begun stands kept = record
 
 -- a continue, and what begins there
 pub continue_read : (p : Progress Request) (q : Question) (reader : State) (before questions : List Question) (begun_before begun : Option Question)
-    → StandsFor reader (record p { told = true }) → questions ≡ before → begun ≡ option_or begun_before (Some q) → HasReadSome p reader before questions begun_before begun
-continue_read p q reader before questions begun_before begun stands same is = record {
+    → RepresentsStream reader (record p { continue_sent = true }) → questions ≡ before → begun ≡ option_or begun_before (Some q) → HasReadSome p reader before questions begun_before begun
+continue_read p q reader before questions begun_before begun represents same is = record {
   requests = [];
-  told = true;
-  read = none_read p true reader before questions begun_before begun stands same (λ was told. or_is_some begun_before q begun is);
+  continue_sent = true;
+  read = none_read p true reader before questions begun_before begun represents same (λ was continue_sent. or_is_some begun_before q begun is);
 }
 
 -- nothing further
 pub last_read : (p : Progress Request) (answer : Next Request) (reader : State) (before questions : List Question) (begun_before begun : Option Question) (over : Bool)
-    → StandsFor reader p → Answers p answer → is_last answer ≡ true → questions ≡ before → (IsSome begun_before → IsSome begun)
+    → RepresentsStream reader p → Answers p answer → is_last answer ≡ true → questions ≡ before → (IsSome begun_before → IsSome begun)
     → over ≡ is_refusal answer → (is_refusal answer ≡ true → IsSome begun) → HasReadOn p reader before questions begun_before begun over
-last_read p answer reader before questions begun_before begun over stands answers last same begins is_over refused = record {
+last_read p answer reader before questions begun_before begun over represents answers last same begins is_over refused = record {
   requests = [];
-  told = p.told;
-  read = none_read p p.told reader before questions begun_before begun stands same (λ was told. begins (was told));
+  continue_sent = p.continue_sent;
+  read = none_read p p.continue_sent reader before questions begun_before begun represents same (λ was continue_sent. begins (was continue_sent));
   answer = answer;
   answers = subst (λ (given : List Request). Answers (record p { given = given }) answer) (sym (append-nil p.given)) answers;
   last = last;
@@ -94,25 +94,25 @@ last_read p answer reader before questions begun_before begun over stands answer
 }
 
 pub then_one : (p : Progress Request) (r1 r2 : State) (q0 q1 q2 : List Question) (b0 b1 b2 : Option Question)
-    → HasReadSome p r1 q0 q1 b0 b1 → ((p' : Progress Request) → StandsFor r1 p' → HasReadSome p' r2 q1 q2 b1 b2) → HasReadSome p r2 q0 q2 b0 b2
+    → HasReadSome p r1 q0 q1 b0 b1 → ((p' : Progress Request) → RepresentsStream r1 p' → HasReadSome p' r2 q1 q2 b1 b2) → HasReadSome p r2 q0 q2 b0 b2
 then_one p r1 r2 q0 q1 q2 b0 b1 b2 first next =
-    let second : HasReadSome (after p first.requests first.told) r2 q1 q2 b1 b2 = next (after p first.requests first.told) first.read.stands in
+    let second : HasReadSome (after p first.requests first.continue_sent) r2 q1 q2 b1 b2 = next (after p first.requests first.continue_sent) first.read.represents in
     record {
       requests = first.requests ++ second.requests;
-      told = second.told;
-      read = read_further p first.requests second.requests first.told second.told r1 r2 q0 q1 q2 b0 b1 b2 first.read second.read;
+      continue_sent = second.continue_sent;
+      read = read_further p first.requests second.requests first.continue_sent second.continue_sent r1 r2 q0 q1 q2 b0 b1 b2 first.read second.read;
     }
 
 pub then_last : (p : Progress Request) (r1 r2 : State) (q0 q1 q2 : List Question) (b0 b1 b2 : Option Question) (over : Bool)
-    → HasReadSome p r1 q0 q1 b0 b1 → ((p' : Progress Request) → StandsFor r1 p' → HasReadOn p' r2 q1 q2 b1 b2 over) → HasReadOn p r2 q0 q2 b0 b2 over
+    → HasReadSome p r1 q0 q1 b0 b1 → ((p' : Progress Request) → RepresentsStream r1 p' → HasReadOn p' r2 q1 q2 b1 b2 over) → HasReadOn p r2 q0 q2 b0 b2 over
 then_last p r1 r2 q0 q1 q2 b0 b1 b2 over first next =
-    let second : HasReadOn (after p first.requests first.told) r2 q1 q2 b1 b2 over = next (after p first.requests first.told) first.read.stands in
+    let second : HasReadOn (after p first.requests first.continue_sent) r2 q1 q2 b1 b2 over = next (after p first.requests first.continue_sent) first.read.represents in
     record {
       requests = first.requests ++ second.requests;
-      told = second.told;
-      read = read_further p first.requests second.requests first.told second.told r1 r2 q0 q1 q2 b0 b1 b2 first.read second.read;
+      continue_sent = second.continue_sent;
+      read = read_further p first.requests second.requests first.continue_sent second.continue_sent r1 r2 q0 q1 q2 b0 b1 b2 first.read second.read;
       answer = second.answer;
-      answers = subst (λ (given : List Request). Answers (record p { given = given; told = second.told }) second.answer) (append_assoc p.given first.requests second.requests) second.answers;
+      answers = subst (λ (given : List Request). Answers (record p { given = given; continue_sent = second.continue_sent }) second.answer) (append_assoc p.given first.requests second.requests) second.answers;
       last = second.last;
       stops = second.stops;
       refused = second.refused;

@@ -1,7 +1,7 @@
 -- A line is its three parts, and a part is its words.
 use Rattle.std.proofs.Common.{◌≡◌, ◌<◌, ◌≤◌, ◌+◌, ℕ, Bool, List, [], ◌∷◌, ◌++◌, length, ap, sym, ◌∙◌, arith, Result, Ok, Err, OnOk, OnErr, codes, decimal, true}
 use Rattle.std.proofs.lemmas.List.{append_assoc, length-append}
-use Rattle.proxy_log.specs.Line.{shown_byte, shown_text, word_text, line_text, front_text, told_text, end_text}
+use Rattle.proxy_log.specs.Line.{shown_byte, shown_text, word_text, line_text, front_text, answer_text, end_text}
 use Rattle.proxy_log.specs.Seconds.{seconds_text}
 use Rattle.proxy_log.specs.declared.line.Line.{Line}
 
@@ -24,10 +24,10 @@ before_four : (f k s o n : List ℕ) → f ++ (k ++ s ++ o ++ n) ≡ f ++ k ++ s
 before_four f k s o n =
     sym (append_assoc f (k ++ s ++ o) n) ∙ ap (λ (z : List ℕ). z ++ n) (sym (append_assoc f (k ++ s) o) ∙ ap (λ (z : List ℕ). z ++ o) (sym (append_assoc f k s)))
 
-pub line_is : (line : Line) → front_text line ++ (told_text line ++ end_text line) ≡ line_text line
-unfolding front_text told_text end_text
+pub line_is : (line : Line) → front_text line ++ (answer_text line ++ end_text line) ≡ line_text line
+unfolding front_text answer_text end_text
 line_is line =
-    sym (append_assoc (front_text line) (told_text line) (end_text line))
+    sym (append_assoc (front_text line) (answer_text line) (end_text line))
     ∙ ap (λ (z : List ℕ). z ++ end_text line) (before_six (front_text line) (decimal line.status) (codes " ") (decimal line.length) (shown_text true line.reason))
     ∙ before_four (front_text line ++ decimal line.status ++ codes " " ++ decimal line.length ++ codes " " ++ shown_text true line.reason ++ codes " ")
     (seconds_text line.took) (codes " ") (word_text line.origin) (codes "\n")

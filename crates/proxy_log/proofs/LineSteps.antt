@@ -5,7 +5,7 @@ use Rattle.std.specs.Option.{option_map, option_and_then, option_or}
 use Rattle.memchr.specs.Find.{IsFirstByte, is_byte}
 use Rattle.hx_fields.specs.Names.{cut_at}
 use Rattle.hx_framing.specs.HeadLines.{is_empty_line}
-use Rattle.proxy_log.specs.Told.{whole_lines, in_first, head_of, last_value, value_in, reason_of, own_reason, reason_and_content}
+use Rattle.proxy_log.specs.ReplyFacts.{whole_lines, in_first, head_of, last_value, value_in, reason_of, own_reason, reason_and_content}
 
 pub cut_found : (byte k : ℕ) (text : List ℕ) → IsFirstByte (is_byte byte) text (Some k) → cut_at byte text ≡ Some (take k text, drop (suc k) text)
 cut_found byte k [] found = absurd (omega (arith, found.0.high))
@@ -51,8 +51,8 @@ abbrev pub reason_behind : Option (List ℕ) → Option (List ℕ) → List (Lis
 reason_behind member refusal lines =
     reason_of (option_or (last_value (codes "Cache-Status: ") lines) member) (option_or (last_value (codes "Refusal: ") lines) refusal)
 
-abbrev pub told_behind : Option (List ℕ) → Option (List ℕ) → List (List ℕ × List ℕ) → Option (List ℕ × List ℕ)
-told_behind member refusal lines =
+abbrev pub reason_from : Option (List ℕ) → Option (List ℕ) → List (List ℕ × List ℕ) → Option (List ℕ × List ℕ)
+reason_from member refusal lines =
     option_and_then {U = List ℕ × List ℕ} (λ h. option_map (λ reason. (reason, h.1)) (reason_behind member refusal h.0)) (head_of lines)
 
 or_none : (r : Option (List ℕ)) → option_or r None ≡ r
@@ -63,17 +63,17 @@ or_or : (a b c : Option (List ℕ)) → option_or (option_or a b) c ≡ option_o
 or_or None b c = refl
 or_or (Some x) b c = refl
 
-pub told_at_first : (text : List ℕ) → told_behind None None (whole_lines text) ≡ reason_and_content text
-told_at_first text = by_head (head_of (whole_lines text))
+pub reason_at_first : (text : List ℕ) → reason_from None None (whole_lines text) ≡ reason_and_content text
+reason_at_first text = by_head (head_of (whole_lines text))
   where
     by_head : (r : Option (List (List ℕ) × List ℕ)) → option_and_then {U = List ℕ × List ℕ} (λ h. option_map (λ reason. (reason, h.1)) (reason_behind None None h.0)) r ≡ option_and_then {U = List ℕ × List ℕ} (λ h. option_map (λ reason. (reason, h.1)) (own_reason h.0)) r
     by_head None = refl
     by_head (Some h) = rw (or_none (last_value (codes "Cache-Status: ") h.0), or_none (last_value (codes "Refusal: ") h.0)) refl
 
 -- one line further
-pub told_further : (member refusal : Option (List ℕ)) (line : List ℕ) (behind : List ℕ) (lines : List (List ℕ × List ℕ)) → is_empty_line line ≡ false
-    → told_behind (option_or (value_in (codes "Cache-Status: ") line) member) (option_or (value_in (codes "Refusal: ") line) refusal) lines ≡ told_behind member refusal ((line, behind) ∷ lines)
-told_further member refusal line behind lines other = rw other (by_head (head_of lines))
+pub reason_further : (member refusal : Option (List ℕ)) (line : List ℕ) (behind : List ℕ) (lines : List (List ℕ × List ℕ)) → is_empty_line line ≡ false
+    → reason_from (option_or (value_in (codes "Cache-Status: ") line) member) (option_or (value_in (codes "Refusal: ") line) refusal) lines ≡ reason_from member refusal ((line, behind) ∷ lines)
+reason_further member refusal line behind lines other = rw other (by_head (head_of lines))
   where
     by_head : (r : Option (List (List ℕ) × List ℕ)) →
         option_and_then {U = List ℕ × List ℕ} (λ (h : List (List ℕ) × List ℕ). option_map (λ reason. (reason, h.1)) (reason_behind (option_or (value_in (codes "Cache-Status: ") line) member) (option_or (value_in (codes "Refusal: ") line) refusal) h.0)) r
@@ -83,9 +83,9 @@ told_further member refusal line behind lines other = rw other (by_head (head_of
         rw (or_or (last_value (codes "Cache-Status: ") h.0) (value_in (codes "Cache-Status: ") line) member, or_or (last_value (codes "Refusal: ") h.0) (value_in (codes "Refusal: ") line) refusal) refl
 
 -- the end of a head
-pub told_at_end : (member refusal : Option (List ℕ)) (line : List ℕ) (behind : List ℕ) (lines : List (List ℕ × List ℕ)) → is_empty_line line ≡ true
-    → option_map (λ reason. (reason, behind)) (reason_of member refusal) ≡ told_behind member refusal ((line, behind) ∷ lines)
-told_at_end member refusal line behind lines empty = rw empty refl
+pub reason_at_end : (member refusal : Option (List ℕ)) (line : List ℕ) (behind : List ℕ) (lines : List (List ℕ × List ℕ)) → is_empty_line line ≡ true
+    → option_map (λ reason. (reason, behind)) (reason_of member refusal) ≡ reason_from member refusal ((line, behind) ∷ lines)
+reason_at_end member refusal line behind lines empty = rw empty refl
 
 -- a text whose first line was cut
 pub lines_at : (text : List ℕ) (p : List ℕ × List ℕ) → Some p ≡ cut_at 10 text → whole_lines text ≡ p ∷ whole_lines p.1

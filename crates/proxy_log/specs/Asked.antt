@@ -18,7 +18,7 @@ use Rattle.hx_framing.specs.declared.messages.Request.{Request}
 use Rattle.hx_target.specs.Judgement.{Judged}
 use Rattle.hx_target.specs.declared.faults.TargetFault.{TargetFault}
 use Rattle.hx_target.specs.declared.targets.Target.{Target}
-use Rattle.proxy_log.specs.Told.{whole_lines}
+use Rattle.proxy_log.specs.ReplyFacts.{whole_lines}
 use Rattle.proxy_log.specs.declared.asked.Question.{Question}
 
 abbrev pub nothing : Question

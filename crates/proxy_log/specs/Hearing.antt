@@ -11,7 +11,7 @@ use Rattle.hx_framing.specs.declared.messages.Request.{Request}
 use Rattle.hx_framing.specs.declared.messages.Next.{Next}
 use Rattle.hx_framing.specs.declared.messages.Next.TheVariants as next
 use Rattle.hx_framing.specs.Progress.{Progress}
-use Rattle.hx_framing.specs.RequestState.{State, StandsFor}
+use Rattle.hx_framing.specs.RequestState.{State, RepresentsStream}
 use Rattle.hx_framing.specs.RequestStream.{Answers}
 use Rattle.proxy_log.specs.Asked.{Asks}
 use Rattle.proxy_log.specs.declared.asked.Question.{Question}
@@ -23,26 +23,26 @@ AskFor [] (q ∷ qs) = ⊥
 AskFor (r ∷ rs) [] = ⊥
 AskFor (r ∷ rs) (q ∷ qs) = Asks r q × AskFor rs qs
 
--- told: whether the continue of the next request was given
+-- continue_sent: whether the continue of the next request was given
 abbrev pub after : Progress Request → List Request → Bool → Progress Request
-after p requests told = record p { given = p.given ++ requests; told = told }
+after p requests continue_sent = record p { given = p.given ++ requests; continue_sent = continue_sent }
 
 -- of a stream that has come so far these requests were given, and what they ask for is kept behind what was asked
 -- before; a request whose continue was given has begun
-pub record HasRead (p : Progress Request) (requests : List Request) (told : Bool) (reader : State)
+pub record HasRead (p : Progress Request) (requests : List Request) (continue_sent : Bool) (reader : State)
     (before questions : List Question) (begun_before begun : Option Question) : Type 0 where
-  pub stands : StandsFor reader (after p requests told)
+  pub represents : RepresentsStream reader (after p requests continue_sent)
   pub asked : List Question
   pub asks : AskFor requests asked
   pub kept : questions ≡ before ++ asked
-  pub has_begun : (p.told ≡ true → IsSome begun_before) → told ≡ true → IsSome begun
+  pub has_begun : (p.continue_sent ≡ true → IsSome begun_before) → continue_sent ≡ true → IsSome begun
 
 -- some were given
 pub record HasReadSome (p : Progress Request) (reader : State) (before questions : List Question)
     (begun_before begun : Option Question) : Type 0 where
   pub requests : List Request
-  pub told : Bool
-  pub read : HasRead p requests told reader before questions begun_before begun
+  pub continue_sent : Bool
+  pub read : HasRead p requests continue_sent reader before questions begun_before begun
 
 -- no further request stands whole behind this answer, and none that waits for a continue
 abbrev pub is_last : Next Request → Bool
@@ -66,10 +66,10 @@ pub record HasReadOn
     (over : Bool)
     : Type 0 where
   pub requests : List Request
-  pub told : Bool
-  pub read : HasRead p requests told reader before questions begun_before begun
+  pub continue_sent : Bool
+  pub read : HasRead p requests continue_sent reader before questions begun_before begun
   pub answer : Next Request
-  pub answers : Answers (after p requests told) answer
+  pub answers : Answers (after p requests continue_sent) answer
   pub last : is_last answer ≡ true
   pub stops : over ≡ is_refusal answer
   pub refused : is_refusal answer ≡ true → IsSome begun

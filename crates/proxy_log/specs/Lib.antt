@@ -5,4 +5,4 @@ pub mod Line
 pub mod Lines
 pub mod OneLine
 pub mod Seconds
-pub mod Told
+pub mod ReplyFacts

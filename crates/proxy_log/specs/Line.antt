@@ -47,8 +47,8 @@ front_text line =
     seconds_text line.moment ++ codes " " ++ word_text line.client ++ codes " " ++ word_text line.method ++ codes " "
     ++ word_text line.target ++ codes " "
 
-unfoldable pub told_text : Line → List ℕ
-told_text line =
+unfoldable pub answer_text : Line → List ℕ
+answer_text line =
     decimal line.status ++ codes " " ++ decimal line.length ++ codes " " ++ shown_text true line.reason ++ codes " "
 
 unfoldable pub end_text : Line → List ℕ

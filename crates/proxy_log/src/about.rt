@@ -3,7 +3,7 @@ ghost use Rattle.std.specs.Prelude.{◌≡◌, length, IfOk};
 
 use crate::asked::Question;
 use crate::line::Line;
-use crate::told::Told;
+use crate::reply_facts::ReplyFacts;
 use hx_fields::Bytes;
 use std::alloc::{AllocError, Global};
 
@@ -24,7 +24,7 @@ pub struct Seen<'a> {
 pub fn line_about(
     alloc: Global,
     question: Question,
-    told: &Told<'_>,
+    facts: &ReplyFacts<'_>,
     seen: &Seen<'_>,
 ) -> Result<Line, AllocError>
     ensures { IfOk result (λ line. line ≡ record {
@@ -32,9 +32,9 @@ pub fn line_about(
       client = seen.now.client.now;
       method = question.method;
       target = question.target;
-      status = told.now.status;
-      length = length told.now.content.now;
-      reason = told.now.reason.now;
+      status = facts.now.status;
+      length = length facts.now.content.now;
+      reason = facts.now.reason.now;
       took = seen.now.took;
       origin = seen.now.origin.now;
     }) }
@@ -44,9 +44,9 @@ pub fn line_about(
         client: Bytes::copy_of(alloc, seen.client)?,
         method: question.method,
         target: question.target,
-        status: told.status,
-        length: told.length(),
-        reason: Bytes::copy_of(alloc, told.reason)?,
+        status: facts.status,
+        length: facts.length(),
+        reason: Bytes::copy_of(alloc, facts.reason)?,
         took: seen.took,
         origin: Bytes::copy_of(alloc, seen.origin)?,
     })

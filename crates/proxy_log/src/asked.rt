@@ -4,7 +4,7 @@ ghost use Rattle.std.specs.Prelude.{MatchOption, IsOk, OnErr, OnOk, None, Some, 
 ghost use Rattle.std.specs.Option.{option_or};
 ghost use Rattle.hx_framing.specs.declared.messages.Request.{Request};
 ghost use Rattle.hx_framing.specs.Progress.{Progress, fed, start};
-ghost use Rattle.hx_framing.specs.RequestState.{StandsFor, weight};
+ghost use Rattle.hx_framing.specs.RequestState.{RepresentsStream, weight};
 ghost use Rattle.proxy_log.specs.Asked.{Asks, IsKept, NamesTarget, begun_behind, next_question, nothing, question_in};
 ghost use Rattle.proxy_log.specs.Asked.{uri_text};
 ghost use Rattle.proxy_log.specs.Hearing.{HasReadOn, HasReadSome};
@@ -107,7 +107,7 @@ fn rest_from(text: &[u8], from: usize) -> &[u8] {
 impl Asked {
     /// A stream from which nothing has come. Contents have at most `max_body` bytes.
     pub fn new(alloc: Global, max_body: u64) -> Asked
-        ensures stands { StandsFor result.reader (start max_body false) }
+        ensures represents { RepresentsStream result.reader (start max_body false) }
         ensures questions { result.questions.items ≡ [] }
         ensures begun { result.begun ≡ None }
         ensures over { result.over ≡ false }
@@ -123,8 +123,8 @@ impl Asked {
 
     /// Takes the next piece of the stream. Behind a refusal, or where memory was wanting, it hears no more; its only
     /// error is that want, at the call that gave up.
-    pub fn hear(&mut self, alloc: Global, piece: &[u8]) -> Result<(), AllocError>
-        ensures heard { OnOk result (self.old.over ≡ false → (p : Progress Request) → StandsFor self.old.reader p
+    pub fn read_piece(&mut self, alloc: Global, piece: &[u8]) -> Result<(), AllocError>
+        ensures heard { OnOk result (self.old.over ≡ false → (p : Progress Request) → RepresentsStream self.old.reader p
             → p.ended ≡ false → HasReadOn (fed p piece.now) self.new.reader self.old.questions.items
             self.new.questions.items self.old.begun self.new.begun self.new.over) }
         ensures gave_up { OnErr result (self.new.over ≡ true) }
@@ -142,7 +142,7 @@ impl Asked {
 
     /// Keeps what the requests ask for that are whole with this piece, and what has come of the next head.
     fn take(&mut self, alloc: Global, piece: &[u8]) -> Result<(), AllocError>
-        ensures { OnOk result (self.old.over ≡ false → (p : Progress Request) → StandsFor self.old.reader p
+        ensures { OnOk result (self.old.over ≡ false → (p : Progress Request) → RepresentsStream self.old.reader p
             → p.ended ≡ false → HasReadOn (fed p piece.now) self.new.reader self.old.questions.items
             self.new.questions.items self.old.begun self.new.begun self.new.over) }
     {
@@ -206,7 +206,7 @@ impl Asked {
         from: usize,
     ) -> Result<Option<usize>, AllocError>
         ensures read { IfOk result (λ place. self.old.over ≡ false → (p : Progress Request)
-            → StandsFor self.old.reader p
+            → RepresentsStream self.old.reader p
             → MatchOption place
             (HasReadOn p self.new.reader self.old.questions.items self.new.questions.items
             self.old.begun self.new.begun self.new.over)
@@ -245,7 +245,7 @@ impl Asked {
     /// Reads on. The text begins with a head, unless a content is to come, and ends where the stream does. Answers from
     /// where on it is a head that isn't whole.
     fn read_on(&mut self, alloc: Global, text: &[u8]) -> Result<usize, AllocError>
-        ensures read { OnOk result (self.old.over ≡ false → (p : Progress Request) → StandsFor self.old.reader p
+        ensures read { OnOk result (self.old.over ≡ false → (p : Progress Request) → RepresentsStream self.old.reader p
             → HasReadOn p self.new.reader self.old.questions.items self.new.questions.items
             self.old.begun self.new.begun self.new.over) }
         ensures within { IfOk result (λ from. from ≤ length text.now) }

@@ -3,7 +3,7 @@ ghost use Rattle.std.specs.Prelude.{◌≡◌, ◌∷◌, ◌++◌, ℕ, List, N
 ghost use Rattle.std.specs.List.{list_all};
 ghost use Rattle.proxy_log.specs.Line.{line_text, word_text};
 ghost use Rattle.proxy_log.specs.OneLine.{IsGiven, IsOneLine, is_byte, is_word};
-ghost use Rattle.proxy_log.specs.Told.{behind_name, last_value, own_reason};
+ghost use Rattle.proxy_log.specs.ReplyFacts.{behind_name, last_value, own_reason};
 ghost use Rattle.hx_framing.specs.Version.{without_return};
 ghost use Rattle.proxy_log.specs.declared.line.Line.{Line};
 
@@ -18,7 +18,7 @@ pub fn a_word_has_no_space()
 {}
 
 /// The proxy's own line stands last: whatever an origin wrote in front of it, in lines of either name, isn't told.
-pub fn no_line_in_front_is_told()
+pub fn no_line_in_front_is_read()
     ensures member { (value : List ℕ) (front behind : List (List ℕ)) → last_value (codes "Cache-Status: ") behind ≡ None
         → own_reason (front ++ (codes "Cache-Status: " ++ value) ∷ behind) ≡ Some (behind_name (without_return value)) }
     ensures refusal { (value : List ℕ) (front behind : List (List ℕ)) → last_value (codes "Refusal: ") behind ≡ None

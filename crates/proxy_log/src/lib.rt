@@ -9,15 +9,15 @@ mod asked;
 pub mod laws;
 mod line;
 mod lines;
+mod reply_facts;
 mod request_line;
 mod seconds;
 mod text_lines;
-mod told;
 pub mod worked_cases;
 
 pub use crate::about::{Seen, line_about};
 pub use crate::asked::{Asked, Question};
 pub use crate::line::{Line, line_text};
 pub use crate::lines::Lines;
+pub use crate::reply_facts::{ReplyFacts, read_reply};
 pub use crate::seconds::push_seconds;
-pub use crate::told::{Told, told_by};

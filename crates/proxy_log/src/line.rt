@@ -2,7 +2,7 @@
 ghost use Rattle.std.specs.Prelude.{◌≡◌, ◌+◌, ◌<◌, ◌≤◌, ◌++◌, codes, decimal, false, length, take, vec_capacity};
 ghost use Rattle.std.specs.Prelude.{IfOk, OnErr, OnOk, IsTrue};
 ghost use Rattle.proxy_log.specs.Line.{is_shown, hex_digit, shown_byte, shown_text, word_text, line_text};
-ghost use Rattle.proxy_log.specs.Line.{front_text, told_text, end_text};
+ghost use Rattle.proxy_log.specs.Line.{front_text, answer_text, end_text};
 ghost use Rattle.proxy_log.specs.Seconds.{seconds_text};
 
 use crate::seconds::push_seconds;
@@ -154,10 +154,10 @@ fn push_front(text: &mut Vec<u8>, line: &Line) -> Result<(), AllocError>
 }
 
 /// What it was told.
-#[tactic(auto, unfolding(crate::specs::Line::told_text))]
-fn push_told(text: &mut Vec<u8>, line: &Line) -> Result<(), AllocError>
-    ensures ok { OnOk result (text.new.items ≡ text.old.items ++ told_text line.now) }
-    ensures full { OnErr result (vec_capacity text.old < length text.old.items + length (told_text line.now)) }
+#[tactic(auto, unfolding(crate::specs::Line::answer_text))]
+fn push_answer(text: &mut Vec<u8>, line: &Line) -> Result<(), AllocError>
+    ensures ok { OnOk result (text.new.items ≡ text.old.items ++ answer_text line.now) }
+    ensures full { OnErr result (vec_capacity text.old < length text.old.items + length (answer_text line.now)) }
     ensures capacity { vec_capacity text.old ≤ vec_capacity text.new }
     ensures front { take (length text.old.items) text.new.items ≡ text.old.items }
 {
@@ -181,14 +181,14 @@ fn push_end(text: &mut Vec<u8>, line: &Line) -> Result<(), AllocError>
 
 fn push_parts(text: &mut Vec<u8>, line: &Line) -> Result<(), AllocError>
     ensures ok { OnOk result (text.new.items ≡ text.old.items
-        ++ (front_text line.now ++ (told_text line.now ++ end_text line.now))) }
+        ++ (front_text line.now ++ (answer_text line.now ++ end_text line.now))) }
     ensures full { OnErr result (vec_capacity text.old < length text.old.items + length
-        (front_text line.now ++ (told_text line.now ++ end_text line.now))) }
+        (front_text line.now ++ (answer_text line.now ++ end_text line.now))) }
     ensures capacity { vec_capacity text.old ≤ vec_capacity text.new }
     ensures front { take (length text.old.items) text.new.items ≡ text.old.items }
 {
     push_front(text, line)?;
-    push_told(text, line)?;
+    push_answer(text, line)?;
     push_end(text, line)
 }
 

@@ -36,7 +36,7 @@ impl Lines {
     {
         match self.write(line) {
             Ok(()) => self.added = self.added.saturating_add(1),
-            Err(AllocError) => self.lose(),
+            Err(AllocError) => self.lose_line(),
         }
     }
 
@@ -57,7 +57,7 @@ impl Lines {
     }
 
     /// Counts a line that is lost.
-    pub fn lose(&mut self)
+    pub fn lose_line(&mut self)
         ensures { IsLost self.old self.new }
     {
         self.lost = self.lost.saturating_add(1);

@@ -3,7 +3,7 @@
 ghost use Rattle.std.specs.Prelude.{◌≡◌, ◌∷◌, ◌++◌, [], codes, Some, None};
 ghost use Rattle.proxy_log.specs.Cases.{answered, refused, unread, with_target};
 ghost use Rattle.proxy_log.specs.Line.{line_text};
-ghost use Rattle.proxy_log.specs.Told.{told_of};
+ghost use Rattle.proxy_log.specs.ReplyFacts.{reply_facts_of};
 
 /// A miss, a hit, a denial with its blanks, a content that is refused, and what couldn't be read.
 pub fn lines_are_written()
@@ -32,17 +32,17 @@ pub fn bytes_that_break_a_line_are_escaped()
 {}
 
 /// Answers of an origin and of the store, a refusal, an interim response, and what stands behind a head.
-pub fn replies_tell_their_reasons()
-    ensures last { told_of
+pub fn replies_name_their_reasons()
+    ensures last { reply_facts_of
         (codes "HTTP/1.1 200 OK\r\nCache-Status: o;hit\r\nCache-Status: p;fwd=uri-miss;stored\r\nContent-Length: 2\r\n\r\nhi") ≡ Some (200, (codes "fwd=uri-miss;stored", codes "hi")) }
-    ensures refusal { told_of
+    ensures refusal { reply_facts_of
         (codes "HTTP/1.1 403 Forbidden\r\nRefusal: denied by line 1\r\nConnection: close\r\n\r\ndenied by line 1")
         ≡ Some (403, (codes "denied by line 1", codes "denied by line 1")) }
-    ensures others_refusal { told_of (codes "HTTP/1.1 404 Not Found\r\nRefusal: o\r\nCache-Status: p;hit;ttl=9\r\n\r\n")
+    ensures others_refusal { reply_facts_of (codes "HTTP/1.1 404 Not Found\r\nRefusal: o\r\nCache-Status: p;hit;ttl=9\r\n\r\n")
         ≡ Some (404, (codes "hit;ttl=9", [])) }
-    ensures content { told_of (codes "HTTP/1.1 200 OK\r\nCache-Status: p;hit\r\n\r\nCache-Status: o;fwd=miss\r\n\r\n")
+    ensures content { reply_facts_of (codes "HTTP/1.1 200 OK\r\nCache-Status: p;hit\r\n\r\nCache-Status: o;fwd=miss\r\n\r\n")
         ≡ Some (200, (codes "hit", codes "Cache-Status: o;fwd=miss\r\n\r\n")) }
-    ensures interim { told_of (codes "HTTP/1.1 100 Continue\r\n\r\n") ≡ None }
-    ensures early { told_of (codes "HTTP/1.1 103 Early Hints\r\nCache-Status: p;hit\r\n\r\n") ≡ None }
-    ensures silent { told_of (codes "HTTP/1.1 200 OK\r\n\r\nRefusal: x\r\n\r\n") ≡ None }
+    ensures interim { reply_facts_of (codes "HTTP/1.1 100 Continue\r\n\r\n") ≡ None }
+    ensures early { reply_facts_of (codes "HTTP/1.1 103 Early Hints\r\nCache-Status: p;hit\r\n\r\n") ≡ None }
+    ensures silent { reply_facts_of (codes "HTTP/1.1 200 OK\r\n\r\nRefusal: x\r\n\r\n") ≡ None }
 {}

@@ -52,12 +52,12 @@ fn target_of(alloc: Global, question: &Question<'_>) -> Result<Target, TargetFau
     read_target(alloc, &target, &fields)
 }
 
-fn told(is_default: bool, word: &'static str) -> &'static str {
+fn shown(is_default: bool, word: &'static str) -> &'static str {
     if is_default { "" } else { word }
 }
 
 /// Tells the words of a line that allows.
-fn tell_policy<R: Print>(rt: &R, policy: Policy) -> io::Result<()> {
+fn print_policy<R: Print>(rt: &R, policy: Policy) -> io::Result<()> {
     if !policy.caches {
         return println!(rt; "    cache = \"off\"");
     }
@@ -69,11 +69,11 @@ fn tell_policy<R: Print>(rt: &R, policy: Policy) -> io::Result<()> {
         println!(rt; "    stale-if-error = {seconds}")?;
     }
     for word in [
-        told(policy.stores_cookies, "set-cookie = \"not-stored\""),
-        told(policy.stores_errors, "errors = \"not-stored\""),
-        told(policy.heeds_requests, "request-directives = \"ignored\""),
-        told(!policy.waits_for_stale, "wait = \"missing-or-stale\""),
-        told(!policy.explains_storing, "explain = \"storing\""),
+        shown(policy.stores_cookies, "set-cookie = \"not-stored\""),
+        shown(policy.stores_errors, "errors = \"not-stored\""),
+        shown(policy.heeds_requests, "request-directives = \"ignored\""),
+        shown(!policy.waits_for_stale, "wait = \"missing-or-stale\""),
+        shown(!policy.explains_storing, "explain = \"storing\""),
     ] {
         if !word.is_empty() {
             println!(rt; "    {word}")?;
@@ -83,7 +83,7 @@ fn tell_policy<R: Print>(rt: &R, policy: Policy) -> io::Result<()> {
 }
 
 /// Tells which line decides on a request, and what it says.
-fn tell_verdict<R: Print>(
+fn print_verdict<R: Print>(
     rt: &R,
     config: &Config,
     text: &str,
@@ -96,7 +96,7 @@ fn tell_verdict<R: Print>(
                 "{text} is allowed by line {line}, origin {}",
                 config.origin(line)
             )?;
-            tell_policy(rt, config.policy(line))
+            print_policy(rt, config.policy(line))
         }
         Verdict::DeniedBy(line) => println!(rt; "{text} is denied by line {line}"),
         Verdict::NoLine => println!(rt; "{text} is denied: no line allows it"),
@@ -104,7 +104,7 @@ fn tell_verdict<R: Print>(
 }
 
 /// Tells what a request meets.
-fn tell_answer<R: Print + AllocGlobal>(
+fn print_answer<R: Print + AllocGlobal>(
     rt: &R,
     config: &Config,
     question: &Question<'_>,
@@ -112,22 +112,22 @@ fn tell_answer<R: Print + AllocGlobal>(
     let Ok(method) = Method::from_bytes(rt.alloc(), question.method.as_bytes()) else {
         return Err(Fault::Usage(None));
     };
-    let told = match target_of(rt.alloc(), question) {
-        Ok(target) => tell_verdict(rt, config, question.text, &method, &target),
+    let shown = match target_of(rt.alloc(), question) {
+        Ok(target) => print_verdict(rt, config, question.text, &method, &target),
         Err(TargetFault::OutOfMemory) => return Err(Fault::NoMemory),
         Err(fault) => println!(rt;
             "{} is refused before the table is asked: {fault}",
             question.text
         ),
     };
-    match told {
+    match shown {
         Ok(()) => Ok(()),
         Err(_) => Err(Fault::Write(None)),
     }
 }
 
 /// Tells each line that is never reached, and a limit that has no effect.
-fn tell_idle<R: Print>(rt: &R, config: &Config) -> io::Result<()> {
+fn print_idle<R: Print>(rt: &R, config: &Config) -> io::Result<()> {
     for line in 1..=256u16 {
         if let Some(first) = config.taken_by(line) {
             println!(rt; "line {line} is never reached: line {first} takes all of it")?;
@@ -141,23 +141,23 @@ fn tell_idle<R: Print>(rt: &R, config: &Config) -> io::Result<()> {
     Ok(())
 }
 
-fn tell_table<R: Print>(rt: &R, config: &Config) -> io::Result<()> {
+fn print_table<R: Print>(rt: &R, config: &Config) -> io::Result<()> {
     println!(rt; "ok {} lines", config.lines())?;
-    tell_idle(rt, config)
+    print_idle(rt, config)
 }
 
 /// Tells what a table says, and what a request meets where one is asked about.
-pub(crate) fn tell<R: Print + AllocGlobal>(
+pub(crate) fn print_checked<R: Print + AllocGlobal>(
     rt: &R,
     config: &Config,
     question: Option<&Question<'_>>,
 ) -> Result<(), Fault> {
-    match tell_table(rt, config) {
+    match print_table(rt, config) {
         Ok(()) => {}
         Err(_) => return Err(Fault::Write(None)),
     }
     match question {
-        Some(question) => tell_answer(rt, config, question),
+        Some(question) => print_answer(rt, config, question),
         None => Ok(()),
     }
 }

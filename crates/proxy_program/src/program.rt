@@ -1,6 +1,6 @@
 //! What the command line asks for, done.
 
-use crate::checking::{Question, tell};
+use crate::checking::{Question, print_checked};
 use crate::command_line::{Form, Service, VERSION, form_of, read};
 use crate::commit::commit_of;
 use crate::fault::{Fault, fault_of};
@@ -24,7 +24,7 @@ fn check<R: Files + Print + AllocGlobal>(
 ) -> Result<(), Fault> {
     let table = read_table(rt, path)?;
     let config = config_of(rt.alloc(), table.as_slice())?;
-    tell(rt, &config, question)
+    print_checked(rt, &config, question)
 }
 
 /// Prints the program's name and version, and the commit that it was built from, where that is known.
@@ -53,7 +53,7 @@ fn explain<R: Files + Print + Eprint + AllocGlobal>(rt: &R, error: &Error) -> Re
 }
 
 /// Tells who sits at a terminal what is waited for.
-fn tell_what_is_awaited<R: Input + Eprint>(rt: &R)
+fn print_what_is_awaited<R: Input + Eprint>(rt: &R)
 where
     <R as Input>::Reader: IsTerminal,
 {
@@ -125,7 +125,7 @@ where
     };
     match form_of(rt.alloc(), &matches)? {
         Form::Replay => {
-            tell_what_is_awaited(rt);
+            print_what_is_awaited(rt);
             return Ok(proxy_replay::program::run(rt));
         }
         Form::Check(path, question) => checked(rt, path, question.as_ref())?,

@@ -92,15 +92,15 @@ where
     R: Net + Clock + Files + Print + Eprint + AllocGlobal,
 {
     let mut watch = watch;
-    let mut log_told = false;
+    let mut log_reported = false;
     let mut warnings = Warnings::new();
     for _ in 0..turns {
         // What a turn that ended early left undone is done in the next one.
         let turned = server.serve_turn(rt)?;
         warnings.look_back(rt, server, &turned);
         let lost = write_log(server, journal);
-        if lost > 0 && !log_told {
-            log_told = true;
+        if lost > 0 && !log_reported {
+            log_reported = true;
             let _ = eprintln!(rt; "log fault");
             let _ = watch.explain_log(rt, journal);
         }

@@ -42,7 +42,7 @@ pub(crate) struct Warnings {
     no_link: Seldom,
     cut: Seldom,
     clock: ClockWatch,
-    record_told: bool,
+    record_reported: bool,
     refused: u64,
     without_descriptor: u64,
     links: u64,
@@ -57,7 +57,7 @@ impl Warnings {
             no_link: Seldom::new(),
             cut: Seldom::new(),
             clock: ClockWatch::new(),
-            record_told: false,
+            record_reported: false,
             refused: 0,
             without_descriptor: 0,
             links: 0,
@@ -73,7 +73,7 @@ impl Warnings {
         turned: &Turned,
     ) {
         let second = server.second();
-        if let Err(fault) = &turned.told {
+        if let Err(fault) = &turned.reported {
             if self.cut.is_due(second) {
                 let _ = eprintln!(rt; "warning: {fault}");
             }
@@ -83,8 +83,8 @@ impl Warnings {
                 "warning: the clock went back by {seconds} seconds; what was stored before may be sent for so much longer"
             );
         }
-        if !self.record_told && server.record_has_ended() {
-            self.record_told = true;
+        if !self.record_reported && server.record_has_ended() {
+            self.record_reported = true;
             let _ = eprintln!(rt; "record ended");
         }
     }

@@ -11,11 +11,11 @@ use Rattle.proxy_replay.specs.Played.{DoneAct, Works, effects_of, Scene, Plays, 
 use Rattle.proxy_replay.specs.Closes.{NeverNames, EndsWithIts}
 
 -- what an act in an orderly model keeps to
-pub record IsAct (s after : EngineModel) (told : List Effect) : Type 0 where
+pub record IsAct (s after : EngineModel) (emitted : List Effect) : Type 0 where
   pub orderly : IsOrderly after
-  pub names : NamesOpen s after told
+  pub names : NamesOpen s after emitted
   pub stays : Stays s after
-  pub drops : OnlyFirstDrops told
+  pub drops : OnlyFirstDrops emitted
 
 never_more : (of : Effect → Option ℕ) (n : ℕ) (xs ys : List Effect) → NeverNames of n xs → NeverNames of n ys → NeverNames of n (xs ++ ys)
 never_more of n [] ys h k = k
@@ -32,13 +32,13 @@ module _ (takes_order : TakesInOrder) (acts_order : ActsInOrder) (takes_stay : T
   works_orderly s now [] t h o = subst IsOrderly (sym h) o
   works_orderly s now (done_act ∷ done_acts) t h o = works_orderly h.0 now done_acts t h.3 (act s now done_act done_acts t h o).orderly
 
-  pub item_orderly : (s : EngineModel) (now : ℕ) (o : Option Happening) (told : List Effect) (t : EngineModel) → HappenedIf o s now told t → IsOrderly s → IsOrderly t
-  item_orderly s now None told t h o = subst IsOrderly (sym h.1) o
-  item_orderly s now (Some happening) told t h o = works_orderly (heard s happening) now h.done_acts t h.settles.0 (takes_order s happening o)
+  pub item_orderly : (s : EngineModel) (now : ℕ) (o : Option Happening) (emitted : List Effect) (t : EngineModel) → HappenedIf o s now emitted t → IsOrderly s → IsOrderly t
+  item_orderly s now None emitted t h o = subst IsOrderly (sym h.1) o
+  item_orderly s now (Some happening) emitted t h o = works_orderly (heard s happening) now h.done_acts t h.settles.0 (takes_order s happening o)
 
   -- what an effect names, and when that is over
   module _ (of : Effect → Option ℕ) (Over : EngineModel → ℕ → Type 0) (later : (s t : EngineModel) (n : ℕ) → Stays s t → Over s n → Over t n)
-      (unnamed : (s after : EngineModel) (told : List Effect) (n : ℕ) → IsAct s after told → Over s n → NeverNames of n told) where
+      (unnamed : (s after : EngineModel) (emitted : List Effect) (n : ℕ) → IsAct s after emitted → Over s n → NeverNames of n emitted) where
     pub works_over : (s : EngineModel) (now : ℕ) (done_acts : List DoneAct) (t : EngineModel) (n : ℕ) → Works s now done_acts t → IsOrderly s → Over s n → Over t n
     works_over s now [] t n h o over = subst (λ (u : EngineModel). Over u n) (sym h) over
     works_over s now (done_act ∷ done_acts) t n h o over =
@@ -51,20 +51,20 @@ module _ (takes_order : TakesInOrder) (acts_order : ActsInOrder) (takes_stay : T
         let a = act s now done_act done_acts t h o in
         never_more of n done_act.effects (effects_of done_acts) (unnamed s h.0 done_act.effects n a over) (works_unnamed h.0 now done_acts t n h.3 a.orderly (later s h.0 n a.stays over))
 
-    item_over : (s : EngineModel) (now : ℕ) (o : Option Happening) (told : List Effect) (t : EngineModel) (n : ℕ) → HappenedIf o s now told t → IsOrderly s → Over s n → Over t n
-    item_over s now None told t n h o over = subst (λ (u : EngineModel). Over u n) (sym h.1) over
-    item_over s now (Some happening) told t n h o over =
+    item_over : (s : EngineModel) (now : ℕ) (o : Option Happening) (emitted : List Effect) (t : EngineModel) (n : ℕ) → HappenedIf o s now emitted t → IsOrderly s → Over s n → Over t n
+    item_over s now None emitted t n h o over = subst (λ (u : EngineModel). Over u n) (sym h.1) over
+    item_over s now (Some happening) emitted t n h o over =
         works_over (heard s happening) now h.done_acts t n h.settles.0 (takes_order s happening o) (later s (heard s happening) n (takes_stay s happening) over)
 
-    item_unnamed : (s : EngineModel) (now : ℕ) (o : Option Happening) (told : List Effect) (t : EngineModel) (n : ℕ) → HappenedIf o s now told t → IsOrderly s → Over s n → NeverNames of n told
-    item_unnamed s now None told t n h o over = subst (λ (es : List Effect). NeverNames of n es) (sym h.0) tt
-    item_unnamed s now (Some happening) told t n h o over =
-        subst (λ (es : List Effect). NeverNames of n es) (sym h.told)
+    item_unnamed : (s : EngineModel) (now : ℕ) (o : Option Happening) (emitted : List Effect) (t : EngineModel) (n : ℕ) → HappenedIf o s now emitted t → IsOrderly s → Over s n → NeverNames of n emitted
+    item_unnamed s now None emitted t n h o over = subst (λ (es : List Effect). NeverNames of n es) (sym h.0) tt
+    item_unnamed s now (Some happening) emitted t n h o over =
+        subst (λ (es : List Effect). NeverNames of n es) (sym h.emitted)
         (works_unnamed (heard s happening) now h.done_acts t n h.settles.0 (takes_order s happening o) (later s (heard s happening) n (takes_stay s happening) over))
 
-    pub plays_unnamed : (a : Scene) (items : List Item) (told : List Effect) (c : Scene) (n : ℕ) → Plays a items told c → IsOrderly a.model → Over a.model n → NeverNames of n told
-    plays_unnamed a [] told c n h o over = subst (λ (es : List Effect). NeverNames of n es) (sym h.0) tt
-    plays_unnamed a (item ∷ items) told c n h o over =
+    pub plays_unnamed : (a : Scene) (items : List Item) (emitted : List Effect) (c : Scene) (n : ℕ) → Plays a items emitted c → IsOrderly a.model → Over a.model n → NeverNames of n emitted
+    plays_unnamed a [] emitted c n h o over = subst (λ (es : List Effect). NeverNames of n es) (sym h.0) tt
+    plays_unnamed a (item ∷ items) emitted c n h o over =
         let happened = h.3.happened in
         subst (λ (es : List Effect). NeverNames of n es) (sym h.5)
         (never_more of n h.1 h.2 (item_unnamed a.model h.0.now (happening_of item) h.1 h.0.model n happened o over)
@@ -72,7 +72,7 @@ module _ (takes_order : TakesInOrder) (acts_order : ActsInOrder) (takes_stay : T
 
     -- what ends it, and what is told behind that
     module _ (ends : Effect → Option ℕ)
-        (act_ends : (s after : EngineModel) (told rest : List Effect) → IsAct s after told → ((n : ℕ) → Over after n → NeverNames of n rest) → EndsWithIts ends of rest → EndsWithIts ends of (told ++ rest)) where
+        (act_ends : (s after : EngineModel) (emitted rest : List Effect) → IsAct s after emitted → ((n : ℕ) → Over after n → NeverNames of n rest) → EndsWithIts ends of rest → EndsWithIts ends of (emitted ++ rest)) where
       works_end : (s : EngineModel) (now : ℕ) (done_acts : List DoneAct) (t : EngineModel) (rest : List Effect) → Works s now done_acts t → IsOrderly s → ((n : ℕ) → Over t n → NeverNames of n rest) → EndsWithIts ends of rest →
           EndsWithIts ends of (effects_of done_acts ++ rest)
       works_end s now [] t rest h o behind ending = ending
@@ -83,15 +83,15 @@ module _ (takes_order : TakesInOrder) (acts_order : ActsInOrder) (takes_stay : T
           (λ n over. never_more of n (effects_of done_acts) rest (works_unnamed h.0 now done_acts t n h.3 a.orderly over) (behind n (works_over h.0 now done_acts t n h.3 a.orderly over)))
           (works_end h.0 now done_acts t rest h.3 a.orderly behind ending))
 
-      item_ends : (s : EngineModel) (now : ℕ) (o : Option Happening) (told : List Effect) (t : EngineModel) (rest : List Effect) → HappenedIf o s now told t → IsOrderly s → ((n : ℕ) → Over t n → NeverNames of n rest) →
-          EndsWithIts ends of rest → EndsWithIts ends of (told ++ rest)
-      item_ends s now None told t rest h o behind ending = subst (λ (es : List Effect). EndsWithIts ends of (es ++ rest)) (sym h.0) ending
-      item_ends s now (Some happening) told t rest h o behind ending =
-          subst (λ (es : List Effect). EndsWithIts ends of (es ++ rest)) (sym h.told) (works_end (heard s happening) now h.done_acts t rest h.settles.0 (takes_order s happening o) behind ending)
+      item_ends : (s : EngineModel) (now : ℕ) (o : Option Happening) (emitted : List Effect) (t : EngineModel) (rest : List Effect) → HappenedIf o s now emitted t → IsOrderly s → ((n : ℕ) → Over t n → NeverNames of n rest) →
+          EndsWithIts ends of rest → EndsWithIts ends of (emitted ++ rest)
+      item_ends s now None emitted t rest h o behind ending = subst (λ (es : List Effect). EndsWithIts ends of (es ++ rest)) (sym h.0) ending
+      item_ends s now (Some happening) emitted t rest h o behind ending =
+          subst (λ (es : List Effect). EndsWithIts ends of (es ++ rest)) (sym h.emitted) (works_end (heard s happening) now h.done_acts t rest h.settles.0 (takes_order s happening o) behind ending)
 
-      pub plays_end : (a : Scene) (items : List Item) (told : List Effect) (c : Scene) → Plays a items told c → IsOrderly a.model → EndsWithIts ends of told
-      plays_end a [] told c h o = subst (EndsWithIts ends of) (sym h.0) tt
-      plays_end a (item ∷ items) told c h o =
+      pub plays_end : (a : Scene) (items : List Item) (emitted : List Effect) (c : Scene) → Plays a items emitted c → IsOrderly a.model → EndsWithIts ends of emitted
+      plays_end a [] emitted c h o = subst (EndsWithIts ends of) (sym h.0) tt
+      plays_end a (item ∷ items) emitted c h o =
           let happened = h.3.happened in
           let next = item_orderly a.model h.0.now (happening_of item) h.1 h.0.model happened o in
           subst (EndsWithIts ends of) (sym h.5)

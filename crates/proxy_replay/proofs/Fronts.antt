@@ -11,32 +11,32 @@ use Rattle.proxy_script.specs.Script.{Said as Item, spelled, line_of, block_of, 
 use Rattle.proxy_script.specs.Script as item
 use Rattle.proxy_script.proofs.ItemLaws.{item_found, item_again}
 use Rattle.proxy_replay.specs.Played.{moment_after}
-use Rattle.proxy_replay.specs.Replay.{StandsAt, IsWrong, EndsAt, Fails}
+use Rattle.proxy_replay.specs.Replay.{BeginsWith, IsWrong, EndsAt, Fails}
 use Rattle.proxy_replay.specs.Steps.{of_config, Opens}
 
-pub item_shorter : (first : Bool) (rest more : List ℕ) (h : Item) → StandsAt first rest h more → length more < length rest
-item_shorter first rest more h stands =
-    omega (arith, ap length stands.0, length-append (spelled h) more, length-append (line_text (line_of h)) (10 ∷ block_of h))
+pub item_shorter : (first : Bool) (rest more : List ℕ) (h : Item) → BeginsWith first rest h more → length more < length rest
+item_shorter first rest more h represents =
+    omega (arith, ap length represents.0, length-append (spelled h) more, length-append (line_text (line_of h)) (10 ∷ block_of h))
 
 pub item_nil : (first : Bool) → item_at first [] ≡ Cut
 unfolding item_at
 item_nil first = refl
 
 -- an item that stands here is found
-found_by : (first : Bool) (rest : List ℕ) (h : Item) (more : List ℕ) → StandsAt first rest h more → item_at first rest ≡ Found h more
-found_by first rest h more stands = ap (item_at first) stands.0 ∙ item_again first h more stands.1 stands.2
+found_by : (first : Bool) (rest : List ℕ) (h : Item) (more : List ℕ) → BeginsWith first rest h more → item_at first rest ≡ Found h more
+found_by first rest h more represents = ap (item_at first) represents.0 ∙ item_again first h more represents.1 represents.2
 
 -- where an item is wrong, none stands
 pub wrong_by : (first ended : Bool) (rest : List ℕ) → item_at first rest ≡ Wrong → IsWrong first ended rest
 wrong_by first true rest e = (
   λ none. let cut : Wrong ≡ Cut = sym e ∙ (ap (item_at first) none ∙ item_nil first) in cc,
-  λ h more stands. let found : Wrong ≡ Found h more = sym e ∙ found_by first rest h more stands in cc,
+  λ h more represents. let found : Wrong ≡ Found h more = sym e ∙ found_by first rest h more represents in cc,
 )
 wrong_by first false rest e = e
 
 -- nor where the script ends in the middle of one
 pub cut_by : (first : Bool) (rest : List ℕ) → item_at first rest ≡ Cut → (rest ≡ [] → first ≡ true) → IsWrong first true rest
-cut_by first rest e some = (some, λ h more stands. let found : Cut ≡ Found h more = sym e ∙ found_by first rest h more stands in cc)
+cut_by first rest e some = (some, λ h more represents. let found : Cut ≡ Found h more = sym e ∙ found_by first rest h more represents in cc)
 
 -- behind the table, where something is left
 pub short_by : (rest : List ℕ) (ended none : Bool) → ended ≡ true → none ≡ (length rest == 0) → none ≡ false → item_at false rest ≡ Cut → IsWrong false ended rest
@@ -46,21 +46,21 @@ short_by rest ended none whole is some cut =
 pub opens_by : (bytes rest text : List ℕ) (h : Item) (table : Table) → Found h rest ≡ item_at true bytes → h ≡ item.Table text → ReadsAs text (Ok table) → Opens bytes table rest
 opens_by bytes rest text h table found is reads = record {
   text = text;
-  stands = subst (λ h. StandsAt true bytes h rest) is (item_found true bytes rest h (sym found));
+  represents = subst (λ h. BeginsWith true bytes h rest) is (item_found true bytes rest h (sym found));
   reads = reads;
 }
 
 -- a replay that ends in front of the table
 pub ends_first : (P : Bool → List ℕ → ℕ → Type 0) (bytes : List ℕ) → P true bytes 1 → EndsAt bytes [] P
-ends_first P bytes holds = record { first = true; rest = bytes; line = 1; effects = []; reaches = (refl, refl, refl); told = refl; holds = holds }
+ends_first P bytes holds = record { first = true; rest = bytes; line = 1; effects = []; reaches = (refl, refl, refl); emitted = refl; holds = holds }
 
-refused_with : (bytes rest text : List ℕ) (ended : Bool) (fault : ConfigFault) → StandsAt true bytes (item.Table text) rest → ((◌≢◌ {A = Result Table ConfigFault} (Err fault) (Err config.OutOfMemory)) → ReadsAs text (Err fault)) → Fails bytes ended [] (of_config fault)
-refused_with bytes rest text ended config.OutOfMemory stands reads = ends_first _ bytes tt
-refused_with bytes rest text ended fault stands reads = (text, rest, stands, reads (λ e. cc), refl)
+refused_with : (bytes rest text : List ℕ) (ended : Bool) (fault : ConfigFault) → BeginsWith true bytes (item.Table text) rest → ((◌≢◌ {A = Result Table ConfigFault} (Err fault) (Err config.OutOfMemory)) → ReadsAs text (Err fault)) → Fails bytes ended [] (of_config fault)
+refused_with bytes rest text ended config.OutOfMemory represents reads = ends_first _ bytes tt
+refused_with bytes rest text ended fault represents reads = (text, rest, represents, reads (λ e. cc), refl)
 
 pub refused_by : (bytes rest text : List ℕ) (ended : Bool) (h : Item) (fault : ConfigFault) → Found h rest ≡ item_at true bytes → h ≡ item.Table text → ((◌≢◌ {A = Result Table ConfigFault} (Err fault) (Err config.OutOfMemory)) → ReadsAs text (Err fault)) → Fails bytes ended [] (of_config fault)
 refused_by bytes rest text ended h fault found is reads =
-    refused_with bytes rest text ended fault (subst (λ h. StandsAt true bytes h rest) is (item_found true bytes rest h (sym found))) reads
+    refused_with bytes rest text ended fault (subst (λ h. BeginsWith true bytes h rest) is (item_found true bytes rest h (sym found))) reads
 
 -- no other item stands first
 pub other_by : (bytes rest : List ℕ) (h : Item) → Found h rest ≡ item_at true bytes → is_config (line_of h) ≡ false → ⊥

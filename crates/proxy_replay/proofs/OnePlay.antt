@@ -12,7 +12,7 @@ use Rattle.proxy_engine.specs.Happenings.{Said as Happening}
 use Rattle.proxy_engine.specs.EngineModel.{EngineModel, heard}
 use Rattle.proxy_engine.specs.Due.{Act, IsDueFirst}
 use Rattle.proxy_engine.specs.Acts.{Does}
-use Rattle.proxy_engine.specs.Lives.{ActsInOneWay}
+use Rattle.proxy_engine.specs.Executions.{ActsInOneWay}
 use Rattle.proxy_replay.specs.Played.{DoneAct, Works, effects_of, Scene, beginning, PlaysItem, Plays, HappenedIf, happening_of}
 use Rattle.proxy_replay.specs.Runs.{HasOnePlay}
 use Rattle.proxy_replay.specs.Replay.{HasOneText}
@@ -41,7 +41,7 @@ module _ (due : (s : EngineModel) → (a b : Option Act) → IsDueFirst s a → 
   happened_once s now None effects more t u h k = (h.0 ∙ sym k.0, h.1 ∙ sym k.1)
   happened_once s now (Some happening) effects more t u h k =
       let same = settled_once h.done_acts k.done_acts (heard s happening) now t u h.settles.0 h.settles.1 k.settles.0 k.settles.1 in
-      (h.told ∙ (same.0 ∙ sym k.told), same.1)
+      (h.emitted ∙ (same.0 ∙ sym k.emitted), same.1)
 
   item_once : (a b c : Scene) (item : Item) (effects more : List Effect) → PlaysItem a item effects b → PlaysItem a item more c → (effects ≡ more) × (b ≡ c)
   item_once a b c item effects more h k =
@@ -98,4 +98,4 @@ module _ (again : (first : Bool) (h : Item) (rest : List ℕ) → Fits h → IsP
       let config : h.config ≡ k.config = cc in
       let plays : Plays (beginning h.config) h.items k.effects k.last =
       subst (λ (t : Table). Plays (beginning t) h.items k.effects k.last) (sym config) (subst (λ (is : List Item). Plays (beginning k.config) is k.effects k.last) (sym items) k.plays) in
-      h.told ∙ (ap effects_text (play (beginning h.config) h.items h.effects k.effects h.last k.last h.plays plays).0 ∙ sym k.told)
+      h.emitted ∙ (ap effects_text (play (beginning h.config) h.items h.effects k.effects h.last k.last h.plays plays).0 ∙ sym k.emitted)

@@ -20,7 +20,7 @@ replayed script written to =
       last = to.last;
       plays = to.leads.plays;
       run = to.leads.run;
-      told = to.holds.1;
+      emitted = to.holds.1;
     }
 
 pub no_other_text : HasOneText → NoOtherText

@@ -14,8 +14,8 @@ use Rattle.proxy_engine.specs.State.{State, Represents}
 use Rattle.proxy_replay.specs.Bytes.{WasRead, limit}
 use Rattle.proxy_replay.specs.Played.{Scene, beginning, happening_of, moment_after, PlaysItem, Plays, Refuses}
 use Rattle.proxy_replay.proofs.Running.{plays_run}
-use Rattle.proxy_replay.specs.Replay.{StandsAt, IsWrong, Leads, LeadsTo, EndsAt, Fails, Tells, IsReplay, IsReplayed, IsRefused}
-use Rattle.proxy_replay.specs.Steps.{Opens, Told, Untold, StepFails}
+use Rattle.proxy_replay.specs.Replay.{BeginsWith, IsWrong, Leads, LeadsTo, EndsAt, Fails, Writes, IsReplay, IsReplayed, IsRefused}
+use Rattle.proxy_replay.specs.Steps.{Opens, StepDone, StepNotDone, StepFails}
 use Rattle.proxy_replay.specs.declared.faults.ReplayFault.{ReplayFault}
 use Rattle.proxy_replay.specs.declared.faults.ReplayFault.TheVariants as faults
 use Rattle.proxy_replay.proofs.Fronts.{ends_first}
@@ -48,12 +48,12 @@ script_more front table items h script fits placed = record {
   one_table = all_push (IsPlaced false) items h script.one_table placed;
 }
 
-leads_more : (bytes rest more : List ℕ) (items : List Item) (h : Item) (effects others : List Effect) (b c : Scene) → Leads bytes items rest effects b → StandsAt false rest h more → PlaysItem b h others c → Leads bytes (items ++ h ∷ []) more (effects ++ others) c
-leads_more bytes rest more items h effects others b c leads stands one = let longer = plays_more items (beginning leads.config) b c effects others h leads.plays one in record {
+leads_more : (bytes rest more : List ℕ) (items : List Item) (h : Item) (effects others : List Effect) (b c : Scene) → Leads bytes items rest effects b → BeginsWith false rest h more → PlaysItem b h others c → Leads bytes (items ++ h ∷ []) more (effects ++ others) c
+leads_more bytes rest more items h effects others b c leads represents one = let longer = plays_more items (beginning leads.config) b c effects others h leads.plays one in record {
   front = leads.front ++ spelled h;
-  bytes_are = leads.bytes_are ∙ (ap (λ xs. leads.front ++ xs) stands.0 ∙ sym (append_assoc leads.front (spelled h) more));
+  bytes_are = leads.bytes_are ∙ (ap (λ xs. leads.front ++ xs) represents.0 ∙ sym (append_assoc leads.front (spelled h) more));
   table = leads.table;
-  script = script_more leads.front leads.table items h leads.script stands.1 stands.2;
+  script = script_more leads.front leads.table items h leads.script represents.1 represents.2;
   config = leads.config;
   reads = leads.reads;
   plays = longer;
@@ -68,19 +68,19 @@ pub record SoFar (bytes rest : List ℕ) (now line : ℕ) (e : State) (old curre
   pub leads : Leads bytes items rest effects last
   pub moment : last.now ≡ now
   pub line_is : line ≡ length items + 2
-  pub stands : Represents e last.model
+  pub represents : Represents e last.model
   pub appends : Appends old current (effects_text effects)
 
 pub so_far_first : (bytes rest : List ℕ) (table : Table) (e : State) (old : Option (List ℕ)) → Opens bytes table rest → Represents e (beginning table).model → SoFar bytes rest 0 2 e old old
-so_far_first bytes rest table e old opens stands = record {
+so_far_first bytes rest table e old opens represents = record {
   items = [];
   effects = [];
   last = beginning table;
   leads = record {
     front = spelled (item.Table opens.text);
-    bytes_are = opens.stands.0;
+    bytes_are = opens.represents.0;
     table = opens.text;
-    script = record { script = sym (append-nil (spelled (item.Table opens.text))); table_fits = opens.stands.1; items_fit = tt; one_table = tt };
+    script = record { script = sym (append-nil (spelled (item.Table opens.text))); table_fits = opens.represents.1; items_fit = tt; one_table = tt };
     config = table;
     reads = opens.reads;
     plays = (refl, refl);
@@ -88,24 +88,24 @@ so_far_first bytes rest table e old opens stands = record {
   };
   moment = refl;
   line_is = refl;
-  stands = stands;
+  represents = represents;
   appends = Appends-nil old;
 }
 
 -- an item was played
-played : (a : Scene) (now : ℕ) (h : Item) (e : State) (old new : Option (List ℕ)) (told : Told a.model (moment_after now h) (happening_of h) e old new) → a.now ≡ now → PlaysItem a h told.effects (record { model = told.last; now = moment_after now h })
-played a now h e old new told same = record { moment = ap (λ m. moment_after m h) (sym same); happened = told.happened }
+played : (a : Scene) (now : ℕ) (h : Item) (e : State) (old new : Option (List ℕ)) (emitted : StepDone a.model (moment_after now h) (happening_of h) e old new) → a.now ≡ now → PlaysItem a h emitted.effects (record { model = emitted.last; now = moment_after now h })
+played a now h e old new emitted same = record { moment = ap (λ m. moment_after m h) (sym same); happened = emitted.happened }
 
-pub so_far_more : (bytes rest more : List ℕ) (now line : ℕ) (h : Item) (e f : State) (old mid new : Option (List ℕ)) → (before : SoFar bytes rest now line e old mid) → StandsAt false rest h more → Told before.last.model (moment_after now h) (happening_of h) f mid new → SoFar bytes more (moment_after now h) (line + 1) f old new
-so_far_more bytes rest more now line h e f old mid new before stands told = record {
+pub so_far_more : (bytes rest more : List ℕ) (now line : ℕ) (h : Item) (e f : State) (old mid new : Option (List ℕ)) → (before : SoFar bytes rest now line e old mid) → BeginsWith false rest h more → StepDone before.last.model (moment_after now h) (happening_of h) f mid new → SoFar bytes more (moment_after now h) (line + 1) f old new
+so_far_more bytes rest more now line h e f old mid new before represents emitted = record {
   items = before.items ++ h ∷ [];
-  effects = before.effects ++ told.effects;
-  last = record { model = told.last; now = moment_after now h };
-  leads = leads_more bytes rest more before.items h before.effects told.effects before.last _ before.leads stands (played before.last now h f mid new told before.moment);
+  effects = before.effects ++ emitted.effects;
+  last = record { model = emitted.last; now = moment_after now h };
+  leads = leads_more bytes rest more before.items h before.effects emitted.effects before.last _ before.leads represents (played before.last now h f mid new emitted before.moment);
   moment = refl;
   line_is = rw length_push (omega (arith, before.line_is));
-  stands = told.stands;
-  appends = subst (Appends old new) (sym (flat_map-append effect_text before.effects told.effects)) (Appends-trans old mid new (effects_text before.effects) (effects_text told.effects) before.appends told.appends);
+  represents = emitted.represents;
+  appends = subst (Appends old new) (sym (flat_map-append effect_text before.effects emitted.effects)) (Appends-trans old mid new (effects_text before.effects) (effects_text emitted.effects) before.appends emitted.appends);
 }
 
 -- how a replay ends
@@ -121,33 +121,33 @@ ends_here P bytes rest now line e old current before holds = record {
   line = line;
   effects = before.effects;
   reaches = leads_so_far _ bytes rest now line e old current before (refl, refl, before.line_is);
-  told = refl;
+  emitted = refl;
   holds = holds;
 }
 
 -- in front of the table
-pub tells_first : (bytes : List ℕ) (ended : Bool) (fault : ReplayFault) (old : Option (List ℕ)) → Fails bytes ended [] fault → Tells bytes ended old old (Err fault)
-tells_first bytes ended fault old fails = record { written = []; appends = Appends-nil old; replays = fails }
+pub writes_first : (bytes : List ℕ) (ended : Bool) (fault : ReplayFault) (old : Option (List ℕ)) → Fails bytes ended [] fault → Writes bytes ended old old (Err fault)
+writes_first bytes ended fault old fails = record { written = []; appends = Appends-nil old; replays = fails }
 
 -- at a line or a block that is wrong
-pub tells_wrong : (bytes rest : List ℕ) (ended : Bool) (now line : ℕ) (e : State) (old current : Option (List ℕ)) → SoFar bytes rest now line e old current → IsWrong false ended rest → Tells bytes ended old current (Err (faults.Line line))
-tells_wrong bytes rest ended now line e old current before wrong = record {
+pub writes_wrong : (bytes rest : List ℕ) (ended : Bool) (now line : ℕ) (e : State) (old current : Option (List ℕ)) → SoFar bytes rest now line e old current → IsWrong false ended rest → Writes bytes ended old current (Err (faults.Line line))
+writes_wrong bytes rest ended now line e old current before wrong = record {
   written = effects_text before.effects;
   appends = before.appends;
   replays = ends_here _ bytes rest now line e old current before (wrong, refl);
 }
 
 -- where the reader failed in the middle of an item
-pub tells_cut : (bytes rest : List ℕ) (ended : Bool) (now line : ℕ) (e : State) (old current : Option (List ℕ)) → SoFar bytes rest now line e old current → ended ≡ false → item_at false rest ≡ Cut → Tells bytes ended old current (Err faults.Read)
-tells_cut bytes rest ended now line e old current before more cut = record {
+pub writes_cut : (bytes rest : List ℕ) (ended : Bool) (now line : ℕ) (e : State) (old current : Option (List ℕ)) → SoFar bytes rest now line e old current → ended ≡ false → item_at false rest ≡ Cut → Writes bytes ended old current (Err faults.Read)
+writes_cut bytes rest ended now line e old current before more cut = record {
   written = effects_text before.effects;
   appends = before.appends;
   replays = (more, ends_here _ bytes rest now line e old current before cut);
 }
 
 -- at the script's end
-pub tells_whole : (bytes rest : List ℕ) (ended : Bool) (now line : ℕ) (e : State) (old current : Option (List ℕ)) → SoFar bytes rest now line e old current → ended ≡ true → rest ≡ [] → Tells bytes ended old current (Ok tt)
-tells_whole bytes rest ended now line e old current before whole none = record {
+pub writes_whole : (bytes rest : List ℕ) (ended : Bool) (now line : ℕ) (e : State) (old current : Option (List ℕ)) → SoFar bytes rest now line e old current → ended ≡ true → rest ≡ [] → Writes bytes ended old current (Ok tt)
+writes_whole bytes rest ended now line e old current before whole none = record {
   written = effects_text before.effects;
   appends = before.appends;
   replays = (whole, leads_so_far _ bytes rest now line e old current before (none, refl));
@@ -157,38 +157,38 @@ take_past : (xs ys : List ℕ) (k : ℕ) → take (length xs + k) (xs ++ ys) ≡
 take_past xs ys k = take-add (length xs) k (xs ++ ys) ∙ (ap (λ a. a ++ take k (drop (length xs) (xs ++ ys))) (take_at xs ys (length xs) refl) ∙ ap (λ b. xs ++ take k b) (drop_at xs ys (length xs) refl))
 
 -- at an item that isn't taken, or whose text isn't written
-fails_by : (bytes rest more : List ℕ) (h : Item) (ended : Bool) (now line : ℕ) (e : State) (old mid : Option (List ℕ)) (written : List ℕ) (fault : ReplayFault) → (before : SoFar bytes rest now line e old mid) → StandsAt false rest h more → StepFails before.last.model (moment_after now h) (happening_of h) written fault → Fails bytes ended (effects_text before.effects ++ written) fault
-fails_by bytes rest more h ended now line e old mid written (faults.Engine fault) before stands fails =
+fails_by : (bytes rest more : List ℕ) (h : Item) (ended : Bool) (now line : ℕ) (e : State) (old mid : Option (List ℕ)) (written : List ℕ) (fault : ReplayFault) → (before : SoFar bytes rest now line e old mid) → BeginsWith false rest h more → StepFails before.last.model (moment_after now h) (happening_of h) written fault → Fails bytes ended (effects_text before.effects ++ written) fault
+fails_by bytes rest more h ended now line e old mid written (faults.Engine fault) before represents fails =
     leads_so_far _ bytes rest now line e old mid before (
       h,
       more,
-      stands,
+      represents,
       (fails.0, fails.1, subst (λ m. Refuses before.last.model (moment_after m h) fails.0 fault) (sym before.moment) fails.2),
       ap (λ w. effects_text before.effects ++ w) fails.3 ∙ append-nil (effects_text before.effects),
     )
-fails_by bytes rest more h ended now line e old mid written faults.OutOfMemory before stands fails =
+fails_by bytes rest more h ended now line e old mid written faults.OutOfMemory before represents fails =
     subst (λ w. EndsAt bytes w (λ first rest line. Unit {0})) (sym (append-nil (effects_text before.effects)) ∙ ap (λ w. effects_text before.effects ++ w) (sym fails)) (ends_here _ bytes rest now line e old mid before tt)
-fails_by bytes rest more h ended now line e old mid written faults.Write before stands fails = record {
+fails_by bytes rest more h ended now line e old mid written faults.Write before represents fails = record {
   items = before.items ++ h ∷ [];
   rest = more;
   effects = before.effects ++ fails.0;
   last = record { model = fails.1; now = moment_after now h };
-  leads = leads_more bytes rest more before.items h before.effects fails.0 before.last _ before.leads stands (record { moment = ap (λ m. moment_after m h) (sym before.moment); happened = fails.2 });
+  leads = leads_more bytes rest more before.items h before.effects fails.0 before.last _ before.leads represents (record { moment = ap (λ m. moment_after m h) (sym before.moment); happened = fails.2 });
   holds = (
     length (effects_text before.effects) + fails.3,
     ap (λ w. effects_text before.effects ++ w) fails.4 ∙ (sym (take_past (effects_text before.effects) (effects_text fails.0) fails.3)
         ∙ ap (take (length (effects_text before.effects) + fails.3)) (sym (flat_map-append effect_text before.effects fails.0))),
   );
 }
-fails_by bytes rest more h ended now line e old mid written (faults.Config fault) before stands fails = absurd fails
-fails_by bytes rest more h ended now line e old mid written (faults.Line n) before stands fails = absurd fails
-fails_by bytes rest more h ended now line e old mid written faults.Read before stands fails = absurd fails
+fails_by bytes rest more h ended now line e old mid written (faults.Config fault) before represents fails = absurd fails
+fails_by bytes rest more h ended now line e old mid written (faults.Line n) before represents fails = absurd fails
+fails_by bytes rest more h ended now line e old mid written faults.Read before represents fails = absurd fails
 
-pub tells_untold : (bytes rest more : List ℕ) (h : Item) (ended : Bool) (now line : ℕ) (e : State) (old mid new : Option (List ℕ)) (fault : ReplayFault) → (before : SoFar bytes rest now line e old mid) → StandsAt false rest h more → Untold before.last.model (moment_after now h) (happening_of h) fault mid new → Tells bytes ended old new (Err fault)
-tells_untold bytes rest more h ended now line e old mid new fault before stands untold = record {
-  written = effects_text before.effects ++ untold.written;
-  appends = Appends-trans old mid new (effects_text before.effects) untold.written before.appends untold.appends;
-  replays = fails_by bytes rest more h ended now line e old mid untold.written fault before stands untold.fails;
+pub writes_not_done : (bytes rest more : List ℕ) (h : Item) (ended : Bool) (now line : ℕ) (e : State) (old mid new : Option (List ℕ)) (fault : ReplayFault) → (before : SoFar bytes rest now line e old mid) → BeginsWith false rest h more → StepNotDone before.last.model (moment_after now h) (happening_of h) fault mid new → Writes bytes ended old new (Err fault)
+writes_not_done bytes rest more h ended now line e old mid new fault before represents not_done = record {
+  written = effects_text before.effects ++ not_done.written;
+  appends = Appends-trans old mid new (effects_text before.effects) not_done.written before.appends not_done.appends;
+  replays = fails_by bytes rest more h ended now line e old mid not_done.written fault before represents not_done.fails;
 }
 
 -- the whole
@@ -203,11 +203,11 @@ ends_unread old new before read consumes = record {
   few = omega arith;
   whole = λ e. cc;
   full = λ e other. absurd (other refl);
-  tells = tells_first [] false faults.OutOfMemory before (ends_first _ [] tt);
+  writes = writes_first [] false faults.OutOfMemory before (ends_first _ [] tt);
 }
 
-pub ends_read : (bytes : List ℕ) (ended : Bool) (old new before after : Option (List ℕ)) (r : Result (Unit {0}) ReplayFault) → WasRead limit bytes ended old new → Tells bytes ended before after r → IsReplay old new before after r
-ends_read bytes ended old new before after r was tells = record {
+pub ends_read : (bytes : List ℕ) (ended : Bool) (old new before after : Option (List ℕ)) (r : Result (Unit {0}) ReplayFault) → WasRead limit bytes ended old new → Writes bytes ended before after r → IsReplay old new before after r
+ends_read bytes ended old new before after r was writes = record {
   bytes = bytes;
   over = was.over;
   ended = ended;
@@ -215,14 +215,14 @@ ends_read bytes ended old new before after r was tells = record {
   few = was.few;
   whole = was.whole;
   full = λ e other. was.full e;
-  tells = tells;
+  writes = writes;
 }
 
 -- over memory
 pub replayed_by : (script rest before text : List ℕ) → before ≡ [] → IsReplay (Some script) (Some rest) (Some before) (Some text) (Ok tt) → IsReplayed script text
 replayed_by script rest before text none replay =
-    let led = replay.tells.replays.1 in
-    let whole = replay.whole replay.tells.replays.0 in
+    let led = replay.writes.replays.1 in
+    let whole = replay.whole replay.writes.replays.0 in
     let read : script ≡ replay.bytes = replay.consumes
     ∙ (ap (λ xs. (replay.bytes ++ replay.over) ++ xs) whole.1
     ∙ (append-nil (replay.bytes ++ replay.over) ∙ (ap (λ xs. replay.bytes ++ xs) whole.0 ∙ append-nil replay.bytes))) in
@@ -237,7 +237,7 @@ replayed_by script rest before text none replay =
       last = led.last;
       plays = led.leads.plays;
       run = led.leads.run;
-      told = replay.tells.appends ∙ (ap (λ xs. xs ++ replay.tells.written) none ∙ led.holds.1);
+      emitted = replay.writes.appends ∙ (ap (λ xs. xs ++ replay.writes.written) none ∙ led.holds.1);
     }
 
 pub refused_by : (script rest before text : List ℕ) (fault : ReplayFault) → IsReplay (Some script) (Some rest) (Some before) (Some text) (Err fault) → IsRefused script fault
@@ -247,6 +247,6 @@ refused_by script rest before text fault replay = record {
   split = replay.consumes ∙ append_assoc replay.bytes replay.over rest;
   ended = replay.ended;
   whole = λ e. ap (λ xs. xs ++ rest) (replay.whole e).0 ∙ (replay.whole e).1;
-  written = replay.tells.written;
-  fails = replay.tells.replays;
+  written = replay.writes.written;
+  fails = replay.writes.replays;
 }

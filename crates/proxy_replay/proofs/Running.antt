@@ -6,69 +6,69 @@ use Rattle.proxy_script.specs.Script.{Said as Item}
 use Rattle.proxy_script.specs.declared.effect_list.Effect.{Effect}
 use Rattle.proxy_engine.specs.Happenings.{Said as Happening}
 use Rattle.proxy_engine.specs.EngineModel.{EngineModel, heard}
-use Rattle.proxy_engine.specs.Lives.{Step, Took, Worked, Lives, told_of}
-use Rattle.proxy_engine.proofs.Living.{lives_are_runs}
+use Rattle.proxy_engine.specs.Executions.{Step, Took, Worked, Executes, emitted_by}
+use Rattle.proxy_engine.proofs.Living.{executions_are_runs}
 use Rattle.proxy_replay.specs.Played.{DoneAct, Works, effects_of, Scene, beginning, Plays, HappenedIf, happening_of}
 use Rattle.proxy_replay.specs.Runs.{worked, FollowsItem, Follows, IsRun}
 
 module _ (begin : EngineModel) where
   -- steps that lead from the beginning, and what they told
-  record Lived (steps : List Step) (t : EngineModel) (told : List Effect) : Type 0 where
-    lives : Lives begin steps t
-    told_is : told_of steps ≡ told
+  record Executed (steps : List Step) (t : EngineModel) (emitted : List Effect) : Type 0 where
+    executes : Executes begin steps t
+    emitted_is : emitted_by steps ≡ emitted
 
-  same_end : (steps : List Step) (s t : EngineModel) (told more : List Effect) → t ≡ s → more ≡ told → Lived steps s told → Lived steps t more
-  same_end steps s t told more e m h = record { lives = subst (λ (u : EngineModel). Lives begin steps u) (sym e) h.lives; told_is = h.told_is ∙ sym m }
+  same_end : (steps : List Step) (s t : EngineModel) (emitted more : List Effect) → t ≡ s → more ≡ emitted → Executed steps s emitted → Executed steps t more
+  same_end steps s t emitted more e m h = record { executes = subst (λ (u : EngineModel). Executes begin steps u) (sym e) h.executes; emitted_is = h.emitted_is ∙ sym m }
 
-  works : (steps : List Step) (s : EngineModel) (now : ℕ) (done_acts : List DoneAct) (t : EngineModel) (told : List Effect) → Works s now done_acts t → Lived steps s told → Lived (worked now done_acts steps) t (told ++ effects_of done_acts)
-  works steps s now [] t told h lived = same_end steps s t told (told ++ []) h (append-nil told) lived
-  works steps s now (done_act ∷ done_acts) t told h lived =
-      let one : Lived (Worked now done_act.act done_act.effects ∷ steps) h.0 (told ++ done_act.effects) = record {
-        lives = (s, lived.lives, (h.1, h.2));
-        told_is = ap (λ (es : List Effect). es ++ done_act.effects) lived.told_is;
+  works : (steps : List Step) (s : EngineModel) (now : ℕ) (done_acts : List DoneAct) (t : EngineModel) (emitted : List Effect) → Works s now done_acts t → Executed steps s emitted → Executed (worked now done_acts steps) t (emitted ++ effects_of done_acts)
+  works steps s now [] t emitted h executed = same_end steps s t emitted (emitted ++ []) h (append-nil emitted) executed
+  works steps s now (done_act ∷ done_acts) t emitted h executed =
+      let one : Executed (Worked now done_act.act done_act.effects ∷ steps) h.0 (emitted ++ done_act.effects) = record {
+        executes = (s, executed.executes, (h.1, h.2));
+        emitted_is = ap (λ (es : List Effect). es ++ done_act.effects) executed.emitted_is;
       } in
-      same_end (worked now (done_act ∷ done_acts) steps) t t ((told ++ done_act.effects) ++ effects_of done_acts) (told ++ effects_of (done_act ∷ done_acts)) refl (sym (append_assoc told done_act.effects (effects_of done_acts)))
-      (works (Worked now done_act.act done_act.effects ∷ steps) h.0 now done_acts t (told ++ done_act.effects) h.3 one)
+      same_end (worked now (done_act ∷ done_acts) steps) t t ((emitted ++ done_act.effects) ++ effects_of done_acts) (emitted ++ effects_of (done_act ∷ done_acts)) refl (sym (append_assoc emitted done_act.effects (effects_of done_acts)))
+      (works (Worked now done_act.act done_act.effects ∷ steps) h.0 now done_acts t (emitted ++ done_act.effects) h.3 one)
 
   -- an item further
-  record Further (now : ℕ) (o : Option Happening) (past : List Step) (t : EngineModel) (told : List Effect) : Type 0 where
+  record Further (now : ℕ) (o : Option Happening) (past : List Step) (t : EngineModel) (emitted : List Effect) : Type 0 where
     steps : List Step
     follows : FollowsItem now o past steps
-    lived : Lived steps t told
+    executed : Executed steps t emitted
 
-  happened : (past : List Step) (s : EngineModel) (now : ℕ) (o : Option Happening) (effects : List Effect) (t : EngineModel) (told : List Effect) → HappenedIf o s now effects t → Lived past s told →
-      Further now o past t (told ++ effects)
-  happened past s now None effects t told h lived = record {
+  happened : (past : List Step) (s : EngineModel) (now : ℕ) (o : Option Happening) (effects : List Effect) (t : EngineModel) (emitted : List Effect) → HappenedIf o s now effects t → Executed past s emitted →
+      Further now o past t (emitted ++ effects)
+  happened past s now None effects t emitted h executed = record {
     steps = past;
     follows = refl;
-    lived = same_end past s t told (told ++ effects) h.1 (ap (λ (es : List Effect). told ++ es) h.0 ∙ append-nil told) lived;
+    executed = same_end past s t emitted (emitted ++ effects) h.1 (ap (λ (es : List Effect). emitted ++ es) h.0 ∙ append-nil emitted) executed;
   }
-  happened past s now (Some happening) effects t told h lived =
-      let took : Lived (Took happening ∷ past) (heard s happening) told = record { lives = (s, lived.lives, (h.free, refl)); told_is = lived.told_is } in
+  happened past s now (Some happening) effects t emitted h executed =
+      let took : Executed (Took happening ∷ past) (heard s happening) emitted = record { executes = (s, executed.executes, (h.free, refl)); emitted_is = executed.emitted_is } in
       let steps = worked now h.done_acts (Took happening ∷ past) in
       record {
         steps = steps;
         follows = (h.done_acts, refl);
-        lived = same_end steps t t (told ++ effects_of h.done_acts) (told ++ effects) refl (ap (λ (es : List Effect). told ++ es) h.told) (works (Took happening ∷ past) (heard s happening) now h.done_acts t told h.settles.0 took);
+        executed = same_end steps t t (emitted ++ effects_of h.done_acts) (emitted ++ effects) refl (ap (λ (es : List Effect). emitted ++ es) h.emitted) (works (Took happening ∷ past) (heard s happening) now h.done_acts t emitted h.settles.0 took);
       }
 
   -- all items
-  record Whole (now : ℕ) (items : List Item) (past : List Step) (t : EngineModel) (told : List Effect) : Type 0 where
+  record Whole (now : ℕ) (items : List Item) (past : List Step) (t : EngineModel) (emitted : List Effect) : Type 0 where
     steps : List Step
     follows : Follows now items past steps
-    lived : Lived steps t told
+    executed : Executed steps t emitted
 
-  plays : (items : List Item) (past : List Step) (a : Scene) (effects : List Effect) (last : Scene) (told : List Effect) → Plays a items effects last → Lived past a.model told →
-      Whole a.now items past last.model (told ++ effects)
-  plays [] past a effects last told h lived = record {
+  plays : (items : List Item) (past : List Step) (a : Scene) (effects : List Effect) (last : Scene) (emitted : List Effect) → Plays a items effects last → Executed past a.model emitted →
+      Whole a.now items past last.model (emitted ++ effects)
+  plays [] past a effects last emitted h executed = record {
     steps = past;
     follows = refl;
-    lived = same_end past a.model last.model told (told ++ effects) (ap (λ (b : Scene). b.model) h.1) (ap (λ (es : List Effect). told ++ es) h.0 ∙ append-nil told) lived;
+    executed = same_end past a.model last.model emitted (emitted ++ effects) (ap (λ (b : Scene). b.model) h.1) (ap (λ (es : List Effect). emitted ++ es) h.0 ∙ append-nil emitted) executed;
   }
-  plays (item ∷ items) past a effects last told h lived =
+  plays (item ∷ items) past a effects last emitted h executed =
       let b = h.0 in
-      let one = happened past a.model b.now (happening_of item) h.1 b.model told h.3.happened lived in
-      let rest = plays items one.steps b h.2 last (told ++ h.1) h.4 one.lived in
+      let one = happened past a.model b.now (happening_of item) h.1 b.model emitted h.3.happened executed in
+      let rest = plays items one.steps b h.2 last (emitted ++ h.1) h.4 one.executed in
       record {
         steps = rest.steps;
         follows = (
@@ -76,17 +76,17 @@ module _ (begin : EngineModel) where
           subst (λ n. FollowsItem n (happening_of item) past one.steps) h.3.moment one.follows,
           subst (λ n. Follows n items one.steps rest.steps) h.3.moment rest.follows,
         );
-        lived = same_end rest.steps last.model last.model ((told ++ h.1) ++ h.2) (told ++ effects) refl (ap (λ (es : List Effect). told ++ es) h.5 ∙ sym (append_assoc told h.1 h.2)) rest.lived;
+        executed = same_end rest.steps last.model last.model ((emitted ++ h.1) ++ h.2) (emitted ++ effects) refl (ap (λ (es : List Effect). emitted ++ es) h.5 ∙ sym (append_assoc emitted h.1 h.2)) rest.executed;
       }
 
 pub plays_run : (table : Table) (items : List Item) (effects : List Effect) (last : Scene) → Plays (beginning table) items effects last → IsRun table items effects last
 plays_run table items effects last h =
     let begin = (beginning table).model in
-    let whole = plays begin items [] (beginning table) effects last [] h (record { lives = refl; told_is = refl }) in
+    let whole = plays begin items [] (beginning table) effects last [] h (record { executes = refl; emitted_is = refl }) in
     record {
       steps = whole.steps;
       follows = whole.follows;
-      lives = whole.lived.lives;
-      told = whole.lived.told_is;
-      run = lives_are_runs table table.capacity 1 1 whole.steps last.model whole.lived.lives;
+      executes = whole.executed.executes;
+      emitted = whole.executed.emitted_is;
+      run = executions_are_runs table table.capacity 1 1 whole.steps last.model whole.executed.executes;
     }

@@ -19,7 +19,7 @@ use Rattle.proxy_engine.specs.declared.work.Work.{Work}
 use Rattle.proxy_engine.specs.declared.work.Work.TheVariants as work
 use Rattle.proxy_replay.specs.declared.faults.ReplayFault.TheVariants as faults
 use Rattle.proxy_replay.specs.Played.{DoneAct, Works, effects_of, Breaks, Refuses}
-use Rattle.proxy_replay.specs.Steps.{of_engine, Worked, Settled, Told, StepFails, Untold}
+use Rattle.proxy_replay.specs.Steps.{of_engine, Worked, Settled, StepDone, StepFails, StepNotDone}
 
 -- acts that were done
 
@@ -30,7 +30,7 @@ works_more (first ∷ done_acts) s now done_act t u before due does =
     (before.0, before.1, before.2, works_more done_acts before.0 now done_act t u before.3 due does)
 
 pub worked_first : (s : EngineModel) (now : ℕ) (e : State) → Represents e s → Worked s now [] e
-worked_first s now e stands = record { done_acts = []; last = s; works = refl; told = refl; stands = stands }
+worked_first s now e represents = record { done_acts = []; last = s; works = refl; emitted = refl; represents = represents }
 
 pub worked_more : (s : EngineModel) (now : ℕ) (effects : List Effect) (e new : State) (w : Work) (more : Vec Effect Global) → (before : Worked s now effects e) → w ≡ work.Did more → Did before.last now w new → Worked s now (effects ++ more.items) new
 worked_more s now effects e new w more before is did =
@@ -40,17 +40,17 @@ worked_more s now effects e new w more before is did =
       done_acts = before.done_acts ++ done_act ∷ [];
       last = one.2.after;
       works = works_more before.done_acts s now done_act before.last one.2.after before.works one.1 one.2.does;
-      told = ap (λ es. es ++ more.items) before.told
+      emitted = ap (λ es. es ++ more.items) before.emitted
           ∙ (ap (λ es. effects_of before.done_acts ++ es) (sym (append-nil more.items))
           ∙ sym (flat_map-append (λ (d : DoneAct). d.effects) before.done_acts (done_act ∷ [])));
-      stands = one.2.stands;
+      represents = one.2.represents;
     }
 
 pub settled_by : (s : EngineModel) (now : ℕ) (effects : List Effect) (e new : State) (w : Work) → (before : Worked s now effects e) → w ≡ work.Idle → Did before.last now w new → Settled s now effects new
 settled_by s now effects e new w before is did =
     let idle = subst (λ w. Did before.last now w new) is did in
     record {
-      worked = record { done_acts = before.done_acts; last = before.last; works = before.works; told = before.told; stands = idle.1 };
+      worked = record { done_acts = before.done_acts; last = before.last; works = before.works; emitted = before.emitted; represents = idle.1 };
       idle = idle.0;
     }
 
@@ -59,21 +59,21 @@ broke_by s now effects e fault before failed = record { done_acts = before.done_
 
 -- what an item tells the engine
 
-pub told_by : (s : EngineModel) (now : ℕ) (h : Happening) (effects : List Effect) (e : State) (old new : Option (List ℕ)) → fault_of s h ≡ None → Settled (heard s h) now effects e → Appends old new (effects_text effects) → Told s now (Some h) e old new
-told_by s now h effects e old new free settled appends = record {
+pub done_by : (s : EngineModel) (now : ℕ) (h : Happening) (effects : List Effect) (e : State) (old new : Option (List ℕ)) → fault_of s h ≡ None → Settled (heard s h) now effects e → Appends old new (effects_text effects) → StepDone s now (Some h) e old new
+done_by s now h effects e old new free settled appends = record {
   effects = effects;
   last = settled.worked.last;
-  happened = record { free = free; done_acts = settled.worked.done_acts; settles = (settled.worked.works, settled.idle); told = settled.worked.told };
-  stands = settled.worked.stands;
+  happened = record { free = free; done_acts = settled.worked.done_acts; settles = (settled.worked.works, settled.idle); emitted = settled.worked.emitted };
+  represents = settled.worked.represents;
   appends = appends;
 }
 
-pub told_nothing : (s : EngineModel) (now : ℕ) (e : State) (h : Option Happening) (old : Option (List ℕ)) → None ≡ h → Represents e s → Told s now h e old old
-told_nothing s now e h old none stands = subst (λ h. Told s now h e old old) none (record {
+pub nothing_done : (s : EngineModel) (now : ℕ) (e : State) (h : Option Happening) (old : Option (List ℕ)) → None ≡ h → Represents e s → StepDone s now h e old old
+nothing_done s now e h old none represents = subst (λ h. StepDone s now h e old old) none (record {
   effects = [];
   last = s;
   happened = (refl, refl);
-  stands = stands;
+  represents = represents;
   appends = Appends-nil old;
 })
 
@@ -89,7 +89,7 @@ refused_by s now h engine.NotAccepted refusal = (h, refl, refuses_by s now h (fa
 refused_by s now h engine.OutOfMemory refusal = refl
 refused_by s now h engine.Spent refusal = (h, refl, refuses_by s now h (fault_of s h) engine.Spent refl refusal (λ e. cc), refl)
 
-pub untaken : (s : EngineModel) (now : ℕ) (h : Happening) (fault : EngineFault) (old : Option (List ℕ)) → TakeFault s h fault → Untold s now (Some h) (of_engine fault) old old
+pub untaken : (s : EngineModel) (now : ℕ) (h : Happening) (fault : EngineFault) (old : Option (List ℕ)) → TakeFault s h fault → StepNotDone s now (Some h) (of_engine fault) old old
 untaken s now h fault old refusal = record { written = []; appends = Appends-nil old; fails = refused_by s now h fault refusal }
 
 breaks_by : (s : EngineModel) (now : ℕ) (h : Happening) (fault : EngineFault) → fault_of s h ≡ None → Breaks (heard s h) now fault → StepFails s now (Some h) [] (of_engine fault)
@@ -98,17 +98,17 @@ breaks_by s now h engine.NotAccepted free breaks = absurd breaks.failed
 breaks_by s now h engine.OutOfMemory free breaks = refl
 breaks_by s now h engine.Spent free breaks = (h, refl, inr (refl, free, breaks), refl)
 
-pub unsettled : (s : EngineModel) (now : ℕ) (h : Happening) (fault : EngineFault) (old : Option (List ℕ)) → fault_of s h ≡ None → Breaks (heard s h) now fault → Untold s now (Some h) (of_engine fault) old old
+pub unsettled : (s : EngineModel) (now : ℕ) (h : Happening) (fault : EngineFault) (old : Option (List ℕ)) → fault_of s h ≡ None → Breaks (heard s h) now fault → StepNotDone s now (Some h) (of_engine fault) old old
 unsettled s now h fault old free breaks = record { written = []; appends = Appends-nil old; fails = breaks_by s now h fault free breaks }
 
-pub unwritten : (s : EngineModel) (now : ℕ) (h : Happening) (effects : List Effect) (e : State) (text : List ℕ) (old new : Option (List ℕ)) (k : ℕ) → fault_of s h ≡ None → Settled (heard s h) now effects e → text ≡ effects_text effects → Appends old new (take k text) → Untold s now (Some h) faults.Write old new
+pub unwritten : (s : EngineModel) (now : ℕ) (h : Happening) (effects : List Effect) (e : State) (text : List ℕ) (old new : Option (List ℕ)) (k : ℕ) → fault_of s h ≡ None → Settled (heard s h) now effects e → text ≡ effects_text effects → Appends old new (take k text) → StepNotDone s now (Some h) faults.Write old new
 unwritten s now h effects e text old new k free settled is appends = record {
   written = take k text;
   appends = appends;
   fails = (
     effects,
     settled.worked.last,
-    record { free = free; done_acts = settled.worked.done_acts; settles = (settled.worked.works, settled.idle); told = settled.worked.told },
+    record { free = free; done_acts = settled.worked.done_acts; settles = (settled.worked.works, settled.idle); emitted = settled.worked.emitted },
     k,
     ap (take k) is,
   );

@@ -37,54 +37,57 @@ close_of (effects.Drop l) = None
 
 -- none of the effects names this one
 abbrev pub NeverNames : (Effect → Option ℕ) → ℕ → List Effect → Type 0
-NeverNames of n told = AllByRecursion (λ (e : Effect). of e ≢ Some n) told
+NeverNames of n emitted = AllByRecursion (λ (e : Effect). of e ≢ Some n) emitted
 
 abbrev pub NeverNamesIt : (Effect → Option ℕ) → Option ℕ → List Effect → Type 0
-NeverNamesIt of None told = Unit {0}
-NeverNamesIt of (Some n) told = NeverNames of n told
+NeverNamesIt of None emitted = Unit {0}
+NeverNamesIt of (Some n) emitted = NeverNames of n emitted
 
 -- behind an effect that ends one, none names it
 abbrev pub EndsWithIts : (ends of : Effect → Option ℕ) → List Effect → Type 0
 EndsWithIts ends of [] = Unit {0}
-EndsWithIts ends of (e ∷ told) = NeverNamesIt of (ends e) told × EndsWithIts ends of told
+EndsWithIts ends of (e ∷ emitted) = NeverNamesIt of (ends e) emitted × EndsWithIts ends of emitted
 
 abbrev pub EndsWithItsClose : List Effect → Type 0
-EndsWithItsClose told = EndsWithIts close_of client_of told
+EndsWithItsClose emitted = EndsWithIts close_of client_of emitted
 
 abbrev pub EndsWithItsDrop : List Effect → Type 0
-EndsWithItsDrop told = EndsWithIts drop_of link_of told
+EndsWithItsDrop emitted = EndsWithIts drop_of link_of emitted
 
 -- what is told behind the items in front names no more the connection that then goes away
-pub record IsSilentBehind (table : Table) (items : List Item) (n : ℕ) (told : List Effect) : Type 0 where
+pub record IsSilentBehind (table : Table) (items : List Item) (n : ℕ) (emitted : List Effect) : Type 0 where
   pub before : List Effect
   pub behind : List Effect
   pub there : Scene
   pub plays : Plays (beginning table) items before there
-  pub told_is : told ≡ before ++ behind
+  pub emitted_is : emitted ≡ before ++ behind
   pub silent : NeverNames client_of n behind
 
 -- the effects have a drop of this link
 abbrev pub HasDrop : ℕ → List Effect → Type 0
-HasDrop l told = (before behind : List Effect) × (told ≡ before ++ effects.Drop l ∷ behind)
+HasDrop l emitted = (before behind : List Effect) × (emitted ≡ before ++ effects.Drop l ∷ behind)
 
 -- each link that is dropped in the end has a drop, and behind that nothing names it
-pub record IsDroppedOnce (told : List Effect) (last : EngineModel) : Type 0 where
-  pub once : EndsWithItsDrop told
-  pub told_of_each : (j : ℕ) → j < length last.links → (link_at last j).dropped ≡ true → HasDrop (last.first + j) told
+pub record IsDroppedOnce (emitted : List Effect) (last : EngineModel) : Type 0 where
+  pub once : EndsWithItsDrop emitted
+  pub emitted_of_each : (j : ℕ) → j < length last.links → (link_at last j).dropped ≡ true
+      → HasDrop (last.first + j) emitted
 
 -- ---- the statements
 
 abbrev pub NothingFollowsAClose : Type 0
 NothingFollowsAClose =
-    (table : Table) (items : List Item) (told : List Effect) (last : Scene) → Plays (beginning table) items told last
-    → EndsWithItsClose told
+    (table : Table) (items : List Item) (emitted : List Effect) (last : Scene)
+    → Plays (beginning table) items emitted last
+    → EndsWithItsClose emitted
 
 abbrev pub NothingFollowsAGone : Type 0
-NothingFollowsAGone = (table : Table) (items more : List Item) (n : ℕ) (told : List Effect) (last : Scene) →
-    Plays (beginning table) (items ++ item.Happens (happening.Leaves n) ∷ more) told last
-    → IsSilentBehind table items n told
+NothingFollowsAGone = (table : Table) (items more : List Item) (n : ℕ) (emitted : List Effect) (last : Scene) →
+    Plays (beginning table) (items ++ item.Happens (happening.Leaves n) ∷ more) emitted last
+    → IsSilentBehind table items n emitted
 
 abbrev pub EachLinkIsDroppedOnce : Type 0
 EachLinkIsDroppedOnce =
-    (table : Table) (items : List Item) (told : List Effect) (last : Scene) → Plays (beginning table) items told last
-    → IsDroppedOnce told last.model
+    (table : Table) (items : List Item) (emitted : List Effect) (last : Scene)
+    → Plays (beginning table) items emitted last
+    → IsDroppedOnce emitted last.model

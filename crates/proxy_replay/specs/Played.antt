@@ -66,7 +66,7 @@ pub record Happened (s : EngineModel) (now : ℕ) (h : Happening) (effects : Lis
   pub free : fault_of s h ≡ None
   pub done_acts : List DoneAct
   pub settles : Settles (heard s h) now done_acts t
-  pub told : effects ≡ effects_of done_acts
+  pub emitted : effects ≡ effects_of done_acts
 
 abbrev pub HappenedIf : Option Happening → EngineModel → ℕ → List Effect → EngineModel → Type 0
 HappenedIf None s now effects t = (effects ≡ []) × (t ≡ s)

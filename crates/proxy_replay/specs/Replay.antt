@@ -1,6 +1,6 @@
 -- What a replay gives: the bytes that were read, how far they lead, and the text that was written.
 --
--- StandsAt, IsWrong: an item stands at the front of bytes, or none
+-- BeginsWith, IsWrong: an item stands at the front of bytes, or none
 -- Leads: the bytes are a table and items, which were played, and a rest
 -- Replays, Fails: how the replay of bytes ends, and with which text written
 -- IsReplay: the same over a reader and a writer     IsReplayed, IsRefused: over memory
@@ -20,14 +20,14 @@ use Rattle.proxy_replay.specs.declared.faults.ReplayFault.{ReplayFault}
 use Rattle.proxy_replay.specs.declared.faults.ReplayFault.TheVariants as faults
 
 -- the item stands at the front, the first of a script or a later one, and more behind it
-abbrev pub StandsAt : Bool → List ℕ → Item → List ℕ → Type 0
-StandsAt first bytes item more = (bytes ≡ spelled item ++ more) × Fits item × IsPlaced first item
+abbrev pub BeginsWith : Bool → List ℕ → Item → List ℕ → Type 0
+BeginsWith first bytes item more = (bytes ≡ spelled item ++ more) × Fits item × IsPlaced first item
 
 -- No item stands here. Of bytes that are the whole script that is said where some are left, or the table is missing;
 -- where more may follow, of a line that has its LF or a block that is long enough.
 abbrev pub IsWrong : Bool → Bool → List ℕ → Type 0
 IsWrong first true rest =
-    (rest ≡ [] → first ≡ true) × ((item : Item) (more : List ℕ) → ¬ (StandsAt first rest item more))
+    (rest ≡ [] → first ≡ true) × ((item : Item) (more : List ℕ) → ¬ (BeginsWith first rest item more))
 IsWrong first false rest = item_at first rest ≡ Wrong
 
 -- The bytes are a table and items, spelled, and a rest; the items were played, with these effects, and the steps of the
@@ -56,7 +56,7 @@ pub record LeadsTo (bytes : List ℕ) (P : List Item → List ℕ → List Effec
 abbrev pub Reaches : List ℕ → Bool → List ℕ → ℕ → List Effect → Type 0
 Reaches bytes true rest line effects = (rest ≡ bytes) × (line ≡ 1) × (effects ≡ [])
 Reaches bytes false rest line effects =
-    LeadsTo bytes (λ items more told last. (more ≡ rest) × (told ≡ effects) × (line ≡ length items + 2))
+    LeadsTo bytes (λ items more emitted last. (more ≡ rest) × (emitted ≡ effects) × (line ≡ length items + 2))
 
 -- the replay ended at a place between items, where P holds, and the effects up to there were written
 pub record EndsAt (bytes written : List ℕ) (P : Bool → List ℕ → ℕ → Type 0) : Type 0 where
@@ -65,17 +65,17 @@ pub record EndsAt (bytes written : List ℕ) (P : Bool → List ℕ → ℕ → 
   pub line : ℕ
   pub effects : List Effect
   pub reaches : Reaches bytes first rest line effects
-  pub told : written ≡ effects_text effects
+  pub emitted : written ≡ effects_text effects
   pub holds : P first rest line
 
 -- why the replay of these bytes ends so, with this text written
 abbrev pub Fails : List ℕ → Bool → List ℕ → ReplayFault → Type 0
 Fails bytes ended written (faults.Config fault) =
-    (table more : List ℕ) × StandsAt true bytes (item.Table table) more × ReadsAs table (Err fault) × (written ≡ [])
+    (table more : List ℕ) × BeginsWith true bytes (item.Table table) more × ReadsAs table (Err fault) × (written ≡ [])
 Fails bytes ended written (faults.Line n) =
     EndsAt bytes written (λ first rest line. IsWrong first ended rest × (n ≡ line))
 Fails bytes ended written (faults.Engine fault) =
-    LeadsTo bytes (λ items rest effects last. (h : Item) × (more : List ℕ) × StandsAt false rest h more
+    LeadsTo bytes (λ items rest effects last. (h : Item) × (more : List ℕ) × BeginsWith false rest h more
     × Halts last h fault × (written ≡ effects_text effects))
 Fails bytes ended written faults.Read =
     (ended ≡ false) × EndsAt bytes written (λ first rest line. item_at first rest ≡ Cut)
@@ -90,7 +90,7 @@ Replays bytes ended written (Ok _) =
 Replays bytes ended written (Err fault) = Fails bytes ended written fault
 
 -- what was written, and how the replay of these bytes ends
-pub record Tells (bytes : List ℕ) (ended : Bool) (old new : Option (List ℕ))
+pub record Writes (bytes : List ℕ) (ended : Bool) (old new : Option (List ℕ))
     (result : Result (Unit {0}) ReplayFault) : Type 0 where
   pub written : List ℕ
   pub appends : Appends old new written
@@ -105,7 +105,7 @@ pub record IsReplay (old new before after : Option (List ℕ)) (result : Result 
   pub few : length bytes ≤ limit
   pub whole : ended ≡ true → (over ≡ []) × IsAtEnd new
   pub full : over ≢ [] → result ≢ Err faults.OutOfMemory → length bytes ≡ limit
-  pub tells : Tells bytes ended before after result
+  pub writes : Writes bytes ended before after result
 
 -- a whole script: its table and its items, and the text of the effects of their play
 pub record IsReplayed (script text : List ℕ) : Type 0 where
@@ -118,7 +118,7 @@ pub record IsReplayed (script text : List ℕ) : Type 0 where
   pub last : Scene
   pub plays : Plays (beginning config) items effects last
   pub run : IsRun config items effects last
-  pub told : text ≡ effects_text effects
+  pub emitted : text ≡ effects_text effects
 
 -- a script that is replayed has one text of its effects
 abbrev pub HasOneText : Type 0

@@ -9,7 +9,7 @@ use Rattle.hx_allow.specs.Lines.{Table}
 use Rattle.proxy_script.specs.Script.{Said as Item}
 use Rattle.proxy_script.specs.declared.effect_list.Effect.{Effect}
 use Rattle.proxy_engine.specs.Happenings.{Said as Happening}
-use Rattle.proxy_engine.specs.Lives.{Step, Took, Worked, Lives, told_of, IsRun as IsCoreRun}
+use Rattle.proxy_engine.specs.Executions.{Step, Took, Worked, Executes, emitted_by, IsRun as IsCoreRun}
 use Rattle.proxy_replay.specs.Played.{DoneAct, Scene, beginning, Plays, happening_of, moment_after}
 
 -- the steps of acts that were done at a moment, behind those before them; the latest first
@@ -38,8 +38,8 @@ Follows now (item ∷ items) past steps =
 pub record IsRun (table : Table) (items : List Item) (effects : List Effect) (last : Scene) : Type 0 where
   pub steps : List Step
   pub follows : Follows 0 items [] steps
-  pub lives : Lives (beginning table).model steps last.model
-  pub told : told_of steps ≡ effects
+  pub executes : Executes (beginning table).model steps last.model
+  pub emitted : emitted_by steps ≡ effects
   pub run : IsCoreRun table table.capacity 1 (beginning table).model steps last.model
 
 -- items are played in one way: they have one list of effects, and lead to one model

@@ -16,7 +16,7 @@ use Rattle.proxy_engine.specs.State.{State, Represents}
 use Rattle.proxy_engine.specs.declared.work.EngineFault.{EngineFault}
 use Rattle.proxy_engine.specs.declared.work.EngineFault.TheVariants as engine
 use Rattle.proxy_replay.specs.Played.{DoneAct, Works, effects_of, HappenedIf, Refuses}
-use Rattle.proxy_replay.specs.Replay.{StandsAt}
+use Rattle.proxy_replay.specs.Replay.{BeginsWith}
 use Rattle.proxy_replay.specs.declared.faults.ReplayFault.{ReplayFault}
 use Rattle.proxy_replay.specs.declared.faults.ReplayFault.TheVariants as faults
 
@@ -35,7 +35,7 @@ of_engine engine.Spent = faults.Engine engine.Spent
 -- the table stands first, and is read as this one
 pub record Opens (bytes : List ℕ) (table : Table) (rest : List ℕ) : Type 0 where
   pub text : List ℕ
-  pub stands : StandsAt true bytes (item.Table text) rest
+  pub represents : BeginsWith true bytes (item.Table text) rest
   pub reads : ReadsAs text (Ok table)
 
 -- an engine did what was due, with these effects
@@ -43,8 +43,8 @@ pub record Worked (s : EngineModel) (now : ℕ) (effects : List Effect) (e : Sta
   pub done_acts : List DoneAct
   pub last : EngineModel
   pub works : Works s now done_acts last
-  pub told : effects ≡ effects_of done_acts
-  pub stands : Represents e last
+  pub emitted : effects ≡ effects_of done_acts
+  pub represents : Represents e last
 
 -- and nothing is due
 pub record Settled (s : EngineModel) (now : ℕ) (effects : List Effect) (e : State) : Type 0 where
@@ -52,18 +52,18 @@ pub record Settled (s : EngineModel) (now : ℕ) (effects : List Effect) (e : St
   pub idle : IsDueFirst worked.last None
 
 -- what an item tells the engine was done and written
-pub record Told (s : EngineModel) (now : ℕ) (h : Option Happening) (e : State)
+pub record StepDone (s : EngineModel) (now : ℕ) (h : Option Happening) (e : State)
     (old new : Option (List ℕ)) : Type 0 where
   pub effects : List Effect
   pub last : EngineModel
   pub happened : HappenedIf h s now effects last
-  pub stands : Represents e last
+  pub represents : Represents e last
   pub appends : Appends old new (effects_text effects)
 
 -- why it wasn't, with this text written
 abbrev pub StepFails : EngineModel → ℕ → Option Happening → List ℕ → ReplayFault → Type 0
 StepFails s now h written (faults.Engine fault) =
-    (told : Happening) × (h ≡ Some told) × Refuses s now told fault × (written ≡ [])
+    (taken : Happening) × (h ≡ Some taken) × Refuses s now taken fault × (written ≡ [])
 StepFails s now h written faults.Write =
     (effects : List Effect) × (last : EngineModel) × HappenedIf h s now effects last × (k : ℕ)
     × (written ≡ take k (effects_text effects))
@@ -72,7 +72,7 @@ StepFails s now h written (faults.Config fault) = ⊥
 StepFails s now h written (faults.Line n) = ⊥
 StepFails s now h written faults.Read = ⊥
 
-pub record Untold (s : EngineModel) (now : ℕ) (h : Option Happening) (fault : ReplayFault)
+pub record StepNotDone (s : EngineModel) (now : ℕ) (h : Option Happening) (fault : ReplayFault)
     (old new : Option (List ℕ)) : Type 0 where
   pub written : List ℕ
   pub appends : Appends old new written

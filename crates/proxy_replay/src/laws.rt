@@ -10,7 +10,7 @@ ghost use Rattle.proxy_replay.specs.Replay.{HasOneText};
 
 use hx_allow::a_table_is_read_in_one_way;
 use proxy_engine::{
-    an_act_has_three_effects_at_most, an_act_is_done_in_one_way, due_once, each_drop_is_told,
+    an_act_has_three_effects_at_most, an_act_is_done_in_one_way, due_once, each_drop_is_emitted,
     effects_name_open_ends, what_ends_stays_ended,
 };
 use proxy_script::items_are_found_as_they_are_spelled;
@@ -59,5 +59,5 @@ pub fn each_link_is_dropped_once()
     effects_name_open_ends();
     what_ends_stays_ended();
     an_act_has_three_effects_at_most();
-    each_drop_is_told();
+    each_drop_is_emitted();
 }

@@ -5,7 +5,7 @@ ghost use Rattle.proxy_script.specs.Lines.{is_config};
 ghost use Rattle.proxy_script.specs.Script.{said, line_of, Table};
 ghost use Rattle.proxy_replay.specs.Bytes.{limit};
 ghost use Rattle.proxy_replay.specs.Played.{beginning};
-ghost use Rattle.proxy_replay.specs.Replay.{Fails, Tells, IsReplay};
+ghost use Rattle.proxy_replay.specs.Replay.{Fails, Writes, IsReplay};
 ghost use Rattle.proxy_replay.specs.Steps.{Opens};
 
 use crate::bytes::read_script;
@@ -65,7 +65,7 @@ fn play<S: NewShelf + Drop, W: Write>(
     writer: &mut W,
 ) -> Result<(), ReplayFault>
     requires { length bytes.now ≤ limit }
-    ensures { Tells bytes.now ended (W.contents writer.old) (W.contents writer.new) result }
+    ensures { Writes bytes.now ended (W.contents writer.old) (W.contents writer.new) result }
 {
     let (config, mut rest) = match read_table(alloc, bytes, ended) {
         Ok(opened) => opened,

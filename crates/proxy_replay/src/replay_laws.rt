@@ -5,7 +5,7 @@ ghost use Rattle.proxy_script.specs.Script as item;
 ghost use Rattle.proxy_script.specs.declared.effect_list.Effect.TheVariants as effects;
 ghost use Rattle.proxy_engine.specs.Happenings.{Accepts};
 ghost use Rattle.proxy_engine.specs.Due.{Wakes};
-ghost use Rattle.proxy_engine.specs.Lives.{Took, Worked};
+ghost use Rattle.proxy_engine.specs.Executions.{Took, Worked};
 ghost use Rattle.proxy_replay.specs.Played.{beginning, effects_of, happening_of, moment_after};
 ghost use Rattle.proxy_replay.specs.Runs.{worked};
 ghost use Rattle.proxy_replay.specs.OneReplay.{NoOtherText, NotBeforeItsEnd, NoReadFailsAtTheEnd};

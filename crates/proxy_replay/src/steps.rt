@@ -6,7 +6,7 @@ ghost use Rattle.proxy_engine.specs.EngineModel.{EngineModel};
 ghost use Rattle.proxy_engine.specs.State.{Represents};
 ghost use Rattle.proxy_script.specs.Script.{said as item_said};
 ghost use Rattle.proxy_replay.specs.Played.{happening_of, moment_after, Breaks};
-ghost use Rattle.proxy_replay.specs.Steps.{Settled, Told, Untold};
+ghost use Rattle.proxy_replay.specs.Steps.{Settled, StepDone, StepNotDone};
 
 use crate::bytes::put;
 use crate::faults::ReplayFault;
@@ -73,7 +73,7 @@ fn settle<S: Shelf>(
 }
 
 /// Takes what happened, does what is then due, and writes the text of it whole.
-fn tell<S: Shelf, W: Write>(
+fn write<S: Shelf, W: Write>(
     alloc: Global,
     engine: &mut Engine<S>,
     now: u64,
@@ -82,9 +82,9 @@ fn tell<S: Shelf, W: Write>(
 ) -> Result<(), ReplayFault>
     requires { now < END_OF_TIME }
     ensures ok { OnOk result ((s : EngineModel) → Represents engine.old s
-        → Told s now (Some (said happening.entry)) engine.new (W.contents writer.old) (W.contents writer.new)) }
+        → StepDone s now (Some (said happening.entry)) engine.new (W.contents writer.old) (W.contents writer.new)) }
     ensures fault { IfErr result (λ fault. (s : EngineModel) → Represents engine.old s
-        → Untold s now (Some (said happening.entry)) fault (W.contents writer.old) (W.contents writer.new)) }
+        → StepNotDone s now (Some (said happening.entry)) fault (W.contents writer.old) (W.contents writer.new)) }
 {
     match engine.take(alloc, happening) {
         Ok(()) => {}
@@ -114,12 +114,14 @@ pub(crate) fn play_item<S: Shelf, W: Write>(
 ) -> Result<(), ReplayFault>
     requires { now < END_OF_TIME }
     ensures ok { OnOk result ((s : EngineModel) → Represents engine.old s
-        → Told s now (happening_of (item_said item.entry)) engine.new (W.contents writer.old) (W.contents writer.new)) }
+        → StepDone s now (happening_of (item_said item.entry)) engine.new (W.contents writer.old)
+        (W.contents writer.new)) }
     ensures fault { IfErr result (λ fault. (s : EngineModel) → Represents engine.old s
-        → Untold s now (happening_of (item_said item.entry)) fault (W.contents writer.old) (W.contents writer.new)) }
+        → StepNotDone s now (happening_of (item_said item.entry)) fault (W.contents writer.old)
+        (W.contents writer.new)) }
 {
     match happening_of(item) {
-        Some(happening) => tell(alloc, engine, now, happening, writer),
+        Some(happening) => write(alloc, engine, now, happening, writer),
         None => Ok(()),
     }
 }

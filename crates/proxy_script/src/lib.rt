@@ -25,6 +25,6 @@ pub use laws::items_are_found_as_they_are_spelled;
 pub use limits::MOST_SCRIPT_BYTES;
 pub use parser::{Front, read_item};
 pub use script_cases::{
-    effects_are_told, items_are_read, items_are_spelled, items_wait, wrong_items_are_refused,
+    effects_are_spelled, items_are_read, items_are_spelled, items_wait, wrong_items_are_refused,
 };
 pub use spelling::item_text;

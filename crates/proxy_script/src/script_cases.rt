@@ -81,7 +81,7 @@ pub fn wrong_items_are_refused()
 {}
 
 /// How each effect is told.
-pub fn effects_are_told()
+pub fn effects_are_spelled()
     ensures closes { effects_text (effect.Close 1 ∷ effect.Drop 2 ∷ []) ≡ codes "close 1\ndrop 2\n" }
     ensures bytes { effects_text (effect.Client 3 (codes "hi") ∷ effect.Close 3 ∷ [])
         ≡ codes "client 3 2\nhi\nclose 3\n" }

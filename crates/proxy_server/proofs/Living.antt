@@ -15,13 +15,13 @@ pub on_from : MoreAreLost → (e mid same new : State) → same ≡ mid → Lose
 on_from more e mid same new is first rest = more e mid new first (subst (λ (x : State). LosesOn x new) is rest)
 
 -- a turn from a state that is the one before, to one that is the one behind it
-pub served_as : (now : ℕ) (e from new last : State) (told : Result Report TurnFault) → from ≡ e → last ≡ new → Serves now from new told → Serves now e last told
-served_as now e from new last told first rest serves =
-    subst (λ (x : State). Serves now e x told) (sym rest) (subst (λ (x : State). Serves now x new told) first serves)
+pub served_as : (now : ℕ) (e from new last : State) (reported : Result Report TurnFault) → from ≡ e → last ≡ new → Serves now from new reported → Serves now e last reported
+served_as now e from new last reported first rest serves =
+    subst (λ (x : State). Serves now e x reported) (sym rest) (subst (λ (x : State). Serves now x new reported) first serves)
 
 -- whatever a call answers, the engine has gone on
 pub answered_on : StaysOn → TurnsGoOn → (e new : State) (result : Result Turned ServeFault) → Answers e new result → GoesOn e new
-answered_on stays turns e new (Ok turned) did = turns e new turned.moment turned.told did.2
+answered_on stays turns e new (Ok turned) did = turns e new turned.moment turned.reported did.2
 answered_on stays turns e new (Err Socket) same = subst (GoesOn e) (sym same) (stays e)
 answered_on stays turns e new (Err Clock) same = subst (GoesOn e) (sym same) (stays e)
 answered_on stays turns e new (Err (Record fault)) did = turns e new did.1.0 did.0 did.1.2

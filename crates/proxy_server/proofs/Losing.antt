@@ -27,8 +27,8 @@ took e new h (Err fault) taken same = inl same
 
 -- what is handed in is what happened
 pub lost_end : (o : Option Happening) (end : End) (kind : FailKind) (h : Happening) (e new : State) (r : Result (Unit {0}) EngineFault) → o ≡ Some h → option_map said o ≡ lost end kind → OnOk r ((s : EngineModel) → Represents e s → Takes s (said h) new) → OnErr r (new ≡ e) → LosesEnd end kind e new
-lost_end o end kind h e new r is told taken same =
-    subst (λ (l : Option Said). TakesLoss l e new) (sym (ap (option_map said) is) ∙ told) (took e new (said h) r taken same)
+lost_end o end kind h e new r is reported taken same =
+    subst (λ (l : Option Said). TakesLoss l e new) (sym (ap (option_map said) is) ∙ reported) (took e new (said h) r taken same)
 
 -- ---- they are losses, and nothing else
 

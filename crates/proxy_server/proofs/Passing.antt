@@ -13,11 +13,11 @@ pub passes_it : (failed : Bool) (made : Call) → PassedOn failed (made ∷ []) 
 passes_it failed made = passed_one failed made (made ∷ []) (inl refl)
 
 -- what it answers is told
-pub passes_told : (failed : Bool) (call : Bool → Call) (done told : Bool) → told ≡ done → PassedOn failed (call told ∷ []) (call done ∷ [])
-passes_told failed call done told is = subst (λ (b : Bool). PassedOn failed (call b ∷ []) (call done ∷ [])) (sym is) (passes_it failed (call done))
+pub passes_reported : (failed : Bool) (call : Bool → Call) (done reported : Bool) → reported ≡ done → PassedOn failed (call reported ∷ []) (call done ∷ [])
+passes_reported failed call done reported is = subst (λ (b : Bool). PassedOn failed (call b ∷ []) (call done ∷ [])) (sym is) (passes_it failed (call done))
 
-pub passes_came : (failed came told : Bool) (n : ℕ) → came ≡ true → (told ≡ false → failed ≡ true) → PassedOn failed (call.Accept n (answer_of (Ok told)) ∷ []) (call.Accept n (answer_of (Ok came)) ∷ [])
-passes_came failed false told n is on = absurd cc
+pub passes_came : (failed came reported : Bool) (n : ℕ) → came ≡ true → (reported ≡ false → failed ≡ true) → PassedOn failed (call.Accept n (answer_of (Ok reported)) ∷ []) (call.Accept n (answer_of (Ok came)) ∷ [])
+passes_came failed false reported n is on = absurd cc
 passes_came failed true true n is on = passes_it failed (call.Accept n call.Came)
 passes_came failed true false n is on = passed_one failed (call.Accept n call.NoneCame) (call.Accept n call.Came ∷ []) (inr (inr (on refl, refl)))
 
@@ -39,12 +39,12 @@ noted_call : (now : ℕ) (old : Option Record) (taken : Bool) (made : Call) (the
 noted_call now old taken made then new later stays noted first is = record { stays = stays; notes = (new, noted, refl); takes = λ writes. (first writes, is) }
 
 -- a call by which nothing can arrive, as it is told
-pub noted_told : (now : ℕ) (old : Option Record) (taken : Bool) (call : Bool → Call) (done told : Bool) (then : ℕ) (new : Option Record) (later : Bool) → ((b : Bool) → is_arrival (call b) ≡ false) → ((b : Bool) → is_given (call b) ≡ false) → told ≡ done → then ≡ now → NotesIf now (said_of (call done)) old new → later ≡ taken → IsNoted now old taken (call told ∷ []) then new later
-noted_told now old taken call done told then new later arrives gives is stays noted same =
-    noted_call now old taken (call told) then new later stays
+pub noted_reported : (now : ℕ) (old : Option Record) (taken : Bool) (call : Bool → Call) (done reported : Bool) (then : ℕ) (new : Option Record) (later : Bool) → ((b : Bool) → is_arrival (call b) ≡ false) → ((b : Bool) → is_given (call b) ≡ false) → reported ≡ done → then ≡ now → NotesIf now (said_of (call done)) old new → later ≡ taken → IsNoted now old taken (call reported ∷ []) then new later
+noted_reported now old taken call done reported then new later arrives gives is stays noted same =
+    noted_call now old taken (call reported) then new later stays
     (subst (λ (b : Bool). NotesIf now (said_of (call b)) old new) (sym is) noted)
-    (λ writes arrived. absurd (true≢false (sym arrived ∙ arrives told)))
-    (subst (λ (b : Bool). later ≡ cond b true taken) (sym (gives told)) same)
+    (λ writes arrived. absurd (true≢false (sym arrived ∙ arrives reported)))
+    (subst (λ (b : Bool). later ≡ cond b true taken) (sym (gives reported)) same)
 
 -- nothing came of it
 pub noted_nothing : (now : ℕ) (old : Option Record) (taken : Bool) (made : Call) → said_of made ≡ None → is_arrival made ≡ false → is_given made ≡ false → IsNoted now old taken (made ∷ []) now old taken
@@ -60,17 +60,17 @@ noted_read now old failed taken end given then new later stays may noted is =
     (λ writes arrived. may_be_first failed taken (is_recording old) may (recording_before now (said_by end given) old new noted writes))
     is
 
-pub noted_came : (now : ℕ) (old : Option Record) (failed taken : Bool) (n : ℕ) (told : Bool) (then : ℕ) (new : Option Record) (later : Bool) → told ≡ true → then ≡ now → may_arrive failed taken (is_recording old) ≡ true → NotesIf now (said_of (call.Accept n call.Came)) old new → later ≡ taken → IsNoted now old taken (call.Accept n (answer_of (Ok told)) ∷ []) then new later
-noted_came now old failed taken n false then new later told stays may noted is = absurd (false≢true told)
-noted_came now old failed taken n true then new later told stays may noted is =
+pub noted_came : (now : ℕ) (old : Option Record) (failed taken : Bool) (n : ℕ) (reported : Bool) (then : ℕ) (new : Option Record) (later : Bool) → reported ≡ true → then ≡ now → may_arrive failed taken (is_recording old) ≡ true → NotesIf now (said_of (call.Accept n call.Came)) old new → later ≡ taken → IsNoted now old taken (call.Accept n (answer_of (Ok reported)) ∷ []) then new later
+noted_came now old failed taken n false then new later reported stays may noted is = absurd (false≢true reported)
+noted_came now old failed taken n true then new later reported stays may noted is =
     noted_call now old taken (call.Accept n call.Came) then new later stays noted
     (λ writes arrived. may_be_first failed taken (is_recording old) may (recording_before now (said_of (call.Accept n call.Came)) old new noted writes))
     is
 
 -- where recording hasn't failed, what came is told
-pub is_told : (told failed : Bool) → (told ≡ false → failed ≡ true) → failed ≡ false → told ≡ true
-is_told true failed on is = refl
-is_told false failed on is = absurd (true≢false (sym (on refl) ∙ is))
+pub is_reported : (reported failed : Bool) → (reported ≡ false → failed ≡ true) → failed ≡ false → reported ≡ true
+is_reported true failed on is = refl
+is_reported false failed on is = absurd (true≢false (sym (on refl) ∙ is))
 
 -- a read gave something, and it was recorded
 pub noted_some : (now : ℕ) (old mid : Option Record) (taken failed : Bool) (end : End) (given : Given) (h : Happening) (then : ℕ) (new : Option Record) (later : Bool) → said_by end given ≡ Some h → may_arrive failed taken (is_recording old) ≡ true → then ≡ now → new ≡ mid → later ≡ true → NotesIf now (Some h) old mid → IsNoted now old taken (call.Read end given ∷ []) then new later

@@ -9,7 +9,7 @@ use Rattle.proxy_script.specs.Script.{Said as Item, Table, Moment, Happens, spel
 use Rattle.proxy_script.specs.Happenings.{Said as Happening}
 use Rattle.proxy_script.specs.Happenings as happening
 use Rattle.proxy_script.specs.declared.limits.TheConstants.{MOST_SCRIPT_BYTES}
-use Rattle.proxy_server.specs.Records.{Record, Adds, has_room, added, empty, items_of, text_of, Begins, Notes, Told, NotesEach, items_behind, script_of, HasSpelling, IsRecordOf}
+use Rattle.proxy_server.specs.Records.{Record, Adds, has_room, added, empty, items_of, text_of, Begins, Notes, Noted, NotesEach, items_behind, script_of, HasSpelling, IsRecordOf}
 
 -- what a text that had room, or had none, made of a record
 abbrev HadRoom : Bool → Record → List ℕ → ℕ → Record → Type 0
@@ -27,7 +27,7 @@ record Kept (r new : Record) : Type 0 where
   over : new.over ≡ true
 
 -- nothing is added to a record that has ended
-kept_over : (r : Record) (told : List Told) (new : Record) → r.over ≡ true → NotesEach r told new → Kept r new
+kept_over : (r : Record) (all_noted : List Noted) (new : Record) → r.over ≡ true → NotesEach r all_noted new → Kept r new
 kept_over r [] new over same = subst (Kept r) (sym same) (record { held = Appends-nil r.held; len = refl; over = over })
 kept_over r (one ∷ more) new over noted =
     let first = had_room false r (text_of (items_of r.moment one.moment one.happening)) one.moment noted.0 (none_where_over r _ over) noted.1 in
@@ -40,10 +40,10 @@ kept_over r (one ∷ more) new over noted =
     }
 
 -- the texts of more happenings behind what a record has
-record Grew (r : Record) (told : List Told) (new : Record) : Type 0 where
-  front : List Told
-  rest : List Told
-  split : told ≡ front ++ rest
+record Grew (r : Record) (all_noted : List Noted) (new : Record) : Type 0 where
+  front : List Noted
+  rest : List Noted
+  split : all_noted ≡ front ++ rest
   all : new.over ≡ false → rest ≡ []
   held : Appends r.held new.held (text_of (items_behind r.moment front))
   len : new.len ≡ r.len + length (text_of (items_behind r.moment front))
@@ -52,7 +52,7 @@ texts : (xs ys : List Item) → text_of (xs ++ ys) ≡ text_of xs ++ text_of ys
 texts [] ys = refl
 texts (x ∷ xs) ys = ap (λ (t : List ℕ). spelled x ++ t) (texts xs ys) ∙ sym (append_assoc (spelled x) (text_of xs) (text_of ys))
 
-grew : (r : Record) (told : List Told) (new : Record) → r.over ≡ false → NotesEach r told new → Grew r told new
+grew : (r : Record) (all_noted : List Noted) (new : Record) → r.over ≡ false → NotesEach r all_noted new → Grew r all_noted new
 grew r [] new going same = subst (Grew r []) (sym same) (record { front = []; rest = []; split = refl; all = λ is. refl; held = Appends-nil r.held; len = omega arith })
 grew r (one ∷ more) new going noted = elim (cases_Bool (has_room r (text_of (items_of r.moment one.moment one.happening)))) [
   | inl room ↦
@@ -66,7 +66,7 @@ grew r (one ∷ more) new going noted = elim (cases_Bool (has_room r (text_of (i
       record {
         front = one ∷ rest.front;
         rest = rest.rest;
-        split = ap (λ (ts : List Told). one ∷ ts) rest.split;
+        split = ap (λ (ts : List Noted). one ∷ ts) rest.split;
         all = rest.all;
         held = subst (Appends r.held new.held) (sym whole) (Appends-trans _ _ _ text (text_of (items_behind noted.0.moment rest.front)) first.0 rest.held);
         len = omega (arith, rest.len, first_len, ap length whole, length-append text (text_of (items_behind noted.0.moment rest.front)));
@@ -86,12 +86,12 @@ grew r (one ∷ more) new going noted = elim (cases_Bool (has_room r (text_of (i
 ]
 
 -- a record that has begun, and what was told since
-pub is_record_of : (before : Option (List ℕ)) (table : List ℕ) (told : List Told) (begun new : Record) → Begins before table begun → begun.over ≡ false → NotesEach begun told new → IsRecordOf before table told new
-is_record_of before table told begun new begins going noted = elim (cases_Bool (has_room (empty before) (spelled (Table table)))) [
+pub is_record_of : (before : Option (List ℕ)) (table : List ℕ) (all_noted : List Noted) (begun new : Record) → Begins before table begun → begun.over ≡ false → NotesEach begun all_noted new → IsRecordOf before table all_noted new
+is_record_of before table all_noted begun new begins going noted = elim (cases_Bool (has_room (empty before) (spelled (Table table)))) [
   | inl room ↦
       let first = had_room true (empty before) (spelled (Table table)) 0 begun room begins in
       let first_len : begun.len ≡ 0 + length (spelled (Table table)) = first.1 in
-      let rest = grew begun told new going noted in
+      let rest = grew begun all_noted new going noted in
       let text = text_of (items_behind begun.moment rest.front) in
       let whole : spelled (Table table) ++ text ≡ script_of table rest.front = ap (λ (m : ℕ). spelled (Table table) ++ text_of (items_behind m rest.front)) first.2 in
       record {
@@ -111,7 +111,7 @@ all_both : (P : Item → Type 0) (xs ys : List Item) → AllByRecursion P xs →
 all_both P [] ys one two = two
 all_both P (x ∷ xs) ys one two = (one.0, all_both P xs ys one.1 two)
 
-fits_one : (same : Bool) (one : Told) → HasSpelling one → AllByRecursion Fits (if same then Happens one.happening ∷ [] else Moment one.moment ∷ Happens one.happening ∷ [])
+fits_one : (same : Bool) (one : Noted) → HasSpelling one → AllByRecursion Fits (if same then Happens one.happening ∷ [] else Moment one.moment ∷ Happens one.happening ∷ [])
 fits_one true one fits = (fits.1, tt)
 fits_one false one fits = (fits.0, (fits.1, tt))
 
@@ -124,17 +124,17 @@ placed_happening (happening.Leaves n) = refl
 placed_happening (happening.Shuts l) = refl
 placed_happening (happening.Fails l kind) = refl
 
-placed_one : (same : Bool) (one : Told) → AllByRecursion (IsPlaced false) (if same then Happens one.happening ∷ [] else Moment one.moment ∷ Happens one.happening ∷ [])
+placed_one : (same : Bool) (one : Noted) → AllByRecursion (IsPlaced false) (if same then Happens one.happening ∷ [] else Moment one.moment ∷ Happens one.happening ∷ [])
 placed_one true one = (placed_happening one.happening, tt)
 placed_one false one = (refl, (placed_happening one.happening, tt))
 
-fit : (last : ℕ) (told : List Told) → AllByRecursion HasSpelling told → AllByRecursion Fits (items_behind last told)
+fit : (last : ℕ) (all_noted : List Noted) → AllByRecursion HasSpelling all_noted → AllByRecursion Fits (items_behind last all_noted)
 fit last [] all = tt
 fit last (one ∷ more) all = all_both Fits (items_of last one.moment one.happening) (items_behind one.moment more) (fits_one (one.moment == last) one all.0) (fit one.moment more all.1)
 
-placed : (last : ℕ) (told : List Told) → AllByRecursion (IsPlaced false) (items_behind last told)
+placed : (last : ℕ) (all_noted : List Noted) → AllByRecursion (IsPlaced false) (items_behind last all_noted)
 placed last [] = tt
 placed last (one ∷ more) = all_both (IsPlaced false) (items_of last one.moment one.happening) (items_behind one.moment more) (placed_one (one.moment == last) one) (placed one.moment more)
 
-pub is_spelled : (table : List ℕ) (told : List Told) → Fits (Table table) → AllByRecursion HasSpelling told → IsScript (script_of table told) table (items_behind 0 told)
-is_spelled table told fits all = record { script = refl; table_fits = fits; items_fit = fit 0 told all; one_table = placed 0 told }
+pub is_spelled : (table : List ℕ) (all_noted : List Noted) → Fits (Table table) → AllByRecursion HasSpelling all_noted → IsScript (script_of table all_noted) table (items_behind 0 all_noted)
+is_spelled table all_noted fits all = record { script = refl; table_fits = fits; items_fit = fit 0 all_noted all; one_table = placed 0 all_noted }

@@ -6,13 +6,13 @@ use Rattle.proxy_script.specs.declared.effect_list.Effect.{Effect}
 use Rattle.proxy_script.specs.declared.effect_list.Effect.TheVariants as effects
 use Rattle.proxy_script.specs.Happenings.{Said as Happening}
 use Rattle.proxy_engine.specs.EngineModel.{EngineModel}
-use Rattle.proxy_engine.specs.Lives.{Step, Took, Worked}
+use Rattle.proxy_engine.specs.Executions.{Step, Took, Worked}
 use Rattle.proxy_engine.specs.declared.work.End.{End}
 use Rattle.proxy_turn.specs.Calls.{Call}
-use Rattle.proxy_turn.specs.Turn.{Asked, NotAsked, Failed, NoneCame, Came, Read, Round, Fate, Carried, Passed, Lost, FailsAs, CarriesOut, Works, IsTurn, accepted_by, said_by, lost, end_of, calls_asked, calls_read, calls_carried, calls_told, calls_worked, calls_of}
+use Rattle.proxy_turn.specs.Turn.{Asked, NotAsked, Failed, NoneCame, Came, Read, Round, Fate, Carried, Passed, Lost, FailsAs, CarriesOut, Works, IsTurn, accepted_by, said_by, lost, end_of, calls_asked, calls_read, calls_carried, calls_shown, calls_worked, calls_of}
 use Rattle.proxy_turn.specs.TurnSteps.{took_if, read_steps, loss_steps, round_steps, steps_of}
 use Rattle.proxy_server.specs.Recorded.{said_of, NotesIf, NotesCalls}
-use Rattle.proxy_server.specs.Records.{Record, Told, NotesEach}
+use Rattle.proxy_server.specs.Records.{Record, Noted, NotesEach}
 use Rattle.proxy_server.specs.RecordedTurns.{listed, taken_by, said_in, at, TurnsAreRecorded}
 
 said_both : (a b : List Call) → said_in (a ++ b) ≡ said_in a ++ said_in b
@@ -58,25 +58,25 @@ said_lost (effects.Drop l) kind more is = subst (IsSaid (effects.Drop l) more) (
 said_lost (effects.Forward l address bytes) kind more (inl is) = subst (IsSaid (effects.Forward l address bytes) more) (sym is) refl
 said_lost (effects.Forward l address bytes) kind more (inr is) = subst (IsSaid (effects.Forward l address bytes) more) (sym is) refl
 
-took_losses : (s : EngineModel) (gone : List End) (es : List Effect) (fs : List Fate) (t : EngineModel) (then : List End) (past : List Step) → CarriesOut s gone es fs t then → taken_by (loss_steps es fs past) ≡ taken_by past ++ said_in (calls_told es fs)
+took_losses : (s : EngineModel) (gone : List End) (es : List Effect) (fs : List Fate) (t : EngineModel) (then : List End) (past : List Step) → CarriesOut s gone es fs t then → taken_by (loss_steps es fs past) ≡ taken_by past ++ said_in (calls_shown es fs)
 took_losses s gone [] [] t then past out = sym (append-nil (taken_by past))
 took_losses s gone [] (f ∷ fs) t then past out = absurd out
 took_losses s gone (e ∷ es) [] t then past out = absurd out
 took_losses s gone (e ∷ es) (Carried ∷ fs) t then past out =
-    took_losses out.0 out.1 es fs t then past out.3 ∙ ap (λ (hs : List Happening). taken_by past ++ hs) (sym (said_carried e (calls_told es fs)))
+    took_losses out.0 out.1 es fs t then past out.3 ∙ ap (λ (hs : List Happening). taken_by past ++ hs) (sym (said_carried e (calls_shown es fs)))
 took_losses s gone (e ∷ es) (Passed ∷ fs) t then past out =
-    took_losses out.0 out.1 es fs t then past out.3 ∙ ap (λ (hs : List Happening). taken_by past ++ hs) (sym (said_passed e (calls_told es fs)))
+    took_losses out.0 out.1 es fs t then past out.3 ∙ ap (λ (hs : List Happening). taken_by past ++ hs) (sym (said_passed e (calls_shown es fs)))
 took_losses s gone (e ∷ es) (Lost kind ∷ fs) t then past out =
-    took_losses out.0 out.1 es fs t then (took_if (lost (end_of e) kind) past) out.3 ∙ (took_more (lost (end_of e) kind) past (said_in (calls_told es fs))
-    ∙ ap (λ (hs : List Happening). taken_by past ++ hs) (sym (said_lost e kind (calls_told es fs) out.2.1)))
+    took_losses out.0 out.1 es fs t then (took_if (lost (end_of e) kind) past) out.3 ∙ (took_more (lost (end_of e) kind) past (said_in (calls_shown es fs))
+    ∙ ap (λ (hs : List Happening). taken_by past ++ hs) (sym (said_lost e kind (calls_shown es fs) out.2.1)))
 
 took_rounds : (now : ℕ) (s : EngineModel) (gone : List End) (rs : List Round) (t : EngineModel) (then : List End) (past : List Step) → Works now s gone rs t then → taken_by (round_steps now rs past) ≡ taken_by past ++ said_in (calls_worked rs)
 took_rounds now s gone [] t then past works = sym (append-nil (taken_by past))
 took_rounds now s gone (r ∷ rs) t then past works =
-    took_rounds now works.1 works.2 rs t then (loss_steps r.told r.fates (Worked now r.act r.told ∷ past)) works.6
-    ∙ (ap (λ (hs : List Happening). hs ++ said_in (calls_worked rs)) (took_losses works.0 gone r.told r.fates works.1 works.2 (Worked now r.act r.told ∷ past) works.5)
-    ∙ (append_assoc (taken_by past) (said_in (calls_told r.told r.fates)) (said_in (calls_worked rs))
-    ∙ ap (λ (hs : List Happening). taken_by past ++ hs) (sym (said_both (calls_told r.told r.fates) (calls_worked rs)))))
+    took_rounds now works.1 works.2 rs t then (loss_steps r.emitted r.fates (Worked now r.act r.emitted ∷ past)) works.6
+    ∙ (ap (λ (hs : List Happening). hs ++ said_in (calls_worked rs)) (took_losses works.0 gone r.emitted r.fates works.1 works.2 (Worked now r.act r.emitted ∷ past) works.5)
+    ∙ (append_assoc (taken_by past) (said_in (calls_shown r.emitted r.fates)) (said_in (calls_worked rs))
+    ∙ ap (λ (hs : List Happening). taken_by past ++ hs) (sym (said_both (calls_shown r.emitted r.fates) (calls_worked rs)))))
 
 took_turn : (now : ℕ) (s : EngineModel) (asked : Asked) (reads : List Read) (rest : List End) (rounds : List Round) (t : EngineModel) → IsTurn now s asked reads rest rounds t → taken_by (steps_of now s asked reads rounds []) ≡ said_in (calls_of s asked reads rounds)
 took_turn now s asked reads rest rounds t turn =
@@ -96,10 +96,10 @@ noted_behind now more r new on (Some h) mid one rest =
     let behind = on one.0 (subst (λ (m : Option Record). NotesCalls now more m new) one.1 rest) in
     (behind.0, behind.1, (one.0, one.2, behind.2))
 
-notes_told : (now : ℕ) (calls : List Call) (r : Record) (new : Option Record) → NotesCalls now calls (Some r) new → IsNotedAs now (said_in calls) r new
-notes_told now [] r new noted = (r, noted, refl)
-notes_told now (made ∷ more) r new noted = noted_behind now more r new (λ k. notes_told now more k new) (said_of made) noted.0 noted.1 noted.2
+notes_in_order : (now : ℕ) (calls : List Call) (r : Record) (new : Option Record) → NotesCalls now calls (Some r) new → IsNotedAs now (said_in calls) r new
+notes_in_order now [] r new noted = (r, noted, refl)
+notes_in_order now (made ∷ more) r new noted = noted_behind now more r new (λ k. notes_in_order now more k new) (said_of made) noted.0 noted.1 noted.2
 
 pub turns_are_recorded : TurnsAreRecorded
 turns_are_recorded now s asked reads rest rounds t r new turn noted =
-    subst (λ (hs : List Happening). IsNotedAs now hs r new) (sym (took_turn now s asked reads rest rounds t turn)) (notes_told now (calls_of s asked reads rounds) r new noted)
+    subst (λ (hs : List Happening). IsNotedAs now hs r new) (sym (took_turn now s asked reads rest rounds t turn)) (notes_in_order now (calls_of s asked reads rounds) r new noted)

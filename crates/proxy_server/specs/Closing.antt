@@ -1,7 +1,7 @@
 -- Which streams go where one is closed.
 --
 -- first_of: who has stood longest in a line      line_of: a line of those that have no number
--- IsBounded: beyond as many as may be closed already the first of them goes      StandsIn: a client stands in a line
+-- IsBounded: beyond as many as may be closed already the first of them goes      IsInLine: a client stands in a line
 -- OneOtherGoes: of all streams but one, at most one goes      TakesPlace: a client's number goes with it
 use Rattle.std.specs.Prelude.{◌≡◌, ◌≢◌, ◌<◌, ◌≤◌, ℕ, Option, None, Some, slice_get}
 use Rattle.std.specs.Option.{option_map}
@@ -44,9 +44,9 @@ abbrev pub IsIn : Line → Place → Type 0
 IsIn line (place.Open n) = ⊥
 IsIn line (place.In its since) = its ≡ line
 
-abbrev pub StandsIn : {S : Type 0} → Line → Option (Client S) → Type 0
-StandsIn line None = ⊥
-StandsIn line (Some client) = IsIn line client.place
+abbrev pub IsInLine : {S : Type 0} → Line → Option (Client S) → Type 0
+IsInLine line None = ⊥
+IsInLine line (Some client) = IsIn line client.place
 
 pub record OneOtherGoes {A : Type 0} (key : ℕ) (old new : Slab A) : Type 0 where
   pub other : ℕ

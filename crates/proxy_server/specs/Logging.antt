@@ -15,16 +15,16 @@ use Rattle.proxy_log.specs.declared.asked.Question.{Question}
 use Rattle.proxy_log.specs.declared.line.Line.{Line}
 use Rattle.proxy_log.specs.declared.lines.Lines.{Lines}
 use Rattle.proxy_server.specs.declared.client.Logged.{Logged}
-use Rattle.proxy_server.specs.declared.telling.Reply.{Reply}
+use Rattle.proxy_server.specs.declared.reply_log.Reply.{Reply}
 
 pub record IsLineOf (question : Question) (address : SocketAddr) (reply : Reply) (line : Line) : Type 0 where
   pub moment : line.moment ≡ reply.moment
   pub client : line.client ≡ socket_text address
   pub method : line.method ≡ question.method
   pub target : line.target ≡ question.target
-  pub status : line.status ≡ reply.told.status
-  pub bytes : line.length ≡ length reply.told.content.now
-  pub reason : line.reason ≡ reply.told.reason.now
+  pub status : line.status ≡ reply.facts.status
+  pub bytes : line.length ≡ length reply.facts.content.now
+  pub reason : line.reason ≡ reply.facts.reason.now
   pub took : line.took ≡ reply.took
   pub origin : line.origin ≡ reply.origin.now
 

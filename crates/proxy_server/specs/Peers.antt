@@ -1,7 +1,7 @@
 -- What passes between a peer and its stream.
 --
--- Gave, given_of, taken_of: what a read gave, the bytes that a write took      told_of: what a peer tells of a read
--- IsLeft: whether more may be left to be read      tells_of_reading, tells_of_an_end: what an event tells
+-- Gave, given_of, taken_of: what a read gave, the bytes that a write took      gave: what a peer tells of a read
+-- IsLeft: whether more may be left to be read      shows_reading, shows_an_end: what an event tells
 -- Keeping: what a contract sees of `Unsent`
 -- IsHanded: of bytes that are to be written the stream took the front, and the rest is kept
 -- IsHandedInPart: the stream took the front, and the rest is lost
@@ -40,11 +40,11 @@ pub record Keeping : Type 0 where
 
 -- What a peer tells of a read. It tells of nothing where nothing had come, or, where more may be left, where the call
 -- was interrupted.
-abbrev pub told_of : Bool → Result Received Error → List ℕ → Gave
-told_of left (Ok received.Nothing) buf = Nothing (if left then Interrupted else WouldBlock)
-told_of left (Ok (received.Bytes n)) buf = Bytes (take n buf)
-told_of left (Ok received.End) buf = Ended
-told_of left (Err e) buf = Nothing (error_kind e)
+abbrev pub gave : Bool → Result Received Error → List ℕ → Gave
+gave left (Ok received.Nothing) buf = Nothing (if left then Interrupted else WouldBlock)
+gave left (Ok (received.Bytes n)) buf = Bytes (take n buf)
+gave left (Ok received.End) buf = Ended
+gave left (Err e) buf = Nothing (error_kind e)
 
 -- Whether more may be left to be read. No event tells of what had come before: so it is, unless the stream said that
 -- nothing is left, its end was read, or there was room for more bytes than it gave and no event has told of its end or
@@ -56,11 +56,11 @@ IsLeft hung room (Ok received.End) left = left ≡ false
 IsLeft hung room (Err e) left = left ≡ true
 
 -- an event tells that something may be read; that an end or a failure may be
-abbrev pub tells_of_an_end : Event → Bool
-tells_of_an_end e = is_read_closed e || is_error e
+abbrev pub shows_an_end : Event → Bool
+shows_an_end e = is_read_closed e || is_error e
 
-abbrev pub tells_of_reading : Event → Bool
-tells_of_reading e = is_readable e || tells_of_an_end e
+abbrev pub shows_reading : Event → Bool
+shows_reading e = is_readable e || shows_an_end e
 
 -- What the stream took, followed by what is kept, is all that is to be written. `Took` says which bytes the stream
 -- took.

@@ -8,7 +8,7 @@ use Rattle.std.specs.BTreeMap.{get, BTreeMap}
 use Rattle.slab.specs.Slab as slab
 use Rattle.slab.specs.Slab.{Slab}
 use Rattle.hx_framing.specs.Progress.{start}
-use Rattle.hx_framing.specs.RequestState.{StandsFor}
+use Rattle.hx_framing.specs.RequestState.{RepresentsStream}
 use Rattle.proxy_log.specs.declared.asked.Asked.{Asked}
 use Rattle.proxy_server.specs.Numbers.{OtherKeysStay}
 use Rattle.proxy_server.specs.declared.client.Client.{Client}
@@ -18,7 +18,7 @@ use Rattle.proxy_server.specs.declared.client.Place.TheVariants as place
 -- nothing has been read, and contents have so many bytes at most
 abbrev pub IsAskedAnew : ℕ → Asked → Type 0
 IsAskedAnew max_body asked =
-    StandsFor asked.reader (start max_body false) × (asked.questions.items ≡ []) × (asked.begun ≡ None)
+    RepresentsStream asked.reader (start max_body false) × (asked.questions.items ≡ []) × (asked.begun ≡ None)
     × (asked.over ≡ false)
 
 -- where a log is kept

@@ -4,14 +4,14 @@
 -- TurnsAreRecorded: the law
 use Rattle.std.specs.Prelude.{◌≡◌, ℕ, List, [], ◌∷◌, ◌++◌, map, Option, None, Some}
 use Rattle.proxy_engine.specs.EngineModel.{EngineModel}
-use Rattle.proxy_engine.specs.Lives.{Step, Took, Worked}
+use Rattle.proxy_engine.specs.Executions.{Step, Took, Worked}
 use Rattle.proxy_engine.specs.declared.work.End.{End}
 use Rattle.proxy_script.specs.Happenings.{Said as Happening}
 use Rattle.proxy_turn.specs.Calls.{Call}
 use Rattle.proxy_turn.specs.Turn.{Asked, Read, Round, IsTurn, calls_of}
 use Rattle.proxy_turn.specs.TurnSteps.{steps_of}
 use Rattle.proxy_server.specs.Recorded.{said_of, NotesCalls}
-use Rattle.proxy_server.specs.Records.{Record, Told, NotesEach}
+use Rattle.proxy_server.specs.Records.{Record, Noted, NotesEach}
 
 abbrev pub listed : Option Happening → List Happening
 listed None = []
@@ -27,7 +27,7 @@ abbrev pub said_in : List Call → List Happening
 said_in [] = []
 said_in (made ∷ more) = listed (said_of made) ++ said_in more
 
-abbrev pub at : ℕ → List Happening → List Told
+abbrev pub at : ℕ → List Happening → List Noted
 at now [] = []
 at now (h ∷ hs) = record { moment = now; happening = h } ∷ at now hs
 

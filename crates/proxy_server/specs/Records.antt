@@ -2,7 +2,7 @@
 --
 -- Record: what is known of a record            Adds: a text was added whole, or the record ends
 -- items_of: a happening at a moment, as items      Begins, Notes: a record begins, and takes one more happening
--- Told: a happening and its moment             NotesEach: several, one after another
+-- Noted: a happening and its moment             NotesEach: several, one after another
 -- items_behind, script_of: the items and the script that tell of them      HasSpelling: what a script can tell of
 -- IsRecordOf, RecordsAreScripts: the laws
 use Rattle.std.specs.Prelude.{◌≡◌, ℕ, ◌+◌, ◌-◌, ◌<◌, ◌≤◌, List, [], ◌∷◌, ◌++◌, length, Bool, true, false, not, ◌&&◌}
@@ -56,44 +56,45 @@ abbrev pub Notes : Record → ℕ → Happening → Record → Type 0
 Notes r now h new = Adds r (text_of (items_of r.moment now h)) now new
 
 -- what happened, and when
-pub record Told : Type 0 where
+pub record Noted : Type 0 where
   pub moment : ℕ
   pub happening : Happening
 
 -- each of them, the oldest first
-abbrev pub NotesEach : Record → List Told → Record → Type 0
+abbrev pub NotesEach : Record → List Noted → Record → Type 0
 NotesEach r [] new = new ≡ r
 NotesEach r (one ∷ more) new = (mid : Record) × Notes r one.moment one.happening mid × NotesEach mid more new
 
 -- the items that tell of them, behind a moment
-abbrev pub items_behind : ℕ → List Told → List Item
+abbrev pub items_behind : ℕ → List Noted → List Item
 items_behind last [] = []
 items_behind last (one ∷ more) = items_of last one.moment one.happening ++ items_behind one.moment more
 
-abbrev pub script_of : List ℕ → List Told → List ℕ
-script_of table told = spelled (Table table) ++ text_of (items_behind 0 told)
+abbrev pub script_of : List ℕ → List Noted → List ℕ
+script_of table all_noted = spelled (Table table) ++ text_of (items_behind 0 all_noted)
 
 -- a moment up to the end of the year 9999, and numbers of 64 bits
-abbrev pub HasSpelling : Told → Type 0
+abbrev pub HasSpelling : Noted → Type 0
 HasSpelling one = (one.moment < END_OF_TIME) × Fits (Happens one.happening)
 
 -- The record is the script of the first of these, whole: of all of them, unless it has ended; and it is no longer than
 -- a script.
-pub record IsRecordOf (before : Option (List ℕ)) (table : List ℕ) (told : List Told) (r : Record) : Type 0 where
-  pub front : List Told
-  pub rest : List Told
-  pub split : told ≡ front ++ rest
+pub record IsRecordOf (before : Option (List ℕ)) (table : List ℕ) (all_noted : List Noted) (r : Record) : Type 0 where
+  pub front : List Noted
+  pub rest : List Noted
+  pub split : all_noted ≡ front ++ rest
   pub all : r.over ≡ false → rest ≡ []
   pub held : Appends before r.held (script_of table front)
   pub len : r.len ≡ length (script_of table front)
 
 abbrev pub RecordsAreScripts : Type 0
 RecordsAreScripts =
-    (before : Option (List ℕ)) (table : List ℕ) (told : List Told) (begun new : Record) → Begins before table begun
-    → begun.over ≡ false → NotesEach begun told new → IsRecordOf before table told new
+    (before : Option (List ℕ)) (table : List ℕ) (all_noted : List Noted) (begun new : Record)
+    → Begins before table begun
+    → begun.over ≡ false → NotesEach begun all_noted new → IsRecordOf before table all_noted new
 
 -- such a script is one of the grammar, of these items
 abbrev pub ScriptsAreSpelled : Type 0
 ScriptsAreSpelled =
-    (table : List ℕ) (told : List Told) → Fits (Table table) → AllByRecursion HasSpelling told
-    → IsScript (script_of table told) table (items_behind 0 told)
+    (table : List ℕ) (all_noted : List Noted) → Fits (Table table) → AllByRecursion HasSpelling all_noted
+    → IsScript (script_of table all_noted) table (items_behind 0 all_noted)

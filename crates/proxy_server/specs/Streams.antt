@@ -13,7 +13,7 @@ use Rattle.slab.specs.Slab as slab
 use Rattle.slab.specs.Slab.{Slab}
 use Rattle.proxy_turn.specs.declared.sockets.Received.{Received}
 use Rattle.proxy_turn.specs.declared.sockets.Received.TheVariants as received
-use Rattle.proxy_server.specs.Peers.{Gave, told_of, IsHanded, IsHandedInPart, IsLeft}
+use Rattle.proxy_server.specs.Peers.{Gave, gave, IsHanded, IsHandedInPart, IsLeft}
 use Rattle.proxy_server.specs.declared.client.Client.{Client}
 use Rattle.proxy_server.specs.declared.early.Early.{Early}
 use Rattle.proxy_server.specs.declared.links.Link.{Link}
@@ -30,7 +30,7 @@ pub record IsWritten {S : Type 0} (Passed : S → List ℕ → List Gave → S �
 -- What a read of it does: where something may have come its stream was read, else nothing.
 pub record IsRead {S : Type 0} (Passed : S → List ℕ → List Gave → S → Type 0) (room : ℕ)
     (result : Result Received Error) (buf : List ℕ) (old new : Peer S) : Type 0 where
-  pub passed : old.readable ≡ true → Passed old.stream [] (told_of new.readable result buf ∷ []) new.stream
+  pub passed : old.readable ≡ true → Passed old.stream [] (gave new.readable result buf ∷ []) new.stream
   pub left : old.readable ≡ true → IsLeft old.hung room result new.readable
   pub unread : old.readable ≡ false → (new ≡ old) × (result ≡ Ok received.Nothing)
 

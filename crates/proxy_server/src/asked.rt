@@ -78,7 +78,7 @@ impl Asked {
 
     /// A link has failed. It is kept, unless as many are kept as can be open or memory is wanting for it: then the
     /// order of the others tells nothing.
-    pub(crate) fn lose_link(&mut self, l: u64, place: usize)
+    pub(crate) fn disconnect_link(&mut self, l: u64, place: usize)
         ensures places { self.new.places ≡ with_place self.old.places place }
         ensures shut { self.new.shut ≡ self.old.shut }
         ensures order { KeepsOrder l place self.old self.new }
@@ -121,7 +121,7 @@ impl Asked {
     }
 
     /// A link to an unknown origin has failed.
-    pub(crate) fn lose_any(&mut self)
+    pub(crate) fn disconnect_any(&mut self)
         ensures { self.new ≡ record self.old { places = Places.Several; is_unsure = true } }
     {
         self.places = Places::Several;
@@ -129,7 +129,7 @@ impl Asked {
     }
 
     /// A client is lost that may have waited for an answer: no reply follows to what failed or is shut for it.
-    pub(crate) fn lose_client(&mut self)
+    pub(crate) fn disconnect_client(&mut self)
         ensures { self.new ≡ record self.old { is_unsure = true } }
     {
         self.is_unsure = true;

@@ -10,8 +10,8 @@ use crate::early::{Came, Early};
 use crate::lines::Line;
 use crate::peer::Peer;
 use crate::pieces::{LEAST, head_end};
+use crate::reply_log::Reply;
 use crate::stream::Stream;
-use crate::telling::Reply;
 use hx_fields::Bytes;
 use mio::net::TcpStream;
 use proxy_log::{Asked, Seen, line_about};
@@ -119,14 +119,14 @@ impl<S: Stream + Drop> Client<S> {
     }
 
     /// Takes what came, for a log.
-    pub(crate) fn hear(&mut self, piece: &[u8])
+    pub(crate) fn read_piece(&mut self, piece: &[u8])
         ensures { address_of self.new.logged ≡ address_of self.old.logged }
     {
         let alloc = self.alloc;
         if let Some(logged) = &mut self.logged {
             if let Some(asked) = &mut logged.asked {
                 // Without memory for it, lines about what follows on this connection don't name what was asked.
-                let _ = asked.hear(alloc, piece);
+                let _ = asked.read_piece(alloc, piece);
             }
         }
     }
@@ -162,7 +162,7 @@ impl<S: Stream + Drop> Client<S> {
             took: reply.took,
             origin: reply.origin,
         };
-        Ok(Some(line_about(alloc, question, &reply.told, &seen)?))
+        Ok(Some(line_about(alloc, question, &reply.facts, &seen)?))
     }
 
     /// Keeps what came and isn't handed in yet.
@@ -288,7 +288,7 @@ impl<S: Stream + Drop> Client<S> {
 
     /// Reads a piece of what has come before its request has a place, and keeps it. Of one that still has to take what
     /// was written nothing is read.
-    pub(crate) fn hear_early(&mut self, now: u64) -> Heard
+    pub(crate) fn read_early(&mut self, now: u64) -> Heard
         ensures takes_first { 0 < length self.old.peer.unsent.bytes → (self.new ≡ self.old) × (result ≡ Heard.Nothing) }
     {
         let mut buf = [0u8; PIECE];

@@ -11,7 +11,7 @@ ghost use Rattle.slab.specs.Slab as slab;
 ghost use Rattle.proxy_turn.specs.Received.{IsReceived};
 ghost use Rattle.proxy_server.specs.Numbers.{OthersStay, OtherKeysStay, OnlyAt};
 ghost use Rattle.proxy_server.specs.Streams.{IsWritten, IsOnPeer, at_number, is_cut, may_be_left};
-ghost use Rattle.proxy_server.specs.Closing.{StandsIn, TakesPlace};
+ghost use Rattle.proxy_server.specs.Closing.{IsInLine, TakesPlace};
 ghost use Rattle.proxy_server.specs.Places.{IsOpenedAt};
 
 use crate::client::{Client, Heard, Place};
@@ -108,9 +108,9 @@ impl<S: Stream + Drop> Clients<S> {
 
     /// Reads from the client of a number, and tells whether more may be left; from one that isn't there nothing comes.
     pub(crate) fn read(&mut self, n: u64, buf: &mut [u8], now: u64) -> io::Result<(Received, bool)>
-        ensures within { IfOk result (λ told. IsReceived (length buf.old) told.0) }
+        ensures within { IfOk result (λ reported. IsReceived (length buf.old) reported.0) }
         ensures length { length buf.new ≡ length buf.old }
-        ensures left { IfOk result (λ told. told.1 ≡ may_be_left (at_number self.new.open self.new.streams n)) }
+        ensures left { IfOk result (λ reported. reported.1 ≡ may_be_left (at_number self.new.open self.new.streams n)) }
         ensures nothing { at_number self.old.open self.old.streams n ≡ None → result ≡ Ok (Received.Nothing, false) }
         ensures open { self.new.open ≡ self.old.open }
         ensures others { OnlyAt self.old.open n self.old.streams self.new.streams }
@@ -225,15 +225,15 @@ impl<S: Stream + Drop> Clients<S> {
     }
 
     /// Puts a stream into a line, behind those that stand there. It had no place, or has left it.
-    pub(crate) fn stand(&mut self, key: usize, line: Line)
+    pub(crate) fn join(&mut self, key: usize, line: Line)
         ensures { OtherKeysStay key self.old.streams self.new.streams }
     {
         let stamp = self.lines.next_stamp();
-        self.stand_since(key, line, stamp);
+        self.join_since(key, line, stamp);
     }
 
     /// Puts a stream into a line, by a stamp.
-    fn stand_since(&mut self, key: usize, line: Line, stamp: u64)
+    fn join_since(&mut self, key: usize, line: Line, stamp: u64)
         ensures { OtherKeysStay key self.old.streams self.new.streams }
     {
         let Some(client) = self.streams.get_mut(key) else {
@@ -250,7 +250,7 @@ impl<S: Stream + Drop> Clients<S> {
 
     /// Puts a stream into another line, where it stands by the stamp that it has.
     pub(crate) fn move_to(&mut self, key: usize, line: Line)
-        ensures still { StandsIn line (slab.get self.old.streams key) → self.new ≡ self.old }
+        ensures still { IsInLine line (slab.get self.old.streams key) → self.new ≡ self.old }
         ensures others { OtherKeysStay key self.old.streams self.new.streams }
     {
         if let Some(client) = self.streams.get(key) {
@@ -268,7 +268,7 @@ impl<S: Stream + Drop> Clients<S> {
     {
         if let Some(client) = self.streams.get(key) {
             if let Place::In(_, stamp) = client.place {
-                self.stand_since(key, line, stamp);
+                self.join_since(key, line, stamp);
             }
         }
     }
@@ -397,11 +397,11 @@ impl<S: Stream + Drop> Clients<S> {
     }
 
     /// Takes what an event told of a stream.
-    pub(crate) fn stir(&mut self, key: usize, event: &Event, now: u64) {
+    pub(crate) fn mark_ready(&mut self, key: usize, event: &Event, now: u64) {
         let Some(client) = self.streams.get_mut(key) else {
             return;
         };
-        client.peer.stir(event);
+        client.peer.mark_ready(event);
         if client.peer.hung && client.left.is_none() {
             client.left = Some(now);
         }
@@ -446,17 +446,17 @@ impl<S: Stream + Drop> Clients<S> {
         }
         if client.has_early() {
             client.asked = Some(now);
-            self.stand(key, Line::Fresh);
+            self.join(key, Line::Fresh);
             return;
         }
-        self.stand(key, Line::Idle);
-        self.hear_early(key, now);
+        self.join(key, Line::Idle);
+        self.read_early(key, now);
     }
 
     /// Goes on with a stream that has no place.
     fn go_on(&mut self, key: usize, line: Line, now: u64) {
         match line {
-            Line::Idle => self.hear_early(key, now),
+            Line::Idle => self.read_early(key, now),
             Line::Taking => self.take_up(key, now),
             Line::Fresh => {
                 let _ = self.drop_left(key);
@@ -469,7 +469,7 @@ impl<S: Stream + Drop> Clients<S> {
             }
             Line::Partial => {
                 if !self.drop_left(key) {
-                    self.hear_more(key, now);
+                    self.read_more(key, now);
                 }
             }
             Line::Leaving => self.end(key, now),
@@ -478,11 +478,11 @@ impl<S: Stream + Drop> Clients<S> {
     }
 
     /// Reads a piece of what has come for a stream without a place. Whether something came.
-    fn hear(&mut self, key: usize, now: u64) -> bool {
+    fn read_piece(&mut self, key: usize, now: u64) -> bool {
         let Some(client) = self.streams.get_mut(key) else {
             return false;
         };
-        match client.hear_early(now) {
+        match client.read_early(now) {
             Heard::Nothing => false,
             Heard::Something => true,
             Heard::Gone => {
@@ -497,14 +497,14 @@ impl<S: Stream + Drop> Clients<S> {
     }
 
     /// Reads the first bytes of a request. Then it waits for a place.
-    pub(crate) fn hear_early(&mut self, key: usize, now: u64) {
-        if self.hear(key, now) {
-            self.stand(key, Line::Fresh);
+    pub(crate) fn read_early(&mut self, key: usize, now: u64) {
+        if self.read_piece(key, now) {
+            self.join(key, Line::Fresh);
         }
     }
 
     /// Reads more of a request that waits for a place, and looks whether it is whole now.
-    fn hear_more(&mut self, key: usize, now: u64) {
+    fn read_more(&mut self, key: usize, now: u64) {
         for _ in 0..16 {
             let Some(client) = self.streams.get(key) else {
                 return;
@@ -517,7 +517,7 @@ impl<S: Stream + Drop> Clients<S> {
                 self.change_line(key, Line::Long);
                 return;
             }
-            if !client.peer.readable || !self.hear(key, now) {
+            if !client.peer.readable || !self.read_piece(key, now) {
                 return;
             }
             if self.look(key) == Came::Whole {
@@ -555,7 +555,7 @@ impl<S: Stream + Drop> Clients<S> {
                 Came::Whole => self.change_line(key, Line::Whole),
                 Came::Part => {
                     self.change_line(key, Line::Partial);
-                    self.hear_more(key, now);
+                    self.read_more(key, now);
                 }
             }
         }
@@ -636,6 +636,6 @@ impl<S: Stream + Drop> Clients<S> {
         } else {
             Line::Idle
         };
-        self.stand(key, line);
+        self.join(key, line);
     }
 }

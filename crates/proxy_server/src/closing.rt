@@ -6,7 +6,7 @@ ghost use Rattle.std.specs.Prelude.{◌≡◌, ◌<◌, length};
 ghost use Rattle.std.specs.Ordering.{nat_cmp};
 ghost use Rattle.std.specs.BTreeMap.{get};
 ghost use Rattle.slab.specs.Slab as slab;
-ghost use Rattle.proxy_server.specs.Closing.{IsBounded, StandsIn, OneOtherGoes, ClosesAt};
+ghost use Rattle.proxy_server.specs.Closing.{IsBounded, IsInLine, OneOtherGoes, ClosesAt};
 
 use crate::client::Client;
 use crate::clients::Clients;
@@ -77,7 +77,7 @@ impl<S: Stream + Drop> Clients<S> {
         } else {
             Line::Lingering
         };
-        self.stand(key, line);
+        self.join(key, line);
         self.end(key, now);
     }
 
@@ -104,7 +104,7 @@ impl<S: Stream + Drop> Clients<S> {
 
     /// A closed connection whose client has taken everything. Beyond the most of these the first is closed whole.
     fn linger(&mut self, key: usize)
-        ensures bound { StandsIn Line.Lingering (slab.get self.old.streams key)
+        ensures bound { IsInLine Line.Lingering (slab.get self.old.streams key)
             → IsBounded self.old.lines.lingering self.old.streams self.new.streams }
         ensures others { OneOtherGoes key self.old.streams self.new.streams }
     {

@@ -76,14 +76,14 @@ impl<S: Stream + Drop> Link<S> {
 }
 
 /// Takes what an event told of the stream of a link; the answer is an error where its connection couldn't be made.
-fn stir_peer(peer: &mut Peer<TcpStream>, event: &Event, now: u64) -> io::Result<()> {
+fn mark_peer_ready(peer: &mut Peer<TcpStream>, event: &Event, now: u64) -> io::Result<()> {
     if peer.connecting {
         if !peer.has_connected(event)? {
             return Ok(());
         }
         peer.heard = now;
     }
-    peer.stir(event);
+    peer.mark_ready(event);
     if event.is_writable() {
         // What the origin had said before it broke off can still be read.
         let _ = peer.flush(now);
@@ -104,12 +104,12 @@ pub(crate) struct Links<S: Stream + Drop = TcpStream> {
 
 impl Links {
     /// Takes what an event told of a link; the answer is an error where its connection couldn't be made.
-    pub(crate) fn stir(&mut self, number: u64, event: &Event, now: u64) -> io::Result<()>
+    pub(crate) fn mark_ready(&mut self, number: u64, event: &Event, now: u64) -> io::Result<()>
         ensures others { OthersStay number self.old.items self.new.items }
     {
         if let Some(link) = self.items.get_mut(&number) {
             if let Some(peer) = &mut link.peer {
-                return stir_peer(peer, event, now);
+                return mark_peer_ready(peer, event, now);
             }
         }
         Ok(())
@@ -144,13 +144,13 @@ impl<S: Stream + Drop> Links<S> {
         buf: &mut [u8],
         now: u64,
     ) -> io::Result<(Received, bool)>
-        ensures within { IfOk result (λ told. IsReceived (length buf.old) told.0) }
+        ensures within { IfOk result (λ reported. IsReceived (length buf.old) reported.0) }
         ensures length { length buf.new ≡ length buf.old }
-        ensures read { IfOk result (λ told. IsOnStream (IsRead S.Passed (length buf.old) (Ok told.0) buf.new)
+        ensures read { IfOk result (λ reported. IsOnStream (IsRead S.Passed (length buf.old) (Ok reported.0) buf.new)
             (get nat_cmp self.old.items number) (get nat_cmp self.new.items number)) }
         ensures failed { IfErr result (λ e. IsOnStream (IsRead S.Passed (length buf.old) (Err e) buf.new)
             (get nat_cmp self.old.items number) (get nat_cmp self.new.items number)) }
-        ensures left { IfOk result (λ told. told.1 ≡ is_left (stream_of (get nat_cmp self.new.items number))) }
+        ensures left { IfOk result (λ reported. reported.1 ≡ is_left (stream_of (get nat_cmp self.new.items number))) }
         ensures nothing { stream_of (get nat_cmp self.old.items number) ≡ None → result ≡ Ok (Received.Nothing, false) }
         ensures others { OthersStay number self.old.items self.new.items }
     {

@@ -158,10 +158,15 @@ fn is_interim(bytes: &[u8]) -> bool {
 }
 
 /// Hands what a client sent to who reads for the log.
-fn hear(clients: &mut Clients, end: End, received: &Result<Received, SocketFailed>, buf: &[u8]) {
+fn read_piece(
+    clients: &mut Clients,
+    end: End,
+    received: &Result<Received, SocketFailed>,
+    buf: &[u8],
+) {
     if let (End::Client(n), Ok(Received::Bytes(count))) = (end, received) {
         if let (Some(client), Some(piece)) = (clients.get_mut(n), buf.get(..*count)) {
-            client.hear(piece);
+            client.read_piece(piece);
         }
     }
 }
@@ -315,13 +320,13 @@ impl<'a, R: Net> LiveSockets<'a, R> {
             match Holder::of(event.token()) {
                 Holder::Listener => self.acceptable = true,
                 Holder::Link(l) => {
-                    if self.links.stir(l, event, self.now).is_err() {
+                    if self.links.mark_ready(l, event, self.now).is_err() {
                         self.links.drop_stream(l);
                         // Where there is no memory for it, it counts as silent.
                         let _ = self.lost.push((l, FailKind::Refused));
                     }
                 }
-                Holder::Client(key) => self.clients.stir(key, event, self.now),
+                Holder::Client(key) => self.clients.mark_ready(key, event, self.now),
             }
         }
     }
@@ -382,7 +387,7 @@ impl<'a, R: Net> LiveSockets<'a, R> {
                 return Err(e);
             }
         }
-        self.clients.hear_early(key, self.now);
+        self.clients.read_early(key, self.now);
         Ok(())
     }
 
@@ -407,7 +412,7 @@ impl<'a, R: Net> LiveSockets<'a, R> {
             return Some((End::Link(l), kind));
         }
         let n = self.clients.next_lost()?;
-        self.asked.lose_client();
+        self.asked.disconnect_client();
         Some((End::Client(n), FailKind::Closed))
     }
 
@@ -432,15 +437,15 @@ impl<'a, R: Net> LiveSockets<'a, R> {
         let place = self.links.remove(l, self.now);
         if self.notes_replies() {
             if let Some(place) = place {
-                self.asked.lose_link(l, place);
+                self.asked.disconnect_link(l, place);
             }
         }
     }
 
     /// A turn was served.
-    pub fn note_turn(&mut self, told: Result<Report, TurnFault>) {
-        self.turns.count(told);
-        if let Ok(report) = told {
+    pub fn note_turn(&mut self, reported: Result<Report, TurnFault>) {
+        self.turns.count(reported);
+        if let Ok(report) = reported {
             // All that was due was done.
             if report.works < MOST_WORKS {
                 self.asked.clear();
@@ -521,7 +526,7 @@ impl<'a, R: Net> LiveSockets<'a, R> {
             End::Client(n) => {
                 self.clients.count_forgotten(n, self.now);
                 self.clients.forget(n);
-                self.asked.lose_client();
+                self.asked.disconnect_client();
             }
             End::Link(l) => {
                 self.links.count_overtime(l, self.now, &self.limits);
@@ -555,7 +560,7 @@ impl<'a, R: Net> LiveSockets<'a, R> {
         ensures failures { self.new.failures ≡ self.old.failures }
     {
         if !self.clients.write_to(n, bytes, self.now) {
-            self.asked.lose_client();
+            self.asked.disconnect_client();
             return;
         }
         if !is_interim(bytes) {
@@ -579,11 +584,11 @@ impl<'a, R: Net> LiveSockets<'a, R> {
             return Ok(());
         }
         self.links.drop_stream(l);
-        self.lose_link(l, FailKind::Refused)
+        self.disconnect_link(l, FailKind::Refused)
     }
 
     /// Keeps until the next turn begins that a link has failed.
-    fn lose_link(&mut self, l: u64, kind: FailKind) -> Result<(), SocketFailed>
+    fn disconnect_link(&mut self, l: u64, kind: FailKind) -> Result<(), SocketFailed>
         ensures accepts { self.new.accepts ≡ self.old.accepts }
         ensures reads { self.new.reads ≡ self.old.reads }
         ensures failures { self.new.failures ≡ self.old.failures }
@@ -617,7 +622,7 @@ impl<'a, R: Net> LiveSockets<'a, R> {
         // What was shut last has no reply: its request goes forward once more.
         self.asked.shut(None);
         let Ok(origin) = self.links.origins.place(address) else {
-            self.asked.lose_any();
+            self.asked.disconnect_any();
             return Err(SocketFailed);
         };
         let begun = self.begin(l, address);
@@ -629,11 +634,11 @@ impl<'a, R: Net> LiveSockets<'a, R> {
         let peer = begun.ok();
         let is_lost = peer.is_none();
         if !self.links.put(l, Link::new(peer, self.now, origin)) {
-            self.asked.lose_link(l, origin);
+            self.asked.disconnect_link(l, origin);
             return Err(SocketFailed);
         }
         if is_lost {
-            return self.lose_link(l, FailKind::Refused);
+            return self.disconnect_link(l, FailKind::Refused);
         }
         Ok(())
     }
@@ -648,7 +653,7 @@ impl<'a, R: Net> LiveSockets<'a, R> {
     {
         match read_link(&mut self.links, l, buf, self.now, &mut self.more) {
             Ok(received) => Ok(received),
-            Err(_) => match self.lose_link(l, FailKind::Closed) {
+            Err(_) => match self.disconnect_link(l, FailKind::Closed) {
                 Ok(()) => Ok(Received::Nothing),
                 Err(failed) => Err(failed),
             },
@@ -683,7 +688,7 @@ impl<'a, R: Net> Sockets for LiveSockets<'a, R> {
             End::Link(l) => self.read_from_link(l, buf),
         };
         if self.log.is_some() {
-            hear(&mut self.clients, end, &received, buf);
+            read_piece(&mut self.clients, end, &received, buf);
         }
         if received.is_err() {
             self.failures = self.failures.saturating_add(1);

@@ -23,13 +23,13 @@ pub(crate) struct Pace {
 impl Pace {
     /// Takes what a turn told. `unread` says that more may be read where the turn freed an end, `more`
     /// that there is something else to take.
-    pub(crate) fn note(&mut self, told: Result<Report, TurnFault>, unread: bool, more: bool)
-        ensures { self.new ≡ behind self.old told unread more }
+    pub(crate) fn note(&mut self, reported: Result<Report, TurnFault>, unread: bool, more: bool)
+        ensures { self.new ≡ behind self.old reported unread more }
     {
-        match told {
+        match reported {
             Ok(report) => {
                 self.settled = report.works < MOST_WORKS;
-                self.busy = !self.settled || has_freed(told) && unread || self.sweeping || more;
+                self.busy = !self.settled || has_freed(reported) && unread || self.sweeping || more;
             }
             // Memory may be there a little later.
             Err(TurnFault::NoMemory) => {
@@ -45,10 +45,10 @@ impl Pace {
 }
 
 /// Whether a turn may have freed an end.
-pub(crate) fn has_freed(told: Result<Report, TurnFault>) -> bool
-    ensures { result ≡ has_freed told }
+pub(crate) fn has_freed(reported: Result<Report, TurnFault>) -> bool
+    ensures { result ≡ has_freed reported }
 {
-    match told {
+    match reported {
         Ok(report) => report.works > 0 || report.faults > 0,
         Err(_) => false,
     }

@@ -2,8 +2,8 @@
 ghost use Rattle.std.specs.Prelude.{◌≡◌, ◌<◌, ◌≤◌, ◌-◌, ◌||◌, true, false, [], ◌∷◌, ◌++◌, length, IfOk, OnOk, OnErr};
 ghost use Rattle.proxy_turn.specs.Received.{IsReceived};
 ghost use Rattle.proxy_server.specs.Patience.{is_silent};
-ghost use Rattle.proxy_server.specs.Peers.{told_of, IsHanded, IsHandedInPart, IsLeft, tells_of_reading};
-ghost use Rattle.proxy_server.specs.Peers.{tells_of_an_end};
+ghost use Rattle.proxy_server.specs.Peers.{gave, IsHanded, IsHandedInPart, IsLeft, shows_reading};
+ghost use Rattle.proxy_server.specs.Peers.{shows_an_end};
 ghost use Rattle.proxy_server.specs.Streams.{IsWritten};
 
 use crate::stream::Stream;
@@ -118,10 +118,10 @@ impl<S: Stream + Drop> Peer<S> {
     }
 
     /// Marks what an event told of reading.
-    pub(crate) fn stir(&mut self, event: &Event)
+    pub(crate) fn mark_ready(&mut self, event: &Event)
         ensures { self.new ≡ record self.old {
-          readable = self.old.readable || tells_of_reading event.now;
-          hung = self.old.hung || tells_of_an_end event.now;
+          readable = self.old.readable || shows_reading event.now;
+          hung = self.old.hung || shows_an_end event.now;
         } }
     {
         if event.is_readable() || event.is_read_closed() || event.is_error() {
@@ -156,7 +156,7 @@ impl<S: Stream + Drop> Peer<S> {
         match self.write_or_keep(bytes, now) {
             Ok(()) => Ok(()),
             Err(e) => {
-                self.break_off();
+                self.abort();
                 Err(e)
             }
         }
@@ -185,18 +185,18 @@ impl<S: Stream + Drop> Peer<S> {
     }
 
     /// Nothing more is written; what the peer had said can still be read.
-    fn break_off(&mut self)
+    fn abort(&mut self)
         ensures connecting { self.new.connecting ≡ self.old.connecting }
         ensures stream { self.new.stream ≡ self.old.stream }
         ensures broken { self.new.broken ≡ true }
-        ensures let_go { self.new.unsent.bytes ≡ [] }
+        ensures release { self.new.unsent.bytes ≡ [] }
         ensures readable { self.new.readable ≡ true }
         ensures hung { self.new.hung ≡ true }
     {
         self.broken = true;
         self.readable = true;
         self.hung = true;
-        self.unsent.let_go();
+        self.unsent.release();
     }
 
     /// Writes of what was kept as much as the system takes now. After a failure nothing more is written.
@@ -220,7 +220,7 @@ impl<S: Stream + Drop> Peer<S> {
         let n = match self.unsent.flush(&mut self.stream) {
             Ok(n) => n,
             Err(e) => {
-                self.break_off();
+                self.abort();
                 return Err(e);
             }
         };
@@ -238,7 +238,7 @@ impl<S: Stream + Drop> Peer<S> {
         ensures within { IfOk result (IsReceived (length buf.old)) }
         ensures length { length buf.new ≡ length buf.old }
         ensures passed { self.old.readable ≡ true
-            → S.Passed self.old.stream [] (told_of self.new.readable result buf.new ∷ []) self.new.stream }
+            → S.Passed self.old.stream [] (gave self.new.readable result buf.new ∷ []) self.new.stream }
         ensures left { self.old.readable ≡ true → IsLeft self.old.hung (length buf.old) result self.new.readable }
         ensures unread { self.old.readable ≡ false → (self.new ≡ self.old) × (result ≡ Ok Received.Nothing) }
         ensures hung { self.new.hung ≡ self.old.hung }

@@ -71,7 +71,7 @@ fn note<W: Write + Drop>(
     now: u64,
     happening: Happening<'_>,
 ) -> bool
-    ensures told { result ≡ false → is_some fault.new ≡ true }
+    ensures reported { result ≡ false → is_some fault.new ≡ true }
     ensures kept { is_some fault.old ≡ true → is_some fault.new ≡ true }
     ensures noted { is_some fault.new ≡ false → NotesIf now (Some (said happening.entry)) recorder.old recorder.new }
 {
@@ -164,7 +164,7 @@ impl<K: Sockets + Drop, W: Write + Drop> Recording<K, W> {
 
     /// Records what happens between two turns, as the one thing that happens.
     pub fn note_between(&mut self, happening: Happening<'_>) -> bool
-        ensures told { result ≡ false → is_some self.new.fault ≡ true }
+        ensures reported { result ≡ false → is_some self.new.fault ≡ true }
         ensures noted { is_some self.new.fault ≡ false
             → NotesIf self.old.moment (Some (said happening.entry)) self.old.recorder self.new.recorder }
         ensures now { self.new.moment ≡ self.old.moment }

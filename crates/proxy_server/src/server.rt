@@ -50,7 +50,7 @@ pub struct Turned {
     /// Its moment, in Unix seconds.
     pub moment: u64,
     /// What it told. Where it ended early, the next one does what is left.
-    pub told: Result<Report, TurnFault>,
+    pub reported: Result<Report, TurnFault>,
 }
 
 /// An engine over sockets of the system. Contracts see the engine's state, and whatever the sockets do, its core's
@@ -67,13 +67,13 @@ pub struct Server<'a, S: Shelf + Drop, R: Net, W: Write + Drop> {
 
 impl<'a, S: Shelf + Drop, R: Net, W: Write + Drop> Model for Server<'a, S, R, W> {
     ghost use Rattle.proxy_engine.specs.State.{State};
-    ghost use Rattle.proxy_turn.specs.Served.{HasLived};
+    ghost use Rattle.proxy_turn.specs.Served.{IsReachable};
 
     ghost Value = { State };
 
     ghost view = { λ s. s.engine };
 
-    ghost invariant = { λ s. HasLived s.engine };
+    ghost invariant = { λ s. IsReachable s.engine };
 }
 
 /// The moment of a clock, in Unix seconds, and its milliseconds; 0 before 1970.
@@ -100,13 +100,13 @@ fn elapsed<C: Clock>(clock: &C) -> Result<u64, ServeFault> {
 fn look_ahead<R: Net, W: Write + Drop>(
     pace: &mut Pace,
     ends: &Recording<LiveSockets<'_, R>, W>,
-    told: Result<Report, TurnFault>,
+    reported: Result<Report, TurnFault>,
 )
-    ensures { (unread : Bool) × (free : Bool) × (pace.new ≡ behind pace.old told unread (free || ends.now.passed)) }
+    ensures { (unread : Bool) × (free : Bool) × (pace.new ≡ behind pace.old reported unread (free || ends.now.passed)) }
 {
-    let unread = has_freed(told) && ends.sockets.has_unread();
+    let unread = has_freed(reported) && ends.sockets.has_unread();
     let free = ends.sockets.may_accept();
-    pace.note(told, unread, free || ends.has_passed());
+    pace.note(reported, unread, free || ends.has_passed());
 }
 
 impl<'a, S: Shelf + Drop, R: Net, W: Write + Drop> Server<'a, S, R, W> {
@@ -222,15 +222,15 @@ impl<'a, S: Shelf + Drop, R: Net, W: Write + Drop> Server<'a, S, R, W> {
         }
         let moment = self.ends.begin(now, self.pace.settled).min(LATEST);
         self.ends.sockets.set_moment(moment, now, milliseconds);
-        let told = self.turn_at(moment);
+        let reported = self.turn_at(moment);
         if let Some(fault) = self.ends.fault() {
             return Err(ServeFault::Record(fault));
         }
-        self.look_ahead(told);
-        match told {
-            Ok(_) => Ok(Turned { moment, told }),
-            Err(TurnFault::Listener) => Ok(Turned { moment, told }),
-            Err(TurnFault::NoMemory) => Ok(Turned { moment, told }),
+        self.look_ahead(reported);
+        match reported {
+            Ok(_) => Ok(Turned { moment, reported }),
+            Err(TurnFault::Listener) => Ok(Turned { moment, reported }),
+            Err(TurnFault::NoMemory) => Ok(Turned { moment, reported }),
             Err(TurnFault::Spent) => Err(ServeFault::Spent),
         }
     }
@@ -253,16 +253,16 @@ impl<'a, S: Shelf + Drop, R: Net, W: Write + Drop> Server<'a, S, R, W> {
     }
 
     /// Whether the next turn has to wait, by what this one told.
-    fn look_ahead(&mut self, told: Result<Report, TurnFault>)
+    fn look_ahead(&mut self, reported: Result<Report, TurnFault>)
         ensures { self.new ≡ self.old }
     {
-        self.ends.sockets.note_turn(told);
-        look_ahead(&mut self.pace, &self.ends, told);
+        self.ends.sockets.note_turn(reported);
+        look_ahead(&mut self.pace, &self.ends, reported);
     }
 
     /// The engine takes that an end is lost.
     #[tactic(auto, using(crate::proofs::Losing::not_lost))]
-    fn lose(&mut self, end: End, kind: FailKind)
+    fn disconnect(&mut self, end: End, kind: FailKind)
         ensures loses { LosesEnd end kind self.old self.new }
         ensures on { LosesOn self.old self.new }
     {
@@ -287,7 +287,7 @@ impl<'a, S: Shelf + Drop, R: Net, W: Write + Drop> Server<'a, S, R, W> {
                 return;
             }
             if let Some((end, kind)) = self.ends.sockets.next_lost() {
-                self.lose(end, kind);
+                self.disconnect(end, kind);
             }
         }
     }
@@ -321,7 +321,7 @@ impl<'a, S: Shelf + Drop, R: Net, W: Write + Drop> Server<'a, S, R, W> {
 
     /// Lets go of an end: the engine takes that it is lost. The stream of a client between two requests stays, and has
     /// another number when its next request comes; any other is closed.
-    fn let_go(&mut self, end: End)
+    fn release(&mut self, end: End)
         ensures loses { LosesEnd end FailKind.TimedOut self.old self.new }
         ensures on { LosesOn self.old self.new }
     {
@@ -329,7 +329,7 @@ impl<'a, S: Shelf + Drop, R: Net, W: Write + Drop> Server<'a, S, R, W> {
             End::Client(n) if self.engine.is_between_requests(n) => self.ends.sockets.park(n),
             _ => self.ends.sockets.forget(end),
         }
-        self.lose(end, FailKind::TimedOut);
+        self.disconnect(end, FailKind::TimedOut);
     }
 
     /// Hands in the ends whose time is over: links as timed out, clients as gone.
@@ -366,7 +366,7 @@ impl<'a, S: Shelf + Drop, R: Net, W: Write + Drop> Server<'a, S, R, W> {
                 if !self.ends.may_happen() {
                     return;
                 }
-                self.let_go(*end);
+                self.release(*end);
             }
         }
     }
@@ -381,7 +381,7 @@ impl<'a, S: Shelf + Drop, R: Net, W: Write + Drop> Server<'a, S, R, W> {
                 return;
             }
             match self.ends.sockets.abandoned(reads, false) {
-                Some(n) => self.let_go(End::Client(n)),
+                Some(n) => self.release(End::Client(n)),
                 None => return,
             }
         }
@@ -416,7 +416,7 @@ impl<'a, S: Shelf + Drop, R: Net, W: Write + Drop> Server<'a, S, R, W> {
                 return;
             }
             if self.may_park(*end) {
-                self.let_go(*end);
+                self.release(*end);
                 crowd -= 1;
             }
         }
@@ -440,7 +440,7 @@ impl<'a, S: Shelf + Drop, R: Net, W: Write + Drop> Server<'a, S, R, W> {
                 return;
             }
             match self.who_gives_way(reads) {
-                Some(n) => self.let_go(End::Client(n)),
+                Some(n) => self.release(End::Client(n)),
                 None => return,
             }
         }

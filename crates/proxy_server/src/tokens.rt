@@ -24,7 +24,7 @@ pub(crate) enum Holder {
 impl Holder {
     /// Its token, which no other has. A key or a number that is too large has none.
     pub(crate) fn token(self) -> io::Result<Token>
-        ensures told { IfOk result (λ token. holder_of token ≡ self) }
+        ensures reported { IfOk result (λ token. holder_of token ≡ self) }
         ensures has { HasToken self → IsOk result }
     {
         match self {

@@ -27,11 +27,11 @@ impl Turns {
     }
 
     /// Counts a turn, by what it told.
-    pub(crate) fn count(&mut self, told: Result<Report, TurnFault>)
-        ensures { self.new ≡ counted_turn self.old told }
+    pub(crate) fn count(&mut self, reported: Result<Report, TurnFault>)
+        ensures { self.new ≡ counted_turn self.old reported }
     {
         self.served = one_more(self.served);
-        match told {
+        match reported {
             Err(TurnFault::Listener) => self.without_listener = one_more(self.without_listener),
             Err(TurnFault::NoMemory) => self.without_memory = one_more(self.without_memory),
             _ => {}

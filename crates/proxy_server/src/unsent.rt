@@ -113,7 +113,7 @@ impl Unsent {
     }
 
     /// Lets go of all bytes, and of their memory.
-    pub(crate) fn let_go(&mut self)
+    pub(crate) fn release(&mut self)
         ensures bytes { self.new.bytes ≡ [] }
         ensures held { self.new.held ≡ 0 }
     {

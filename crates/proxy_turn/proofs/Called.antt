@@ -6,7 +6,7 @@ use Rattle.proxy_engine.specs.EngineModel.{EngineModel}
 use Rattle.proxy_engine.specs.declared.work.End.{End}
 use Rattle.proxy_turn.specs.Calls as call
 use Rattle.proxy_turn.specs.Calls.{Call}
-use Rattle.proxy_turn.specs.Turn.{Read, Fate, CarriesOut, Round, Asked, calls_asked, calls_read, calls_carried, calls_told, calls_worked, calls_of}
+use Rattle.proxy_turn.specs.Turn.{Read, Fate, CarriesOut, Round, Asked, calls_asked, calls_read, calls_carried, calls_shown, calls_worked, calls_of}
 
 -- what was called, and then what was called behind it
 abbrev pub Joins : (List Call → Type 0) → (List Call → Type 0) → (List Call → Type 0) → Type 0
@@ -15,17 +15,17 @@ Joins p q r = (a b : List Call) → p a → q b → r (a ++ b)
 pub read_more : (rs : List Read) (r : Read) → calls_read (rs ++ r ∷ []) ≡ calls_read rs ++ call.Read r.end r.given ∷ []
 read_more rs r = map-append (λ (x : Read). call.Read x.end x.given) rs (r ∷ [])
 
-pub told_more : (es : List Effect) (fs : List Fate) (s : EngineModel) (gone : List End) (t : EngineModel) (mid : List End) (e : Effect) (f : Fate) → CarriesOut s gone es fs t mid → calls_told (es ++ e ∷ []) (fs ++ f ∷ []) ≡ calls_told es fs ++ calls_carried e f
-told_more [] [] s gone t mid e f out = append-nil (calls_carried e f)
-told_more [] (x ∷ fs) s gone t mid e f out = absurd out
-told_more (x ∷ es) [] s gone t mid e f out = absurd out
-told_more (x ∷ es) (y ∷ fs) s gone t mid e f out =
-    ap (λ (xs : List Call). calls_carried x y ++ xs) (told_more es fs out.0 out.1 t mid e f out.3) ∙ sym (append_assoc (calls_carried x y) (calls_told es fs) (calls_carried e f))
+pub emitted_more : (es : List Effect) (fs : List Fate) (s : EngineModel) (gone : List End) (t : EngineModel) (mid : List End) (e : Effect) (f : Fate) → CarriesOut s gone es fs t mid → calls_shown (es ++ e ∷ []) (fs ++ f ∷ []) ≡ calls_shown es fs ++ calls_carried e f
+emitted_more [] [] s gone t mid e f out = append-nil (calls_carried e f)
+emitted_more [] (x ∷ fs) s gone t mid e f out = absurd out
+emitted_more (x ∷ es) [] s gone t mid e f out = absurd out
+emitted_more (x ∷ es) (y ∷ fs) s gone t mid e f out =
+    ap (λ (xs : List Call). calls_carried x y ++ xs) (emitted_more es fs out.0 out.1 t mid e f out.3) ∙ sym (append_assoc (calls_carried x y) (calls_shown es fs) (calls_carried e f))
 
-pub worked_one_more : (rs : List Round) (r : Round) → calls_worked (rs ++ r ∷ []) ≡ calls_worked rs ++ calls_told r.told r.fates
-worked_one_more [] r = append-nil (calls_told r.told r.fates)
+pub worked_one_more : (rs : List Round) (r : Round) → calls_worked (rs ++ r ∷ []) ≡ calls_worked rs ++ calls_shown r.emitted r.fates
+worked_one_more [] r = append-nil (calls_shown r.emitted r.fates)
 worked_one_more (x ∷ rs) r =
-    ap (λ (xs : List Call). calls_told x.told x.fates ++ xs) (worked_one_more rs r) ∙ sym (append_assoc (calls_told x.told x.fates) (calls_worked rs) (calls_told r.told r.fates))
+    ap (λ (xs : List Call). calls_shown x.emitted x.fates ++ xs) (worked_one_more rs r) ∙ sym (append_assoc (calls_shown x.emitted x.fates) (calls_worked rs) (calls_shown r.emitted r.fates))
 
 -- nothing was read or done
 pub asked_alone : (s : EngineModel) (asked : Asked) → calls_asked s asked ≡ calls_of s asked [] []

@@ -10,9 +10,9 @@ use Rattle.proxy_engine.specs.State.{State, Represents}
 use Rattle.proxy_engine.specs.declared.work.End.{End}
 use Rattle.proxy_turn.specs.Calls.{Call}
 use Rattle.proxy_turn.specs.Counts.{Calls, Raises}
-use Rattle.proxy_turn.specs.Turn.{TakesIf, lost, is_lost, end_of, FailsAs, Lost, CarriesOut, fate_failures, failed_fates, calls_carried, calls_told}
+use Rattle.proxy_turn.specs.Turn.{TakesIf, lost, is_lost, end_of, FailsAs, Lost, CarriesOut, fate_failures, failed_fates, calls_carried, calls_shown}
 use Rattle.proxy_turn.specs.Parts.{TookIf, IsThere, AreThere, CarriedOne, CarriedOut}
-use Rattle.proxy_turn.proofs.Called.{Joins, told_more}
+use Rattle.proxy_turn.proofs.Called.{Joins, emitted_more}
 use Rattle.proxy_turn.proofs.Counting.{raises_none, raises_on}
 use Rattle.proxy_turn.proofs.There.{all_there_later}
 use Rattle.proxy_turn.proofs.Turning.{carries_more, carries_stays, sum_more}
@@ -28,7 +28,7 @@ carried_lost s gone effect e more did before after kind end o is here fails said
     subst (λ (x : Option Said). TakesIf s x took.after) (said ∙ ap (λ (x : End). lost x kind) is) took.takes,
     longer ∙ ap (λ (x : End). gone ++ x ∷ []) is,
   );
-  stands = took.stands;
+  represents = took.represents;
   counted = refl;
   calls = calls;
   raises = raises;
@@ -40,7 +40,7 @@ effect_there s (e ∷ es) zero effect there l is = subst (λ (x : Effect). IsThe
 effect_there s (e ∷ es) (suc i) effect there l is = effect_there s es i effect there.1 (omega (arith, l)) is
 
 pub carried_none : (s : EngineModel) (gone : List End) (e : State) (did : List Call → Type 0) (here : Calls) → Represents e s → did [] → CarriedOut s gone [] e gone did here here 0
-carried_none s gone e did here stands none = record { fates = []; last = s; carries = (refl, refl); stands = stands; counted = refl; calls = none; raises = raises_none here }
+carried_none s gone e did here represents none = record { fates = []; last = s; carries = (refl, refl); represents = represents; counted = refl; calls = none; raises = raises_none here }
 
 pub named_later : (stay : TakesStay) (s : EngineModel) (gone : List End) (es : List Effect) (i : ℕ) (effect : Effect) (e : State) (mid : List End) (did : List Call → Type 0) (a b : Calls) (faults : ℕ) → effect ≡ get_or es i effect → i < length es → AreThere s (map end_of es) → (done : CarriedOut s gone (take i es) e mid did a b faults)
     → IsThere done.last (end_of effect)
@@ -56,10 +56,10 @@ module _ (s : EngineModel) (gone : List End) (es : List Effect) (i : ℕ) (effec
         last = one.last;
         carries = subst (λ (xs : List Effect). CarriesOut s gone xs (done.fates ++ one.fate ∷ []) one.last more) (sym longer)
             (carries_more (take i es) done.fates s gone done.last mid effect one.fate one.last more done.carries one.carries);
-        stands = one.stands;
+        represents = one.represents;
         counted = let before = done.counted in let here = one.counted in let sum = sum_more fate_failures done.fates one.fate in omega (arith, before, here, sum);
-        calls = subst (λ (xs : List Effect). all (calls_told xs (done.fates ++ one.fate ∷ []))) (sym longer)
-            (subst all (sym (told_more (take i es) done.fates s gone done.last mid effect one.fate done.carries)) (join (calls_told (take i es) done.fates) (calls_carried effect one.fate) done.calls one.calls));
+        calls = subst (λ (xs : List Effect). all (calls_shown xs (done.fates ++ one.fate ∷ []))) (sym longer)
+            (subst all (sym (emitted_more (take i es) done.fates s gone done.last mid effect one.fate done.carries)) (join (calls_shown (take i es) done.fates) (calls_carried effect one.fate) done.calls one.calls));
         raises = subst (λ (n : ℕ). Raises a c 0 0 n) (sym (sum_more fate_failures done.fates one.fate)) (raises_on a b c 0 0 (failed_fates done.fates) 0 0 (fate_failures one.fate) done.raises one.raises);
       }
     where

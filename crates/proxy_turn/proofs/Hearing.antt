@@ -48,7 +48,7 @@ lost_found e (ends.Client n) kind = tt
 lost_found e (ends.Link k) kind = tt
 
 pub reads_none : (s : EngineModel) (e : State) (did : List Call → Type 0) (here : Calls) → Represents e s → did [] → ReadsSome s [] e did here here
-reads_none s e did here stands none = record { last = s; are = refl; stands = stands; calls = none; raises = raises_none here }
+reads_none s e did here represents none = record { last = s; are = refl; represents = represents; calls = none; raises = raises_none here }
 
 -- an end that was there is there behind the reads
 pub read_later : (stay : TakesStay) (s : EngineModel) (es : List End) (reads : List Read) (i : ℕ) (end : End) (e : State) (did : List Call → Type 0) (a b : Calls) → end ≡ get_or es i end → i < length es → AreThere s es → (done : ReadsSome s reads e did a b) → IsThere done.last end
@@ -62,7 +62,7 @@ reads_one s reads end e new did then all a b c count done one join =
     record {
       last = one.took.after;
       are = reads_more reads s done.last one.took.after r done.are one.took.takes one.piece;
-      stands = one.took.stands;
+      represents = one.took.represents;
       calls = subst all (sym (read_more reads r)) (join (calls_read reads) (call.Read end one.given ∷ []) done.calls one.calls);
       raises = subst (λ (n : ℕ). Raises a c 0 n (failed_reads (reads ++ r ∷ []))) (sym (length-append reads (r ∷ [])))
           (subst (λ (n : ℕ). Raises a c 0 (length reads + 1) n) (sym (sum_more (λ (x : Read). given_failures x.given) reads r)) (raises_on a b c 0 (length reads) (failed_reads reads) 0 1 (given_failures one.given) done.raises one.raises));
@@ -76,7 +76,7 @@ pub record SoFar (s : EngineModel) (es : List End) (e : State) (did : List Call 
   pub counted : faults ≡ failed_reads reads
 
 pub so_far_none : (s : EngineModel) (e : State) (did : List Call → Type 0) (here : Calls) → Represents e s → did [] → SoFar s [] e did here here 0
-so_far_none s e did here stands none = record { reads = []; ends = refl; some = reads_none s e did here stands none; counted = refl }
+so_far_none s e did here represents none = record { reads = []; ends = refl; some = reads_none s e did here represents none; counted = refl }
 
 pub so_far_more : (s : EngineModel) (es : List End) (i : ℕ) (end : End) (e new : State) (did then all : List Call → Type 0) (a b c : Calls) (faults count : ℕ) → end ≡ get_or es i end → i < length es → (done : SoFar s (take i es) e did a b faults) → ReadsOne done.some.last end new then b c count
     → Joins did then all → SoFar s (take (i + 1) es) new all a c (faults + count)
@@ -105,7 +105,7 @@ read_whole s es n e did a b faults counts is l done number more =
       rest = [];
       ends = append-nil (ends_of done.reads) ∙ (all ∙ is);
       some = done.some;
-      tells = (refl, number ∙ (sym (ap length all) ∙ length-map done.reads (λ (x : Read). x.end)), more ∙ done.counted);
+      reports = (refl, number ∙ (sym (ap length all) ∙ length-map done.reads (λ (x : Read). x.end)), more ∙ done.counted);
     }
 
 pub read_partly : (s : EngineModel) (es : List End) (i : ℕ) (e new : State) (did then all : List Call → Type 0) (a b c : Calls) (faults : ℕ) (fault : TurnFault) → es ≡ ends_read s → (done : SoFar s (take i es) e did a b faults) → ReadsNone done.some.last new then b c fault → Joins did then all → ReadsAll s new all a c (Err fault)
@@ -113,12 +113,12 @@ read_partly s es i e new did then all a b c faults fault is done none join = rec
   reads = done.reads;
   rest = drop i es;
   ends = ap (λ (xs : List End). xs ++ drop i es) done.ends ∙ (take-append-drop i es ∙ is);
-  some = record { last = done.some.last; are = done.some.are; stands = none.stands; calls = subst all (append-nil (calls_read done.reads)) (join (calls_read done.reads) [] done.some.calls none.calls); raises = subst (λ (x : Calls). Raises a x 0 (length done.reads) (failed_reads done.reads)) none.same done.some.raises };
-  tells = none.fault_is;
+  some = record { last = done.some.last; are = done.some.are; represents = none.represents; calls = subst all (append-nil (calls_read done.reads)) (join (calls_read done.reads) [] done.some.calls none.calls); raises = subst (λ (x : Calls). Raises a x 0 (length done.reads) (failed_reads done.reads)) none.same done.some.raises };
+  reports = none.fault_is;
 }
 
 pub read_not : (s : EngineModel) (e : State) (did : List Call → Type 0) (here : Calls) (fault : TurnFault) → fault ≡ NoMemory → Represents e s → did [] → ReadsAll s e did here here (Err fault)
-read_not s e did here fault is stands none = record { reads = []; rest = ends_read s; ends = refl; some = reads_none s e did here stands none; tells = is }
+read_not s e did here fault is represents none = record { reads = []; rest = ends_read s; ends = refl; some = reads_none s e did here represents none; reports = is }
 
 -- an element is itself at its place
 pub read_at : {A : Type 0} (d : A) (xs : List A) (i : ℕ) → i < length xs → get_or xs i d ≡ get_or xs i (get_or xs i d)

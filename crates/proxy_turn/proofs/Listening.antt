@@ -38,8 +38,8 @@ accept_free s n is = ap (λ (b : Bool). cond b None (Some WrongNumber)) (same n 
     same a b e = search (arith, e)
 
 pub accept_found : (e : State) (s : EngineModel) (n : ℕ) → Represents e s → HasRoom e ends.Listener → length s.connections + 1 < 2 ^ 64 → Finds e (Accepts n)
-accept_found e s n stands (inl room) left = room
-accept_found e s n stands (inr full) left = let long = both_long _ e.connections s.connections stands.connections in absurd (omega (arith, full, left, long))
+accept_found e s n represents (inl room) left = room
+accept_found e s n represents (inr full) left = let long = both_long _ e.connections s.connections represents.connections in absurd (omega (arith, full, left, long))
 
 -- it is asked
 pub does_ask : (s : EngineModel) (o : Option ℕ) (n count : ℕ) → o ≡ next_connection s → o ≡ Some n → count ≡ open_count s → count < 256 → asks s ≡ true

@@ -18,13 +18,13 @@ use Rattle.proxy_engine.specs.EngineModel.{EngineModel, heard, with_core}
 use Rattle.proxy_engine.specs.Due.{Act, Abandons, Finishes, Wakes, Serves, Gives, Breaks}
 use Rattle.proxy_engine.specs.Acts.{Does, StepsOn, Refuses, Closes, Served, Arrives, Came, Replies, Forwards, Queues, Nothing, came, after_on}
 use Rattle.proxy_engine.specs.Orderly.{IsOrderly, BeginsOrderly, TakesInOrder, ActsInOrder}
-use Rattle.proxy_engine.specs.Lives.{Step, Took, Worked, Lives, LivesAreRuns}
+use Rattle.proxy_engine.specs.Executions.{Step, Took, Worked, Executes, ExecutionsAreRuns}
 use Rattle.proxy_engine.specs.State.{State, Represents, begun}
-use Rattle.proxy_turn.specs.TurnSteps.{TurnsAreLived}
+use Rattle.proxy_turn.specs.TurnSteps.{TurnsAreExecuted}
 use Rattle.proxy_turn.specs.declared.report.Report.{Report}
 use Rattle.proxy_turn.specs.declared.report.TurnFault.{TurnFault}
-use Rattle.proxy_turn.specs.Served.{beginning, LivesBy, take_steps, IsLoss, ServedTurn, served_steps, NothingIsLost, OneIsLost, MoreAreLost, LossesGoOn, TurnsAreServed, BeginsLived, StaysOn, GoesOnAndOn, TakesGoOn, TurnsGoOn, LivedGoesOn, LivedAreServing, TurnsLiveOn, LivesAreServing, KeepsItsTable}
-use Rattle.proxy_turn.proofs.Stepping.{lives_on}
+use Rattle.proxy_turn.specs.Served.{beginning, ExecutesBy, take_steps, IsLoss, ServedTurn, served_steps, NothingIsLost, OneIsLost, MoreAreLost, LossesGoOn, TurnsAreServed, BeginsReachable, StaysOn, GoesOnAndOn, TakesGoOn, TurnsGoOn, ReachableGoesOn, ReachableAreServing, TurnsLiveOn, ExecutionsAreServing, KeepsItsTable}
+use Rattle.proxy_turn.proofs.Stepping.{executes_on}
 
 -- ---- the table and the room of the store stay
 
@@ -43,8 +43,8 @@ core_heard s (Leaves n) = refl
 core_heard s (Shuts l) = refl
 core_heard s (Fails l kind) = refl
 
-steps_keep : (s t : EngineModel) (i : ℕ) (to_head : Bool) (event : Event) (before told : List Effect) (after : EngineModel) → StepsOn s t i to_head event before told after → kept after ≡ kept s
-steps_keep s t i to_head event before told after steps =
+steps_keep : (s t : EngineModel) (i : ℕ) (to_head : Bool) (event : Event) (before emitted : List Effect) (after : EngineModel) → StepsOn s t i to_head event before emitted after → kept after ≡ kept s
+steps_keep s t i to_head event before emitted after steps =
     ap kept steps.after_is ∙ (by (came s.core.table steps.outcome) ∙ ap kept_core steps.steps.leaves)
   where
     by : (c : Came) → kept (after_on i to_head c (with_core t steps.core)) ≡ kept_core steps.core
@@ -53,24 +53,24 @@ steps_keep s t i to_head event before told after steps =
     by Queues = refl
     by Nothing = refl
 
-does_keep : (s : EngineModel) (now : ℕ) (act : Act) (told : List Effect) (after : EngineModel) → Does s now act told after → kept after ≡ kept s
-does_keep s now (Abandons i l) told after done = steps_keep s _ _ _ _ _ told after done
-does_keep s now (Finishes j (Gives r)) told after done = steps_keep s _ _ _ _ _ told after done.1
-does_keep s now (Finishes j (Breaks kind)) told after done = steps_keep s _ _ _ _ _ told after done
-does_keep s now (Wakes i) told after done = steps_keep s _ _ _ _ _ told after done.1
-does_keep s now (Serves i action) told after done = by_action action done
+does_keep : (s : EngineModel) (now : ℕ) (act : Act) (emitted : List Effect) (after : EngineModel) → Does s now act emitted after → kept after ≡ kept s
+does_keep s now (Abandons i l) emitted after done = steps_keep s _ _ _ _ _ emitted after done
+does_keep s now (Finishes j (Gives r)) emitted after done = steps_keep s _ _ _ _ _ emitted after done.1
+does_keep s now (Finishes j (Breaks kind)) emitted after done = steps_keep s _ _ _ _ _ emitted after done
+does_keep s now (Wakes i) emitted after done = steps_keep s _ _ _ _ _ emitted after done.1
+does_keep s now (Serves i action) emitted after done = by_action action done
   where
-    refuses : (why : Cause) (head : Bool) → Refuses s now i why head told after → kept after ≡ kept s
+    refuses : (why : Cause) (head : Bool) → Refuses s now i why head emitted after → kept after ≡ kept s
     refuses why head d = ap kept d.after_is
 
-    closes : Closes s i told after → kept after ≡ kept s
+    closes : Closes s i emitted after → kept after ≡ kept s
     closes d = ap kept d.1
 
-    arrives : (r : Request) (judged : Result Asked Refusal) → Arrives s now i r judged told after → kept after ≡ kept s
-    arrives r (Ok asked) d = steps_keep s _ _ _ _ _ told after d.1
+    arrives : (r : Request) (judged : Result Asked Refusal) → Arrives s now i r judged emitted after → kept after ≡ kept s
+    arrives r (Ok asked) d = steps_keep s _ _ _ _ _ emitted after d.1
     arrives r (Err refusal) d = refuses _ _ d
 
-    by_action : (w : Next Request) → Served s now i w told after → kept after ≡ kept s
+    by_action : (w : Next Request) → Served s now i w emitted after → kept after ≡ kept s
     by_action next.More d = absurd d
     by_action next.NeedsContinue d = ap kept d.1
     by_action (next.Message r) d = arrives r d.0 d.2
@@ -86,16 +86,16 @@ does_keep s now (Serves i action) told after done = by_action action done
     by_action (next.Refused frame.Status) d = refuses _ _ d
     by_action next.End d = closes d
 
-lives_keep : (s : EngineModel) (steps : List Step) (t : EngineModel) → Lives s steps t → kept t ≡ kept s
-lives_keep s [] t here = ap kept here
-lives_keep s (Took h ∷ past) t lives =
-    ap kept lives.2.1 ∙ (ap kept_core (core_heard lives.0 h) ∙ lives_keep s past lives.0 lives.1)
-lives_keep s (Worked now act told ∷ past) t lives = does_keep lives.0 now act told t lives.2.1 ∙ lives_keep s past lives.0 lives.1
+executes_keep : (s : EngineModel) (steps : List Step) (t : EngineModel) → Executes s steps t → kept t ≡ kept s
+executes_keep s [] t here = ap kept here
+executes_keep s (Took h ∷ past) t executes =
+    ap kept executes.2.1 ∙ (ap kept_core (core_heard executes.0 h) ∙ executes_keep s past executes.0 executes.1)
+executes_keep s (Worked now act emitted ∷ past) t executes = does_keep executes.0 now act emitted t executes.2.1 ∙ executes_keep s past executes.0 executes.1
 
 -- an engine that stands for what was lived from a beginning by this table has that table
-same_table : (e new : State) (first link : ℕ) (steps : List Step) (last : EngineModel) → Lives (beginning e first link) steps last → Represents new last → e.core.table ≡ new.core.table
-same_table e new first link steps last lives stands =
-    sym (ap (λ (k : Table × ℕ). k.0) (ap kept_core stands.core ∙ lives_keep (beginning e first link) steps last lives))
+same_table : (e new : State) (first link : ℕ) (steps : List Step) (last : EngineModel) → Executes (beginning e first link) steps last → Represents new last → e.core.table ≡ new.core.table
+same_table e new first link steps last executes represents =
+    sym (ap (λ (k : Table × ℕ). k.0) (ap kept_core represents.core ∙ executes_keep (beginning e first link) steps last executes))
 
 -- ---- what is lost is taken
 
@@ -105,9 +105,9 @@ take_on (h ∷ hs) past =
     take_on hs (Took h ∷ past)
     ∙ (sym (append_assoc (take_steps hs []) (Took h ∷ []) past) ∙ ap (λ (steps : List Step). steps ++ past) (sym (take_on hs (Took h ∷ []))))
 
-takes_live : (hs : List Said) (begin : EngineModel) (past : List Step) (s t : EngineModel) → Lives begin past s → Lives s (take_steps hs []) t → Lives begin (take_steps hs past) t
+takes_live : (hs : List Said) (begin : EngineModel) (past : List Step) (s t : EngineModel) → Executes begin past s → Executes s (take_steps hs []) t → Executes begin (take_steps hs past) t
 takes_live hs begin past s t before takes =
-    subst (λ (steps : List Step). Lives begin steps t) (sym (take_on hs past)) (lives_on (take_steps hs []) begin past s t before takes)
+    subst (λ (steps : List Step). Executes begin steps t) (sym (take_on hs past)) (executes_on (take_steps hs []) begin past s t before takes)
 
 take_both : (hs more : List Said) (past : List Step) → take_steps (hs ++ more) past ≡ take_steps more (take_steps hs past)
 take_both [] more past = refl
@@ -118,39 +118,39 @@ both_losses [] more are others = others
 both_losses (h ∷ hs) more are others = (are.0, both_losses hs more are.1 others)
 
 pub nothing_is_lost : NothingIsLost
-nothing_is_lost e s stands = record { lost = []; are_losses = tt; after = s; takes = refl; stands = stands }
+nothing_is_lost e s represents = record { lost = []; are_losses = tt; after = s; takes = refl; represents = represents }
 
 pub one_is_lost : OneIsLost
-one_is_lost e new h loss taken s stands =
-    let took = taken s stands in
-    record { lost = h ∷ []; are_losses = (loss, tt); after = heard s h; takes = (s, refl, (took.free, refl)); stands = took.stands }
+one_is_lost e new h loss taken s represents =
+    let took = taken s represents in
+    record { lost = h ∷ []; are_losses = (loss, tt); after = heard s h; takes = (s, refl, (took.free, refl)); represents = took.represents }
 
 pub more_are_lost : MoreAreLost
-more_are_lost e mid new first rest s stands =
-    let one = first s stands in
-    let other = rest one.after one.stands in
+more_are_lost e mid new first rest s represents =
+    let one = first s represents in
+    let other = rest one.after one.represents in
     record {
       lost = one.lost ++ other.lost;
       are_losses = both_losses one.lost other.lost one.are_losses other.are_losses;
       after = other.after;
-      takes = subst (λ (steps : List Step). Lives s steps other.after) (sym (take_both one.lost other.lost []))
+      takes = subst (λ (steps : List Step). Executes s steps other.after) (sym (take_both one.lost other.lost []))
           (takes_live other.lost s (take_steps one.lost []) one.after other.after one.takes other.takes);
-      stands = other.stands;
+      represents = other.represents;
     }
 
 pub losses_go_on : LossesGoOn
-losses_go_on e new loses s stands orderly =
-    let losses = loses s stands in
-    record { steps = take_steps losses.lost []; last = losses.after; lives = losses.takes; stands = losses.stands }
+losses_go_on e new loses s represents orderly =
+    let losses = loses s represents in
+    record { steps = take_steps losses.lost []; last = losses.after; executes = losses.takes; represents = losses.represents }
 
-lives_orderly : TakesInOrder → ActsInOrder → (s : EngineModel) (steps : List Step) (t : EngineModel) → IsOrderly s → Lives s steps t → IsOrderly t
-lives_orderly takes acts s [] t h here = subst IsOrderly (sym here) h
-lives_orderly takes acts s (Took said ∷ past) t h lives = subst IsOrderly (sym lives.2.1) (takes lives.0 said (lives_orderly takes acts s past lives.0 h lives.1))
-lives_orderly takes acts s (Worked now act told ∷ past) t h lives = (acts lives.0 now act told t (lives_orderly takes acts s past lives.0 h lives.1) lives.2.0 lives.2.1).0
+executes_orderly : TakesInOrder → ActsInOrder → (s : EngineModel) (steps : List Step) (t : EngineModel) → IsOrderly s → Executes s steps t → IsOrderly t
+executes_orderly takes acts s [] t h here = subst IsOrderly (sym here) h
+executes_orderly takes acts s (Took said ∷ past) t h executes = subst IsOrderly (sym executes.2.1) (takes executes.0 said (executes_orderly takes acts s past executes.0 h executes.1))
+executes_orderly takes acts s (Worked now act emitted ∷ past) t h executes = (acts executes.0 now act emitted t (executes_orderly takes acts s past executes.0 h executes.1) executes.2.0 executes.2.1).0
 
 pub turns_are_served : TakesInOrder → ActsInOrder → TurnsAreServed
-turns_are_served takes acts e mid new now before after told loses turns s stands orderly =
-    let losses = loses s stands in
+turns_are_served takes acts e mid new now before after emitted loses turns s represents orderly =
+    let losses = loses s represents in
     record {
       lost = losses.lost;
       are_losses = losses.are_losses;
@@ -158,99 +158,99 @@ turns_are_served takes acts e mid new now before after told loses turns s stands
       takes = losses.takes;
       before = before;
       after = after;
-      turn = turns losses.after losses.stands (lives_orderly takes acts s (take_steps losses.lost []) losses.after orderly losses.takes);
+      turn = turns losses.after losses.represents (executes_orderly takes acts s (take_steps losses.lost []) losses.after orderly losses.takes);
     }
 
 -- ---- it goes on
 
 table_now : (e : State) (s : EngineModel) → Represents e s → kept_core e.core ≡ kept s
-table_now e s stands = ap kept_core stands.core
+table_now e s represents = ap kept_core represents.core
 
-pub begins_lived : BeginsLived
-begins_lived e table first link stands =
-    let same : table ≡ e.core.table = sym (ap (λ (k : CoreState). k.table) stands.core) in
+pub begins_reachable : BeginsReachable
+begins_reachable e table first link represents =
+    let same : table ≡ e.core.table = sym (ap (λ (k : CoreState). k.table) represents.core) in
     record {
       first = first;
       link = link;
       steps = [];
       last = begun (core_begun table table.capacity first) link;
-      lived = record { lives = ap (λ (table : Table). begun (core_begun table table.capacity first) link) same; stands = stands };
+      executed = record { executes = ap (λ (table : Table). begun (core_begun table table.capacity first) link) same; represents = represents };
     }
 
 pub stays_on : StaysOn
-stays_on e s stands orderly = record { steps = []; last = s; lives = refl; stands = stands }
+stays_on e s represents orderly = record { steps = []; last = s; executes = refl; represents = represents }
 
 pub takes_go_on : TakesGoOn
-takes_go_on e new h taken s stands orderly =
-    let took = taken s stands in
-    record { steps = Took h ∷ []; last = heard s h; lives = (s, refl, (took.free, refl)); stands = took.stands }
+takes_go_on e new h taken s represents orderly =
+    let took = taken s represents in
+    record { steps = Took h ∷ []; last = heard s h; executes = (s, refl, (took.free, refl)); represents = took.represents }
 
-module _ (lived : TurnsAreLived) where
+module _ (executed : TurnsAreExecuted) where
   -- behind what was lived before it
-  served_lives : (begin : EngineModel) (past : List Step) (e new : State) (s : EngineModel) (now : ℕ) (told : Result Report TurnFault) → Lives begin past s → (served : ServedTurn now s new told) → Lives begin (served_steps served past) served.turn.last
-  served_lives begin past e new s now told before served =
+  served_executes : (begin : EngineModel) (past : List Step) (e new : State) (s : EngineModel) (now : ℕ) (emitted : Result Report TurnFault) → Executes begin past s → (served : ServedTurn now s new emitted) → Executes begin (served_steps served past) served.turn.last
+  served_executes begin past e new s now emitted before served =
       let turn = served.turn in
-      lived begin (take_steps served.lost past) now served.mid turn.asked turn.reads turn.rest turn.rounds turn.last (takes_live served.lost begin past s served.mid before served.takes) turn.turn
+      executed begin (take_steps served.lost past) now served.mid turn.asked turn.reads turn.rest turn.rounds turn.last (takes_live served.lost begin past s served.mid before served.takes) turn.turn
 
   pub turns_go_on : TurnsGoOn
-  turns_go_on e new now told serves s stands orderly =
-      let served = serves s stands orderly in
-      record { steps = served_steps served []; last = served.turn.last; lives = served_lives s [] e new s now told refl served; stands = served.turn.stands }
+  turns_go_on e new now emitted serves s represents orderly =
+      let served = serves s represents orderly in
+      record { steps = served_steps served []; last = served.turn.last; executes = served_executes s [] e new s now emitted refl served; represents = served.turn.represents }
 
   pub turns_live_on : TurnsLiveOn
-  turns_live_on e new first link steps s now told before served =
-      let whole = served_lives (beginning e first link) steps e new s now told before.lives served in
-      record { lives = subst (λ (table : Table). Lives (begun (core_begun table table.capacity first) link) (served_steps served steps) served.turn.last) (same_table e new first link (served_steps served steps) served.turn.last whole served.turn.stands) whole; stands = served.turn.stands }
+  turns_live_on e new first link steps s now emitted before served =
+      let whole = served_executes (beginning e first link) steps e new s now emitted before.executes served in
+      record { executes = subst (λ (table : Table). Executes (begun (core_begun table table.capacity first) link) (served_steps served steps) served.turn.last) (same_table e new first link (served_steps served steps) served.turn.last whole served.turn.represents) whole; represents = served.turn.represents }
 
 module _ (takes : TakesInOrder) (acts : ActsInOrder) where
   pub goes_on_and_on : GoesOnAndOn
-  goes_on_and_on e mid new first rest s stands orderly =
-      let one = first s stands orderly in
-      let other = rest one.last one.stands (lives_orderly takes acts s one.steps one.last orderly one.lives) in
+  goes_on_and_on e mid new first rest s represents orderly =
+      let one = first s represents orderly in
+      let other = rest one.last one.represents (executes_orderly takes acts s one.steps one.last orderly one.executes) in
       record {
         steps = other.steps ++ one.steps;
         last = other.last;
-        lives = lives_on other.steps s one.steps one.last other.last one.lives other.lives;
-        stands = other.stands;
+        executes = executes_on other.steps s one.steps one.last other.last one.executes other.executes;
+        represents = other.represents;
       }
 
   module _ (begins : BeginsOrderly) where
-    lived_orderly : (e : State) (first link : ℕ) (steps : List Step) (last : EngineModel) → LivesBy e first link steps last → IsOrderly last
-    lived_orderly e first link steps last lived =
-        lives_orderly takes acts (beginning e first link) steps last (begins (core_begun e.core.table e.core.table.capacity first) link refl) lived.lives
+    executed_orderly : (e : State) (first link : ℕ) (steps : List Step) (last : EngineModel) → ExecutesBy e first link steps last → IsOrderly last
+    executed_orderly e first link steps last executed =
+        executes_orderly takes acts (beginning e first link) steps last (begins (core_begun e.core.table e.core.table.capacity first) link refl) executed.executes
 
-    pub lives_are_serving : LivesAreRuns → LivesAreServing
-    lives_are_serving runs e first link steps last lived =
-        (lived_orderly e first link steps last lived, runs e.core.table e.core.table.capacity first link steps last lived.lives)
+    pub executions_are_serving : ExecutionsAreRuns → ExecutionsAreServing
+    executions_are_serving runs e first link steps last executed =
+        (executed_orderly e first link steps last executed, runs e.core.table e.core.table.capacity first link steps last executed.executes)
 
-    pub lived_goes_on : LivedGoesOn
-    lived_goes_on e new goes had =
-        let lived = had.lived in
-        let more = goes had.last lived.stands (lived_orderly e had.first had.link had.steps had.last lived) in
+    pub reachable_goes_on : ReachableGoesOn
+    reachable_goes_on e new goes had =
+        let executed = had.executed in
+        let more = goes had.last executed.represents (executed_orderly e had.first had.link had.steps had.last executed) in
         let steps = more.steps ++ had.steps in
-        let whole = lives_on more.steps (beginning e had.first had.link) had.steps had.last more.last lived.lives more.lives in
+        let whole = executes_on more.steps (beginning e had.first had.link) had.steps had.last more.last executed.executes more.executes in
         record {
           first = had.first;
           link = had.link;
           steps = steps;
           last = more.last;
-          lived = record { lives = subst (λ (table : Table). Lives (begun (core_begun table table.capacity had.first) had.link) steps more.last) (same_table e new had.first had.link steps more.last whole more.stands) whole; stands = more.stands };
+          executed = record { executes = subst (λ (table : Table). Executes (begun (core_begun table table.capacity had.first) had.link) steps more.last) (same_table e new had.first had.link steps more.last whole more.represents) whole; represents = more.represents };
         }
 
     pub keeps_its_table : KeepsItsTable
     keeps_its_table e new goes had =
-        let more = goes had.last had.lived.stands (lived_orderly e had.first had.link had.steps had.last had.lived) in
+        let more = goes had.last had.executed.represents (executed_orderly e had.first had.link had.steps had.last had.executed) in
         let same : kept_core new.core ≡ kept_core e.core =
-        table_now new more.last more.stands ∙ (lives_keep had.last more.steps more.last more.lives ∙ sym (table_now e had.last had.lived.stands)) in
+        table_now new more.last more.represents ∙ (executes_keep had.last more.steps more.last more.executes ∙ sym (table_now e had.last had.executed.represents)) in
         (ap (λ (k : Table × ℕ). k.0) same, ap (λ (k : Table × ℕ). k.1) same)
 
-pub lived_are_serving : LivesAreRuns → LivedAreServing
-lived_are_serving runs e had = record {
+pub reachable_are_serving : ExecutionsAreRuns → ReachableAreServing
+reachable_are_serving runs e had = record {
   first = had.first;
   link = had.link;
   steps = had.steps;
   last = had.last;
-  run = runs e.core.table e.core.table.capacity had.first had.link had.steps had.last had.lived.lives;
-  stands = had.lived.stands;
-  limit = ap (λ (k : Table × ℕ). k.1) (table_now e had.last had.lived.stands ∙ lives_keep (beginning e had.first had.link) had.steps had.last had.lived.lives);
+  run = runs e.core.table e.core.table.capacity had.first had.link had.steps had.last had.executed.executes;
+  represents = had.executed.represents;
+  limit = ap (λ (k : Table × ℕ). k.1) (table_now e had.last had.executed.represents ∙ executes_keep (beginning e had.first had.link) had.steps had.last had.executed.executes);
 }

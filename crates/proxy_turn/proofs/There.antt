@@ -173,41 +173,41 @@ replies_none i number bytes true = refl
 replies_none i number bytes false = refl
 
 -- a step whose effects name a new link opens it
-steps_open : (s t : EngineModel) (i : ℕ) (to_head : Bool) (event : Event) (before told : List Effect) (after : EngineModel) → length t.links ≡ length s.links → ((more : List Effect) → forwards (before ++ more) ≡ forwards more)
-    → StepsOn s t i to_head event before told after → forwards told ≡ true → length s.links < length after.links
-steps_open s t i to_head event before told after same apart steps e = by (came s.core.table steps.outcome) steps.told_is steps.after_is
+steps_open : (s t : EngineModel) (i : ℕ) (to_head : Bool) (event : Event) (before emitted : List Effect) (after : EngineModel) → length t.links ≡ length s.links → ((more : List Effect) → forwards (before ++ more) ≡ forwards more)
+    → StepsOn s t i to_head event before emitted after → forwards emitted ≡ true → length s.links < length after.links
+steps_open s t i to_head event before emitted after same apart steps e = by (came s.core.table steps.outcome) steps.emitted_is steps.after_is
   where
-    by : (c : Came) → told ≡ before ++ effects_on i (next_number s) c → after ≡ after_on i to_head c (with_core t steps.core) → length s.links < length after.links
-    by (Replies bytes close) told_is after_is = not_both (forwards told) e (ap forwards told_is ∙ (apart (effects_on i (next_number s) (Replies bytes close)) ∙ replies_none i (next_number s) bytes close))
-    by (Forwards address bytes) told_is after_is =
+    by : (c : Came) → emitted ≡ before ++ effects_on i (next_number s) c → after ≡ after_on i to_head c (with_core t steps.core) → length s.links < length after.links
+    by (Replies bytes close) emitted_is after_is = not_both (forwards emitted) e (ap forwards emitted_is ∙ (apart (effects_on i (next_number s) (Replies bytes close)) ∙ replies_none i (next_number s) bytes close))
+    by (Forwards address bytes) emitted_is after_is =
         let long = ap (λ (u : EngineModel). length u.links) after_is ∙ length-append t.links (opened steps.core.table.max_body to_head i ∷ []) in
         omega (arith, same, long)
-    by Queues told_is after_is = not_both (forwards told) e (ap forwards told_is ∙ apart [])
-    by Nothing told_is after_is = not_both (forwards told) e (ap forwards told_is ∙ apart [])
+    by Queues emitted_is after_is = not_both (forwards emitted) e (ap forwards emitted_is ∙ apart [])
+    by Nothing emitted_is after_is = not_both (forwards emitted) e (ap forwards emitted_is ∙ apart [])
 
 -- an act whose effects name a new link opens it
-opens : (s : EngineModel) (now : ℕ) (act : Act) (told : List Effect) (after : EngineModel) → Does s now act told after → forwards told ≡ true → length s.links < length after.links
-opens s now (Abandons i (Some l)) told after done e =
-    steps_open s (freed s l i) i false (events.Abandon (i + 1)) (effects.Drop (s.first + l) ∷ []) told after (length-set s.links l (dropping (link_at s l))) (λ more. refl) done e
-opens s now (Abandons i None) told after done e = steps_open s (with_connection s i (doing Free)) i false (events.Abandon (i + 1)) [] told after refl (λ more. refl) done e
-opens s now (Finishes j (Gives r)) told after done e = steps_open s (freed s j (link_at s j).connection) _ _ _ (effects.Drop (s.first + j) ∷ []) told after (length-set s.links j (dropping (link_at s j))) (λ more. refl) done.1 e
-opens s now (Finishes j (Breaks kind)) told after done e = steps_open s (freed s j (link_at s j).connection) _ _ _ (effects.Drop (s.first + j) ∷ []) told after (length-set s.links j (dropping (link_at s j))) (λ more. refl) done e
-opens s now (Wakes i) told after done e = steps_open s (with_connection s i (doing Free)) i _ (events.Wake now (i + 1)) [] told after refl (λ more. refl) done.1 e
-opens s now (Serves i action) told after done e = by_action action done
+opens : (s : EngineModel) (now : ℕ) (act : Act) (emitted : List Effect) (after : EngineModel) → Does s now act emitted after → forwards emitted ≡ true → length s.links < length after.links
+opens s now (Abandons i (Some l)) emitted after done e =
+    steps_open s (freed s l i) i false (events.Abandon (i + 1)) (effects.Drop (s.first + l) ∷ []) emitted after (length-set s.links l (dropping (link_at s l))) (λ more. refl) done e
+opens s now (Abandons i None) emitted after done e = steps_open s (with_connection s i (doing Free)) i false (events.Abandon (i + 1)) [] emitted after refl (λ more. refl) done e
+opens s now (Finishes j (Gives r)) emitted after done e = steps_open s (freed s j (link_at s j).connection) _ _ _ (effects.Drop (s.first + j) ∷ []) emitted after (length-set s.links j (dropping (link_at s j))) (λ more. refl) done.1 e
+opens s now (Finishes j (Breaks kind)) emitted after done e = steps_open s (freed s j (link_at s j).connection) _ _ _ (effects.Drop (s.first + j) ∷ []) emitted after (length-set s.links j (dropping (link_at s j))) (λ more. refl) done e
+opens s now (Wakes i) emitted after done e = steps_open s (with_connection s i (doing Free)) i _ (events.Wake now (i + 1)) [] emitted after refl (λ more. refl) done.1 e
+opens s now (Serves i action) emitted after done e = by_action action done
   where
-    refuses : (why : Cause) (head : Bool) → Refuses s now i why head told after → length s.links < length after.links
-    refuses why head d = not_both (forwards told) e (ap forwards d.told_is)
+    refuses : (why : Cause) (head : Bool) → Refuses s now i why head emitted after → length s.links < length after.links
+    refuses why head d = not_both (forwards emitted) e (ap forwards d.emitted_is)
 
-    closes : Closes s i told after → length s.links < length after.links
-    closes d = not_both (forwards told) e (ap forwards d.0)
+    closes : Closes s i emitted after → length s.links < length after.links
+    closes d = not_both (forwards emitted) e (ap forwards d.0)
 
-    arrives : (r : Request) (judged : Result Asked Refusal) → Arrives s now i r judged told after → length s.links < length after.links
-    arrives r (Ok asked) d = steps_open s (with_connection s i (passing (next.Message r))) _ _ _ [] told after refl (λ more. refl) d.1 e
+    arrives : (r : Request) (judged : Result Asked Refusal) → Arrives s now i r judged emitted after → length s.links < length after.links
+    arrives r (Ok asked) d = steps_open s (with_connection s i (passing (next.Message r))) _ _ _ [] emitted after refl (λ more. refl) d.1 e
     arrives r (Err refusal) d = refuses _ _ d
 
-    by_action : (w : Next Request) → Served s now i w told after → length s.links < length after.links
+    by_action : (w : Next Request) → Served s now i w emitted after → length s.links < length after.links
     by_action next.More d = absurd d
-    by_action next.NeedsContinue d = not_both (forwards told) e (ap forwards d.0)
+    by_action next.NeedsContinue d = not_both (forwards emitted) e (ap forwards d.0)
     by_action (next.Message r) d = arrives r d.0 d.2
     by_action (next.Refused frame.Truncated) d = closes d
     by_action (next.Refused frame.Head) d = refuses _ _ d
@@ -263,7 +263,7 @@ module _ (s after : EngineModel) (stays : Stays s after) where
       let same = stays.first in
       link_there after.first (length after.links) l (omega (arith, number, same)) (omega (arith, number, same, long))
 
-  named : (told : List Effect) → NamesOpen s after told → (forwards told ≡ true → length s.links < length after.links) → AreThere after (map end_of told)
+  named : (emitted : List Effect) → NamesOpen s after emitted → (forwards emitted ≡ true → length s.links < length after.links) → AreThere after (map end_of emitted)
   named [] names long = tt
   named (effects.Client n bytes ∷ rest) names long = (client_named n names.0, named rest names.1 long)
   named (effects.Close n ∷ rest) names long = (client_named n names.0, named_last rest names.2)
@@ -275,5 +275,5 @@ module _ (s after : EngineModel) (stays : Stays s after) where
   named (effects.Drop l ∷ rest) names long = (dropped_named l names.0, named rest names.1 long)
 
 -- what the effects of an act name is there behind it
-pub effects_there : (s : EngineModel) (now : ℕ) (act : Act) (told : List Effect) (after : EngineModel) → Stays s after → NamesOpen s after told → Does s now act told after → AreThere after (map end_of told)
-effects_there s now act told after stays names done = named s after stays told names (opens s now act told after done)
+pub effects_there : (s : EngineModel) (now : ℕ) (act : Act) (emitted : List Effect) (after : EngineModel) → Stays s after → NamesOpen s after emitted → Does s now act emitted after → AreThere after (map end_of emitted)
+effects_there s now act emitted after stays names done = named s after stays emitted names (opens s now act emitted after done)

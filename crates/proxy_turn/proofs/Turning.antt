@@ -26,9 +26,9 @@ carries_more (x ∷ es) (y ∷ fs) s gone t mid e f u more before one =
     (before.0, before.1, before.2, carries_more es fs before.0 before.1 t mid e f u more before.3 one)
 
 pub works_more : (rs : List Round) (now : ℕ) (s : EngineModel) (gone : List End) (t : EngineModel) (mid : List End) (r : Round) (done u : EngineModel) (more : List End) → Works now s gone rs t mid
-    → IsDueFirst t (Some r.act) → Does t now r.act r.told done → CarriesOut done mid r.told r.fates u more → Works now s gone (rs ++ r ∷ []) u more
+    → IsDueFirst t (Some r.act) → Does t now r.act r.emitted done → CarriesOut done mid r.emitted r.fates u more → Works now s gone (rs ++ r ∷ []) u more
 works_more [] now s gone t mid r done u more here due does out =
-    (done, u, more, subst (λ x. IsDueFirst x (Some r.act)) here.0 due, subst (λ x. Does x now r.act r.told done) here.0 does, subst (λ es. CarriesOut done es r.told r.fates u more) here.1 out, (refl, refl))
+    (done, u, more, subst (λ x. IsDueFirst x (Some r.act)) here.0 due, subst (λ x. Does x now r.act r.emitted done) here.0 does, subst (λ es. CarriesOut done es r.emitted r.fates u more) here.1 out, (refl, refl))
 works_more (x ∷ rs) now s gone t mid r done u more before due does out =
     (before.0, before.1, before.2, before.3, before.4, before.5, works_more rs now before.1 before.2 t mid r done u more before.6 due does out)
 
@@ -98,4 +98,4 @@ module _ (takes_in_order : TakesInOrder) where
   pub works_orderly : ActsInOrder → (rs : List Round) (now : ℕ) (s : EngineModel) (gone : List End) (t : EngineModel) (more : List End) → Works now s gone rs t more → IsOrderly s → IsOrderly t
   works_orderly acts [] now s gone t more here h = subst IsOrderly (sym here.0) h
   works_orderly acts (r ∷ rs) now s gone t more w h =
-      works_orderly acts rs now w.1 w.2 t more w.6 (carries_orderly r.told r.fates w.0 gone w.1 w.2 w.5 ((acts s now r.act r.told w.0 h w.3 w.4).0))
+      works_orderly acts rs now w.1 w.2 t more w.6 (carries_orderly r.emitted r.fates w.0 gone w.1 w.2 w.5 ((acts s now r.act r.emitted w.0 h w.3 w.4).0))

@@ -6,8 +6,8 @@ use Rattle.proxy_engine.specs.Reading.{ends_read, failed_links}
 use Rattle.proxy_engine.specs.State.{State}
 use Rattle.proxy_turn.specs.Calls.{Call}
 use Rattle.proxy_turn.specs.Counts.{Calls, Raises}
-use Rattle.proxy_turn.specs.Turn.{Asked, NotAsked, asked_calls, asked_failures, accepted_by, failed_reads, failed_rounds, calls_asked, calls_read, calls_worked, calls_of, IsTurn, Tells, TurnsAndCalls}
-use Rattle.proxy_turn.specs.Parts.{AskTells, Asks, ReadsAll, WorkTells, WorksAll}
+use Rattle.proxy_turn.specs.Turn.{Asked, NotAsked, asked_calls, asked_failures, accepted_by, failed_reads, failed_rounds, calls_asked, calls_read, calls_worked, calls_of, IsTurn, Reports, TurnsAndCalls}
+use Rattle.proxy_turn.specs.Parts.{AskReports, Asks, ReadsAll, WorkReports, WorksAll}
 use Rattle.proxy_turn.specs.declared.report.Report.{Report}
 use Rattle.proxy_turn.specs.declared.report.TurnFault.{TurnFault}
 use Rattle.proxy_turn.specs.declared.report.TurnFault.TheVariants as faults
@@ -43,17 +43,17 @@ module _ (now : ℕ) (s : EngineModel) (e : State) (did : List Call → Type 0) 
         bound = omega arith;
         behind = inr refl;
       };
-      stands = part.stands;
-      tells = tells fault part.tells;
+      represents = part.represents;
+      reports = reports fault part.reports;
       raises = raises_same a b (asked_calls part.asked) 0 (asked_failures part.asked) (asked_calls part.asked) 0 (asked_failures part.asked + (0 + 0)) refl refl (omega arith) part.raises;
     };
     calls = subst did (asked_alone s part.asked) part.calls;
   }
     where
-      tells : (fault : TurnFault) → AskTells s part.asked (Err fault) → Tells s part.asked [] (ends_read part.begun) [] part.begun (Err fault)
-      tells faults.Listener t = (t, refl, refl)
-      tells faults.NoMemory t = not_failed part.asked t
-      tells faults.Spent t = absurd t
+      reports : (fault : TurnFault) → AskReports s part.asked (Err fault) → Reports s part.asked [] (ends_read part.begun) [] part.begun (Err fault)
+      reports faults.Listener t = (t, refl, refl)
+      reports faults.NoMemory t = not_failed part.asked t
+      reports faults.Spent t = absurd t
 
   module _ (accepted : ℕ) (first : Asks s e did a b (Ok accepted)) (f : State) (read : List Call → Type 0) (c : Calls) where
     -- the ends were the last
@@ -77,18 +77,18 @@ module _ (now : ℕ) (s : EngineModel) (e : State) (did : List Call → Type 0) 
           bound = omega arith;
           behind = inr refl;
         };
-        stands = part.some.stands;
-        tells = tells fault part.tells;
+        represents = part.some.represents;
+        reports = reports fault part.reports;
         raises = raises_same a c (asked_calls first.asked + 0) (0 + length part.reads) (asked_failures first.asked + failed_reads part.reads) (asked_calls first.asked) (length part.reads) (asked_failures first.asked + (failed_reads part.reads + 0))
             (omega arith) (omega arith) (omega arith) (raises_on a b c (asked_calls first.asked) 0 (asked_failures first.asked) 0 (length part.reads) (failed_reads part.reads) first.raises part.some.raises);
       };
       calls = subst both (asked_read s first.asked part.reads) (join (calls_asked s first.asked) (calls_read part.reads) first.calls part.some.calls);
     }
       where
-        tells : (fault : TurnFault) → fault ≡ faults.NoMemory → Tells s first.asked part.reads part.rest [] part.some.last (Err fault)
-        tells faults.NoMemory t = first.tells.1
-        tells faults.Listener t = absurd cc
-        tells faults.Spent t = absurd cc
+        reports : (fault : TurnFault) → fault ≡ faults.NoMemory → Reports s first.asked part.reads part.rest [] part.some.last (Err fault)
+        reports faults.NoMemory t = first.reports.1
+        reports faults.Listener t = absurd cc
+        reports faults.Spent t = absurd cc
 
     module _ (counts : ℕ × ℕ) (second : ReadsAll first.begun f read b c (Ok counts)) where
       pub read_orderly : TakesInOrder → IsOrderly s → IsOrderly second.some.last
@@ -106,7 +106,7 @@ module _ (now : ℕ) (s : EngineModel) (e : State) (did : List Call → Type 0) 
           reads_are = second.some.are;
           works = third.some.works;
           bound = third.bound;
-          behind = inl second.tells.0;
+          behind = inl second.reports.0;
         }
 
         raised : (result : Result (ℕ × ℕ) TurnFault) → (third : WorksAll now second.some.last g worked c d result)
@@ -131,17 +131,17 @@ module _ (now : ℕ) (s : EngineModel) (e : State) (did : List Call → Type 0) 
             rounds = third.rounds;
             last = third.some.last;
             turn = turned (Err fault) third;
-            stands = third.some.stands;
-            tells = tells fault third.tells;
+            represents = third.some.represents;
+            reports = reports fault third.reports;
             raises = raised (Err fault) third;
           };
           calls = called (Err fault) third later all join onto;
         }
           where
-            tells : (fault : TurnFault) → WorkTells third.rounds third.some.last (Err fault) → Tells s first.asked second.reads second.rest third.rounds third.some.last (Err fault)
-            tells faults.Listener t = absurd t
-            tells faults.NoMemory t = first.tells.1
-            tells faults.Spent t = (first.tells.1, first.tells.0, second.tells.0, t)
+            reports : (fault : TurnFault) → WorkReports third.rounds third.some.last (Err fault) → Reports s first.asked second.reads second.rest third.rounds third.some.last (Err fault)
+            reports faults.Listener t = absurd t
+            reports faults.NoMemory t = first.reports.1
+            reports faults.Spent t = (first.reports.1, first.reports.0, second.reports.0, t)
 
         -- whole
         pub whole : (done : ℕ × ℕ) → (third : WorksAll now second.some.last g worked c d (Ok done)) → (report : Report) → report.accepted ≡ accepted → report.reads ≡ counts.0 → report.works ≡ done.0 → report.faults ≡ counts.1 + done.1 → (later all : List Call → Type 0) → Joins read worked later → Joins did later all
@@ -154,16 +154,16 @@ module _ (now : ℕ) (s : EngineModel) (e : State) (did : List Call → Type 0) 
             rounds = third.rounds;
             last = third.some.last;
             turn = turned (Ok done) third;
-            stands = third.some.stands;
-            tells = record {
-              asked_is = first.tells.0;
-              unbroken = first.tells.1;
-              rest_is = second.tells.0;
-              worked = third.tells.0;
-              accepted = accepts ∙ first.tells.2;
-              reads_are = reads ∙ second.tells.1;
-              works = works ∙ third.tells.1;
-              faults = let m = second.tells.2 in let n = third.tells.2 in omega (arith, faults, m, n);
+            represents = third.some.represents;
+            reports = record {
+              asked_is = first.reports.0;
+              unbroken = first.reports.1;
+              rest_is = second.reports.0;
+              worked = third.reports.0;
+              accepted = accepts ∙ first.reports.2;
+              reads_are = reads ∙ second.reports.1;
+              works = works ∙ third.reports.1;
+              faults = let m = second.reports.2 in let n = third.reports.2 in omega (arith, faults, m, n);
             };
             raises = raised (Ok done) third;
           };
@@ -171,4 +171,4 @@ module _ (now : ℕ) (s : EngineModel) (e : State) (did : List Call → Type 0) 
         }
 
         pub few_works : (done : ℕ × ℕ) → WorksAll now second.some.last g worked c d (Ok done) → done.1 ≤ 3000
-        few_works done third = let n = third.tells.2 in let few = third.few in omega (arith, n, few)
+        few_works done third = let n = third.reports.2 in let few = third.few in omega (arith, n, few)

@@ -18,8 +18,8 @@ use Rattle.proxy_engine.specs.declared.work.Work.{Work}
 use Rattle.proxy_engine.specs.declared.work.Work.TheVariants as work
 use Rattle.proxy_turn.specs.Calls.{Call}
 use Rattle.proxy_turn.specs.Counts.{Calls, Raises}
-use Rattle.proxy_turn.specs.Turn.{Round, end_of, failed_fates, failed_rounds, calls_told, calls_worked}
-use Rattle.proxy_turn.specs.Parts.{of_engine, AreThere, CarriedOut, WorksSome, WorkTells, WorksAll}
+use Rattle.proxy_turn.specs.Turn.{Round, end_of, failed_fates, failed_rounds, calls_shown, calls_worked}
+use Rattle.proxy_turn.specs.Parts.{of_engine, AreThere, CarriedOut, WorksSome, WorkReports, WorksAll}
 use Rattle.proxy_turn.specs.declared.report.TurnFault.{TurnFault}
 use Rattle.proxy_turn.specs.declared.report.TurnFault.TheVariants.{NoMemory}
 use Rattle.proxy_turn.proofs.Called.{Joins, worked_one_more}
@@ -36,22 +36,22 @@ pub record SoFar (now : ℕ) (s : EngineModel) (e : State) (gone : List End) (di
   pub few : faults ≤ 3 * works
 
 -- the first act that was due was done
-pub record Acted (t : EngineModel) (now : ℕ) (told : List Effect) (e : State) : Type 0 where
+pub record Acted (t : EngineModel) (now : ℕ) (emitted : List Effect) (e : State) : Type 0 where
   pub act : Act
   pub after : EngineModel
   pub due : IsDueFirst t (Some act)
-  pub does : Does t now act told after
-  pub stands : Represents e after
+  pub does : Does t now act emitted after
+  pub represents : Represents e after
 
 pub acted : (t : EngineModel) (now : ℕ) (w : Work) (effects : Vec Effect Global) (e : State) → w ≡ work.Did effects → Did t now w e → Acted t now effects.items e
 acted t now w effects e is did =
     let one = subst (λ (w : Work). Did t now w e) is did in
-    record { act = one.0; after = one.2.after; due = one.1; does = one.2.does; stands = one.2.stands }
+    record { act = one.0; after = one.2.after; due = one.1; does = one.2.does; represents = one.2.represents }
 
 pub worked_none : (now : ℕ) (s : EngineModel) (e : State) (gone : List End) (did : List Call → Type 0) (here : Calls) → gone ≡ failed_links s → Represents e s → did [] → SoFar now s e gone did here here 0 0
-worked_none now s e gone did here is stands none = record {
+worked_none now s e gone did here is represents none = record {
   rounds = [];
-  some = record { last = s; works = (refl, is); stands = stands; calls = none; raises = raises_none here };
+  some = record { last = s; works = (refl, is); represents = represents; calls = none; raises = raises_none here };
   number = refl;
   counted = refl;
   few = omega arith;
@@ -61,26 +61,26 @@ module _ (now : ℕ) (s : EngineModel) (e : State) (gone : List End) (did : List
   pub still_orderly : TakesInOrder → ActsInOrder → IsOrderly s → IsOrderly done.some.last
   still_orderly takes acts h = works_orderly takes acts done.rounds now s (failed_links s) done.some.last gone done.some.works h
 
-  module _ (told : List Effect) (mid : State) (one : Acted done.some.last now told mid) where
-    pub told_there : TakesInOrder → ActsInOrder → ActsStay → IsOrderly s → AreThere one.after (map end_of told)
-    told_there takes acts stay h =
-        effects_there done.some.last now one.act told one.after (stay done.some.last now one.act told one.after one.does) (acts done.some.last now one.act told one.after (still_orderly takes acts h) one.due one.does).1 one.does
+  module _ (emitted : List Effect) (mid : State) (one : Acted done.some.last now emitted mid) where
+    pub emitted_there : TakesInOrder → ActsInOrder → ActsStay → IsOrderly s → AreThere one.after (map end_of emitted)
+    emitted_there takes acts stay h =
+        effects_there done.some.last now one.act emitted one.after (stay done.some.last now one.act emitted one.after one.does) (acts done.some.last now one.act emitted one.after (still_orderly takes acts h) one.due one.does).1 one.does
 
-    pub told_short : ActsAreShort → length told ≤ 3
-    told_short short = (short done.some.last now one.act told one.after one.does).0
+    pub emitted_short : ActsAreShort → length emitted ≤ 3
+    emitted_short short = (short done.some.last now one.act emitted one.after one.does).0
 
-    pub worked_more : (new : State) (more : List End) (then all : List Call → Type 0) (c : Calls) (count sum : ℕ) → sum ≡ faults + count → count ≤ 3 → CarriedOut one.after gone told new more then b c count → Joins did then all
+    pub worked_more : (new : State) (more : List End) (then all : List Call → Type 0) (c : Calls) (count sum : ℕ) → sum ≡ faults + count → count ≤ 3 → CarriedOut one.after gone emitted new more then b c count → Joins did then all
         → SoFar now s new more all a c (works + 1) sum
     worked_more new more then all c count sum is small out join =
-        let r : Round = record { act = one.act; told = told; fates = out.fates } in
+        let r : Round = record { act = one.act; emitted = emitted; fates = out.fates } in
         let total = sum_more (λ (x : Round). failed_fates x.fates) done.rounds r in
         record {
           rounds = done.rounds ++ r ∷ [];
           some = record {
             last = out.last;
             works = works_more done.rounds now s (failed_links s) done.some.last gone r one.after out.last more done.some.works one.due one.does out.carries;
-            stands = out.stands;
-            calls = subst all (sym (worked_one_more done.rounds r)) (join (calls_worked done.rounds) (calls_told told out.fates) done.some.calls out.calls);
+            represents = out.represents;
+            calls = subst all (sym (worked_one_more done.rounds r)) (join (calls_worked done.rounds) (calls_shown emitted out.fates) done.some.calls out.calls);
             raises = subst (λ (n : ℕ). Raises a c 0 0 n) (sym total) (raises_on a b c 0 0 (failed_rounds done.rounds) 0 0 (failed_fates out.fates) done.some.raises out.raises);
           };
           number = length-append done.rounds (r ∷ []) ∙ ap (λ (n : ℕ). n + 1) done.number;
@@ -102,10 +102,10 @@ module _ (now : ℕ) (s : EngineModel) (e : State) (gone : List End) (did : List
       record {
         rounds = done.rounds;
         gone = gone;
-        some = record { last = done.some.last; works = done.some.works; stands = idle.1; calls = done.some.calls; raises = done.some.raises };
+        some = record { last = done.some.last; works = done.some.works; represents = idle.1; calls = done.some.calls; raises = done.some.raises };
         bound = bounded bound;
         few = small bound;
-        tells = (inr idle.0, number ∙ sym done.number, more ∙ done.counted);
+        reports = (inr idle.0, number ∙ sym done.number, more ∙ done.counted);
       }
 
   -- as many as a turn does
@@ -116,36 +116,36 @@ module _ (now : ℕ) (s : EngineModel) (e : State) (gone : List End) (did : List
     some = done.some;
     bound = bounded (omega (arith, full));
     few = small (omega (arith, full));
-    tells = (inl (done.number ∙ full), number ∙ sym done.number, more ∙ done.counted);
+    reports = (inl (done.number ∙ full), number ∙ sym done.number, more ∙ done.counted);
   }
 
   -- room was refused
   pub stopped_by : works ≤ 1000 → WorksAll now s e did a b (Err NoMemory)
-  stopped_by bound = record { rounds = done.rounds; gone = gone; some = done.some; bound = bounded bound; few = small bound; tells = tt }
+  stopped_by bound = record { rounds = done.rounds; gone = gone; some = done.some; bound = bounded bound; few = small bound; reports = tt }
 
   -- an act was refused
   pub failed_by : (fault : EngineFault) (new : State) → Failed done.some.last fault → Represents new done.some.last → works ≤ 1000 → WorksAll now s new did a b (Err (of_engine fault))
-  failed_by fault new failed stands bound = record {
+  failed_by fault new failed represents bound = record {
     rounds = done.rounds;
     gone = gone;
-    some = record { last = done.some.last; works = done.some.works; stands = stands; calls = done.some.calls; raises = done.some.raises };
+    some = record { last = done.some.last; works = done.some.works; represents = represents; calls = done.some.calls; raises = done.some.raises };
     bound = bounded bound;
     few = small bound;
-    tells = tells fault failed;
+    reports = reports fault failed;
   }
     where
-      tells : (fault : EngineFault) → Failed done.some.last fault → WorkTells done.rounds done.some.last (Err (of_engine fault))
-      tells engine.WrongNumber failed = absurd failed
-      tells engine.NotAccepted failed = absurd failed
-      tells engine.OutOfMemory failed = tt
-      tells engine.Spent failed = failed
+      reports : (fault : EngineFault) → Failed done.some.last fault → WorkReports done.rounds done.some.last (Err (of_engine fault))
+      reports engine.WrongNumber failed = absurd failed
+      reports engine.NotAccepted failed = absurd failed
+      reports engine.OutOfMemory failed = tt
+      reports engine.Spent failed = failed
 
 -- under other names for the same
 pub same_gone : (now : ℕ) (s : EngineModel) (e : State) (gone more : List End) (did : List Call → Type 0) (a b : Calls) (works faults : ℕ) → more ≡ gone → SoFar now s e gone did a b works faults → SoFar now s e more did a b works faults
 same_gone now s e gone more did a b works faults is done = subst (λ (es : List End). SoFar now s e es did a b works faults) (sym is) done
 
-pub same_told : (s : EngineModel) (gone : List End) (told more : List Effect) (e : State) (later : List End) (did : List Call → Type 0) (a b : Calls) (count : ℕ) → more ≡ told → CarriedOut s gone more e later did a b count → CarriedOut s gone told e later did a b count
-same_told s gone told more e later did a b count is out = subst (λ (es : List Effect). CarriedOut s gone es e later did a b count) is out
+pub same_emitted : (s : EngineModel) (gone : List End) (emitted more : List Effect) (e : State) (later : List End) (did : List Call → Type 0) (a b : Calls) (count : ℕ) → more ≡ emitted → CarriedOut s gone more e later did a b count → CarriedOut s gone emitted e later did a b count
+same_emitted s gone emitted more e later did a b count is out = subst (λ (es : List Effect). CarriedOut s gone es e later did a b count) is out
 
 pub same_fault : (now : ℕ) (s : EngineModel) (e : State) (did : List Call → Type 0) (a b : Calls) (fault other : TurnFault) → other ≡ fault → WorksAll now s e did a b (Err fault) → WorksAll now s e did a b (Err other)
 same_fault now s e did a b fault other is all = subst (λ (f : TurnFault). WorksAll now s e did a b (Err f)) (sym is) all

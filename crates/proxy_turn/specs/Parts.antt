@@ -19,7 +19,7 @@ use Rattle.proxy_turn.specs.Turn.{TakesIf, Asked, NotAsked, Failed, asks, was_as
 use Rattle.proxy_turn.specs.Turn.{asked_failures, Given, IsPiece, said_by, given_failures, Read, Reads, ends_of}
 use Rattle.proxy_turn.specs.Turn.{failed_reads, Fate, Carried, Lost, CarriesOne, CarriesOut, fate_failures}
 use Rattle.proxy_turn.specs.Turn.{failed_fates, Round, Works, failed_rounds, calls_asked, calls_read, calls_carried}
-use Rattle.proxy_turn.specs.Turn.{calls_told, calls_worked}
+use Rattle.proxy_turn.specs.Turn.{calls_shown, calls_worked}
 use Rattle.proxy_turn.specs.declared.report.TurnFault.{TurnFault}
 use Rattle.proxy_turn.specs.declared.report.TurnFault.TheVariants as faults
 
@@ -53,14 +53,14 @@ FindsIf e (Some h) = Finds e h
 pub record TookIf (s : EngineModel) (h : Option Said) (e : State) : Type 0 where
   pub after : EngineModel
   pub takes : TakesIf s h after
-  pub stands : Represents e after
+  pub represents : Represents e after
 
 -- what asking the listener answers
-abbrev pub AskTells : EngineModel → Asked → Result ℕ TurnFault → Type 0
-AskTells s asked (Ok count) = (was_asked asked ≡ asks s) × (asked_failures asked ≡ 0) × (count ≡ came asked)
-AskTells s asked (Err faults.Listener) = asked ≡ Failed
-AskTells s asked (Err faults.NoMemory) = asked ≡ NotAsked
-AskTells s asked (Err faults.Spent) = ⊥
+abbrev pub AskReports : EngineModel → Asked → Result ℕ TurnFault → Type 0
+AskReports s asked (Ok count) = (was_asked asked ≡ asks s) × (asked_failures asked ≡ 0) × (count ≡ came asked)
+AskReports s asked (Err faults.Listener) = asked ≡ Failed
+AskReports s asked (Err faults.NoMemory) = asked ≡ NotAsked
+AskReports s asked (Err faults.Spent) = ⊥
 
 -- the listener was asked, or not
 pub record Asks (s : EngineModel) (e : State) (did : List Call → Type 0) (before after : Calls)
@@ -69,8 +69,8 @@ pub record Asks (s : EngineModel) (e : State) (did : List Call → Type 0) (befo
   pub begun : EngineModel
   pub only : was_asked asked ≡ true → asks s ≡ true
   pub takes : TakesIf s (accepted_by s asked) begun
-  pub stands : Represents e begun
-  pub tells : AskTells s asked result
+  pub represents : Represents e begun
+  pub reports : AskReports s asked result
   pub calls : did (calls_asked s asked)
   pub raises : Raises before after (asked_calls asked) 0 (asked_failures asked)
 
@@ -88,7 +88,7 @@ pub record ReadsOne (s : EngineModel) (end : End) (e : State) (did : List Call �
 pub record ReadsNone (s : EngineModel) (e : State) (did : List Call → Type 0) (before after : Calls)
     (fault : TurnFault) : Type 0 where
   pub fault_is : fault ≡ faults.NoMemory
-  pub stands : Represents e s
+  pub represents : Represents e s
   pub same : before ≡ after
   pub calls : did []
 
@@ -97,13 +97,13 @@ pub record ReadsSome (s : EngineModel) (reads : List Read) (e : State) (did : Li
     (before after : Calls) : Type 0 where
   pub last : EngineModel
   pub are : Reads s reads last
-  pub stands : Represents e last
+  pub represents : Represents e last
   pub calls : did (calls_read reads)
   pub raises : Raises before after 0 (length reads) (failed_reads reads)
 
-abbrev pub ReadTells : List Read → List End → Result (ℕ × ℕ) TurnFault → Type 0
-ReadTells reads rest (Ok counts) = (rest ≡ []) × (counts.0 ≡ length reads) × (counts.1 ≡ failed_reads reads)
-ReadTells reads rest (Err fault) = fault ≡ faults.NoMemory
+abbrev pub ReadReports : List Read → List End → Result (ℕ × ℕ) TurnFault → Type 0
+ReadReports reads rest (Ok counts) = (rest ≡ []) × (counts.0 ≡ length reads) × (counts.1 ≡ failed_reads reads)
+ReadReports reads rest (Err fault) = fault ≡ faults.NoMemory
 
 -- the ends from which bytes may come were read, but for the rest
 pub record ReadsAll (s : EngineModel) (e : State) (did : List Call → Type 0) (before after : Calls)
@@ -112,7 +112,7 @@ pub record ReadsAll (s : EngineModel) (e : State) (did : List Call → Type 0) (
   pub rest : List End
   pub ends : ends_of reads ++ rest ≡ ends_read s
   pub some : ReadsSome s reads e did before after
-  pub tells : ReadTells reads rest result
+  pub reports : ReadReports reads rest result
 
 -- what became of an effect whose calls answered this
 abbrev pub fate_of : Result (Unit {0}) FailKind → Fate
@@ -125,19 +125,19 @@ pub record CarriedOne (s : EngineModel) (gone : List End) (effect : Effect) (e :
   pub fate : Fate
   pub last : EngineModel
   pub carries : CarriesOne s gone effect fate last more
-  pub stands : Represents e last
+  pub represents : Represents e last
   pub counted : count ≡ fate_failures fate
   pub calls : did (calls_carried effect fate)
   pub raises : Raises before after 0 0 (fate_failures fate)
 
-pub record CarriedOut (s : EngineModel) (gone : List End) (told : List Effect) (e : State) (more : List End)
+pub record CarriedOut (s : EngineModel) (gone : List End) (emitted : List Effect) (e : State) (more : List End)
     (did : List Call → Type 0) (before after : Calls) (count : ℕ) : Type 0 where
   pub fates : List Fate
   pub last : EngineModel
-  pub carries : CarriesOut s gone told fates last more
-  pub stands : Represents e last
+  pub carries : CarriesOut s gone emitted fates last more
+  pub represents : Represents e last
   pub counted : count ≡ failed_fates fates
-  pub calls : did (calls_told told fates)
+  pub calls : did (calls_shown emitted fates)
   pub raises : Raises before after 0 0 (failed_fates fates)
 
 -- acts were done, one after another
@@ -145,16 +145,16 @@ pub record WorksSome (now : ℕ) (s : EngineModel) (rounds : List Round) (e : St
     (did : List Call → Type 0) (before after : Calls) : Type 0 where
   pub last : EngineModel
   pub works : Works now s (failed_links s) rounds last gone
-  pub stands : Represents e last
+  pub represents : Represents e last
   pub calls : did (calls_worked rounds)
   pub raises : Raises before after 0 0 (failed_rounds rounds)
 
-abbrev pub WorkTells : List Round → EngineModel → Result (ℕ × ℕ) TurnFault → Type 0
-WorkTells rounds t (Ok counts) =
+abbrev pub WorkReports : List Round → EngineModel → Result (ℕ × ℕ) TurnFault → Type 0
+WorkReports rounds t (Ok counts) =
     ((length rounds ≡ 1000) ⊎ IsDueFirst t None) × (counts.0 ≡ length rounds) × (counts.1 ≡ failed_rounds rounds)
-WorkTells rounds t (Err faults.Listener) = ⊥
-WorkTells rounds t (Err faults.NoMemory) = Unit {0}
-WorkTells rounds t (Err faults.Spent) = EngineFailed t engine.Spent
+WorkReports rounds t (Err faults.Listener) = ⊥
+WorkReports rounds t (Err faults.NoMemory) = Unit {0}
+WorkReports rounds t (Err faults.Spent) = EngineFailed t engine.Spent
 
 pub record WorksAll (now : ℕ) (s : EngineModel) (e : State) (did : List Call → Type 0) (before after : Calls)
     (result : Result (ℕ × ℕ) TurnFault) : Type 0 where
@@ -163,4 +163,4 @@ pub record WorksAll (now : ℕ) (s : EngineModel) (e : State) (did : List Call �
   pub some : WorksSome now s rounds e gone did before after
   pub bound : length rounds ≤ 1000
   pub few : failed_rounds rounds ≤ 3000
-  pub tells : WorkTells rounds some.last result
+  pub reports : WorkReports rounds some.last result

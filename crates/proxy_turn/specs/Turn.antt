@@ -4,7 +4,7 @@
 -- Asked, asks: the call of accept               Given, Read, Reads: reads, and what each gave, as a happening
 -- Fate, CarriesOne, CarriesOut: what became of the effects of an act       Round, Works: acts with their effects
 -- calls_of: the calls of a turn, in order       IsTurn: a turn, whole or as far as it came
--- Tells: what it answers      Turns: both      TurnsAndCalls: with its calls
+-- Reports: what it answers      Turns: both      TurnsAndCalls: with its calls
 use Rattle.std.specs.Prelude.{◌≡◌, ℕ, ◌+◌, ◌≤◌, List, [], ◌∷◌, ◌++◌, length, sum_by, map, Bool, true, false, ◌&&◌, ◌==◌}
 use Rattle.std.specs.Prelude.{nat_lt, Option, None, Some, is_some, cond, Result, Ok, Err, ◌⊎◌}
 use Rattle.std.specs.List.{list_any}
@@ -157,7 +157,7 @@ CarriesOut s gone (e ∷ es) (f ∷ fs) t more =
 -- an act, its effects, and what became of each
 pub record Round : Type 0 where
   pub act : Act
-  pub told : List Effect
+  pub emitted : List Effect
   pub fates : List Fate
 
 -- each act is the first that was due, and its effects are carried out before the next
@@ -165,7 +165,7 @@ abbrev pub Works : ℕ → EngineModel → List End → List Round → EngineMod
 Works now s gone [] t more = (t ≡ s) × (more ≡ gone)
 Works now s gone (r ∷ rs) t more =
     (done : EngineModel) × (after : EngineModel) × (then : List End)
-    × IsDueFirst s (Some r.act) × Does s now r.act r.told done × CarriesOut done gone r.told r.fates after then
+    × IsDueFirst s (Some r.act) × Does s now r.act r.emitted done × CarriesOut done gone r.emitted r.fates after then
     × Works now after then rs t more
 
 -- ---- calls
@@ -199,14 +199,14 @@ calls_carried (effects.Forward l address bytes) (Lost kind) = calls_failed l add
 calls_carried (effects.Drop l) Carried = call.Shut (ends.Link l) true ∷ []
 calls_carried (effects.Drop l) (Lost kind) = call.Shut (ends.Link l) false ∷ []
 
-abbrev pub calls_told : List Effect → List Fate → List Call
-calls_told [] fates = []
-calls_told (e ∷ es) [] = []
-calls_told (e ∷ es) (f ∷ fs) = calls_carried e f ++ calls_told es fs
+abbrev pub calls_shown : List Effect → List Fate → List Call
+calls_shown [] fates = []
+calls_shown (e ∷ es) [] = []
+calls_shown (e ∷ es) (f ∷ fs) = calls_carried e f ++ calls_shown es fs
 
 abbrev pub calls_worked : List Round → List Call
 calls_worked [] = []
-calls_worked (r ∷ rs) = calls_told r.told r.fates ++ calls_worked rs
+calls_worked (r ∷ rs) = calls_shown r.emitted r.fates ++ calls_worked rs
 
 -- all of a turn, in order
 abbrev pub calls_of : EngineModel → Asked → List Read → List Round → List Call
@@ -278,12 +278,12 @@ pub record IsWhole (s : EngineModel) (asked : Asked) (reads : List Read) (rest :
   pub faults : report.faults ≡ failed_reads reads + failed_rounds rounds
 
 -- what a turn answers
-abbrev pub Tells : EngineModel → Asked → List Read → List End → List Round → EngineModel → Result Report TurnFault
+abbrev pub Reports : EngineModel → Asked → List Read → List End → List Round → EngineModel → Result Report TurnFault
     → Type 0
-Tells s asked reads rest rounds t (Ok report) = IsWhole s asked reads rest rounds t report
-Tells s asked reads rest rounds t (Err faults.Listener) = (asked ≡ Failed) × (reads ≡ []) × (rounds ≡ [])
-Tells s asked reads rest rounds t (Err faults.NoMemory) = asked_failures asked ≡ 0
-Tells s asked reads rest rounds t (Err faults.Spent) =
+Reports s asked reads rest rounds t (Ok report) = IsWhole s asked reads rest rounds t report
+Reports s asked reads rest rounds t (Err faults.Listener) = (asked ≡ Failed) × (reads ≡ []) × (rounds ≡ [])
+Reports s asked reads rest rounds t (Err faults.NoMemory) = asked_failures asked ≡ 0
+Reports s asked reads rest rounds t (Err faults.Spent) =
     (asked_failures asked ≡ 0) × (was_asked asked ≡ asks s) × (rest ≡ []) × EngineFailed t engine.Spent
 
 -- a turn of an engine, with how the counts of calls rose
@@ -295,8 +295,8 @@ pub record Turns (now : ℕ) (s : EngineModel) (e : State) (before after : Calls
   pub rounds : List Round
   pub last : EngineModel
   pub turn : IsTurn now s asked reads rest rounds last
-  pub stands : Represents e last
-  pub tells : Tells s asked reads rest rounds last result
+  pub represents : Represents e last
+  pub reports : Reports s asked reads rest rounds last result
   pub raises : Raises before after (asked_calls asked) (length reads)
       (asked_failures asked + (failed_reads reads + failed_rounds rounds))
 

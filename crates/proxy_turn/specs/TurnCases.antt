@@ -7,7 +7,7 @@ use Rattle.proxy_engine.specs.Reading.{ends_read}
 use Rattle.proxy_engine.specs.declared.work.End.{End}
 use Rattle.proxy_engine.specs.declared.work.End.TheVariants as ends
 use Rattle.proxy_turn.specs.Turn.{Asked, NotAsked, Came, asks, was_asked, came, Read, Round, Carried, Passed}
-use Rattle.proxy_turn.specs.Turn.{CarriesOne, FailsAs, IsTurn, Tells, IsPiece}
+use Rattle.proxy_turn.specs.Turn.{CarriesOne, FailsAs, IsTurn, Reports, IsPiece}
 use Rattle.proxy_turn.specs.Calls.{Bytes}
 use Rattle.proxy_turn.specs.declared.report.Report.{Report}
 use Rattle.proxy_turn.specs.declared.report.TurnFault.TheVariants as faults
@@ -44,19 +44,19 @@ NoLargerPiece = (bytes : List ℕ) → 4096 < length bytes → IsPiece (Bytes by
 abbrev pub NothingIsLeftOut : Type 0
 NothingIsLeftOut =
     (s t : EngineModel) (asked : Asked) (reads : List Read) (end : End) (rest : List End) (rounds : List Round)
-    (report : Report) → Tells s asked reads (end ∷ rest) rounds t (Ok report) → ⊥
+    (report : Report) → Reports s asked reads (end ∷ rest) rounds t (Ok report) → ⊥
 
 abbrev pub NothingIsInvented : Type 0
 NothingIsInvented =
     (s t : EngineModel) (asked : Asked) (reads : List Read) (rest : List End) (rounds : List Round) (report : Report)
-    → Tells s asked reads rest rounds t (Ok report)
+    → Reports s asked reads rest rounds t (Ok report)
     → (report.works ≢ length rounds → ⊥) × (report.reads ≢ length reads → ⊥) × (report.accepted ≢ came asked → ⊥)
 
 -- a failure of the listener that wasn't one
 abbrev pub TheListenerFailed : Type 0
 TheListenerFailed =
     (s t : EngineModel) (reads : List Read) (rest : List End) (rounds : List Round)
-    → Tells s Came reads rest rounds t (Err faults.Listener) → ⊥
+    → Reports s Came reads rest rounds t (Err faults.Listener) → ⊥
 
 -- an effect to an end on which a call has failed, and one that is passed over though none has
 abbrev pub NoCallOnALostEnd : Type 0

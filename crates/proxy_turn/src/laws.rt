@@ -1,18 +1,18 @@
 //! Laws on the definitions that the contracts cite.
-ghost use Rattle.proxy_turn.specs.TurnSteps.{TurnsAreLived, TurnsTellTheirEffects};
+ghost use Rattle.proxy_turn.specs.TurnSteps.{TurnsAreExecuted, TurnsEmitTheirEffects};
 ghost use Rattle.proxy_turn.specs.Served.{NothingIsLost, OneIsLost, MoreAreLost, LossesGoOn, TurnsAreServed};
-ghost use Rattle.proxy_turn.specs.Served.{BeginsLived, StaysOn, GoesOnAndOn, TakesGoOn, TurnsGoOn, LivedGoesOn};
-ghost use Rattle.proxy_turn.specs.Served.{LivedAreServing, TurnsLiveOn, LivesAreServing, KeepsItsTable};
+ghost use Rattle.proxy_turn.specs.Served.{BeginsReachable, StaysOn, GoesOnAndOn, TakesGoOn, TurnsGoOn, ReachableGoesOn};
+ghost use Rattle.proxy_turn.specs.Served.{ReachableAreServing, TurnsLiveOn, ExecutionsAreServing, KeepsItsTable};
 
-use proxy_engine::{effects_name_open_ends, lives_are_runs};
+use proxy_engine::{effects_name_open_ends, executions_are_runs};
 
 /// A turn is lived by its own steps, behind whatever was lived before it: it takes the connection that came and what
 /// its reads gave, does its acts at its moment, and takes the ends on which a call failed. The effects of these steps
-/// are those that it carried out. So what `proxy_engine::lives_are_runs` says of whatever an engine lives through, it
-/// says of turns over sockets.
-pub fn turns_are_lived()
-    ensures lived { TurnsAreLived }
-    ensures tells { TurnsTellTheirEffects }
+/// are those that it carried out. So what `proxy_engine::executions_are_runs` says of whatever an engine lives through,
+/// it says of turns over sockets.
+pub fn turns_are_executed()
+    ensures executed { TurnsAreExecuted }
+    ensures reports { TurnsEmitTheirEffects }
 {}
 
 /// Ends that are lost between two turns are taken, one after another; behind them a turn is served.
@@ -32,18 +32,18 @@ pub fn a_turn_is_served_behind_losses()
 /// Its steps behind a turn of a server are those of the turn, behind those before it. Its table and the room of its
 /// store stay.
 pub fn engines_live_on()
-    ensures begins { BeginsLived }
+    ensures begins { BeginsReachable }
     ensures stays { StaysOn }
     ensures on { GoesOnAndOn }
     ensures takes { TakesGoOn }
     ensures turns { TurnsGoOn }
-    ensures lived { LivedGoesOn }
-    ensures serves { LivedAreServing }
+    ensures executed { ReachableGoesOn }
+    ensures serves { ReachableAreServing }
     ensures by_steps { TurnsLiveOn }
-    ensures runs { LivesAreServing }
+    ensures runs { ExecutionsAreServing }
     ensures table { KeepsItsTable }
 {
-    turns_are_lived();
+    turns_are_executed();
     effects_name_open_ends();
-    lives_are_runs();
+    executions_are_runs();
 }

@@ -16,13 +16,13 @@ mod turn_cases;
 mod turns;
 
 pub use crate::happenings::{arrival, ending, loss};
-pub use crate::laws::{a_turn_is_served_behind_losses, engines_live_on, turns_are_lived};
+pub use crate::laws::{a_turn_is_served_behind_losses, engines_live_on, turns_are_executed};
 pub use crate::limits::{MOST_WORKS, PIECE};
 pub use crate::logged::{Gave, Logged, LoggedCall, turn_with_log};
 pub use crate::report::{Report, TurnFault};
 pub use crate::sockets::{Received, SocketFailed, Sockets};
 pub use crate::turn_cases::{
-    a_turn_refuses_what_is_not_done, in_which_order_steps_stand, what_is_called,
+    a_turn_refuses_what_is_not_done, in_which_order_steps_come, what_is_called,
     what_reads_are_taken_as,
 };
 pub use crate::turns::{turn, turn_through};

@@ -6,11 +6,11 @@ ghost use Rattle.hx_status.specs.declared.cause.FailKind.TheVariants as kinds;
 ghost use Rattle.proxy_script.specs.declared.effect_list.Effect.TheVariants as effects;
 ghost use Rattle.proxy_engine.specs.Happenings.{Accepts, Sends, Hears, Ends, Leaves, Shuts, Fails};
 ghost use Rattle.proxy_engine.specs.Due.{Wakes};
-ghost use Rattle.proxy_engine.specs.Lives.{Took, Worked};
+ghost use Rattle.proxy_engine.specs.Executions.{Took, Worked};
 ghost use Rattle.proxy_engine.specs.declared.work.End.TheVariants as ends;
 ghost use Rattle.proxy_turn.specs.Calls as call;
 ghost use Rattle.proxy_turn.specs.Calls.{Nothing, Ended, Broken, Bytes};
-ghost use Rattle.proxy_turn.specs.Turn.{Carried, Passed, Lost, calls_carried, calls_told, is_lost, lost, said_by};
+ghost use Rattle.proxy_turn.specs.Turn.{Carried, Passed, Lost, calls_carried, calls_shown, is_lost, lost, said_by};
 ghost use Rattle.proxy_turn.specs.TurnSteps.{loss_steps, read_steps, round_steps};
 ghost use Rattle.proxy_turn.specs.Served.{IsLoss, take_steps};
 ghost use Rattle.proxy_turn.specs.TurnCases.{NoMoreThanAThousand, NotAskedInVain, NoOtherEndIsRead};
@@ -33,9 +33,9 @@ pub fn what_is_called()
         ≡ call.Connect 5 (codes "o") true ∷ call.Write (ends.Link 5) (codes "x") false ∷ [] }
     ensures drop { calls_carried (effects.Drop 5) Carried ≡ call.Shut (ends.Link 5) true ∷ [] }
     ensures passed { calls_carried (effects.Client 1 (codes "x")) Passed ≡ [] }
-    ensures in_order { calls_told (effects.Client 1 (codes "x") ∷ effects.Close 1 ∷ []) (Carried ∷ Carried ∷ [])
+    ensures in_order { calls_shown (effects.Client 1 (codes "x") ∷ effects.Close 1 ∷ []) (Carried ∷ Carried ∷ [])
         ≡ call.Write (ends.Client 1) (codes "x") true ∷ call.Shut (ends.Client 1) true ∷ [] }
-    ensures none_behind { calls_told (effects.Client 1 (codes "x") ∷ effects.Close 1 ∷ [])
+    ensures none_behind { calls_shown (effects.Client 1 (codes "x") ∷ effects.Close 1 ∷ [])
         (Lost kinds.Closed ∷ Passed ∷ []) ≡ call.Write (ends.Client 1) (codes "x") false ∷ [] }
     ensures one_is_lost { is_lost (ends.Client 1 ∷ []) (ends.Client 1) ≡ true }
     ensures another_is_not { is_lost (ends.Client 1 ∷ []) (ends.Client 2) ≡ false }
@@ -57,15 +57,15 @@ pub fn what_reads_are_taken_as()
 
 /// The steps of a turn, the latest first: each read's happening, each act at the moment of the turn, and behind it what
 /// its failed calls lost.
-pub fn in_which_order_steps_stand()
+pub fn in_which_order_steps_come()
     ensures reads { read_steps (record { end = ends.Client 1; given = Bytes (codes "x") }
         ∷ record { end = ends.Client 2; given = Ended } ∷ []) [] ≡ Took (Ends 2) ∷ Took (Sends 1 (codes "x")) ∷ [] }
     ensures nothing_read { read_steps (record { end = ends.Client 1; given = Nothing } ∷ []) [] ≡ [] }
-    ensures acts { round_steps 9 (record { act = Wakes 0; told = effects.Close 1 ∷ []; fates = Carried ∷ [] }
-        ∷ record { act = Wakes 1; told = []; fates = [] } ∷ []) [] ≡ Worked 9 (Wakes 1) []
+    ensures acts { round_steps 9 (record { act = Wakes 0; emitted = effects.Close 1 ∷ []; fates = Carried ∷ [] }
+        ∷ record { act = Wakes 1; emitted = []; fates = [] } ∷ []) [] ≡ Worked 9 (Wakes 1) []
         ∷ Worked 9 (Wakes 0) (effects.Close 1 ∷ []) ∷ [] }
     ensures losses { round_steps 9
-        (record { act = Wakes 0; told = effects.Close 1 ∷ []; fates = Lost kinds.Closed ∷ [] } ∷ []) []
+        (record { act = Wakes 0; emitted = effects.Close 1 ∷ []; fates = Lost kinds.Closed ∷ [] } ∷ []) []
         ≡ Took (Leaves 1) ∷ Worked 9 (Wakes 0) (effects.Close 1 ∷ []) ∷ [] }
     ensures passed { loss_steps (effects.Close 1 ∷ []) (Passed ∷ []) [] ≡ [] }
     ensures taken { take_steps (Leaves 1 ∷ Leaves 2 ∷ []) [] ≡ Took (Leaves 2) ∷ Took (Leaves 1) ∷ [] }

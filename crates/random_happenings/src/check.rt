@@ -19,10 +19,10 @@
 use crate::clients::{Client, clients_of, place};
 use crate::counts::Counts;
 use crate::fields::{id_of, id_of_request};
-use crate::log::{Log, Step, Told};
-use crate::past_store::{is_claimed, is_told};
+use crate::log::{Log, Occurred, Step};
+use crate::past_store::{is_claimed, is_shown};
 use crate::replies::{
-    Reason, Source, has_target, read_reply, reason_told, seconds_left, went_well,
+    Reason, Source, has_target, read_reply, reason_shown, seconds_left, went_well,
 };
 use crate::requests::Asked;
 use crate::tables::{Table, is_address, is_past_the_store, lets_wait_for_stale};
@@ -136,35 +136,35 @@ impl<'a> Check<'a> {
     }
 
     /// What is known of a happening before its effects.
-    fn tell(&mut self, told: Told) {
+    fn note_event(&mut self, occurred: Occurred) {
         one_more(&mut self.happenings);
         self.woken.clear();
         self.happening = Now::default();
-        self.happening.about = match told {
-            Told::Accepted(number) => Some(number),
-            Told::Client(number, _) => Some(number),
-            Told::Gone(number) => Some(number),
-            Told::Link(number) => match self.exchanges.get(self.exchange_on(number)) {
+        self.happening.about = match occurred {
+            Occurred::Accepted(number) => Some(number),
+            Occurred::Client(number, _) => Some(number),
+            Occurred::Gone(number) => Some(number),
+            Occurred::Link(number) => match self.exchanges.get(self.exchange_on(number)) {
                 Some(exchange) => Some(exchange.asked.connection),
                 None => None,
             },
-            Told::Late => None,
+            Occurred::Late => None,
         };
         if let Some(number) = self.happening.about {
-            self.tell_client(number, told);
+            self.note_client(number, occurred);
         }
     }
 
-    fn tell_client(&mut self, number: u64, told: Told) {
+    fn note_client(&mut self, number: u64, occurred: Occurred) {
         if let Some(client) = self.clients.get_mut(place(number)) {
-            match told {
-                Told::Accepted(_) => client.is_accepted = true,
-                Told::Client(_, whole) => client.whole = whole,
-                Told::Gone(_) => client.is_over = true,
-                Told::Link(_) | Told::Late => {}
+            match occurred {
+                Occurred::Accepted(_) => client.is_accepted = true,
+                Occurred::Client(_, whole) => client.whole = whole,
+                Occurred::Gone(_) => client.is_over = true,
+                Occurred::Link(_) | Occurred::Late => {}
             }
         }
-        if let Told::Gone(_) = told {
+        if let Occurred::Gone(_) = occurred {
             self.forget(number);
         }
     }
@@ -318,8 +318,8 @@ impl<'a> Check<'a> {
     }
 
     /// What must hold behind the effects of a happening.
-    fn ask(&self, told: Told) -> Result<(), Wrong> {
-        if let Told::Gone(number) = told {
+    fn ask(&self, occurred: Occurred) -> Result<(), Wrong> {
+        if let Occurred::Gone(number) = occurred {
             if let Some(client) = self.clients.get(place(number)) {
                 if client.link.is_some() {
                     return Err(Wrong::Rule("a client that is gone keeps its link", number));
@@ -605,7 +605,7 @@ impl<'a> Check<'a> {
             if is_claimed(head) {
                 return Err(Wrong::Rule("an answer claims to be past the store", number));
             }
-        } else if !is_told(head) {
+        } else if !is_shown(head) {
             return Err(Wrong::Rule("an answer past the store doesn't say so", number));
         }
         Ok(())
@@ -646,7 +646,7 @@ impl<'a> Check<'a> {
         };
         client.exchange = None;
         if let Some(exchange) = self.exchanges.get_mut(exchange) {
-            exchange.reason = reason_told(head);
+            exchange.reason = reason_shown(head);
         }
     }
 
@@ -659,16 +659,16 @@ impl<'a> Check<'a> {
         asked: &Asked,
         woken: Woken,
     ) -> Result<(), Wrong> {
-        let told = reason_told(head);
-        let may_wait = match told {
+        let occurred = reason_shown(head);
+        let may_wait = match occurred {
             Some(Reason::Missing) => true,
             Some(Reason::Expired) => self.lets_wait(asked),
             Some(Reason::Other) | None => false,
         };
-        if !may_wait || (woken.reason.is_some() && woken.reason != told) {
+        if !may_wait || (woken.reason.is_some() && woken.reason != occurred) {
             return Err(Wrong::Rule("a request tells wrongly for what it waited", number));
         }
-        if told == Some(Reason::Expired) {
+        if occurred == Some(Reason::Expired) {
             one_more(&mut self.counts.waited_for_stale);
             one_more(&mut self.counts.collapsed_stale);
         }
@@ -742,14 +742,18 @@ impl<'a> Check<'a> {
 
     /// A happening with its effects, which stand at the front of a text. Gives what is behind them.
     fn step<'t>(&mut self, step: Step, text: &'t [u8]) -> Result<&'t [u8], Wrong> {
-        let Step { told, now, length } = step;
+        let Step {
+            occurred,
+            now,
+            length,
+        } = step;
         self.now = now;
         let (Some(own), Some(rest)) = (text.get(..length), text.get(length..)) else {
             return Err(Wrong::Rule("effects are missing", 0));
         };
-        self.tell(told);
+        self.note_event(occurred);
         self.see(own)?;
-        self.ask(told)?;
+        self.ask(occurred)?;
         self.note_waiting()?;
         Ok(rest)
     }

@@ -1,6 +1,6 @@
 //! The clients of a run.
 
-use crate::log::{Log, Told};
+use crate::log::{Log, Occurred};
 use crate::requests::Asked;
 use std::alloc::{AllocError, Global};
 
@@ -55,7 +55,7 @@ impl Client<'_> {
 pub fn clients_of<'a>(alloc: Global, log: &Log) -> Result<Vec<Client<'a>>, AllocError> {
     let mut clients = Vec::new(alloc);
     for step in &log.steps {
-        if let Told::Accepted(_) = step.told {
+        if let Occurred::Accepted(_) = step.occurred {
             let client = Client {
                 asked: Vec::new(alloc),
                 whole: 0,

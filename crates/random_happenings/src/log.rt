@@ -6,7 +6,7 @@ use std::alloc::Global;
 
 /// What the check has to know of a happening.
 #[derive(Clone, Copy)]
-pub enum Told {
+pub enum Occurred {
     /// The connection of this number was accepted.
     Accepted(u64),
     /// The client of this connection sent bytes or its end; so many of its requests have come whole.
@@ -22,7 +22,7 @@ pub enum Told {
 /// A happening, its moment, and how many bytes the text of its effects has.
 #[derive(Clone, Copy)]
 pub struct Step {
-    pub told: Told,
+    pub occurred: Occurred,
     pub now: u64,
     pub length: usize,
 }

@@ -27,7 +27,7 @@ fn is_own(refusal: &[u8]) -> bool {
 }
 
 /// Whether the head of an answer is that of one past the store.
-pub fn is_told(head: &[u8]) -> bool {
+pub fn is_shown(head: &[u8]) -> bool {
     match last_value(head, b"Refusal") {
         Some(refusal) => is_own(refusal),
         None => last_value(head, b"Cache-Status") == Some(MEMBER),

@@ -14,10 +14,10 @@ pub fn went_well(head: &[u8]) -> bool {
 
 /// For how many seconds an answer is fresh, by its member of Cache-Status; 0 where it is stale.
 pub fn seconds_left(head: &[u8]) -> Option<u64> {
-    let (_, told) = last_value(head, b"Cache-Status")?.split_once_str(b";ttl=")?;
-    let seconds = match told.split_once_str(b";") {
+    let (_, shown) = last_value(head, b"Cache-Status")?.split_once_str(b";ttl=")?;
+    let seconds = match shown.split_once_str(b";") {
         Some((seconds, _)) => seconds,
-        None => told,
+        None => shown,
     };
     Some(number_of(seconds).unwrap_or(0))
 }
@@ -131,15 +131,15 @@ fn reason_by_detail(detail: &[u8]) -> Option<Reason> {
 }
 
 /// Why an answer tells that its request went forward.
-pub fn reason_told(head: &[u8]) -> Option<Reason> {
+pub fn reason_shown(head: &[u8]) -> Option<Reason> {
     let member = last_value(head, b"Cache-Status")?.strip_prefix(b"edge;fwd=")?;
     if member.starts_with(b"uri-miss") {
         return Some(Reason::Missing);
     }
-    let Some(told) = member.strip_prefix(b"stale") else {
+    let Some(shown) = member.strip_prefix(b"stale") else {
         return Some(Reason::Other);
     };
-    match told.split_once_str(b";detail=") {
+    match shown.split_once_str(b";detail=") {
         Some((_, detail)) => reason_by_detail(detail),
         None => Some(Reason::Expired),
     }

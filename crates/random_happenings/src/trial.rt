@@ -23,7 +23,7 @@ fn make(alloc: Global, table: Table) -> Result<Log, Stopped> {
 }
 
 /// Prints how much went past the store, where something did.
-fn tell_past<R: Print>(rt: &R, counts: &Counts) -> io::Result<()> {
+fn print_past<R: Print>(rt: &R, counts: &Counts) -> io::Result<()> {
     let (past, fresh, taking) = (counts.past, counts.past_fresh, counts.past_taking);
     if past == 0 {
         return Ok(());
@@ -34,7 +34,7 @@ fn tell_past<R: Print>(rt: &R, counts: &Counts) -> io::Result<()> {
 }
 
 /// Prints what words on caching came to, where the table has some.
-fn tell_words<R: Print>(rt: &R, counts: &Counts) -> io::Result<()> {
+fn print_words<R: Print>(rt: &R, counts: &Counts) -> io::Result<()> {
     let (given, explained, cookies) = (counts.given, counts.explained, counts.cookies_unstored);
     if explained == 0 {
         return Ok(());
@@ -50,7 +50,7 @@ fn tell_words<R: Print>(rt: &R, counts: &Counts) -> io::Result<()> {
 }
 
 /// Prints how many waited, and what came of it.
-fn tell_waiting<R: Print>(rt: &R, counts: &Counts) -> io::Result<()> {
+fn print_waiting<R: Print>(rt: &R, counts: &Counts) -> io::Result<()> {
     let (waited, wakings, gone) = (counts.waited, counts.wakings, counts.waiters_gone);
     let (collapsed, forward) = (counts.collapsed, counts.woken_forward);
     let released = collapsed.saturating_add(forward);
@@ -60,7 +60,7 @@ fn tell_waiting<R: Print>(rt: &R, counts: &Counts) -> io::Result<()> {
 }
 
 /// Prints what the check came to.
-fn tell<R: Print + Eprint>(
+fn note_event<R: Print + Eprint>(
     rt: &R,
     checked: Result<Counts, Wrong>,
     happenings: usize,
@@ -69,9 +69,9 @@ fn tell<R: Print + Eprint>(
         Ok(counts) => {
             println!(rt; "{happenings} happenings: the property holds")?;
             println!(rt; "{counts}")?;
-            tell_waiting(rt, &counts)?;
-            tell_past(rt, &counts)?;
-            tell_words(rt, &counts)?;
+            print_waiting(rt, &counts)?;
+            print_past(rt, &counts)?;
+            print_words(rt, &counts)?;
             Ok(true)
         }
         Err(Wrong::OutOfMemory) => {
@@ -109,7 +109,7 @@ fn judge<R: Print + Eprint + AllocGlobal>(rt: &R, log: &Log) -> io::Result<bool>
         println!(rt; "over a list it differs")?;
         return Ok(false);
     }
-    tell(
+    note_event(
         rt,
         check_run(rt.alloc(), log, text.as_slice()),
         log.steps.len(),

@@ -33,7 +33,7 @@ fn member(head: &[u8]) -> &[u8] {
 
 /// Whether a wish of the request is named: no-cache, max-age or min-fresh.
 fn names_a_wish(head: &[u8]) -> bool {
-    let told = member(head);
+    let shown = member(head);
     let refusal = last_value(head, b"Refusal").unwrap_or(b"");
     [
         b"fwd=request".as_slice(),
@@ -43,7 +43,7 @@ fn names_a_wish(head: &[u8]) -> bool {
         b"stale-if-error=request-no-cache".as_slice(),
     ]
     .iter()
-    .any(|word| told.contains_str(word) || refusal.contains_str(word))
+    .any(|word| shown.contains_str(word) || refusal.contains_str(word))
 }
 
 fn states_a_lifetime(head: &[u8]) -> bool {

@@ -3,7 +3,7 @@ ghost use Rattle.std.specs.Prelude.{◌<◌};
 
 use crate::answers::{Question, push_answer};
 use crate::dice::Dice;
-use crate::log::{Log, Step, Told};
+use crate::log::{Log, Occurred, Step};
 use crate::requests::{Asked, push_request};
 use crate::tables::Table;
 use case_text::push_item;
@@ -107,14 +107,14 @@ impl Caller {
     }
 
     /// What is told where the client sent something.
-    fn told(&self) -> Told {
+    fn occurred(&self) -> Occurred {
         let mut whole = 0u64;
         for end in &self.wholes {
             if *end <= self.sent {
                 whole = whole.saturating_add(1);
             }
         }
-        Told::Client(self.number, whole)
+        Occurred::Client(self.number, whole)
     }
 
     /// Begins a request, which is sent behind the rest.
@@ -199,15 +199,18 @@ fn late(
     l: u64,
     is_open: bool,
     is_linked: bool,
-) -> Option<(Happening<'static>, Told)> {
+) -> Option<(Happening<'static>, Occurred)> {
     match roll {
-        0 if !is_open => Some((Happening::Client(n, b"GET /late HTTP/1.1\r\n"), Told::Late)),
-        1 if !is_open => Some((Happening::End(n), Told::Late)),
-        2 if !is_open => Some((Happening::Gone(n), Told::Gone(n))),
+        0 if !is_open => Some((
+            Happening::Client(n, b"GET /late HTTP/1.1\r\n"),
+            Occurred::Late,
+        )),
+        1 if !is_open => Some((Happening::End(n), Occurred::Late)),
+        2 if !is_open => Some((Happening::Gone(n), Occurred::Gone(n))),
         _ if is_linked => None,
-        3 => Some((Happening::Fail(l, FailKind::Closed), Told::Late)),
-        4 => Some((Happening::Shut(l), Told::Late)),
-        _ => Some((Happening::Link(l, b"late"), Told::Late)),
+        3 => Some((Happening::Fail(l, FailKind::Closed), Occurred::Late)),
+        4 => Some((Happening::Shut(l), Occurred::Late)),
+        _ => Some((Happening::Link(l, b"late"), Occurred::Late)),
     }
 }
 
@@ -296,7 +299,7 @@ impl World {
         let number = self.accepted;
         let caller = Caller::new(self.alloc, number);
         self.callers.push(caller).map_err(AllocError::from)?;
-        self.happen(Happening::Accept(number), Told::Accepted(number))
+        self.happen(Happening::Accept(number), Occurred::Accepted(number))
     }
 
     /// A client sends a piece of a request, of a new one where the last was sent whole.
@@ -313,8 +316,8 @@ impl World {
         self.sender = number;
         let piece = cut_piece(&mut self.dice, &mut caller.rest)?;
         caller.note_sent(piece.len());
-        let told = caller.told();
-        self.happen(Happening::Client(number, piece.as_slice()), told)
+        let occurred = caller.occurred();
+        self.happen(Happening::Client(number, piece.as_slice()), occurred)
     }
 
     /// An origin sends a piece of its answer, and closes where all of it was sent.
@@ -327,12 +330,12 @@ impl World {
         if !link.has_begun {
             link.begin(self.alloc, &mut self.dice)?;
         } else if link.rest.is_empty() {
-            return self.happen(Happening::Shut(number), Told::Link(number));
+            return self.happen(Happening::Shut(number), Occurred::Link(number));
         }
         let piece = cut_piece(&mut self.dice, &mut link.rest)?;
         self.happen(
             Happening::Link(number, piece.as_slice()),
-            Told::Link(number),
+            Occurred::Link(number),
         )
     }
 
@@ -357,11 +360,11 @@ impl World {
         let number = caller.number;
         if self.dice.once_in(2) {
             caller.has_ended = true;
-            let told = caller.told();
-            return self.happen(Happening::End(number), told);
+            let occurred = caller.occurred();
+            return self.happen(Happening::End(number), occurred);
         }
         self.callers.retain(|caller| caller.number != number);
-        self.happen(Happening::Gone(number), Told::Gone(number))
+        self.happen(Happening::Gone(number), Occurred::Gone(number))
     }
 
     /// A link fails, or its origin closes it.
@@ -377,7 +380,7 @@ impl World {
             2 => Happening::Fail(number, FailKind::Closed),
             _ => Happening::Shut(number),
         };
-        self.happen(happening, Told::Link(number))
+        self.happen(happening, Occurred::Link(number))
     }
 
     /// Something happens at an end that is over.
@@ -387,13 +390,13 @@ impl World {
         let is_open = self.callers.iter().any(|caller| caller.number == n);
         let is_linked = self.forwarded == 0 || self.links.iter().any(|link| link.number == l);
         match late(self.dice.below(6), n, l, is_open, is_linked) {
-            Some((happening, told)) => self.happen(happening, told),
+            Some((happening, occurred)) => self.happen(happening, occurred),
             None => self.client_sends(),
         }
     }
 
     /// Writes what happened, and takes it.
-    fn happen(&mut self, happening: Happening<'_>, told: Told) -> Result<(), Stopped> {
+    fn happen(&mut self, happening: Happening<'_>, occurred: Occurred) -> Result<(), Stopped> {
         push_item(&mut self.log.script, Item::Happens(happening))?;
         let before = self.log.effects.len();
         self.engine.take(self.alloc, happening)?;
@@ -402,7 +405,11 @@ impl World {
         let now = self.moment();
         self.log
             .steps
-            .push(Step { told, now, length })
+            .push(Step {
+                occurred,
+                now,
+                length,
+            })
             .map_err(AllocError::from)?;
         Ok(())
     }

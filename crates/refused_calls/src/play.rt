@@ -72,7 +72,7 @@ fn proxy(alloc: Global, table: &[u8]) -> Result<Proxy, Stop> {
 }
 
 /// A connection takes memory, and bytes do. No end and no failure does.
-fn may_want_memory(happening: Happening<'_>) -> bool {
+fn may_run_out_of_memory(happening: Happening<'_>) -> bool {
     matches!(
         happening,
         Happening::Accept(_) | Happening::Client(_, _) | Happening::Link(_, _)
@@ -84,7 +84,7 @@ fn take(alloc: Global, proxy: &mut Proxy, happening: Happening<'_>) -> Result<()
         match proxy.take(alloc, happening) {
             Ok(()) => return Ok(()),
             Err(EngineFault::OutOfMemory) => {
-                if !may_want_memory(happening) {
+                if !may_run_out_of_memory(happening) {
                     return Err(Stop::Wrong);
                 }
             }

@@ -16,7 +16,7 @@ use std::alloc::{AllocError, Global};
 use std::str;
 
 /// What the proxy does where a script is replayed; a fault counts as the last effect.
-fn told(alloc: Global, played: Played) -> Result<Vec<u8>, AllocError> {
+fn played_text(alloc: Global, played: Played) -> Result<Vec<u8>, AllocError> {
     let (mut text, line, status) = played.into_parts();
     if status != 0 {
         let line = format!(in alloc; "stops with status {status}: {line}")?;
@@ -59,7 +59,7 @@ struct Play {
     /// All that has happened.
     script: Vec<u8>,
     /// All that the proxy has done, and what of it was expected.
-    told: Vec<u8>,
+    played_text: Vec<u8>,
     expected: Vec<u8>,
     /// The line of what happened last.
     line: usize,
@@ -70,7 +70,7 @@ impl Drop for Play {
         let Play {
             alloc: _,
             script: _,
-            told: _,
+            played_text: _,
             expected: _,
             line: _,
         } = self;
@@ -82,7 +82,7 @@ impl Play {
         Play {
             alloc,
             script: Vec::new(alloc),
-            told: Vec::new(alloc),
+            played_text: Vec::new(alloc),
             expected: Vec::new(alloc),
             line: 1,
         }
@@ -92,7 +92,7 @@ impl Play {
         let Play {
             alloc: _,
             script,
-            told: _,
+            played_text: _,
             expected: effects,
             line: _,
         } = self;
@@ -108,12 +108,12 @@ impl Play {
 
     /// What was done behind all that was expected.
     fn rest(&self) -> Result<&[u8], CaseFault> {
-        let told = self.told.as_slice();
-        match told.strip_prefix(self.expected.as_slice()) {
+        let played_text = self.played_text.as_slice();
+        match played_text.strip_prefix(self.expected.as_slice()) {
             Some(rest) => Ok(rest),
             None => {
                 let expected = String::from_str(self.alloc, "what the replay before it wrote")?;
-                Err(self.differs(self.line, expected, told))
+                Err(self.differs(self.line, expected, played_text))
             }
         }
     }
@@ -131,7 +131,10 @@ impl Play {
     fn happen(&mut self, line: usize, item: Item<'_>) -> Result<(), CaseFault> {
         self.settle()?;
         push_item(&mut self.script, item)?;
-        self.told = told(self.alloc, Played::of(self.alloc, self.script.as_slice())?)?;
+        self.played_text = played_text(
+            self.alloc,
+            Played::of(self.alloc, self.script.as_slice())?,
+        )?;
         self.line = line;
         Ok(())
     }
@@ -162,7 +165,7 @@ impl Play {
 
     /// All that is expected comes in one, and nothing else.
     fn expect_all(&mut self, said: &[Said<'_>], played: Played) -> Result<(), CaseFault> {
-        self.told = told(self.alloc, played)?;
+        self.played_text = played_text(self.alloc, played)?;
         self.expected.clear();
         for one in said {
             if let Statement::Expects(effect) = one.statement {

@@ -22,42 +22,42 @@ fn is_as_row<R: Files + AllocGlobal>(rt: &R, name: &str, spelled: &Spelled) -> i
     }
 }
 
-fn told_of_row<R: Files + AllocGlobal>(
+fn text_of_row<R: Files + AllocGlobal>(
     rt: &R,
     name: &str,
     spelled: &Spelled,
 ) -> io::Result<String> {
-    let told = if is_as_row(rt, name, spelled)? {
+    let played_text = if is_as_row(rt, name, spelled)? {
         ""
     } else {
         "1: the row of this name has other bytes\n"
     };
-    Ok(String::from_str(rt.alloc(), told)?)
+    Ok(String::from_str(rt.alloc(), played_text)?)
 }
 
 /// What there is to tell of a case that doesn't hold, each line without the file's name; nothing of one that does.
-fn told<R: Files + AllocGlobal>(rt: &R, name: &str) -> io::Result<String> {
+fn played_text<R: Files + AllocGlobal>(rt: &R, name: &str) -> io::Result<String> {
     let case = rows::file(rt, name, "case")?;
     match judge(rt.alloc(), case.as_slice()) {
-        Err(fault) => Ok(fault.told(rt.alloc())?),
-        Ok(spelled) => told_of_row(rt, name, &spelled),
+        Err(fault) => Ok(fault.played_text(rt.alloc())?),
+        Ok(spelled) => text_of_row(rt, name, &spelled),
     }
 }
 
 /// Whether there is nothing to tell, or what is written down of a case that is to be refused.
-fn is_as_wanted<R: Files + AllocGlobal>(rt: &R, name: &str, told: &str) -> io::Result<bool> {
+fn is_as_wanted<R: Files + AllocGlobal>(rt: &R, name: &str, played_text: &str) -> io::Result<bool> {
     match rows::file_if_any(rt, name, "refusal")? {
-        Some(wanted) => Ok(told.as_bytes() == wanted.as_slice()),
-        None => Ok(told.is_empty()),
+        Some(wanted) => Ok(played_text.as_bytes() == wanted.as_slice()),
+        None => Ok(played_text.is_empty()),
     }
 }
 
 /// Prints what is told of a case.
-fn tell<R: Print>(rt: &R, name: &str, told: &str) -> io::Result<()> {
-    if told.is_empty() {
+fn print_text<R: Print>(rt: &R, name: &str, played_text: &str) -> io::Result<()> {
+    if played_text.is_empty() {
         println!(rt; "{name}.case holds, and is to be refused")?;
     }
-    for line in told.lines() {
+    for line in played_text.lines() {
         println!(rt; "{name}.case:{line}")?;
     }
     Ok(())
@@ -65,12 +65,12 @@ fn tell<R: Print>(rt: &R, name: &str, told: &str) -> io::Result<()> {
 
 /// Plays a case, and prints whether it holds, or is refused as it is to be.
 fn play_case<R: Files + Print + AllocGlobal>(rt: &R, name: &str) -> io::Result<bool> {
-    let told = told(rt, name)?;
-    let holds = is_as_wanted(rt, name, told.as_str())?;
+    let played_text = played_text(rt, name)?;
+    let holds = is_as_wanted(rt, name, played_text.as_str())?;
     if holds {
         println!(rt; "{name}.case ok")?;
     } else {
-        tell(rt, name, told.as_str())?;
+        print_text(rt, name, played_text.as_str())?;
     }
     Ok(holds)
 }

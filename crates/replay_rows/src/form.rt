@@ -82,7 +82,7 @@ impl From<AllocError> for CaseFault {
 
 impl CaseFault {
     /// The lines that tell it, without the file's name.
-    pub fn told(&self, alloc: Global) -> Result<String, AllocError> {
+    pub fn played_text(&self, alloc: Global) -> Result<String, AllocError> {
         match self {
             CaseFault::OutOfMemory => String::from_str(alloc, "1: no memory\n"),
             CaseFault::Form(line, fault) => {

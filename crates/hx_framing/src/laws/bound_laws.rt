@@ -27,11 +27,12 @@ pub fn limits()
 
 /// A head of more than 32,768 bytes is refused, the empty lines in front counted; up to there it waits.
 pub fn long_heads_are_refused()
-    ensures request { (max_body : ℕ) → (ended : Bool) → (told : Bool) → (bytes : List ℕ)
+    ensures request { (max_body : ℕ) → (ended : Bool) → (continue_sent : Bool) → (bytes : List ℕ)
         → head_length (take 32768 bytes) ≡ None
-        → 32768 < length bytes → request.Reads max_body ended told bytes (Faulty fault.Head) }
-    ensures request_waits { (max_body : ℕ) → (told : Bool) → (bytes : List ℕ) → head_length (take 32768 bytes) ≡ None
-        → length bytes ≤ 32768 → request.Reads max_body false told bytes Incomplete }
+        → 32768 < length bytes → request.Reads max_body ended continue_sent bytes (Faulty fault.Head) }
+    ensures request_waits { (max_body : ℕ) → (continue_sent : Bool) → (bytes : List ℕ)
+        → head_length (take 32768 bytes) ≡ None
+        → length bytes ≤ 32768 → request.Reads max_body false continue_sent bytes Incomplete }
     ensures response { (max_body : ℕ) → (to_head : Bool) → (ended : Bool) → (bytes : List ℕ)
         → head_length (take 32768 bytes) ≡ None
         → 32768 < length bytes → response.Reads max_body to_head ended bytes (Faulty fault.Head) }

@@ -25,8 +25,8 @@ pub fn all_bytes_are_judged()
 
 /// Each request stream has a reading, and each that spells the requests given an answer.
 pub fn each_request_stream_is_read()
-    ensures reading { (max_body : ℕ) → (ended : Bool) → (told : Bool) → (bytes : List ℕ)
-        → (reading : Reading Request) × request.Reads max_body ended told bytes reading }
+    ensures reading { (max_body : ℕ) → (ended : Bool) → (continue_sent : Bool) → (bytes : List ℕ)
+        → (reading : Reading Request) × request.Reads max_body ended continue_sent bytes reading }
     ensures answer { (p : Progress Request) → (rest : List ℕ)
         → request_stream.StreamSpells p.max_body p.stream p.given rest
         → (answer : Next Request) × request_stream.Answers p answer }

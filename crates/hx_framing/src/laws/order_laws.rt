@@ -7,7 +7,7 @@ ghost use Rattle.hx_framing.specs.declared.lengths.framing.RequestBody.{RequestB
 ghost use Rattle.hx_framing.specs.declared.heads.request_head.Head.{Head};
 ghost use Rattle.hx_framing.specs.declared.heads.status_head.StatusHead.{StatusHead};
 ghost use Rattle.hx_framing.specs.Fault.{number_of};
-ghost use Rattle.hx_framing.specs.FaultOrder.{stands_in_request, stands_in_response, IsLeast};
+ghost use Rattle.hx_framing.specs.FaultOrder.{applies_to_request, applies_to_response, IsLeast};
 ghost use Rattle.hx_framing.specs.Lengths.{request_body_of, framing_of_response};
 
 /// The numbers of the faults.
@@ -26,20 +26,20 @@ pub fn faults_have_numbers()
 
 /// Of the faults that stand at the end of a request's head the one of the least number is told, and
 /// none where none stands.
-pub fn the_least_fault_of_a_request_is_told()
+pub fn the_least_fault_of_a_request_is_named()
     ensures fault { (max_body : ℕ) → (head : Head) → (fault : FrameFault) → request_body_of max_body head ≡ Err fault
-        → IsLeast (stands_in_request max_body head) fault }
+        → IsLeast (applies_to_request max_body head) fault }
     ensures none { (max_body : ℕ) → (head : Head) → (body : RequestBody) → request_body_of max_body head ≡ Ok body
         → (fault : FrameFault)
-        → stands_in_request max_body head fault ≡ false }
+        → applies_to_request max_body head fault ≡ false }
 {}
 
 /// The same of a response: its length fields don't count where it has no content, and its status is judged last.
-pub fn the_least_fault_of_a_response_is_told()
+pub fn the_least_fault_of_a_response_is_named()
     ensures fault { (max_body : ℕ) → (to_head : Bool) → (head : StatusHead) → (fault : FrameFault)
         → framing_of_response max_body to_head head ≡ Err fault
-        → IsLeast (stands_in_response max_body to_head head) fault }
+        → IsLeast (applies_to_response max_body to_head head) fault }
     ensures none { (max_body : ℕ) → (to_head : Bool) → (head : StatusHead) → (framing : Framing)
         → framing_of_response max_body to_head head ≡ Ok framing → (fault : FrameFault)
-        → stands_in_response max_body to_head head fault ≡ false }
+        → applies_to_response max_body to_head head fault ≡ false }
 {}

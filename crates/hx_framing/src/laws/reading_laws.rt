@@ -9,7 +9,8 @@ ghost use Rattle.hx_framing.specs.LengthExamples.{coding_line, expect_line, leng
 ghost use Rattle.hx_framing.specs.RequestReading as request;
 ghost use Rattle.hx_framing.specs.ResponseReading as response;
 ghost use Rattle.hx_framing.specs.Reading.{Incomplete, Continue, Over, Spelled, Faulty};
-ghost use Rattle.hx_framing.specs.ReadingExamples.{asks, asks_last, asks_told, answers, answers_last, answers_head};
+ghost use Rattle.hx_framing.specs.ReadingExamples.{asks, asks_last, asks_continue_sent, answers, answers_last};
+ghost use Rattle.hx_framing.specs.ReadingExamples.{answers_head};
 ghost use Rattle.hx_framing.specs.ReadingExamples.{hello_request, hello_asked, hello_response, hello_answered, put};
 ghost use Rattle.hx_framing.specs.ReadingExamples.{put_with, ok, response_with};
 
@@ -150,9 +151,9 @@ pub fn expectations_are_read()
     ensures waits { asks (put (codes "Expect: 100-continue\r\nContent-Length: 2\r\n")) Continue }
     ensures one_byte { asks (put (codes "Expect: 100-continue\r\nContent-Length: 1\r\n")) Continue }
     ensures content_there { asks (put (codes "Expect: 100-Continue\r\nContent-Length: 2\r\n") ++ codes "hi") Continue }
-    ensures given { asks_told (put (codes "Expect: 100-continue\r\nContent-Length: 2\r\n") ++ codes "hi!")
+    ensures given { asks_continue_sent (put (codes "Expect: 100-continue\r\nContent-Length: 2\r\n") ++ codes "hi!")
         (Spelled (put_with (line (codes "Expect") (codes "100-continue") ∷ []) (Some (codes "hi"))) (codes "!")) }
-    ensures given_open { asks_told (put (codes "Expect: 100-continue\r\nContent-Length: 2\r\n") ++ codes "h") Incomplete }
+    ensures given_open { asks_continue_sent (put (codes "Expect: 100-continue\r\nContent-Length: 2\r\n") ++ codes "h") Incomplete }
     ensures no_content { asks (put (codes "Expect: 100-continue\r\n")) (Spelled (put_with (line (codes "Expect") (codes "100-continue") ∷ []) None) []) }
     ensures other { asks (put (codes "Expect: x\r\nContent-Length: 2\r\n")) (Faulty fault.Expect) }
     ensures old { asks (codes "PUT /a HTTP/1.0\r\nExpect: x\r\nContent-Length: 2\r\n\r\n" ++ codes "hi") (Spelled (record {
@@ -208,7 +209,7 @@ pub fn judged_requests_are_read()
     ensures waits { request.with_head 9 false false (codes "hi")
         (Ok (request_head 1 (expect_line (codes "100-continue") ∷ length_line (codes "2") ∷ [])))
         ≡ Continue }
-    ensures told { request.with_head 9 false true (codes "hi")
+    ensures continue_sent { request.with_head 9 false true (codes "hi")
         (Ok (request_head 1 (expect_line (codes "100-continue") ∷ length_line (codes "2") ∷ [])))
         ≡ Spelled (put_with (expect_line (codes "100-continue") ∷ []) (Some (codes "hi"))) [] }
     ensures bad_length { request.with_head 9 false false [] (Ok (request_head 1 (length_line (codes "x") ∷ [])))

@@ -16,27 +16,27 @@ ghost use Rattle.hx_framing.specs.Reading.{Reading, Faulty, IsSettled, extended}
 ghost use Rattle.hx_framing.specs.RequestReading.{Reads};
 ghost use Rattle.hx_framing.specs.RequestStream.{StreamSpells, Answers};
 ghost use Rattle.hx_framing.specs.Progress.{Progress, IsDue, fed, finished};
-ghost use Rattle.hx_framing.specs.RequestState.{State, StandsFor, IsUnfinished, weight};
+ghost use Rattle.hx_framing.specs.RequestState.{State, RepresentsStream, IsUnfinished, weight};
 
 /// One thing stands at the front of the unread bytes.
 pub fn read_once()
-    ensures { (max_body : ℕ) → (ended told : Bool) → (bytes : List ℕ) → (a b : Reading Request)
-        → Reads max_body ended told bytes a → Reads max_body ended told bytes b → a ≡ b }
+    ensures { (max_body : ℕ) → (ended continue_sent : Bool) → (bytes : List ℕ) → (a b : Reading Request)
+        → Reads max_body ended continue_sent bytes a → Reads max_body ended continue_sent bytes b → a ≡ b }
 {}
 
 /// What is due stays due, whatever comes behind it: so it doesn't matter how the stream is cut.
 pub fn read_stays()
-    ensures { (max_body : ℕ) → (told : Bool) → (bytes more : List ℕ) → (reading : Reading Request)
-        → IsSettled reading → Reads max_body false told bytes reading
-        → Reads max_body false told (bytes ++ more) (extended reading more) }
+    ensures { (max_body : ℕ) → (continue_sent : Bool) → (bytes more : List ℕ) → (reading : Reading Request)
+        → IsSettled reading → Reads max_body false continue_sent bytes reading
+        → Reads max_body false continue_sent (bytes ++ more) (extended reading more) }
 {}
 
 /// A stream has one fault at most behind the same requests: where one of its beginnings is at fault, so is every
 /// longer one, by the same fault. So the fault of a stream is the one at its earliest place.
 pub fn one_fault()
-    ensures { (max_body : ℕ) → (told : Bool) → (bytes more : List ℕ) → (f g : FrameFault)
-        → Reads max_body false told bytes (Faulty f)
-        → Reads max_body false told (bytes ++ more) (Faulty g) → f ≡ g }
+    ensures { (max_body : ℕ) → (continue_sent : Bool) → (bytes more : List ℕ) → (f g : FrameFault)
+        → Reads max_body false continue_sent bytes (Faulty f)
+        → Reads max_body false continue_sent (bytes ++ more) (Faulty g) → f ≡ g }
 {}
 
 /// What a stream spells it spells however it goes on: the requests given never change.
@@ -55,7 +55,7 @@ pub fn spelled_once()
 
 /// The requests given are those that the stream spells.
 pub fn given_are_spelled()
-    ensures { (reader : State) → (p : Progress Request) → StandsFor reader p → (rest : List ℕ)
+    ensures { (reader : State) → (p : Progress Request) → RepresentsStream reader p → (rest : List ℕ)
         × StreamSpells p.max_body p.stream p.given rest }
 {}
 

@@ -18,7 +18,7 @@ ghost use Rattle.hx_framing.specs.Reading.{Reading, Faulty, IsSettled, Spelled, 
 ghost use Rattle.hx_framing.specs.ResponseReading.{Reads};
 ghost use Rattle.hx_framing.specs.ResponseStream.{SpellsResponse, IsGiven, Answers};
 ghost use Rattle.hx_framing.specs.Progress.{Progress, IsDue, fed, finished};
-ghost use Rattle.hx_framing.specs.ResponseState.{State, StandsFor, IsUnfinished, weight};
+ghost use Rattle.hx_framing.specs.ResponseState.{State, RepresentsStream, IsUnfinished, weight};
 
 /// A stream has one response: behind it nothing is given but the end.
 pub fn one_response_is_given()
@@ -55,7 +55,7 @@ pub fn spelled_once()
 
 /// No response was given, or the one that the stream spells.
 pub fn given_are_spelled()
-    ensures { (reader : State) → (p : Progress Response) → StandsFor reader p → IsGiven p p.given }
+    ensures { (reader : State) → (p : Progress Response) → RepresentsStream reader p → IsGiven p p.given }
 {}
 
 /// One answer is right.

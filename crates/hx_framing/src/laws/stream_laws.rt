@@ -37,7 +37,8 @@ pub fn streams_go_on()
     ensures pieces { fed (fed (start 1000 true) (codes "GET")) (codes " /") ≡ waiting true (codes "GET /") false [] false }
     ensures end { finished (waiting false (codes "GET /") false [] false)
         ≡ waiting false (codes "GET /") true [] false }
-    ensures told { moved (waiting false [] false [] false) next.NeedsContinue ≡ waiting false [] false [] true }
+    ensures continue_sent { moved (waiting false [] false [] false) next.NeedsContinue
+        ≡ waiting false [] false [] true }
     ensures message { moved (waiting false [] false (hi ∷ []) true) (next.Message (put_with [] (Some [])))
         ≡ waiting false [] false (hi ∷ put_with [] (Some []) ∷ []) false }
     ensures nothing { moved (waiting false [] false (hi ∷ []) true) next.More ≡ waiting false [] false (hi ∷ []) true }
@@ -51,7 +52,7 @@ pub fn streams_go_on()
 /// What is answered of what stands at the front of a stream.
 pub fn readings_are_answered()
     ensures incomplete { next_of {M = Request} Incomplete ≡ next.More }
-    ensures told { next_of {M = Request} Continue ≡ next.NeedsContinue }
+    ensures continue_sent { next_of {M = Request} Continue ≡ next.NeedsContinue }
     ensures over { next_of {M = Request} Over ≡ next.End }
     ensures spelled { next_of (Spelled hi (codes "x")) ≡ next.Message hi }
     ensures faulty { next_of {M = Request} (Faulty fault.Length) ≡ next.Refused fault.Length }
@@ -61,7 +62,7 @@ pub fn readings_are_answered()
 /// requests that may go on.
 pub fn what_is_due()
     ensures more { ¬ (IsDue {M = Request} next.More) }
-    ensures told { IsDue {M = Request} next.NeedsContinue }
+    ensures continue_sent { IsDue {M = Request} next.NeedsContinue }
     ensures message { IsDue (next.Message hi) }
     ensures refused { IsDue {M = Request} (next.Refused fault.Head) }
     ensures over { IsDue {M = Request} next.End }
@@ -75,7 +76,7 @@ pub fn what_is_due()
 /// What comes later stands behind what came.
 pub fn readings_go_on()
     ensures incomplete { extended {M = Request} Incomplete (codes "b") ≡ Incomplete }
-    ensures told { extended {M = Request} Continue (codes "b") ≡ Continue }
+    ensures continue_sent { extended {M = Request} Continue (codes "b") ≡ Continue }
     ensures over { extended {M = Request} Over (codes "b") ≡ Over }
     ensures spelled { extended (Spelled hi (codes "a")) (codes "b") ≡ Spelled hi (codes "ab") }
     ensures faulty { extended {M = Request} (Faulty fault.Chunk) (codes "b") ≡ Faulty fault.Chunk }
@@ -84,7 +85,7 @@ pub fn readings_go_on()
 /// A continue and a message are of what is still to come; the end and a refusal may be answered again and again.
 pub fn what_answers_cost()
     ensures more { cost {M = Request} next.More ≡ 0 }
-    ensures told { cost {M = Request} next.NeedsContinue ≡ 1 }
+    ensures continue_sent { cost {M = Request} next.NeedsContinue ≡ 1 }
     ensures message { cost (next.Message hi) ≡ 1 }
     ensures refused { cost {M = Request} (next.Refused fault.Head) ≡ 0 }
     ensures over { cost {M = Request} next.End ≡ 0 }
@@ -94,7 +95,7 @@ pub fn what_answers_cost()
 /// nor of the refusal of bytes that are no head.
 pub fn what_needs_memory()
     ensures more { needs_memory {M = Request} next.More ≡ true }
-    ensures told { needs_memory {M = Request} next.NeedsContinue ≡ true }
+    ensures continue_sent { needs_memory {M = Request} next.NeedsContinue ≡ true }
     ensures message { needs_memory (next.Message hi) ≡ true }
     ensures over { needs_memory {M = Request} next.End ≡ false }
     ensures head { needs_memory {M = Request} (next.Refused fault.Head) ≡ false }
@@ -110,7 +111,7 @@ pub fn what_needs_memory()
 {}
 
 /// So out of memory never hides the end of a stream, nor that what stands there is no head.
-pub fn no_want_of_memory_hides_an_end()
+pub fn out_of_memory_hides_no_end()
     ensures requests { (p : Progress Request) → request.Answers p next.End → ¬ (request.NeedsMemory p) }
     ensures no_request { (p : Progress Request) → request.Answers p (next.Refused fault.Head)
         → ¬ (request.NeedsMemory p) }

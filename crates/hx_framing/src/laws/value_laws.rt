@@ -37,9 +37,9 @@ pub fn response_heads_give_their_lines()
 /// What a reader gives of a head are the fields that its lines spell, but for the length fields: of
 /// a request at the front of its stream, of a response behind the interim ones.
 pub fn readers_give_the_lines_of_heads()
-    ensures requests { (max_body : ℕ) → (ended : Bool) → (told : Bool) → (bytes : List ℕ) → (given : Request)
+    ensures requests { (max_body : ℕ) → (ended : Bool) → (continue_sent : Bool) → (bytes : List ℕ) → (given : Request)
         → (rest : List ℕ)
-        → request.Reads max_body ended told bytes (Spelled given rest)
+        → request.Reads max_body ended continue_sent bytes (Spelled given rest)
         → (n : ℕ) × (head_length (take most_head_bytes bytes) ≡ Some n)
         × ((fields : List Field) × GivesFields (take n bytes) fields × (given.fields ≡ without_lengths fields)) }
     ensures responses { (max_body : ℕ) → (to_head : Bool) → (ended : Bool) → (bytes : List ℕ) → (given : Response)
@@ -52,12 +52,12 @@ pub fn readers_give_the_lines_of_heads()
 
 /// A request that is read is of HTTP/1.0 or HTTP/1.1, and no line of a message speaks of its content's length.
 pub fn what_is_read_is_plain()
-    ensures minor { (max_body : ℕ) → (ended : Bool) → (told : Bool) → (bytes : List ℕ) → (given : Request)
+    ensures minor { (max_body : ℕ) → (ended : Bool) → (continue_sent : Bool) → (bytes : List ℕ) → (given : Request)
         → (rest : List ℕ)
-        → request.Reads max_body ended told bytes (Spelled given rest) → given.minor ≤ 1 }
-    ensures request { (max_body : ℕ) → (ended : Bool) → (told : Bool) → (bytes : List ℕ) → (given : Request)
+        → request.Reads max_body ended continue_sent bytes (Spelled given rest) → given.minor ≤ 1 }
+    ensures request { (max_body : ℕ) → (ended : Bool) → (continue_sent : Bool) → (bytes : List ℕ) → (given : Request)
         → (rest : List ℕ)
-        → request.Reads max_body ended told bytes (Spelled given rest)
+        → request.Reads max_body ended continue_sent bytes (Spelled given rest)
         → (has given.fields (codes "content-length") ≡ false) × (has given.fields (codes "transfer-encoding") ≡ false) }
     ensures response { (max_body : ℕ) → (to_head : Bool) → (ended : Bool) → (bytes : List ℕ) → (given : Response)
         → (rest : List ℕ)

@@ -58,9 +58,9 @@ pub fn written_fields_are_read()
 
 /// The request is read back, with the line that closes the connection, and what follows it is left.
 pub fn written_request_is_read()
-    ensures { (r : Request) → (max_body : ℕ) → (ended : Bool) → (told : Bool) → (rest : List ℕ)
+    ensures { (r : Request) → (max_body : ℕ) → (ended : Bool) → (continue_sent : Bool) → (rest : List ℕ)
         → IsWritable r → length (content_bytes r.content) ≤ max_body
-        → Reads max_body ended told (request_text r ++ rest) (Spelled (read_back r) rest) }
+        → Reads max_body ended continue_sent (request_text r ++ rest) (Spelled (read_back r) rest) }
 {}
 
 /// There are such requests: the one of the first run is one.

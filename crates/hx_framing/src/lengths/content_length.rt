@@ -7,7 +7,7 @@ ghost use Rattle.std.specs.List.{list_all};
 ghost use Rattle.std.specs.Char.{is_ascii_digit};
 ghost use Rattle.std.specs.Str.Parse.{digits_value};
 ghost use Rattle.hx_fields.specs.Lines.{is_named};
-ghost use Rattle.hx_framing.specs.ContentLength.{comma_pieces, is_digits, significant, is_number, length_told};
+ghost use Rattle.hx_framing.specs.ContentLength.{comma_pieces, is_digits, significant, is_number, length_shown};
 ghost use Rattle.hx_framing.specs.ContentLength.{length_up_to, content_length};
 
 use crate::fault::FrameFault;
@@ -65,10 +65,10 @@ fn are_all_pieces(digits: &[u8], lines: &[Field]) -> bool
 }
 
 /// The digits of the length that the lines tell, without zeros in front.
-fn digits_told(fields: &Fields) -> Option<&[u8]>
+fn digits_shown(fields: &Fields) -> Option<&[u8]>
     ensures digits { IfSome result (λ digits. list_all is_ascii_digit digits.now ≡ true) }
-    ensures told { MatchOption result (length_told fields.now ≡ None)
-        (λ digits. length_told fields.now ≡ Some (digits_value 10 digits.now)) }
+    ensures shown { MatchOption result (length_shown fields.now ≡ None)
+        (λ digits. length_shown fields.now ≡ Some (digits_value 10 digits.now)) }
 {
     let text = before_byte(fields.value(b"content-length")?, b',');
     if !is_digits(text) {
@@ -92,9 +92,9 @@ fn value_up_to(most: u64, digits: &[u8]) -> Result<u64, FrameFault>
 
 /// The length that the lines tell, in bytes, if it is at most so much.
 pub(crate) fn length_up_to(most: u64, fields: &Fields) -> Result<u64, FrameFault>
-    ensures { result ≡ length_up_to most (length_told fields.now) }
+    ensures { result ≡ length_up_to most (length_shown fields.now) }
 {
-    match digits_told(fields) {
+    match digits_shown(fields) {
         Some(digits) => value_up_to(most, digits),
         None => Err(FrameFault::Length),
     }

@@ -70,11 +70,11 @@ impl Debug for RequestReader {
 impl RequestReader {
     ghost use Rattle.hx_framing.specs.declared.readers.request_reader.RequestPhase.TheVariants as phase;
     ghost use Rattle.hx_framing.specs.declared.fault.FrameFault.{FrameFault};
-    ghost use Rattle.hx_framing.specs.RequestState.{StandsFor, weight, kept, IsUnfinished};
+    ghost use Rattle.hx_framing.specs.RequestState.{RepresentsStream, weight, kept, IsUnfinished};
 
     /// A reader of an empty stream. Contents have at most `max_body` bytes.
     pub fn new(alloc: Global, max_body: u64) -> RequestReader
-        ensures stands { StandsFor result (start max_body false) }
+        ensures represents { RepresentsStream result (start max_body false) }
         ensures weight { weight result ≤ 1 }
     {
         RequestReader {
@@ -96,8 +96,8 @@ impl RequestReader {
 
     /// Takes the next piece of the stream, before `finish`. An `Err` changes nothing.
     pub fn feed(&mut self, piece: &[u8]) -> Result<(), AllocError>
-        ensures stands { OnOk result ((p : Progress Request) → StandsFor self.old p
-            → p.ended ≡ false → StandsFor self.new (fed p piece.now)) }
+        ensures represents { OnOk result ((p : Progress Request) → RepresentsStream self.old p
+            → p.ended ≡ false → RepresentsStream self.new (fed p piece.now)) }
         ensures weight { weight self.new ≤ weight self.old + 2 * length piece.now }
         ensures faulty { (fault : FrameFault) → self.old.phase ≡ phase.Faulty fault → self.new ≡ self.old }
         ensures reserved { length piece.now ≤ self.old.spare → IsOk result }
@@ -113,8 +113,8 @@ impl RequestReader {
 
     /// The stream has ended. No memory is taken.
     pub fn finish(&mut self)
-        ensures stands { (p : Progress Request) → StandsFor self.old p
-            → StandsFor self.new (finished p) }
+        ensures represents { (p : Progress Request) → RepresentsStream self.old p
+            → RepresentsStream self.new (finished p) }
         ensures weight { weight self.new ≡ weight self.old }
     {
         self.ended = true;
@@ -122,7 +122,7 @@ impl RequestReader {
 
     /// Whether the stream has ended.
     pub fn has_ended(&self) -> bool
-        ensures { (p : Progress Request) → StandsFor self.now p → result ≡ p.ended }
+        ensures { (p : Progress Request) → RepresentsStream self.now p → result ≡ p.ended }
     {
         self.ended
     }
@@ -130,14 +130,14 @@ impl RequestReader {
     /// What is due behind the messages given. An `Err` changes nothing. Out of memory hides neither the end nor a
     /// refusal of bytes that are no head; a fault behind a head it may hide, since the head is copied first.
     pub fn next(&mut self, alloc: Global) -> Result<Next<Request>, AllocError>
-        ensures answers { IfOk result (λ answer. (p : Progress Request) → StandsFor self.old p
+        ensures answers { IfOk result (λ answer. (p : Progress Request) → RepresentsStream self.old p
             → Answers p answer) }
-        ensures stands { IfOk result (λ answer. (p : Progress Request) → StandsFor self.old p
-            → StandsFor self.new (moved p answer)) }
+        ensures represents { IfOk result (λ answer. (p : Progress Request) → RepresentsStream self.old p
+            → RepresentsStream self.new (moved p answer)) }
         ensures weight { IfOk result (λ answer. weight self.new + cost answer ≤ weight self.old) }
         ensures unfinished { IfOk result (λ answer. answer ≡ Next.More → IsUnfinished self.new) }
         ensures room { self.old.spare ≤ self.new.spare }
-        ensures memory_last { OnErr result ((p : Progress Request) → StandsFor self.old p → NeedsMemory p) }
+        ensures memory_last { OnErr result ((p : Progress Request) → RepresentsStream self.old p → NeedsMemory p) }
         ensures err { OnErr result (self.new ≡ self.old) }
     {
         match replace(&mut self.phase, RequestPhase::BeforeHead) {
@@ -159,7 +159,7 @@ impl RequestReader {
 
     /// Whether each byte of the stream belongs to a request that was given: nothing of a next one has come.
     pub fn is_between_requests(&self) -> bool
-        ensures { (p : Progress Request) → StandsFor self.now p → result ≡ true
+        ensures { (p : Progress Request) → RepresentsStream self.now p → result ≡ true
             → StreamSpells p.max_body p.stream p.given [] }
     {
         match &self.phase {
@@ -172,14 +172,14 @@ impl RequestReader {
     /// What is due before a head.
     fn read_head(&mut self, alloc: Global) -> Result<Next<Request>, AllocError>
         requires { self.old.phase ≡ phase.BeforeHead }
-        ensures answers { IfOk result (λ answer. (p : Progress Request) → StandsFor self.old p
+        ensures answers { IfOk result (λ answer. (p : Progress Request) → RepresentsStream self.old p
             → Answers p answer) }
-        ensures stands { IfOk result (λ answer. (p : Progress Request) → StandsFor self.old p
-            → StandsFor self.new (moved p answer)) }
+        ensures represents { IfOk result (λ answer. (p : Progress Request) → RepresentsStream self.old p
+            → RepresentsStream self.new (moved p answer)) }
         ensures weight { IfOk result (λ answer. weight self.new + cost answer ≤ weight self.old) }
         ensures unfinished { IfOk result (λ answer. answer ≡ Next.More → IsUnfinished self.new) }
         ensures room { self.old.spare ≤ self.new.spare }
-        ensures memory_last { OnErr result ((p : Progress Request) → StandsFor self.old p → NeedsMemory p) }
+        ensures memory_last { OnErr result ((p : Progress Request) → RepresentsStream self.old p → NeedsMemory p) }
         ensures err { OnErr result (self.new ≡ self.old) }
     {
         let head_length = self.unread.head_length();
@@ -221,16 +221,16 @@ impl RequestReader {
         mut content: Content,
     ) -> Result<Next<Request>, AllocError>
         ensures answers { IfOk result (λ answer. (p : Progress Request)
-            → StandsFor (record self.old { phase = phase.InContent head content }) p → Answers p answer) }
-        ensures stands { IfOk result (λ answer. (p : Progress Request)
-            → StandsFor (record self.old { phase = phase.InContent head content }) p
-            → StandsFor self.new (moved p answer)) }
+            → RepresentsStream (record self.old { phase = phase.InContent head content }) p → Answers p answer) }
+        ensures represents { IfOk result (λ answer. (p : Progress Request)
+            → RepresentsStream (record self.old { phase = phase.InContent head content }) p
+            → RepresentsStream self.new (moved p answer)) }
         ensures weight { IfOk result (λ answer. weight self.new + cost answer
             ≤ 2 * length self.old.unread + 1) }
         ensures unfinished { IfOk result (λ answer. answer ≡ Next.More → IsUnfinished self.new) }
         ensures room { self.old.spare ≤ self.new.spare }
         ensures memory_last { OnErr result ((p : Progress Request)
-            → StandsFor (record self.old { phase = phase.InContent head content }) p → NeedsMemory p) }
+            → RepresentsStream (record self.old { phase = phase.InContent head content }) p → NeedsMemory p) }
         ensures err { OnErr result (self.new ≡ record self.old { phase = phase.InContent head content }) }
     {
         // No content of a request runs until the close.

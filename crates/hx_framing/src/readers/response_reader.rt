@@ -74,12 +74,12 @@ impl Debug for ResponseReader {
 impl ResponseReader {
     ghost use Rattle.hx_framing.specs.declared.readers.response_reader.ResponsePhase.TheVariants as phase;
     ghost use Rattle.hx_framing.specs.declared.fault.FrameFault.{FrameFault};
-    ghost use Rattle.hx_framing.specs.ResponseState.{StandsFor, weight, kept, IsUnfinished};
+    ghost use Rattle.hx_framing.specs.ResponseState.{RepresentsStream, weight, kept, IsUnfinished};
 
     /// A reader of an empty stream. A content has at most `max_body` bytes; `to_head` says that it
     /// answers a HEAD.
     pub fn new(alloc: Global, max_body: u64, to_head: bool) -> ResponseReader
-        ensures stands { StandsFor result (start max_body to_head) }
+        ensures represents { RepresentsStream result (start max_body to_head) }
         ensures weight { weight result ≡ 0 }
     {
         ResponseReader {
@@ -102,8 +102,8 @@ impl ResponseReader {
 
     /// Takes the next piece of the stream, before `finish`. An `Err` changes nothing.
     pub fn feed(&mut self, piece: &[u8]) -> Result<(), AllocError>
-        ensures stands { OnOk result ((p : Progress Response) → StandsFor self.old p
-            → p.ended ≡ false → StandsFor self.new (fed p piece.now)) }
+        ensures represents { OnOk result ((p : Progress Response) → RepresentsStream self.old p
+            → p.ended ≡ false → RepresentsStream self.new (fed p piece.now)) }
         ensures weight { weight self.new ≤ weight self.old + 2 * length piece.now }
         ensures given { self.old.phase ≡ phase.Given → self.new ≡ self.old }
         ensures faulty { (fault : FrameFault) → self.old.phase ≡ phase.Faulty fault → self.new ≡ self.old }
@@ -121,8 +121,8 @@ impl ResponseReader {
 
     /// The stream has ended. No memory is taken.
     pub fn finish(&mut self)
-        ensures stands { (p : Progress Response) → StandsFor self.old p
-            → StandsFor self.new (finished p) }
+        ensures represents { (p : Progress Response) → RepresentsStream self.old p
+            → RepresentsStream self.new (finished p) }
         ensures weight { weight self.new ≤ weight self.old + 1 }
     {
         self.ended = true;
@@ -130,7 +130,7 @@ impl ResponseReader {
 
     /// Whether the stream has ended.
     pub fn has_ended(&self) -> bool
-        ensures { (p : Progress Response) → StandsFor self.now p → result ≡ p.ended }
+        ensures { (p : Progress Response) → RepresentsStream self.now p → result ≡ p.ended }
     {
         self.ended
     }
@@ -138,15 +138,15 @@ impl ResponseReader {
     /// What is due: one message, and then the end. An `Err` changes nothing. Out of memory hides neither the end nor
     /// a refusal of bytes that are no head; a fault behind the final head it may hide, since that head is copied first.
     pub fn next(&mut self, alloc: Global) -> Result<Next<Response>, AllocError>
-        ensures answers { IfOk result (λ answer. (p : Progress Response) → StandsFor self.old p
+        ensures answers { IfOk result (λ answer. (p : Progress Response) → RepresentsStream self.old p
             → Answers p answer) }
-        ensures stands { IfOk result (λ answer. (p : Progress Response) → StandsFor self.old p
-            → StandsFor self.new (moved p answer)) }
+        ensures represents { IfOk result (λ answer. (p : Progress Response) → RepresentsStream self.old p
+            → RepresentsStream self.new (moved p answer)) }
         ensures weight { IfOk result (λ answer. weight self.new + cost answer ≤ weight self.old) }
         ensures due { IfOk result (λ answer. IsDue answer → 1 ≤ weight self.new + cost answer) }
         ensures unfinished { IfOk result (λ answer. answer ≡ Next.More → IsUnfinished self.new) }
         ensures room { self.old.spare ≤ self.new.spare }
-        ensures memory_last { OnErr result ((p : Progress Response) → StandsFor self.old p → NeedsMemory p) }
+        ensures memory_last { OnErr result ((p : Progress Response) → RepresentsStream self.old p → NeedsMemory p) }
         ensures err { OnErr result (self.new ≡ self.old) }
     {
         match replace(&mut self.phase, ResponsePhase::BeforeHead) {
@@ -173,15 +173,15 @@ impl ResponseReader {
     /// What is due before the head of the final response.
     fn read_head(&mut self, alloc: Global) -> Result<Next<Response>, AllocError>
         requires { self.old.phase ≡ phase.BeforeHead }
-        ensures answers { IfOk result (λ answer. (p : Progress Response) → StandsFor self.old p
+        ensures answers { IfOk result (λ answer. (p : Progress Response) → RepresentsStream self.old p
             → Answers p answer) }
-        ensures stands { IfOk result (λ answer. (p : Progress Response) → StandsFor self.old p
-            → StandsFor self.new (moved p answer)) }
+        ensures represents { IfOk result (λ answer. (p : Progress Response) → RepresentsStream self.old p
+            → RepresentsStream self.new (moved p answer)) }
         ensures weight { IfOk result (λ answer. weight self.new + cost answer ≤ weight self.old) }
         ensures due { IfOk result (λ answer. IsDue answer → 1 ≤ weight self.new + cost answer) }
         ensures unfinished { IfOk result (λ answer. answer ≡ Next.More → IsUnfinished self.new) }
         ensures room { self.old.spare ≤ self.new.spare }
-        ensures memory_last { OnErr result ((p : Progress Response) → StandsFor self.old p → NeedsMemory p) }
+        ensures memory_last { OnErr result ((p : Progress Response) → RepresentsStream self.old p → NeedsMemory p) }
         ensures err { OnErr result (self.new ≡ self.old) }
     {
         let head_length = self.unread.head_length();
@@ -223,17 +223,17 @@ impl ResponseReader {
         mut content: Content,
     ) -> Result<Next<Response>, AllocError>
         ensures answers { IfOk result (λ answer. (p : Progress Response)
-            → StandsFor (record self.old { phase = phase.InContent head content }) p → Answers p answer) }
-        ensures stands { IfOk result (λ answer. (p : Progress Response)
-            → StandsFor (record self.old { phase = phase.InContent head content }) p
-            → StandsFor self.new (moved p answer)) }
+            → RepresentsStream (record self.old { phase = phase.InContent head content }) p → Answers p answer) }
+        ensures represents { IfOk result (λ answer. (p : Progress Response)
+            → RepresentsStream (record self.old { phase = phase.InContent head content }) p
+            → RepresentsStream self.new (moved p answer)) }
         ensures weight { IfOk result (λ answer. weight self.new + cost answer
             ≤ 2 * length self.old.unread + 2 + cond self.old.ended 1 0) }
         ensures due { IfOk result (λ answer. IsDue answer → 1 ≤ weight self.new + cost answer) }
         ensures unfinished { IfOk result (λ answer. answer ≡ Next.More → IsUnfinished self.new) }
         ensures room { self.old.spare ≤ self.new.spare }
         ensures memory_last { OnErr result ((p : Progress Response)
-            → StandsFor (record self.old { phase = phase.InContent head content }) p → NeedsMemory p) }
+            → RepresentsStream (record self.old { phase = phase.InContent head content }) p → NeedsMemory p) }
         ensures err { OnErr result (self.new ≡ record self.old { phase = phase.InContent head content }) }
     {
         let ended = self.ended;

@@ -25,8 +25,8 @@ pub fn the_headline_refuses_what_the_table_forbids()
     ensures forwarded_by_another_line { Refuses
         (wrong [] (Arrive 100 1 get_admin) (Forward 3 (forward_text edge get_admin None))) }
     ensures sent_from_the_store { Refuses (wrong held_a (Arrive 110 2 get_admin) (sends 1 (codes "x"))) }
-    ensures told_another_line { Refuses (wrong [] (Arrive 100 1 get_admin) (refused 100 (Denied 2) get_admin)) }
-    ensures told_that_none_matches { Refuses (wrong [] (Arrive 100 1 get_admin) (refused 100 NoLine get_admin)) }
+    ensures named_another_line { Refuses (wrong [] (Arrive 100 1 get_admin) (refused 100 (Denied 2) get_admin)) }
+    ensures named_none_that_matches { Refuses (wrong [] (Arrive 100 1 get_admin) (refused 100 NoLine get_admin)) }
     ensures made_to_wait { Refuses (wrong (Arrive 100 1 get_a ∷ []) (Arrive 100 2 get_admin) (Waits 1)) }
     ensures left_without_answer { Refuses (wrong [] (Arrive 100 1 get_admin) Ended) }
     ensures allowed_is_denied { Refuses (wrong [] (Arrive 100 1 get_a) (refused 100 (Denied 1) get_a)) }

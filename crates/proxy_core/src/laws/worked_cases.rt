@@ -24,7 +24,7 @@ ghost use Rattle.proxy_core.specs.declared.fault.CoreFault.TheVariants.{IdTaken,
 ghost use Rattle.proxy_core.specs.declared.fault.CoreFault.TheVariants.{NotForwarded, NotReady};
 ghost use Rattle.hx_storable.specs.declared.rule.StoreRule.TheVariants.{NothingToReuse};
 ghost use Rattle.proxy_core.specs.Replies.{passed_text, refused_text, stored_text, ttl_at};
-ghost use Rattle.proxy_core.specs.Storing.{invalidates, is_storable, is_unasked, made, replaced_by, rule_told};
+ghost use Rattle.proxy_core.specs.Storing.{invalidates, is_storable, is_unasked, made, replaced_by, rule_shown};
 ghost use Rattle.proxy_core.specs.Validating.{condition_on, is_answered, is_kept, is_validation, refreshed};
 ghost use Rattle.hx_validate.specs.Cases.{lines_of};
 ghost use Rattle.proxy_core.specs.Leading.{leader_for};
@@ -185,7 +185,7 @@ pub fn what_a_304_leaves()
     ensures bytes { (value : List ℕ) → is_kept table (asked_about_e (get [])) (answer 304 [])
         (stored_with 1 (line (codes "X") value ∷ tag (codes "\"e\"") ∷ [])) ≡ nat_le (length value + 11) 32507 }
     ensures kept { removed_in (sent_refreshed table (asked_about_e (get [])) (answer 304 []) 105 first_stored) ≡ [] }
-    ensures let_go { removed_in (sent_refreshed table (asked_about_e (get [])) (answer 304 []) 105
+    ensures release { removed_in (sent_refreshed table (asked_about_e (get [])) (answer 304 []) 105
         (stored_with 1 (vary (codes "*") ∷ first_lines))) ≡ 1 ∷ [] }
     ensures too_many { removed_in (sent_refreshed table (asked_about_e (get [])) (answer 304 []) 105
         (stored_with 1 (tag (codes "\"e\"") ∷ lines_of 96))) ≡ 1 ∷ [] }
@@ -196,10 +196,10 @@ pub fn what_a_304_leaves()
 /// section 4.2.2), and a 304 keeps neither a cookie nor an error whose line stores none.
 #[tactic(auto, unfolding(httpdate::proofs::OnLiterals::httpdate_on_literals, hx_storable::specs::Rules::storage_rule_of, hx_allow::specs::Matching::policy_of))]
 pub fn what_the_words_of_a_line_change()
-    ensures explained { rule_told (table_of explains) (went (get [])) (answer 200 []) 101 (Some 4)
+    ensures explained { rule_shown (table_of explains) (went (get [])) (answer 200 []) 101 (Some 4)
         ≡ Some NothingToReuse }
-    ensures not_explained { rule_told table (went (get [])) (answer 200 []) 101 (Some 4) ≡ None }
-    ensures nothing_to_explain { rule_told (table_of explains) (went (get [])) (answer 200 first_lines) 101 (Some 4)
+    ensures not_explained { rule_shown table (went (get [])) (answer 200 []) 101 (Some 4) ≡ None }
+    ensures nothing_to_explain { rule_shown (table_of explains) (went (get [])) (answer 200 first_lines) 101 (Some 4)
         ≡ None }
     ensures given { ttl_at gives_60 stored_e 110 ≡ pos 50 }
     ensures none_given { ttl_at (plain true) stored_e 110 ≡ negsuc 9 }

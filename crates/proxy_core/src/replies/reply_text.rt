@@ -4,7 +4,7 @@ ghost use Rattle.hx_framing.specs.Text.{response_text};
 ghost use Rattle.hx_hop.specs.Answering.{answered_of};
 ghost use Rattle.hx_hop.specs.Moments.{date_text_of};
 ghost use Rattle.proxy_core.specs.Replies.{passed_text, lines_passed, length_passed, ttl_passed, refused_text};
-ghost use Rattle.proxy_core.specs.Replies.{lines_refused, content_sent, is_head, length_told};
+ghost use Rattle.proxy_core.specs.Replies.{lines_refused, content_sent, is_head, length_shown};
 
 use crate::replies::origin_answer::OriginAnswer;
 use hx_age::{Times, current_age, ttl};
@@ -32,8 +32,8 @@ pub(crate) fn content_sent(head: bool, content: &[u8]) -> &[u8]
 }
 
 /// No length where the status has none (RFC 9110, section 8.6).
-pub(crate) fn length_told(status: u16, length: Option<u64>) -> Option<u64>
-    ensures { result ≡ length_told status length }
+pub(crate) fn length_shown(status: u16, length: Option<u64>) -> Option<u64>
+    ensures { result ≡ length_shown status length }
 {
     if status == 204 || status == 304 {
         None
@@ -57,19 +57,20 @@ fn ttl_passed(
     alloc: Global,
     answer: &OriginAnswer<'_>,
     head: &Answered,
-    told: PassedOn,
+    shown: PassedOn,
 ) -> Result<Option<i64>, AllocError>
-    ensures { IfOk result (λ left. left ≡ ttl_passed told.policy answer.now.exchange.now head.now.status head.now.fields
-        answer.now.response_time told.stored) }
+    ensures { IfOk result
+        (λ left. left ≡ ttl_passed shown.policy answer.now.exchange.now head.now.status head.now.fields
+        answer.now.response_time shown.stored) }
 {
-    if !told.stored {
+    if !shown.stored {
         return Ok(None);
     }
     let now = answer.response_time;
     let directives = Directives::of(alloc, &head.fields)?;
     let times = Times::of(&head.fields, answer.exchange.request_time, now);
     let age = current_age(&times, now);
-    let lifetime = lifetime_under(told.policy, head.status, &head.fields, &directives);
+    let lifetime = lifetime_under(shown.policy, head.status, &head.fields, &directives);
     Ok(Some(ttl(lifetime, age)))
 }
 
@@ -79,19 +80,19 @@ fn lines_passed(
     name: &str,
     answer: &OriginAnswer<'_>,
     head: &Answered,
-    told: PassedOn,
+    shown: PassedOn,
 ) -> Result<Fields, AllocError>
-    ensures { IfOk result (λ lines. lines ≡ lines_passed told.policy name.now answer.now.exchange.now head.now.status
-        head.now.fields answer.now.response_time told.stored told.rule) }
+    ensures { IfOk result (λ lines. lines ≡ lines_passed shown.policy name.now answer.now.exchange.now head.now.status
+        head.now.fields answer.now.response_time shown.stored shown.rule) }
 {
     let status = Status {
         how: How::Fwd(answer.exchange.rule),
         fwd_status: None,
-        ttl: ttl_passed(alloc, answer, head, told)?,
-        stored: told.stored,
+        ttl: ttl_passed(alloc, answer, head, shown)?,
+        stored: shown.stored,
         collapsed: false,
         detail: None,
-        not_stored: told.rule,
+        not_stored: shown.rule,
     };
     let member = member(alloc, name, &status)?;
     let mut lines = head.fields.copy(alloc)?;
@@ -104,9 +105,9 @@ fn length_passed(head: bool, response: &Response) -> Option<u64>
     ensures { result ≡ length_passed head response.now }
 {
     if head {
-        length_told(response.status, response.announced)
+        length_shown(response.status, response.announced)
     } else {
-        length_told(response.status, Some(response.content.len() as u64))
+        length_shown(response.status, Some(response.content.len() as u64))
     }
 }
 
@@ -116,16 +117,16 @@ pub(crate) fn passed_text(
     name: &str,
     answer: &OriginAnswer<'_>,
     head: &Answered,
-    told: PassedOn,
+    shown: PassedOn,
 ) -> Result<Bytes, AllocError>
     requires { head.now ≡ answered_of answer.now.response.now answer.now.response_time }
-    ensures { IfOk result (λ text. text ≡ passed_text told.policy name.now answer.now.exchange.now
-        answer.now.response.now answer.now.response_time told.stored told.rule) }
+    ensures { IfOk result (λ text. text ≡ passed_text shown.policy name.now answer.now.exchange.now
+        answer.now.response.now answer.now.response_time shown.stored shown.rule) }
 {
     let asked = &answer.exchange.asked;
     let response = answer.response;
     let to_head = is_head(asked);
-    let lines = lines_passed(alloc, name, answer, head, told)?;
+    let lines = lines_passed(alloc, name, answer, head, shown)?;
     let length = length_passed(to_head, response);
     let content = content_sent(to_head, response.content.as_slice());
     write_response(alloc, response.status, &lines, length, asked.close, content)

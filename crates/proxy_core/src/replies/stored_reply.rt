@@ -8,7 +8,7 @@ ghost use Rattle.proxy_core.specs.Replies.{status_sent, stored_text, whole_text,
 ghost use Rattle.proxy_core.specs.Replies.{fwd_status_of};
 
 use crate::open::exchange::Exchange;
-use crate::replies::reply_text::{content_sent, is_head, length_told};
+use crate::replies::reply_text::{content_sent, is_head, length_shown};
 use hx_age::{current_age, ttl};
 use hx_fields::{Bytes, Fields};
 use hx_framing::{AddedLine, ResponseLines, write_response_with};
@@ -97,7 +97,7 @@ impl StoredReply<'_> {
             ≡ whole_text self.now.name.now self.now.entry.now self.now.sent_at self.now.info self.now.asked.now) }
     {
         let entry = self.entry;
-        let length = length_told(entry.status, Some(entry.content.len() as u64));
+        let length = length_shown(entry.status, Some(entry.content.len() as u64));
         let content = content_sent(is_head(self.asked), entry.content.as_slice());
         self.written(alloc, entry.status, &entry.fields, length, content)
     }
@@ -119,7 +119,7 @@ impl StoredReply<'_> {
         let entry = self.entry;
         let policy = self.info.policy;
         let lifetime = lifetime_under(policy, entry.status, &entry.fields, &entry.directives);
-        let told = Status {
+        let shown = Status {
             how: self.info.how,
             fwd_status: fwd_status_of(self.info.came, status),
             ttl: Some(ttl(lifetime, age)),
@@ -128,7 +128,7 @@ impl StoredReply<'_> {
             detail: self.info.detail,
             not_stored: None,
         };
-        member(alloc, self.name, &told)
+        member(alloc, self.name, &shown)
     }
 
     /// A response of these lines of its own under a status: then come Age and Cache-Status.

@@ -5,7 +5,7 @@ ghost use Rattle.hx_allow.specs.Matching.{policy_of};
 ghost use Rattle.hx_reuse.specs.Rules.{decision_of};
 ghost use Rattle.hx_vary.specs.Vary.{kept_values};
 ghost use Rattle.proxy_core.specs.Replies.{passed_text};
-ghost use Rattle.proxy_core.specs.Storing.{rule_told};
+ghost use Rattle.proxy_core.specs.Storing.{rule_shown};
 ghost use Rattle.proxy_core.specs.Outcomes.{is_error_status, passed, passed_unless, fallback_for, answered};
 ghost use Rattle.proxy_core.specs.Outcomes.{stored_serial};
 ghost use Rattle.proxy_core.specs.declared.event.Event.TheVariants.{Answer};
@@ -51,12 +51,12 @@ impl<S: Shelf> Core<S> {
             self.now.table.name answer.now.exchange.now answer.now.response.now answer.now.response_time stored rule) }
     {
         let policy = self.config.policy(answer.exchange.line);
-        let told = PassedOn {
+        let shown = PassedOn {
             policy,
             stored,
             rule,
         };
-        passed_text(alloc, self.config.name(), answer, head, told)
+        passed_text(alloc, self.config.name(), answer, head, shown)
     }
 
     /// Passes on an answer that isn't stored, and tells the rule against that.
@@ -115,7 +115,7 @@ impl<S: Shelf> Core<S> {
         ensures outcome { IfOk result (λ pending. reply_of pending
             ≡ passed self.now.table self.now.entries answer.now.response_time answer.now.exchange.now
             answer.now.response.now
-            (rule_told self.now.table answer.now.exchange.now answer.now.response.now answer.now.response_time
+            (rule_shown self.now.table answer.now.exchange.now answer.now.response.now answer.now.response_time
             self.now.next)
             (stored_serial self.now.table answer.now.exchange.now answer.now.response.now answer.now.response_time
             self.now.next)) }

@@ -4,7 +4,7 @@ ghost use Rattle.hx_directives.specs.Occurrences.{occurrences_of};
 ghost use Rattle.hx_hop.specs.Answering.{answered_of};
 ghost use Rattle.hx_vary.specs.Vary.{kept_values, nominated_of};
 ghost use Rattle.hx_storable.specs.Rules.{storage_rule_of};
-ghost use Rattle.proxy_core.specs.Storing.{names_nothing, facts_of, rule_told, made, replaced_by};
+ghost use Rattle.proxy_core.specs.Storing.{names_nothing, facts_of, rule_shown, made, replaced_by};
 ghost use Rattle.proxy_core.specs.Outcomes.{stored_serial, removed_by};
 
 use crate::core_state::Core;
@@ -146,11 +146,11 @@ impl<S: Shelf> Core<S> {
     }
 
     /// What is told of the storing rule that stands against an answer.
-    fn rule_told(&self, answer: &OriginAnswer<'_>, rule: Option<StoreRule>) -> Option<StoreRule>
+    fn rule_shown(&self, answer: &OriginAnswer<'_>, rule: Option<StoreRule>) -> Option<StoreRule>
         requires { rule ≡ storage_rule_of answer.now.exchange.now.asked
             (answered_of answer.now.response.now answer.now.response_time) (facts_of self.now.table
             answer.now.exchange.now answer.now.response.now answer.now.response_time self.now.next) }
-        ensures { result ≡ rule_told self.now.table answer.now.exchange.now answer.now.response.now
+        ensures { result ≡ rule_shown self.now.table answer.now.exchange.now answer.now.response.now
             answer.now.response_time self.now.next }
     {
         if self.config.policy(answer.exchange.line).explains_storing {
@@ -169,7 +169,7 @@ impl<S: Shelf> Core<S> {
         head: &Answered,
     ) -> Result<Admission, AllocError>
         requires { head.now ≡ answered_of answer.now.response.now answer.now.response_time }
-        ensures rule { IfOk result (λ admission. admission.rule ≡ rule_told self.now.table answer.now.exchange.now
+        ensures rule { IfOk result (λ admission. admission.rule ≡ rule_shown self.now.table answer.now.exchange.now
             answer.now.response.now answer.now.response_time self.now.next) }
         ensures serial { IfOk result (λ admission. option_map (λ n. n.serial) admission.new_entry ≡ stored_serial
             self.now.table answer.now.exchange.now answer.now.response.now answer.now.response_time self.now.next) }
@@ -178,21 +178,21 @@ impl<S: Shelf> Core<S> {
     {
         let nomination = Nominated::of(alloc, &head.fields, &answer.exchange.asked.fields)?;
         let rule = self.rule_against(alloc, answer, head, &nomination)?;
-        let told = self.rule_told(answer, rule);
+        let shown = self.rule_shown(answer, rule);
         if rule.is_some() {
-            return Ok(Admission::none(told));
+            return Ok(Admission::none(shown));
         }
         the_least_storage_rule_is_named();
         let serial = match self.next {
             Some(serial) => serial,
-            None => return Ok(Admission::none(told)),
+            None => return Ok(Admission::none(shown)),
         };
         match nomination {
             Nomination::Names(nominated) => Ok(Admission {
-                rule: told,
+                rule: shown,
                 new_entry: Some(NewEntry { serial, nominated }),
             }),
-            Nomination::Star => Ok(Admission::none(told)),
+            Nomination::Star => Ok(Admission::none(shown)),
         }
     }
 }

@@ -209,7 +209,7 @@ impl Connections {
     /// Makes room for one piece of the client's bytes at a place, if the connection isn't over.
     pub(crate) fn reserve_piece(&mut self, i: u64) -> Result<(), AllocError>
         ensures ok { OnOk result (IsRoomy (slice_index_or self.new.items i None) piece) }
-        ensures stands { (ss : List ConnectionModel) → Both ConnectionRepresents self.old.items ss
+        ensures represents { (ss : List ConnectionModel) → Both ConnectionRepresents self.old.items ss
             → Both ConnectionRepresents self.new.items ss }
         ensures activities { activities_of self.new.items ≡ activities_of self.old.items }
         ensures err { OnErr result (self.new ≡ self.old) }
@@ -221,7 +221,7 @@ impl Connections {
     }
 
     /// Lets go of the connection at a place, which is over.
-    pub(crate) fn let_go(&mut self, i: u64)
+    pub(crate) fn release(&mut self, i: u64)
         requires { i < length self.old.items }
         ensures { self.new.items ≡ slice_set self.old.items i None }
     {
@@ -245,7 +245,7 @@ impl Connections {
 
     /// The first connection on which something is due.
     pub(crate) fn find_due(&mut self, alloc: Global) -> Result<Option<u64>, AllocError>
-        ensures stands { (ss : List ConnectionModel) → Both ConnectionRepresents self.old.items ss
+        ensures represents { (ss : List ConnectionModel) → Both ConnectionRepresents self.old.items ss
             → Both ConnectionRepresents self.new.items ss }
         ensures found { IfOk result (λ found. FoundConnections self.new.items found) }
         ensures activities { activities_of self.new.items ≡ activities_of self.old.items }

@@ -47,7 +47,7 @@ pub(crate) trait Endpoint: Drop {
 impl Endpoint for Connection {
     ghost use Rattle.proxy_engine.specs.Held.{GrowsConnection};
     ghost use Rattle.proxy_engine.specs.Marked.{may_want, LooksLikeConnection, WantsThere};
-    ghost use Rattle.proxy_engine.specs.Spent.{connection_unknown};
+    ghost use Rattle.proxy_engine.specs.Exhausted.{connection_unknown};
     ghost use Rattle.std.proofs.Common.{refl, ◌∙◌};
     ghost use Rattle.std.proofs.Math.Nat.{le_refl, le_trans};
 
@@ -75,10 +75,10 @@ impl Endpoint for Connection {
         self.reader.reserve(n)
     }
 
-    ghost looks_like_itself = { λ c. record { stands = λ s h. h; gone = refl; activity = refl; load = le_refl _ } };
+    ghost looks_like_itself = { λ c. record { represents = λ s h. h; gone = refl; activity = refl; load = le_refl _ } };
 
     ghost looks_on = { λ x y z r q. record {
-      stands = λ s h. q.stands s (r.stands s h);
+      represents = λ s h. q.represents s (r.represents s h);
       gone = q.gone ∙ r.gone;
       activity = q.activity ∙ r.activity;
       load = le_trans q.load r.load;
@@ -86,7 +86,7 @@ impl Endpoint for Connection {
 
     ghost grows_by_nothing = { λ c. record {
       alike = record {
-        stands = λ s h. h;
+        represents = λ s h. h;
         gone = refl;
         activity = refl;
         load = le_refl _;
@@ -97,14 +97,14 @@ impl Endpoint for Connection {
 
 impl Endpoint for Link {
     ghost use Rattle.proxy_engine.specs.Held.{GrowsLink};
-    ghost use Rattle.proxy_engine.specs.Marked.{may_stand, LooksLikeLink, StandsThere};
-    ghost use Rattle.proxy_engine.specs.Spent.{link_unknown};
+    ghost use Rattle.proxy_engine.specs.Marked.{may_finish, LooksLikeLink, FinishThere};
+    ghost use Rattle.proxy_engine.specs.Exhausted.{link_unknown};
     ghost use Rattle.std.proofs.Common.{refl, ◌∙◌};
     ghost use Rattle.std.proofs.Math.Nat.{le_refl, le_trans};
 
-    ghost may_show = { may_stand };
+    ghost may_show = { may_finish };
 
-    ghost IsShown = { StandsThere };
+    ghost IsShown = { FinishThere };
 
     ghost LooksLike = { LooksLikeLink };
 
@@ -123,16 +123,16 @@ impl Endpoint for Link {
         self.reader.reserve(n)
     }
 
-    ghost looks_like_itself = { λ k. record { stands = λ s h. h; connection = refl; load = le_refl _ } };
+    ghost looks_like_itself = { λ k. record { represents = λ s h. h; connection = refl; load = le_refl _ } };
 
     ghost looks_on = { λ x y z r q. record {
-      stands = λ s h. q.stands s (r.stands s h);
+      represents = λ s h. q.represents s (r.represents s h);
       connection = q.connection ∙ r.connection;
       load = le_trans q.load r.load;
     } };
 
     ghost grows_by_nothing = { λ k. record {
-      alike = record { stands = λ s h. h; connection = refl; load = le_refl _ };
+      alike = record { represents = λ s h. h; connection = refl; load = le_refl _ };
       ahead = refl;
       failed = refl;
     } };

@@ -8,7 +8,7 @@ ghost use Rattle.proxy_engine.specs.Reading.{places_with, has_failed, link_end};
 ghost use Rattle.proxy_engine.specs.Room.{IsRoomyLink, piece};
 ghost use Rattle.proxy_engine.specs.Pairing.{owners_of};
 ghost use Rattle.proxy_engine.specs.State.{Both, LinkRepresents, FoundLinks, link_load};
-ghost use Rattle.proxy_engine.specs.Spent.{StopsAt};
+ghost use Rattle.proxy_engine.specs.Exhausted.{StopsAt};
 
 use crate::endpoints::ends::Link;
 use crate::endpoints::peeked::Peeked;
@@ -28,7 +28,7 @@ use std::marker::Model;
 pub(crate) struct Links {
     ends: BTreeMap<u64, Link>,
     count: u64,
-    stirred: ReadyList,
+    ready_links: ReadyList,
 }
 
 impl Model for Links {
@@ -36,7 +36,7 @@ impl Model for Links {
     ghost use Rattle.std.specs.Ordering.{nat_cmp};
     ghost use Rattle.std.specs.BTreeMap.{get};
     ghost use Rattle.proxy_engine.specs.ReadyList.{listed, AllBelow, IsMarked};
-    ghost use Rattle.proxy_engine.specs.Marked.{EndList, may_stand};
+    ghost use Rattle.proxy_engine.specs.Marked.{EndList, may_finish};
     ghost use Rattle.proxy_engine.specs.declared.endpoints.ends.Link.{Link};
 
     ghost Value = { EndList Link };
@@ -47,7 +47,7 @@ impl Model for Links {
           && is_some (get nat_cmp k.ends k.count);
     } };
 
-    ghost invariant = { λ k. IsMarked may_stand k.ends k.stirred × AllBelow k.count k.stirred.places };
+    ghost invariant = { λ k. IsMarked may_finish k.ends k.ready_links × AllBelow k.count k.ready_links.places };
 }
 
 impl Links {
@@ -60,7 +60,7 @@ impl Links {
         Links {
             ends: BTreeMap::new(alloc),
             count: 0,
-            stirred: ReadyList::new(alloc),
+            ready_links: ReadyList::new(alloc),
         }
     }
 
@@ -89,7 +89,7 @@ impl Links {
         if !self.ends.contains_key(&j) {
             return None;
         }
-        self.stirred.put(j);
+        self.ready_links.put(j);
         self.ends.get_mut(&j)
     }
 
@@ -105,7 +105,7 @@ impl Links {
         if self.ends.contains_key(&place) {
             return Ok(());
         }
-        self.stirred.reserve_beside(&self.ends)?;
+        self.ready_links.reserve_beside(&self.ends)?;
         let empty = Link {
             reader: Peeked::new(ResponseReader::new(alloc, 0, false)),
             ended: false,
@@ -122,7 +122,7 @@ impl Links {
         ensures { self.new.items ≡ self.old.items ++ Some link ∷ [] }
     {
         let place = self.count;
-        self.stirred.put(place);
+        self.ready_links.put(place);
         let _ = self.ends.insert(place, link);
         self.count = place + 1;
     }
@@ -148,7 +148,7 @@ impl Links {
     /// Makes room for one piece of the origin's bytes at a place, if the link isn't dropped.
     pub(crate) fn reserve_piece(&mut self, j: u64) -> Result<(), AllocError>
         ensures ok { OnOk result (IsRoomyLink (slice_index_or self.new.items j None) piece) }
-        ensures stands { (ss : List LinkModel) → Both LinkRepresents self.old.items ss
+        ensures represents { (ss : List LinkModel) → Both LinkRepresents self.old.items ss
             → Both LinkRepresents self.new.items ss }
         ensures owners { owners_of self.new.items ≡ owners_of self.old.items }
         ensures err { OnErr result (self.new ≡ self.old) }
@@ -160,24 +160,24 @@ impl Links {
     }
 
     /// Lets go of the link at a place, which is dropped.
-    pub(crate) fn let_go(&mut self, j: u64)
+    pub(crate) fn release(&mut self, j: u64)
         requires { j < length self.old.items }
         ensures items { self.new.items ≡ slice_set self.old.items j None }
         ensures room { self.new.has_room ≡ self.old.has_room }
     {
         let _ = self.ends.remove(&j);
-        self.stirred.remove(j);
+        self.ready_links.remove(j);
     }
 
     /// The first link whose answer is complete, refused or failed.
     pub(crate) fn find_finished(&mut self, alloc: Global) -> Result<Option<u64>, AllocError>
-        ensures stands { (ss : List LinkModel) → Both LinkRepresents self.old.items ss
+        ensures represents { (ss : List LinkModel) → Both LinkRepresents self.old.items ss
             → Both LinkRepresents self.new.items ss }
         ensures found { IfOk result (λ found. FoundLinks self.new.items found) }
         ensures failed { OnErr result (StopsAt self.new.items) }
         ensures owners { owners_of self.new.items ≡ owners_of self.old.items }
         ensures load { sum_by link_load self.new.items ≤ sum_by link_load self.old.items }
     {
-        first_due(&mut self.ends, &mut self.stirred, alloc)
+        first_due(&mut self.ends, &mut self.ready_links, alloc)
     }
 }

@@ -20,7 +20,7 @@ use crate::endpoints::ends::Connection;
 /// The connection, which isn't gone, has no open exchange any more.
 fn unlink(connection: &mut Connection)
     requires { connection.old.gone ≡ false }
-    ensures stands { (c : ConnectionModel) → ConnectionRepresents (Some connection.old) c
+    ensures represents { (c : ConnectionModel) → ConnectionRepresents (Some connection.old) c
         → ConnectionRepresents (Some connection.new) (doing Activity.Free c) }
     ensures activity { connection.new.activity ≡ Activity.Free }
     ensures gone { connection.new.gone ≡ false }
@@ -33,7 +33,7 @@ fn unlink(connection: &mut Connection)
 /// The connection's request, which isn't gone, waits for the answer to another.
 fn queue(connection: &mut Connection)
     requires { connection.old.activity ≡ Activity.Free }
-    ensures stands { (c : ConnectionModel) → ConnectionRepresents (Some connection.old) c
+    ensures represents { (c : ConnectionModel) → ConnectionRepresents (Some connection.old) c
         → ConnectionRepresents (Some connection.new) (doing Activity.Waiting c) }
     ensures activity { connection.new.activity ≡ Activity.Waiting }
     ensures load { connection_load (Some connection.new) ≡ connection_load (Some connection.old) + 2 }
@@ -44,7 +44,7 @@ fn queue(connection: &mut Connection)
 /// The connection's request went forward on the link at a place.
 fn link_to(connection: &mut Connection, place: u64)
     requires { connection.old.activity ≡ Activity.Free }
-    ensures stands { (c : ConnectionModel) → ConnectionRepresents (Some connection.old) c
+    ensures represents { (c : ConnectionModel) → ConnectionRepresents (Some connection.old) c
         → ConnectionRepresents (Some connection.new) (doing (Activity.Forwarded place) c) }
     ensures activity { connection.new.activity ≡ Activity.Forwarded place }
     ensures load { connection_load (Some connection.new) ≡ connection_load (Some connection.old) }
@@ -54,7 +54,7 @@ fn link_to(connection: &mut Connection, place: u64)
 
 /// What was due on the connection is done.
 fn pass(connection: &mut Connection)
-    ensures stands { (c : ConnectionModel) → (a : Next Request) → connection.old.reader.ahead ≡ Due a
+    ensures represents { (c : ConnectionModel) → (a : Next Request) → connection.old.reader.ahead ≡ Due a
         → ConnectionRepresents (Some connection.old) c → ConnectionRepresents (Some connection.new) (passing a c) }
     ensures activity { connection.new.activity ≡ connection.old.activity }
     ensures gone { connection.new.gone ≡ connection.old.gone }
@@ -67,7 +67,7 @@ fn pass(connection: &mut Connection)
 /// What was due on the connection at a place is done.
 pub(crate) fn pass_at(connections: &mut Connections, i: u64)
     requires { is_some (action_at (slice_index_or connections.old.items i None)) ≡ true }
-    ensures stands { (s : EngineModel) → (a : Next Request) → (links : List (Option Link)) → (core : CoreState)
+    ensures represents { (s : EngineModel) → (a : Next Request) → (links : List (Option Link)) → (core : CoreState)
         → (first : ℕ) → action_at (slice_index_or connections.old.items i None) ≡ Some a
         → Represents (state connections.old.items links core first) s
         → Represents (state connections.new.items links core first) (with_connection s i (passing a)) }
@@ -85,7 +85,7 @@ pub(crate) fn pass_at(connections: &mut Connections, i: u64)
 /// The connection at a place has the link at another one.
 pub(crate) fn link_at(connections: &mut Connections, i: u64, place: u64)
     requires { is_free (slice_index_or connections.old.items i None) ≡ true }
-    ensures stands { (s : EngineModel) → (links : List (Option Link)) → (core : CoreState) → (first : ℕ)
+    ensures represents { (s : EngineModel) → (links : List (Option Link)) → (core : CoreState) → (first : ℕ)
         → Represents (state connections.old.items links core first) s
         → Represents (state connections.new.items links core first)
         (with_connection s i (doing (Activity.Forwarded place))) }
@@ -102,7 +102,7 @@ pub(crate) fn link_at(connections: &mut Connections, i: u64, place: u64)
 /// The request of the connection at a place waits for the answer to another.
 pub(crate) fn queue_at(connections: &mut Connections, i: u64)
     requires { is_free (slice_index_or connections.old.items i None) ≡ true }
-    ensures stands { (s : EngineModel) → (links : List (Option Link)) → (core : CoreState) → (first : ℕ)
+    ensures represents { (s : EngineModel) → (links : List (Option Link)) → (core : CoreState) → (first : ℕ)
         → Represents (state connections.old.items links core first) s
         → Represents (state connections.new.items links core first) (with_connection s i (doing Activity.Waiting)) }
     ensures activities { activities_of connections.new.items
@@ -118,7 +118,7 @@ pub(crate) fn queue_at(connections: &mut Connections, i: u64)
 /// The connection at a place, which isn't gone, has no open exchange any more.
 pub(crate) fn unlink_at(connections: &mut Connections, i: u64)
     requires { gone_at (slice_index_or connections.old.items i None) ≡ Some false }
-    ensures stands { (s : EngineModel) → (links : List (Option Link)) → (core : CoreState) → (first : ℕ)
+    ensures represents { (s : EngineModel) → (links : List (Option Link)) → (core : CoreState) → (first : ℕ)
         → Represents (state connections.old.items links core first) s
         → Represents (state connections.new.items links core first) (with_connection s i (doing Activity.Free)) }
     ensures activities { activities_of connections.new.items
@@ -136,7 +136,7 @@ pub(crate) fn unlink_at(connections: &mut Connections, i: u64)
 /// The proxy closes the connection at a place, which is over then, or leaves it as it is.
 pub(crate) fn close_at(connections: &mut Connections, i: u64, close: bool)
     requires free { is_free (slice_index_or connections.old.items i None) ≡ true }
-    ensures stands { (s : EngineModel) → (links : List (Option Link)) → (core : CoreState) → (first : ℕ)
+    ensures represents { (s : EngineModel) → (links : List (Option Link)) → (core : CoreState) → (first : ℕ)
         → Represents (state connections.old.items links core first) s
         → Represents (state connections.new.items links core first) (with_connection s i (closing close)) }
     ensures activities { activities_of connections.new.items ≡ activities_of connections.old.items }
@@ -145,6 +145,6 @@ pub(crate) fn close_at(connections: &mut Connections, i: u64, close: bool)
         → sum_by connection_load connections.new.items < sum_by connection_load connections.old.items }
 {
     if close {
-        connections.let_go(i);
+        connections.release(i);
     }
 }

@@ -7,8 +7,8 @@ ghost use Rattle.hx_framing.specs.declared.messages.Next.TheVariants as next;
 ghost use Rattle.proxy_engine.specs.Lookahead.{Shows, is_due, known, unsettled};
 ghost use Rattle.hx_framing.specs.declared.messages.Request.{Request};
 ghost use Rattle.hx_framing.specs.RequestStream.{StreamSpells};
-ghost use Rattle.proxy_engine.specs.Peeked.{Represents, RequestStands, load};
-ghost use Rattle.proxy_engine.specs.Spent.{is_unknown};
+ghost use Rattle.proxy_engine.specs.Peeked.{Represents, RequestRepresents, load};
+ghost use Rattle.proxy_engine.specs.Exhausted.{is_unknown};
 
 use crate::endpoints::lookahead::Lookahead;
 use crate::endpoints::readers::Reader;
@@ -31,8 +31,8 @@ impl<R: Reader> Drop for Peeked<R> {
 impl<R: Reader> Peeked<R> {
     /// Of a reader to which nothing has come, so that nothing is due.
     pub fn new(reader: R) -> Self
-        ensures stands { (p : Progress R.Message) → R.StandsFor reader p → R.Answers p next.More
-            → Represents R.StandsFor R.Answers result p }
+        ensures represents { (p : Progress R.Message) → R.RepresentsStream reader p → R.Answers p next.More
+            → Represents R.RepresentsStream R.Answers result p }
         ensures load { load R.weight result ≡ R.weight reader }
         ensures quiet { result.ahead ≡ Lookahead.Quiet }
     {
@@ -45,8 +45,8 @@ impl<R: Reader> Peeked<R> {
     /// Makes room, so that one `feed` of at most n bytes finds its memory. An `Err` changes nothing.
     pub fn reserve(&mut self, n: usize) -> Result<(), AllocError>
         ensures ok { OnOk result (n ≤ R.spare self.new.inner) }
-        ensures stands { (p : Progress R.Message) → Represents R.StandsFor R.Answers self.old p
-            → Represents R.StandsFor R.Answers self.new p }
+        ensures represents { (p : Progress R.Message) → Represents R.RepresentsStream R.Answers self.old p
+            → Represents R.RepresentsStream R.Answers self.new p }
         ensures ahead { self.new.ahead ≡ self.old.ahead }
         ensures load { load R.weight self.new ≡ load R.weight self.old }
         ensures err { OnErr result (self.new ≡ self.old) }
@@ -56,8 +56,9 @@ impl<R: Reader> Peeked<R> {
 
     /// Takes the next piece of the stream, before `finish`. An `Err` changes nothing.
     pub fn feed(&mut self, piece: &[u8]) -> Result<(), AllocError>
-        ensures stands { OnOk result ((p : Progress R.Message) → Represents R.StandsFor R.Answers self.old p → p.ended
-            ≡ false → Represents R.StandsFor R.Answers self.new (fed p piece.now)) }
+        ensures represents { OnOk result
+            ((p : Progress R.Message) → Represents R.RepresentsStream R.Answers self.old p → p.ended
+            ≡ false → Represents R.RepresentsStream R.Answers self.new (fed p piece.now)) }
         ensures load { load R.weight self.new ≤ load R.weight self.old + 2 * length piece.now }
         ensures reserved { length piece.now ≤ R.spare self.old.inner → IsOk result }
         ensures err { OnErr result (self.new ≡ self.old) }
@@ -69,8 +70,8 @@ impl<R: Reader> Peeked<R> {
 
     /// The stream has ended. No memory is taken.
     pub fn finish(&mut self)
-        ensures stands { (p : Progress R.Message) → Represents R.StandsFor R.Answers self.old p
-            → Represents R.StandsFor R.Answers self.new (finished p) }
+        ensures represents { (p : Progress R.Message) → Represents R.RepresentsStream R.Answers self.old p
+            → Represents R.RepresentsStream R.Answers self.new (finished p) }
         ensures load { load R.weight self.new ≤ load R.weight self.old + R.end_weight }
     {
         self.inner.finish();
@@ -79,8 +80,8 @@ impl<R: Reader> Peeked<R> {
 
     /// Sees what is due next, and keeps it. Whatever it answers, it stands for the same streams.
     pub fn look_ahead(&mut self, alloc: Global) -> Result<(), AllocError>
-        ensures stands { (p : Progress R.Message) → Represents R.StandsFor R.Answers self.old p
-            → Represents R.StandsFor R.Answers self.new p }
+        ensures represents { (p : Progress R.Message) → Represents R.RepresentsStream R.Answers self.old p
+            → Represents R.RepresentsStream R.Answers self.new p }
         ensures looked { OnOk result ((a : Next R.Message) × Shows self.new.ahead a) }
         ensures unknown { OnErr result (is_unknown self.new.ahead ≡ true) }
         ensures load { load R.weight self.new ≤ load R.weight self.old }
@@ -103,8 +104,8 @@ impl<R: Reader> Peeked<R> {
     /// Reads what is due next, of which nothing is known.
     fn read(&mut self, alloc: Global) -> Result<(), AllocError>
         requires { self.old.ahead ≡ Lookahead.Unknown }
-        ensures stands { (p : Progress R.Message) → Represents R.StandsFor R.Answers self.old p
-            → Represents R.StandsFor R.Answers self.new p }
+        ensures represents { (p : Progress R.Message) → Represents R.RepresentsStream R.Answers self.old p
+            → Represents R.RepresentsStream R.Answers self.new p }
         ensures looked { OnOk result ((a : Next R.Message) × Shows self.new.ahead a) }
         ensures unknown { OnErr result (is_unknown self.new.ahead ≡ true) }
         ensures load { load R.weight self.new ≤ load R.weight self.old }
@@ -136,8 +137,9 @@ impl<R: Reader> Peeked<R> {
 
     /// Goes on behind what is due.
     pub fn pass(&mut self)
-        ensures stands { (p : Progress R.Message) → (a : Next R.Message) → self.old.ahead ≡ Lookahead.Due a
-            → Represents R.StandsFor R.Answers self.old p → Represents R.StandsFor R.Answers self.new (moved p a) }
+        ensures represents { (p : Progress R.Message) → (a : Next R.Message) → self.old.ahead ≡ Lookahead.Due a
+            → Represents R.RepresentsStream R.Answers self.old p
+            → Represents R.RepresentsStream R.Answers self.new (moved p a) }
         ensures load { load R.weight self.new + known self.old.ahead ≤ load R.weight self.old }
     {
         self.ahead = Lookahead::Unknown;
@@ -147,7 +149,7 @@ impl<R: Reader> Peeked<R> {
 impl Peeked<RequestReader> {
     /// Whether each byte of the stream belongs to a request that was used.
     pub(crate) fn is_between_requests(&self) -> bool
-        ensures { (p : Progress Request) → RequestStands self.now p → result ≡ true
+        ensures { (p : Progress Request) → RequestRepresents self.now p → result ≡ true
             → StreamSpells p.max_body p.stream p.given [] }
     {
         match self.ahead {

@@ -12,7 +12,7 @@ pub trait Reader: Drop {
     type Message: Drop;
 
     /// The streams that it stands for.
-    ghost StandsFor: { Self → Progress Self.Message → Type 0 };
+    ghost RepresentsStream: { Self → Progress Self.Message → Type 0 };
 
     /// What is due on a stream.
     ghost Answers: { Progress Self.Message → Next Self.Message → Type 0 };
@@ -29,33 +29,34 @@ pub trait Reader: Drop {
     /// Makes room, so that one `feed` of at most n bytes finds its memory. An `Err` changes nothing.
     fn reserve(&mut self, n: usize) -> Result<(), AllocError>
         ensures ok { OnOk result (n ≤ spare self.new) }
-        ensures stands { (p : Progress Self.Message) → StandsFor self.old p → StandsFor self.new p }
+        ensures represents { (p : Progress Self.Message) → RepresentsStream self.old p → RepresentsStream self.new p }
         ensures weight { weight self.new ≡ weight self.old }
         ensures err { OnErr result (self.new ≡ self.old) };
 
     /// Takes the next piece of the stream, before `finish`. An `Err` changes nothing.
     fn feed(&mut self, piece: &[u8]) -> Result<(), AllocError>
-        ensures stands { OnOk result ((p : Progress Self.Message) → StandsFor self.old p → p.ended ≡ false
-            → StandsFor self.new (fed p piece.now)) }
+        ensures represents { OnOk result ((p : Progress Self.Message) → RepresentsStream self.old p → p.ended ≡ false
+            → RepresentsStream self.new (fed p piece.now)) }
         ensures weight { weight self.new ≤ weight self.old + 2 * length piece.now }
         ensures reserved { length piece.now ≤ spare self.old → IsOk result }
         ensures err { OnErr result (self.new ≡ self.old) };
 
     /// The stream has ended. No memory is taken.
     fn finish(&mut self)
-        ensures stands { (p : Progress Self.Message) → StandsFor self.old p → StandsFor self.new (finished p) }
+        ensures represents { (p : Progress Self.Message) → RepresentsStream self.old p
+            → RepresentsStream self.new (finished p) }
         ensures weight { weight self.new ≤ weight self.old + end_weight };
 
     /// Whether a look at it tells that nothing is due yet. Where it doesn't, something may be due or not.
     fn is_quiet(&self) -> bool
-        ensures { result ≡ true → (p : Progress Self.Message) → StandsFor self.now p → Answers p next.More };
+        ensures { result ≡ true → (p : Progress Self.Message) → RepresentsStream self.now p → Answers p next.More };
 
     /// What is due behind the messages given. An `Err` changes nothing.
     fn next(&mut self, alloc: Global) -> Result<Next<Self::Message>, AllocError>
-        ensures answers { IfOk result (λ answer. (p : Progress Self.Message) → StandsFor self.old p
+        ensures answers { IfOk result (λ answer. (p : Progress Self.Message) → RepresentsStream self.old p
             → Answers p answer) }
-        ensures stands { IfOk result (λ answer. (p : Progress Self.Message) → StandsFor self.old p
-            → StandsFor self.new (moved p answer)) }
+        ensures represents { IfOk result (λ answer. (p : Progress Self.Message) → RepresentsStream self.old p
+            → RepresentsStream self.new (moved p answer)) }
         ensures weight { IfOk result (λ answer. weight self.new + cost answer ≤ weight self.old) }
         ensures err { OnErr result (self.new ≡ self.old) };
 
@@ -71,12 +72,13 @@ pub trait Reader: Drop {
 impl Reader for RequestReader {
     type Message = Request;
 
-    ghost use Rattle.hx_framing.specs.RequestState.{StandsFor as RequestStandsFor, weight as request_weight};
+    ghost use Rattle.hx_framing.specs.RequestState.{RepresentsStream as RequestRepresentsStream};
+    ghost use Rattle.hx_framing.specs.RequestState.{weight as request_weight};
     ghost use Rattle.hx_framing.specs.RequestStream.{Answers as RequestAnswers};
     ghost use Rattle.hx_framing.proofs.RequestStreams.{due_fed as request_due_fed};
     ghost use Rattle.hx_framing.proofs.RequestStreams.{due_finished as request_due_finished};
 
-    ghost StandsFor = { RequestStandsFor };
+    ghost RepresentsStream = { RequestRepresentsStream };
 
     ghost Answers = { RequestAnswers };
 
@@ -115,12 +117,13 @@ impl Reader for RequestReader {
 impl Reader for ResponseReader {
     type Message = Response;
 
-    ghost use Rattle.hx_framing.specs.ResponseState.{StandsFor as ResponseStandsFor, weight as response_weight};
+    ghost use Rattle.hx_framing.specs.ResponseState.{RepresentsStream as ResponseRepresentsStream};
+    ghost use Rattle.hx_framing.specs.ResponseState.{weight as response_weight};
     ghost use Rattle.hx_framing.specs.ResponseStream.{Answers as ResponseAnswers};
     ghost use Rattle.hx_framing.proofs.ResponseStreams.{due_fed as response_due_fed};
     ghost use Rattle.hx_framing.proofs.ResponseStreams.{due_finished as response_due_finished};
 
-    ghost StandsFor = { ResponseStandsFor };
+    ghost RepresentsStream = { ResponseRepresentsStream };
 
     ghost Answers = { ResponseAnswers };
 

@@ -12,7 +12,7 @@ ghost use Rattle.proxy_engine.specs.Due.{Breaks, Gives, Abandons, Finishes, Serv
 ghost use Rattle.proxy_engine.specs.Due.{action_of};
 ghost use Rattle.proxy_engine.specs.Acts.{Forwards, Nothing, Queues, Replies, after_on, continue_text, drops_on};
 ghost use Rattle.proxy_engine.specs.Acts.{effects_on, freed, next_number};
-ghost use Rattle.proxy_engine.specs.Lives.{Took, Worked, drops_of, place_of, told_of};
+ghost use Rattle.proxy_engine.specs.Executions.{Took, Worked, drops_of, place_of, emitted_by};
 ghost use Rattle.proxy_engine.specs.ModelCases.{answer_200, dropped, fresh, one, one_link, request_of_a, sent_twice};
 ghost use Rattle.proxy_engine.specs.declared.endpoints.activities.Activity.TheVariants.{Forwarded, Free, Waiting};
 ghost use Rattle.proxy_engine.specs.declared.work.EngineFault.TheVariants.{NotAccepted, WrongNumber};
@@ -89,7 +89,7 @@ pub fn what_is_due_by_its_words()
 
 /// What acts tell: a reply to its connection, with a close behind it where it says so; a forward on the next link;
 /// nothing of one that waits. And what they leave.
-pub fn what_acts_tell()
+pub fn what_acts_emit()
     ensures reply { effects_on 2 7 (Replies (codes "x") false) ≡ effects.Client 3 (codes "x") ∷ [] }
     ensures last_reply { effects_on 2 7 (Replies (codes "x") true) ≡ effects.Client 3 (codes "x") ∷ effects.Close 3
         ∷ [] }
@@ -111,10 +111,10 @@ pub fn what_acts_tell()
 {}
 
 /// What steps told, in order; where an act is, and the link that it drops.
-pub fn what_steps_told()
-    ensures in_order { told_of (Worked 2 (Wakes 0) (effects.Close 2 ∷ []) ∷ Took (Accepts 1)
+pub fn what_steps_emitted()
+    ensures in_order { emitted_by (Worked 2 (Wakes 0) (effects.Close 2 ∷ []) ∷ Took (Accepts 1)
         ∷ Worked 1 (Wakes 0) (effects.Close 1 ∷ []) ∷ []) ≡ effects.Close 1 ∷ effects.Close 2 ∷ [] }
-    ensures nothing { told_of (Took (Accepts 1) ∷ []) ≡ [] }
+    ensures nothing { emitted_by (Took (Accepts 1) ∷ []) ≡ [] }
     ensures place_of_a_link { place_of one_link (Finishes 0 (Breaks kinds.Closed)) ≡ 0 }
     ensures place_of_a_client { place_of one_link (Serves 3 next.End) ≡ 3 }
     ensures drops { drops_of one_link (Finishes 0 (Breaks kinds.Closed)) ≡ effects.Drop 5 ∷ [] }

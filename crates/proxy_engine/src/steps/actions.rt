@@ -1,7 +1,7 @@
 //! What is to be done on a connection where something is due.
 ghost use Rattle.std.specs.Prelude.{◌≡◌, true, IfOk, Some, is_some, codes, bytes_eq};
 ghost use Rattle.hx_framing.specs.declared.messages.Request.{Request as Spelled};
-ghost use Rattle.hx_framing.specs.declared.messages.Next.{Next as Told};
+ghost use Rattle.hx_framing.specs.declared.messages.Next.{Next as NextRead};
 ghost use Rattle.hx_framing.specs.declared.messages.Next.TheVariants as next;
 ghost use Rattle.proxy_engine.specs.declared.endpoints.lookahead.Lookahead.TheVariants.{Due};
 ghost use Rattle.proxy_engine.specs.State.{action_at};
@@ -57,7 +57,7 @@ fn fault_action(fault: FrameFault) -> Action
 /// What is to be done on a connection on which something is due.
 pub(crate) fn action_of(connection: &Connection, alloc: Global) -> Result<Action, AllocError>
     requires { is_some (action_at (Some connection.now)) ≡ true }
-    ensures { IfOk result (λ action. (a : Told Spelled) × (action_at (Some connection.now) ≡ Some a)
+    ensures { IfOk result (λ action. (a : NextRead Spelled) × (action_at (Some connection.now) ≡ Some a)
         × (connection.now.reader.ahead ≡ Due a) × IsAction a action) }
 {
     match connection.reader.peek() {

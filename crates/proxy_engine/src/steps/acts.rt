@@ -3,9 +3,9 @@
 ghost use Rattle.std.specs.Prelude.{◌≡◌, ◌<◌, ◌≤◌, None, Some, Err, IfOk, IfErr, OnErr};
 ghost use Rattle.hx_fields.specs.declared.limits.TheConstants.{END_OF_TIME};
 ghost use Rattle.proxy_engine.specs.EngineModel.{EngineModel, no_connection, no_link};
-ghost use Rattle.proxy_engine.specs.Due.{IsFirst, Lost, Stood, next_ready};
+ghost use Rattle.proxy_engine.specs.Due.{IsFirst, Lost, FinishDue, next_ready};
 ghost use Rattle.proxy_engine.specs.State.{Represents, NoneLost, load_at, Did, Failed, Lessens};
-ghost use Rattle.proxy_engine.specs.Spent.{TellsSpent};
+ghost use Rattle.proxy_engine.specs.Exhausted.{ReportsExhausted};
 
 use crate::engine::Engine;
 use crate::work::{EngineFault, Work};
@@ -17,11 +17,11 @@ impl<S: Shelf> Engine<S> {
     fn serve_first(&mut self, alloc: Global, now: u64) -> Result<Work, EngineFault>
         requires early { now < END_OF_TIME }
         ensures ok { IfOk result (λ work. (s : EngineModel) → IsFirst Lost no_connection s.connections None
-            → IsFirst Stood no_link s.links None
+            → IsFirst FinishDue no_link s.links None
             → next_ready s.core ≡ None → Represents self.old s → Did s now work self.new) }
         ensures less { IfOk result (λ work. Lessens self.old work self.new) }
         ensures fault { IfErr result (λ fault. (s : EngineModel) → IsFirst Lost no_connection s.connections None
-            → IsFirst Stood no_link s.links None
+            → IsFirst FinishDue no_link s.links None
             → next_ready s.core ≡ None → Represents self.old s → Failed s fault) }
         ensures unchanged { OnErr result ((s : EngineModel) → Represents self.old s → Represents self.new s) }
         ensures no_more { OnErr result (load_at self.new ≤ load_at self.old) }
@@ -42,15 +42,15 @@ impl<S: Shelf> Engine<S> {
         requires early { now < END_OF_TIME }
         requires here { NoneLost self.old.connections }
         ensures ok { IfOk result (λ work. (s : EngineModel) → IsFirst Lost no_connection s.connections None
-            → IsFirst Stood no_link s.links None
+            → IsFirst FinishDue no_link s.links None
             → Represents self.old s → Did s now work self.new) }
         ensures less { IfOk result (λ work. Lessens self.old work self.new) }
         ensures fault { IfErr result (λ fault. (s : EngineModel) → IsFirst Lost no_connection s.connections None
-            → IsFirst Stood no_link s.links None
+            → IsFirst FinishDue no_link s.links None
             → Represents self.old s → Failed s fault) }
-        ensures spent { result ≡ Err EngineFault.OutOfMemory → (s : EngineModel)
-            → IsFirst Lost no_connection s.connections None → IsFirst Stood no_link s.links None
-            → Represents self.old s → TellsSpent s self.new }
+        ensures exhausted { result ≡ Err EngineFault.OutOfMemory → (s : EngineModel)
+            → IsFirst Lost no_connection s.connections None → IsFirst FinishDue no_link s.links None
+            → Represents self.old s → ReportsExhausted s self.new }
         ensures unchanged { OnErr result ((s : EngineModel) → Represents self.old s → Represents self.new s) }
         ensures no_more { OnErr result (load_at self.new ≤ load_at self.old) }
     {
@@ -72,9 +72,9 @@ impl<S: Shelf> Engine<S> {
         ensures less { IfOk result (λ work. Lessens self.old work self.new) }
         ensures fault { IfErr result (λ fault. (s : EngineModel) → IsFirst Lost no_connection s.connections None
             → Represents self.old s → Failed s fault) }
-        ensures spent { result ≡ Err EngineFault.OutOfMemory → (s : EngineModel)
+        ensures exhausted { result ≡ Err EngineFault.OutOfMemory → (s : EngineModel)
             → IsFirst Lost no_connection s.connections None
-            → Represents self.old s → TellsSpent s self.new }
+            → Represents self.old s → ReportsExhausted s self.new }
         ensures unchanged { OnErr result ((s : EngineModel) → Represents self.old s → Represents self.new s) }
         ensures no_more { OnErr result (load_at self.new ≤ load_at self.old) }
     {
@@ -97,8 +97,8 @@ impl<S: Shelf> Engine<S> {
         ensures ok { IfOk result (λ work. (s : EngineModel) → Represents self.old s → Did s now work self.new) }
         ensures less { IfOk result (λ work. Lessens self.old work self.new) }
         ensures fault { IfErr result (λ fault. (s : EngineModel) → Represents self.old s → Failed s fault) }
-        ensures spent { result ≡ Err EngineFault.OutOfMemory → (s : EngineModel) → Represents self.old s
-            → TellsSpent s self.new }
+        ensures exhausted { result ≡ Err EngineFault.OutOfMemory → (s : EngineModel) → Represents self.old s
+            → ReportsExhausted s self.new }
         ensures unchanged { OnErr result ((s : EngineModel) → Represents self.old s → Represents self.new s) }
         ensures no_more { OnErr result (load_at self.new ≤ load_at self.old) }
     {

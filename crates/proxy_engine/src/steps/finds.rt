@@ -4,7 +4,7 @@ ghost use Rattle.std.specs.Prelude.{MatchOption, Contains, Some};
 ghost use Rattle.std.specs.Ordering.{nat_cmp};
 ghost use Rattle.std.specs.BTreeMap.{get};
 ghost use Rattle.proxy_engine.specs.ReadyList.{IsMarked};
-ghost use Rattle.proxy_engine.specs.Spent.{HasThere};
+ghost use Rattle.proxy_engine.specs.Exhausted.{HasThere};
 ghost use Rattle.proxy_engine.specs.Marked.{may_be_lost, AtEach, NoneBelow, NoneAtAll, lost_at};
 
 use crate::endpoints::endpoint::Endpoint;

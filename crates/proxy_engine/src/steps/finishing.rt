@@ -2,7 +2,7 @@
 ghost use Rattle.std.specs.Prelude.{◌≡◌, ℕ, ◌+◌, ◌<◌, ◌≤◌, ◌^◌, nat_le, List, [], None, length, vec_len, vec_capacity};
 ghost use Rattle.std.specs.Prelude.{true, false, Some, is_some, IfOk, IfErr, OnOk, OnErr, slice_index_or};
 ghost use Rattle.hx_fields.specs.declared.limits.TheConstants.{END_OF_TIME};
-ghost use Rattle.hx_framing.specs.declared.messages.Response.{Response as Told};
+ghost use Rattle.hx_framing.specs.declared.messages.Response.{Response as AnswerRead};
 ghost use Rattle.hx_framing.specs.declared.messages.Next.{Next as Answer};
 ghost use Rattle.proxy_core.specs.declared.event.Event.TheVariants.{Fail};
 ghost use Rattle.proxy_core.specs.State.{State as CoreState, Steps};
@@ -19,7 +19,7 @@ ghost use Rattle.proxy_engine.specs.declared.endpoints.ends.Connection.{Connecti
 use crate::endpoints::activities::Activity;
 use crate::endpoints::ends::Link;
 use crate::engine::Engine;
-use crate::steps::outcomes::{Upstream, free, free_lost, lacks_memory, let_go_waiting, put, room};
+use crate::steps::outcomes::{Upstream, free, free_lost, lacks_memory, put, release_waiting, room};
 use crate::work::EngineFault;
 use hx_framing::{FrameFault, Next};
 use hx_status::FailKind;
@@ -165,7 +165,7 @@ impl<S: Shelf> Engine<S> {
             Ok(_) => {}
             Err(_) => unreachable!(),
         }
-        let_go_waiting(&mut self.ends.connections, i);
+        release_waiting(&mut self.ends.connections, i);
         Ok(effects)
     }
 
@@ -235,14 +235,15 @@ impl<S: Shelf> Engine<S> {
             → finish_at (slice_index_or self.old.links j None) ≡ Some f
             → Represents self.old s → Done s now (Finishes j f) effects.items self.new) }
         ensures less { OnOk result (load_at self.new < load_at self.old) }
-        ensures spent { IfErr result (λ fault. (f : Finish) → finish_at (slice_index_or self.old.links j None) ≡ Some f
+        ensures exhausted { IfErr result
+            (λ fault. (f : Finish) → finish_at (slice_index_or self.old.links j None) ≡ Some f
             → EndFault (nat_le (2 ^ 64) (self.old.first + length self.old.links)) f fault) }
         ensures fault { IfErr result (λ fault. (s : EngineModel) → (f : Finish)
             → finish_at (slice_index_or self.old.links j None) ≡ Some f → IsDueFirst s (Some (Finishes j f))
             → Represents self.old s → Failed s fault) }
         ensures err { OnErr result (self.new ≡ self.old) }
     {
-        if self.ends.is_spent() && is_answered(self.ends.links.at(j)) {
+        if self.ends.is_exhausted() && is_answered(self.ends.links.at(j)) {
             return Err(EngineFault::Spent);
         }
         match self.complete(alloc, now, j) {

@@ -73,7 +73,7 @@ pub(crate) fn send_reply(
     requires free { is_free (slice_index_or connections.old.items i None) ≡ true }
     requires room { vec_len effects.old + 2 ≤ vec_capacity effects.old }
     ensures effects { effects.new.items ≡ effects.old.items ++ effects_on i 0 (Replies bytes close) }
-    ensures stands { (s : EngineModel) → (links : List (Option Link)) → (core : CoreState) → (first : ℕ)
+    ensures represents { (s : EngineModel) → (links : List (Option Link)) → (core : CoreState) → (first : ℕ)
         → Represents (state connections.old.items links core first) s
         → Represents (state connections.new.items links core first) (with_connection s i (closing close)) }
     ensures activities { activities_of connections.new.items ≡ activities_of connections.old.items }
@@ -101,7 +101,7 @@ fn open_link(
 )
     requires free { is_free (slice_index_or connections.old.items i None) ≡ true }
     requires room { links.old.has_room ≡ true }
-    ensures stands { (s : EngineModel) → (core : CoreState) → (first : ℕ) → core.table.max_body ≡ max_body
+    ensures represents { (s : EngineModel) → (core : CoreState) → (first : ℕ) → core.table.max_body ≡ max_body
         → first + length links.old.items < 2 ^ 64
         → Represents (state connections.old.items links.old.items core first) s
         → Represents (state connections.new.items links.new.items core first) (with_opened s i to_head) }
@@ -176,7 +176,7 @@ impl Upstream {
 pub(crate) fn free(connections: &mut Connections, links: &mut Links, j: u64, i: u64)
     requires link { is_some (slice_index_or links.old.items j None) ≡ true }
     requires connection { gone_at (slice_index_or connections.old.items i None) ≡ Some false }
-    ensures stands { (s : EngineModel) → (core : CoreState) → (first : ℕ)
+    ensures represents { (s : EngineModel) → (core : CoreState) → (first : ℕ)
         → Represents (state connections.old.items links.old.items core first) s
         → Represents (state connections.new.items links.new.items core first) (freed s j i) }
     ensures activities { activities_of connections.new.items
@@ -188,28 +188,28 @@ pub(crate) fn free(connections: &mut Connections, links: &mut Links, j: u64, i: 
     ensures room { links.new.has_room ≡ links.old.has_room }
     ensures links { length links.new.items ≡ length links.old.items }
 {
-    links.let_go(j);
+    links.release(j);
     marks::unlink_at(connections, i);
 }
 
 /// The exchange of a request that waited is over, and so is its connection, which is gone.
-pub(crate) fn let_go_waiting(connections: &mut Connections, i: u64)
+pub(crate) fn release_waiting(connections: &mut Connections, i: u64)
     requires { gone_at (slice_index_or connections.old.items i None) ≡ Some true }
-    ensures stands { (s : EngineModel) → (links : List (Option Link)) → (core : CoreState) → (first : ℕ)
+    ensures represents { (s : EngineModel) → (links : List (Option Link)) → (core : CoreState) → (first : ℕ)
         → Represents (state connections.old.items links core first) s
         → Represents (state connections.new.items links core first) (with_connection s i (doing Activity.Free)) }
     ensures activities { activities_of connections.new.items
         ≡ slice_set (activities_of connections.old.items) i Activity.Free }
     ensures load { sum_by connection_load connections.new.items < sum_by connection_load connections.old.items }
 {
-    connections.let_go(i);
+    connections.release(i);
 }
 
 /// The exchange of a link is over, and so is its connection, which is gone.
 pub(crate) fn free_lost(connections: &mut Connections, links: &mut Links, j: u64, i: u64)
     requires link { is_some (slice_index_or links.old.items j None) ≡ true }
     requires connection { gone_at (slice_index_or connections.old.items i None) ≡ Some true }
-    ensures stands { (s : EngineModel) → (core : CoreState) → (first : ℕ)
+    ensures represents { (s : EngineModel) → (core : CoreState) → (first : ℕ)
         → Represents (state connections.old.items links.old.items core first) s
         → Represents (state connections.new.items links.new.items core first) (freed s j i) }
     ensures activities { activities_of connections.new.items
@@ -217,8 +217,8 @@ pub(crate) fn free_lost(connections: &mut Connections, links: &mut Links, j: u64
     ensures owners { owners_of links.new.items ≡ slice_set (owners_of links.old.items) j None }
     ensures load { load_of connections.new.items links.new.items < load_of connections.old.items links.old.items }
 {
-    links.let_go(j);
-    connections.let_go(i);
+    links.release(j);
+    connections.release(i);
 }
 
 impl Ends {
@@ -230,7 +230,7 @@ impl Ends {
     }
 
     /// Whether no link number is left.
-    pub(crate) fn is_spent(&self) -> bool
+    pub(crate) fn is_exhausted(&self) -> bool
         ensures { result ≡ nat_le (2 ^ 64) (self.now.first_link + length self.now.links.items) }
     {
         self.links.len() > u64::MAX - self.first_link
@@ -252,7 +252,7 @@ impl Ends {
         ensures effects { effects.new.items ≡ effects.old.items
             ++ effects_on i (self.old.first_link + length self.old.links.items)
             (came_at upstream.address.items outcome) }
-        ensures stands { (s : EngineModel) → (core : CoreState) → core.table.max_body ≡ upstream.max_body
+        ensures represents { (s : EngineModel) → (core : CoreState) → core.table.max_body ≡ upstream.max_body
             → Represents (state_of self.old core) s
             → Represents (state_of self.new core)
             (after_on i upstream.to_head (came_at upstream.address.items outcome) s) }

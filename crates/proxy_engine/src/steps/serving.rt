@@ -168,13 +168,13 @@ impl<S: Shelf> Engine<S> {
         ensures less { OnOk result ((r : Request) → action_at (slice_index_or self.old.connections i None)
             ≡ Some (next.Message r)
             → load_at self.new < load_at self.old) }
-        ensures spent { result ≡ Err EngineFault.OutOfMemory → self.old.first + length self.old.links < 2 ^ 64 }
+        ensures exhausted { result ≡ Err EngineFault.OutOfMemory → self.old.first + length self.old.links < 2 ^ 64 }
         ensures fault { IfErr result (λ fault. (s : EngineModel) → (r : Request) → IsAdmitted r (Ok asked.now)
             → IsDueFirst s (Some (Serves i (next.Message r)))
             → Represents self.old s → Failed s fault) }
         ensures err { OnErr result (self.new ≡ self.old) }
     {
-        if self.ends.is_spent() {
+        if self.ends.is_exhausted() {
             return Err(EngineFault::Spent);
         }
         match self.admit(alloc, now, i, asked) {

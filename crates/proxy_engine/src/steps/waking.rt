@@ -60,12 +60,12 @@ impl<S: Shelf> Engine<S> {
         ensures ok { IfOk result (λ effects. (s : EngineModel) → (i : ℕ) → id ≡ i + 1 → Represents self.old s
             → Done s now (Wakes i) effects.items self.new) }
         ensures less { OnOk result (load_at self.new < load_at self.old) }
-        ensures spent { result ≡ Err EngineFault.OutOfMemory → self.old.first + length self.old.links < 2 ^ 64 }
+        ensures exhausted { result ≡ Err EngineFault.OutOfMemory → self.old.first + length self.old.links < 2 ^ 64 }
         ensures fault { IfErr result (λ fault. (s : EngineModel) → (i : ℕ) → id ≡ i + 1 → IsDueFirst s (Some (Wakes i))
             → Represents self.old s → Failed s fault) }
         ensures err { OnErr result (self.new ≡ self.old) }
     {
-        if self.ends.is_spent() {
+        if self.ends.is_exhausted() {
             return Err(EngineFault::Spent);
         }
         prove!(id > 0);

@@ -19,7 +19,7 @@ static LINES: [[&str; 5]; 3] = [
 ];
 
 #[test]
-fn each_line_tells_whether_it_has_a_cache(rt: HostRuntime) -> Result<(), Fail> {
+fn each_line_says_whether_it_has_a_cache(rt: HostRuntime) -> Result<(), Fail> {
     let config = config_of(rt.alloc(), 2, &LINES)?;
     assert!(rt; !config.policy(1).caches);
     assert!(rt; config.policy(2) == Policy::plain(true));
@@ -45,7 +45,7 @@ static WORDED: [[&str; 5]; 2] = [
 ];
 
 #[test]
-fn each_line_tells_its_words(rt: HostRuntime) -> Result<(), Fail> {
+fn each_line_says_its_words(rt: HostRuntime) -> Result<(), Fail> {
     let config = config_of(rt.alloc(), 3, &WORDED)?;
     let policy = config.policy(1);
     assert!(rt; policy.caches);
@@ -62,7 +62,7 @@ fn each_line_tells_its_words(rt: HostRuntime) -> Result<(), Fail> {
 }
 
 #[test]
-fn a_word_that_cannot_stand_is_told_with_its_line(rt: HostRuntime) -> Result<(), Fail> {
+fn a_misplaced_word_is_named_with_its_line(rt: HostRuntime) -> Result<(), Fail> {
     let line = ["*", "GET", "/admin", "deny", "errors = \"stored\"\n"];
     let table = table_text(rt.alloc(), 3, 2, 10, &[line])?;
     match Config::read(rt.alloc(), table.as_bytes()) {
@@ -80,7 +80,7 @@ static SHADOWED: [[&str; 5]; 4] = [
 ];
 
 #[test]
-fn lines_that_are_never_reached_are_told(rt: HostRuntime) -> Result<(), Fail> {
+fn lines_that_are_never_reached_are_named(rt: HostRuntime) -> Result<(), Fail> {
     let config = config_of(rt.alloc(), 1, &SHADOWED)?;
     assert!(rt; config.taken_by(1) == None);
     assert!(rt; config.taken_by(2) == Some(1));

@@ -62,7 +62,7 @@ fn does(rt: &impl Abort, alloc: Global, engine: &mut Engine<ListShelf>, now: u64
     requires { now < 253402300800 }
 {
     match work(alloc, engine, now) {
-        Ok(Some(told)) => assert!(rt; told.as_slice() == text),
+        Ok(Some(shown)) => assert!(rt; shown.as_slice() == text),
         _ => assert!(rt; false),
     }
     rests(rt, alloc, engine, now);

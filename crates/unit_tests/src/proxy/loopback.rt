@@ -104,7 +104,7 @@ fn loopback_hit(rt: HostRuntime) -> Result<(), Fail> {
 /// An origin that never answers has timed out after its silence, and a client that sends nothing is closed after its
 /// own.
 #[test]
-fn silent_ends_are_let_go(rt: HostRuntime) -> Result<(), Fail> {
+fn silent_ends_are_released(rt: HostRuntime) -> Result<(), Fail> {
     let origin = TcpListener::bind(&rt, "127.0.0.1:0")?;
     let (mut server, address) = server_before(&rt, origin.local_addr()?, 1)?;
     let mut idle = TcpStream::connect(&rt, address)?;

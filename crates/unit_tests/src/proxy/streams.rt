@@ -67,7 +67,7 @@ impl Write for Sink {
 }
 
 /// How a replay ends, in a word.
-fn told(ended: &Result<(), ReplayFault>) -> &'static str {
+fn shown(ended: &Result<(), ReplayFault>) -> &'static str {
     match ended {
         Ok(()) => "done",
         Err(ReplayFault::Read) => "read",
@@ -89,7 +89,7 @@ fn read_from(alloc: Global, most: usize, calls: u64, kind: ErrorKind) -> Result<
     };
     let mut text = Vec::new(alloc);
     let result = replay(alloc, &mut source, &mut text);
-    Ok((told(&result), text))
+    Ok((shown(&result), text))
 }
 
 fn written_to(alloc: Global, most: usize, calls: u64, kind: ErrorKind) -> Result<Ended, Fail> {
@@ -102,7 +102,7 @@ fn written_to(alloc: Global, most: usize, calls: u64, kind: ErrorKind) -> Result
         kind,
     };
     let result = replay(alloc, &mut script, &mut sink);
-    Ok((told(&result), sink.text))
+    Ok((shown(&result), sink.text))
 }
 
 /// A replay ended well, and wrote all effects.
@@ -209,5 +209,5 @@ impl Read for Endless {
 fn a_script_past_the_limit_is_no_longer_read(rt: HostRuntime) {
     let mut text = Vec::new(rt.alloc());
     let result = replay(rt.alloc(), &mut Endless { line: false }, &mut text);
-    assert!(rt; told(&result) == "read" && text.is_empty());
+    assert!(rt; shown(&result) == "read" && text.is_empty());
 }

@@ -9,7 +9,7 @@ use Rattle.hx_store.specs.Shelf.{find_entry, matching_serials, serials_of}
 use Rattle.hx_reuse.specs.declared.decision.Decision.TheVariants.{Hit, Forward}
 use Rattle.hx_reuse.specs.Chosen.{chosen_of, latest}
 use Rattle.hx_reuse.specs.declared.rule.ReuseRule.TheVariants.{UriMiss, VaryMiss}
-use Rattle.hx_reuse.specs.Rules.{decision_of, request_rules, stands}
+use Rattle.hx_reuse.specs.Rules.{decision_of, request_rules, applies}
 use Rattle.hx_reuse.proofs.Latest.{latest_is_the_chosen}
 use Rattle.hx_reuse.proofs.RuleLemmas.{by_none, by_request, by_rule, by_uri, by_vary, chosen_key, key_held, unheld}
 use Rattle.hx_reuse.proofs.decision.decide_from_store.Goals as goal
@@ -21,7 +21,7 @@ returns-in-Some g c =
 
 -- by whether the key is held
 missed : (policy : Policy) (caches : policy.caches ≡ true) (es : List Stored) (asked : Asked) (now : ℕ) (b : Bool) → (length (serials_of asked.target.key es) == 0) ≡ b →
-    find (λ r. stands r policy es asked now) request_rules ≡ None → chosen_of es asked ≡ None → Forward (cond b UriMiss VaryMiss) None ≡ decision_of policy es asked now
+    find (λ r. applies r policy es asked now) request_rules ≡ None → chosen_of es asked ≡ None → Forward (cond b UriMiss VaryMiss) None ≡ decision_of policy es asked now
 missed policy caches es asked now true h free chosen = by_uri policy caches es asked now free (unheld es asked (ap not h))
 missed policy caches es asked now false h free chosen = by_vary policy caches es asked now free (key_held es asked (ap not h)) chosen
 
@@ -29,7 +29,7 @@ pub returns-in_default-latest_of : goal.returns-in_default-latest_of
 returns-in_default-latest_of g c =
     let es = g.S.Shelf.entries c.args.shelf.now in
     let asked = c.args.asked.now in
-    let free : find (λ r. stands r c.args.policy es asked c.args.now) request_rules ≡ None =
+    let free : find (λ r. applies r c.args.policy es asked c.args.now) request_rules ≡ None =
     sym (c.request_rule.ensures c.args.policy es c.args.now) ∙ c.in_default.is in
     let matching : c.as_slice.result.now ≡ matching_serials asked.target.key asked.fields es = search rules in
     let chosen : chosen_of es asked ≡ None =
@@ -43,7 +43,7 @@ pub returns-in-Some-rule_on : goal.returns-in-Some-rule_on
 returns-in-Some-rule_on g c =
     let es = g.S.Shelf.entries c.args.shelf.now in
     let asked = c.args.asked.now in
-    let free : find (λ r. stands r c.args.policy es asked c.args.now) request_rules ≡ None =
+    let free : find (λ r. applies r c.args.policy es asked c.args.now) request_rules ≡ None =
     sym (c.request_rule.ensures c.args.policy es c.args.now) ∙ c.in_default.is in
     let matching : c.as_slice.result.now ≡ matching_serials asked.target.key asked.fields es = search rules in
     let chosen : chosen_of es asked ≡ Some c.in-Some-latest_of.entry.now =
@@ -57,7 +57,7 @@ pub returns : goal.returns
 returns g c =
     let es = g.S.Shelf.entries c.args.shelf.now in
     let asked = c.args.asked.now in
-    let free : find (λ r. stands r c.args.policy es asked c.args.now) request_rules ≡ None =
+    let free : find (λ r. applies r c.args.policy es asked c.args.now) request_rules ≡ None =
     sym (c.request_rule.ensures c.args.policy es c.args.now) ∙ c.in_default.is in
     let matching : c.as_slice.result.now ≡ matching_serials asked.target.key asked.fields es = search rules in
     let chosen : chosen_of es asked ≡ Some c.in-Some-latest_of.entry.now =

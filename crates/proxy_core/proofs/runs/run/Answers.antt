@@ -53,7 +53,7 @@ returns-in-Err-clause-stopped g c =
     stops_held c.args.config limit c.args.first_serial _ _ _
     (plain c.args.config limit c.args.first_serial c.args.events.now c.loop-event.outcomes.items _ c.reserve.ensures.items i.good)
     (stops_at (begun c.args.config limit c.args.first_serial) c.args.events.now c.loop-event.outcomes.items _ c.event-item.result c.loop-event.core _ c.reserve.ensures.items
-    (at_index c.args.events.now _ _ c.event-item.result i.long n c.event-item.is) i.stands c.in-Err.ensures.err)
+    (at_index c.args.events.now _ _ c.event-item.result i.long n c.event-item.is) i.applies c.in-Err.ensures.err)
 
 pub returns-then-is_err-clause-stopped : goal.returns-then-is_err-clause-stopped
 returns-then-is_err-clause-stopped g c =
@@ -63,7 +63,7 @@ returns-then-is_err-clause-stopped g c =
     stops_held c.args.config limit c.args.first_serial _ _ _
     (plain c.args.config limit c.args.first_serial c.args.events.now c.loop-event.outcomes.items _ c.reserve.ensures.items i.good)
     (stops_at (begun c.args.config limit c.args.first_serial) c.args.events.now c.loop-event.outcomes.items _ c.event-item.result c.loop-event.core _ c.reserve.ensures.items
-    (at_index c.args.events.now _ _ c.event-item.result i.long n c.event-item.is) i.stands (refuses_or c.loop-event.core c.event-item.result _ c.fault.result c.fault.ensures c.unwrap_or-fault.ensures))
+    (at_index c.args.events.now _ _ c.event-item.result i.long n c.event-item.is) i.applies (refuses_or c.loop-event.core c.event-item.result _ c.fault.result c.fault.ensures c.unwrap_or-fault.ensures))
 
 pub loop-event-preserved : goal.loop-event-preserved
 loop-event-preserved g c =
@@ -77,6 +77,6 @@ loop-event-preserved g c =
     let k = c.in-Ok.ensures.ok in
     record {
       long = ap length p ∙ (length-append os (c.in-Ok.outcome ∷ []) ∙ ap (λ m. m + 1) i.long);
-      stands = left-push start es os c.event-item.result c.in-Ok.outcome c.loop-event.core _ at i.stands k ∙ ap (λ (zs : List Outcome). left start (trace_of es zs)) (sym p);
-      good = subst (λ (zs : List Outcome). IsGood start (trace_of es zs)) (sym p) (good-push start es os c.event-item.result c.in-Ok.outcome c.loop-event.core _ at i.stands k i.good);
+      applies = left-push start es os c.event-item.result c.in-Ok.outcome c.loop-event.core _ at i.applies k ∙ ap (λ (zs : List Outcome). left start (trace_of es zs)) (sym p);
+      good = subst (λ (zs : List Outcome). IsGood start (trace_of es zs)) (sym p) (good-push start es os c.event-item.result c.in-Ok.outcome c.loop-event.core _ at i.applies k i.good);
     }

@@ -6,6 +6,6 @@ use Rattle.proxy_core.proofs.runs.run.Given as goal
 abbrev pub invariant-loop-event : goal.invariant-loop-event
 invariant-loop-event g l = record {
   long : length l.outcomes.items ≡ l.event-index;
-  stands : l.core ≡ left (begun l.fn.config (g.S.Shelf.limit l.fn.shelf) l.first_serial) (trace_of l.events l.outcomes.items);
+  applies : l.core ≡ left (begun l.fn.config (g.S.Shelf.limit l.fn.shelf) l.first_serial) (trace_of l.events l.outcomes.items);
   good : IsGood (begun l.fn.config (g.S.Shelf.limit l.fn.shelf) l.first_serial) (trace_of l.events l.outcomes.items);
 }

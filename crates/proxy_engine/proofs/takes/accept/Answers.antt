@@ -16,6 +16,6 @@ returns-in-Err-clause-fault c = λ s links core first h. opens_full c.args.conne
 pub returns-in-Ok-clause-ok : goal.returns-in-Ok-clause-ok
 returns-in-Ok-clause-ok c = λ s links core first most h. record {
   free = opens_free c.args.connections.now.items links core first s c.args.n true (sym c.is_next.ensures ∙ c.if-not-is_next.false) h;
-  stands = subst (λ (cs : List (Option Connection)). Represents (state cs links core first) (heard s (Accepts c.args.n))) (sym c.in-Ok.ensures.ok)
-      (accepted_more c.args.connections.now.items links core first s c.args.max_body c.new-reader.result most (c.new-reader.ensures.stands _ c.new.ensures.stands (no_request_yet c.args.max_body)) h);
+  represents = subst (λ (cs : List (Option Connection)). Represents (state cs links core first) (heard s (Accepts c.args.n))) (sym c.in-Ok.ensures.ok)
+      (accepted_more c.args.connections.now.items links core first s c.args.max_body c.new-reader.result most (c.new-reader.ensures.represents _ c.new.ensures.represents (no_request_yet c.args.max_body)) h);
 }

@@ -14,21 +14,21 @@ returns-in_default-clause-fault c = λ s connections core h. link_refused connec
 pub returns-in_default-at_mut-clause-ok : goal.returns-in_default-at_mut-clause-ok
 returns-in_default-at_mut-clause-ok c = λ s connections core h. record {
   free = link_free connections c.args.links.now.items core c.args.first s c.args.l true c.in-Some.ensures.0 h;
-  stands = link_over (heard_by c.args.bytes.now) connections c.args.links.now.items core c.args.first s c.args.l c.in-Some.j c.in-Some.ensures.1 c.in-Some.ensures.2 c.in_default-at_mut.ensures.value (λ k q. heard_over c.args.bytes.now k q) h;
+  represents = link_over (heard_by c.args.bytes.now) connections c.args.links.now.items core c.args.first s c.args.l c.in-Some.j c.in-Some.ensures.1 c.in-Some.ensures.2 c.in_default-at_mut.ensures.value (λ k q. heard_over c.args.bytes.now k q) h;
 }
 
 pub returns-in-Ok-clause-ok : goal.returns-in-Ok-clause-ok
 returns-in-Ok-clause-ok c = λ s connections core h. record {
   free = link_free connections c.args.links.now.items core c.args.first s c.args.l true c.in-Some.ensures.0 h;
-  stands = link_taken (heard_by c.args.bytes.now) connections c.args.links.now.items core c.args.first s c.args.l c.in-Some.j (Some c.hear.new.link) c.in-Some.ensures.1 c.in-Some.ensures.2
-      (λ k q. c.in-Ok.ensures.stands k (subst (λ (o : Option Link). LinkRepresents o k) (sym c.in-Some-at_mut.ensures.value) q)) h;
+  represents = link_taken (heard_by c.args.bytes.now) connections c.args.links.now.items core c.args.first s c.args.l c.in-Some.j (Some c.feed_link.new.link) c.in-Some.ensures.1 c.in-Some.ensures.2
+      (λ k q. c.in-Ok.ensures.represents k (subst (λ (o : Option Link). LinkRepresents o k) (sym c.in-Some-at_mut.ensures.value) q)) h;
 }
 
 pub returns-in-Err-clause-fault : goal.returns-in-Err-clause-fault
 returns-in-Err-clause-fault c = λ s connections core h. link_full connections c.args.links.now.items core c.args.first s c.args.l c.in-Some.ensures.0 h
 
 pub returns-in-Ok-clause-owners : goal.returns-in-Ok-clause-owners
-returns-in-Ok-clause-owners c = map_kept owner_of c.args.links.now.items c.in-Some.j None (Some c.hear.new.link) (ap Some c.hear.ensures.connection ∙ ap owner_of c.in-Some-at_mut.ensures.value)
+returns-in-Ok-clause-owners c = map_kept owner_of c.args.links.now.items c.in-Some.j None (Some c.feed_link.new.link) (ap Some c.feed_link.ensures.connection ∙ ap owner_of c.in-Some-at_mut.ensures.value)
 
 pub returns-in-Err-clause-kept : goal.returns-in-Err-clause-kept
 returns-in-Err-clause-kept c = λ e s connections core h. link_keeps connections c.args.links.now.items core c.args.first s c.args.l c.in-Some.j c.in-Some-at_mut.link.now c.in-Some.ensures.1 c.in-Some.ensures.2 c.in-Some-at_mut.ensures.value c.in-Err.ensures.kept h

@@ -14,14 +14,14 @@ returns-in_default-clause-fault c = λ s links core first h. connection_refused 
 pub returns-in_default-at_mut-clause-ok : goal.returns-in_default-at_mut-clause-ok
 returns-in_default-at_mut-clause-ok c = λ s links core first h. record {
   free = connection_free c.args.connections.now.items links core first s c.args.n true c.in-Some.ensures.0 h;
-  stands = connection_over (sent c.args.bytes.now) c.args.connections.now.items links core first s c.args.n c.in-Some.i c.in-Some.ensures.1 c.in-Some.ensures.2 c.in_default-at_mut.ensures.value (λ k q. sent_over c.args.bytes.now k q) h;
+  represents = connection_over (sent c.args.bytes.now) c.args.connections.now.items links core first s c.args.n c.in-Some.i c.in-Some.ensures.1 c.in-Some.ensures.2 c.in_default-at_mut.ensures.value (λ k q. sent_over c.args.bytes.now k q) h;
 }
 
 pub returns-in-Ok-clause-ok : goal.returns-in-Ok-clause-ok
 returns-in-Ok-clause-ok c = λ s links core first h. record {
   free = connection_free c.args.connections.now.items links core first s c.args.n true c.in-Some.ensures.0 h;
-  stands = connection_taken (sent c.args.bytes.now) c.args.connections.now.items links core first s c.args.n c.in-Some.i (Some c.send.new.connection) c.in-Some.ensures.1 c.in-Some.ensures.2
-      (λ k q. c.in-Ok.ensures.stands k (subst (λ (o : Option Connection). ConnectionRepresents o k) (sym c.in-Some-at_mut.ensures.value) q)) h;
+  represents = connection_taken (sent c.args.bytes.now) c.args.connections.now.items links core first s c.args.n c.in-Some.i (Some c.send.new.connection) c.in-Some.ensures.1 c.in-Some.ensures.2
+      (λ k q. c.in-Ok.ensures.represents k (subst (λ (o : Option Connection). ConnectionRepresents o k) (sym c.in-Some-at_mut.ensures.value) q)) h;
 }
 
 pub returns-in-Err-clause-fault : goal.returns-in-Err-clause-fault

@@ -13,14 +13,14 @@ returns-in_default-clause-fault c = λ s connections core h. link_refused connec
 pub returns-in_default-at_mut-clause-ok : goal.returns-in_default-at_mut-clause-ok
 returns-in_default-at_mut-clause-ok c = λ s connections core h. record {
   free = link_free connections c.args.links.now.items core c.args.first s c.args.l true c.in-Some.ensures.0 h;
-  stands = link_over shut connections c.args.links.now.items core c.args.first s c.args.l c.in-Some.j c.in-Some.ensures.1 c.in-Some.ensures.2 c.in_default-at_mut.ensures.value shut_over h;
+  represents = link_over shut connections c.args.links.now.items core c.args.first s c.args.l c.in-Some.j c.in-Some.ensures.1 c.in-Some.ensures.2 c.in_default-at_mut.ensures.value shut_over h;
 }
 
 pub returns-in-Some-at_mut-clause-ok : goal.returns-in-Some-at_mut-clause-ok
 returns-in-Some-at_mut-clause-ok c = λ s connections core h. record {
   free = link_free connections c.args.links.now.items core c.args.first s c.args.l true c.in-Some.ensures.0 h;
-  stands = link_taken shut connections c.args.links.now.items core c.args.first s c.args.l c.in-Some.j (Some c.close_link.new.link) c.in-Some.ensures.1 c.in-Some.ensures.2
-      (λ k q. c.close_link.ensures.stands k (subst (λ (o : Option Link). LinkRepresents o k) (sym c.in-Some-at_mut.ensures.value) q)) h;
+  represents = link_taken shut connections c.args.links.now.items core c.args.first s c.args.l c.in-Some.j (Some c.close_link.new.link) c.in-Some.ensures.1 c.in-Some.ensures.2
+      (λ k q. c.close_link.ensures.represents k (subst (λ (o : Option Link). LinkRepresents o k) (sym c.in-Some-at_mut.ensures.value) q)) h;
 }
 
 pub returns-in-Some-at_mut-clause-owners : goal.returns-in-Some-at_mut-clause-owners

@@ -5,12 +5,12 @@ use Rattle.proxy_replay.proofs.Stepping.{worked_more, settled_by}
 use Rattle.proxy_replay.proofs.steps.settle.Goals as goal
 
 pub returns-in-Ok-Idle-clause-ok : goal.returns-in-Ok-Idle-clause-ok
-returns-in-Ok-Idle-clause-ok g c = λ s stands.
-    let before = c.acts.invariant s stands in
-    settled_by s c.args.now c.acts.done.items c.acts.engine c.work.new.self c.in-Ok-Idle.field-0 before c.in-Ok-Idle.field-0-is (c.in-Ok-Idle.ensures.ok before.last before.stands)
+returns-in-Ok-Idle-clause-ok g c = λ s represents.
+    let before = c.acts.invariant s represents in
+    settled_by s c.args.now c.acts.done.items c.acts.engine c.work.new.self c.in-Ok-Idle.field-0 before c.in-Ok-Idle.field-0-is (c.in-Ok-Idle.ensures.ok before.last before.represents)
 
 pub acts-preserved : goal.acts-preserved
-acts-preserved g c = λ s stands.
-    let before = c.acts.invariant s stands in
+acts-preserved g c = λ s represents.
+    let before = c.acts.invariant s represents in
     subst (λ (es : List Effect). Worked s c.args.now es c.work.new.self) (sym c.in-Ok.ensures)
-    (worked_more s c.args.now c.acts.done.items c.acts.engine c.work.new.self c.in-Ok-Did.field-0 c.in-Ok-Did.effects before c.in-Ok-Did.field-0-is (c.in-Ok-Did.ensures.ok before.last before.stands))
+    (worked_more s c.args.now c.acts.done.items c.acts.engine c.work.new.self c.in-Ok-Did.field-0 c.in-Ok-Did.effects before c.in-Ok-Did.field-0-is (c.in-Ok-Did.ensures.ok before.last before.represents))

@@ -7,10 +7,10 @@ use Rattle.proxy_turn.proofs.effects.carry_out.Goals as goal
 pub returns-in_err-more-clause-never : goal.returns-in_err-more-clause-never
 returns-in_err-more-clause-never g c =
     let n : c.loop-effect.effect-index < length c.args.effects.now = omega arith in
-    on_err c.from_residual.result (λ fits s stands there.
-    let done = c.loop-effect.invariant.done s stands there in
+    on_err c.from_residual.result (λ fits s represents there.
+    let done = c.loop-effect.invariant.done s represents there in
     let room = c.loop-effect.invariant.room fits in
-    c.in_err-more.ensures.never (omega (arith, room, n)) done.last done.stands
+    c.in_err-more.ensures.never (omega (arith, room, n)) done.last done.represents
     (named_later c.what_ends_stays_ended.ensures.takes s _ c.args.effects.now c.loop-effect.effect-index c.effect-item.result c.loop-effect.engine _ _ _ _ c.loop-effect.faults c.effect-item.is n there done))
 
 pub loop-effect-preserved : goal.loop-effect-preserved
@@ -20,12 +20,12 @@ loop-effect-preserved g c =
     let one = c.in_ok-more.ensures.few in
     let sum : c.saturating_add-faults.result ≡ c.loop-effect.faults + c.in_ok-more.more = search rules in
     record {
-      done = λ s stands there.
-          let done = c.loop-effect.invariant.done s stands there in
+      done = λ s represents there.
+          let done = c.loop-effect.invariant.done s represents there in
           let here = named_later c.what_ends_stays_ended.ensures.takes s _ c.args.effects.now c.loop-effect.effect-index c.effect-item.result c.loop-effect.engine _ _ _ _ c.loop-effect.faults c.effect-item.is n there done in
           subst (CarriedOut s _ _ c.carry_out_one.new.engine _ _ _ _) (sym sum)
           (carried_more s _ c.args.effects.now c.loop-effect.effect-index c.effect-item.result c.loop-effect.engine c.carry_out_one.new.engine _ _ _ _ _ _ _ _ c.loop-effect.faults c.in_ok-more.more c.effect-item.is n done
-          (c.in_ok-more.ensures.ok done.last done.stands here)
+          (c.in_ok-more.ensures.ok done.last done.represents here)
           (λ x y p q. g.met.K.Sockets.joined _ _ _ x y p q));
       room = λ fits. let room = c.loop-effect.invariant.room fits in let kept = c.carry_out_one.ensures.room in let longer = c.carry_out_one.ensures.one in omega (arith, room, kept, longer);
       few = omega (arith, few, one, sum);

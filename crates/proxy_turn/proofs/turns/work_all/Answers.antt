@@ -2,49 +2,49 @@ use Rattle.std.proofs.Common.{◌≡◌, ◌≤◌, ◌+◌, List, length, map, 
 use Rattle.proxy_script.specs.declared.effect_list.Effect.{Effect}
 use Rattle.proxy_turn.specs.Turn.{end_of}
 use Rattle.proxy_turn.specs.Parts.{AreThere}
-use Rattle.proxy_turn.proofs.Working.{same_gone, same_told, same_fault, worked_none, stopped_by, idle_by, failed_by, acted, told_there, told_short, worked_more}
+use Rattle.proxy_turn.proofs.Working.{same_gone, same_emitted, same_fault, worked_none, stopped_by, idle_by, failed_by, acted, emitted_there, emitted_short, worked_more}
 use Rattle.proxy_turn.proofs.turns.work_all.Goals as goal
 
 pub loop-works-init : goal.loop-works-init
-loop-works-init g c = λ s stands h. worked_none c.args.now s c.args.engine.now c.in-Ok.failed.items _ _ (c.in-Ok.ensures s stands) stands (g.met.K.Sockets.none _)
+loop-works-init g c = λ s represents h. worked_none c.args.now s c.args.engine.now c.in-Ok.failed.items _ _ (c.in-Ok.ensures s represents) represents (g.met.K.Sockets.none _)
 
 pub returns-in_default : goal.returns-in_default
-returns-in_default g c = λ s stands h. stopped_by _ _ _ _ _ _ _ _ _ (worked_none c.args.now s c.args.engine.now _ _ _ refl stands (g.met.K.Sockets.none _)) (omega arith)
+returns-in_default g c = λ s represents h. stopped_by _ _ _ _ _ _ _ _ _ (worked_none c.args.now s c.args.engine.now _ _ _ refl represents (g.met.K.Sockets.none _)) (omega arith)
 
 pub returns-in-Ok-Idle : goal.returns-in-Ok-Idle
-returns-in-Ok-Idle g c = λ s stands h.
-    let done = c.loop-works.invariant s stands h in
+returns-in-Ok-Idle g c = λ s represents h.
+    let done = c.loop-works.invariant s represents h in
     let within = c.loop-works-test.true in
-    idle_by c.args.now s c.loop-works.engine _ _ _ _ c.loop-works.works c.loop-works.faults done c.in-Ok-Idle.field-0 c.work.new.self _ c.in-Ok-Idle.field-0-is (c.in-Ok-Idle.ensures.ok done.some.last done.some.stands) refl refl (omega (arith, within))
+    idle_by c.args.now s c.loop-works.engine _ _ _ _ c.loop-works.works c.loop-works.faults done c.in-Ok-Idle.field-0 c.work.new.self _ c.in-Ok-Idle.field-0-is (c.in-Ok-Idle.ensures.ok done.some.last done.some.represents) refl refl (omega (arith, within))
 
 pub returns-in-Err : goal.returns-in-Err
-returns-in-Err g c = λ s stands h.
-    let done = c.loop-works.invariant s stands h in
+returns-in-Err g c = λ s represents h.
+    let done = c.loop-works.invariant s represents h in
     let within = c.loop-works-test.true in
     same_fault c.args.now s c.work.new.self _ _ _ _ c.from.result c.from.ensures
-    (failed_by c.args.now s c.loop-works.engine _ _ _ _ c.loop-works.works c.loop-works.faults done c.in-Err.fault c.work.new.self (c.in-Err.ensures.fault done.some.last done.some.stands) (c.in-Err.ensures.unchanged done.some.last done.some.stands) (omega (arith, within)))
+    (failed_by c.args.now s c.loop-works.engine _ _ _ _ c.loop-works.works c.loop-works.faults done c.in-Err.fault c.work.new.self (c.in-Err.ensures.fault done.some.last done.some.represents) (c.in-Err.ensures.unchanged done.some.last done.some.represents) (omega (arith, within)))
 
 pub returns-in-Err-carry_out : goal.returns-in-Err-carry_out
-returns-in-Err-carry_out g c = λ s stands h.
-    let first = c.loop-works.invariant s stands h in
+returns-in-Err-carry_out g c = λ s represents h.
+    let first = c.loop-works.invariant s represents h in
     let done = same_gone c.args.now s c.loop-works.engine c.loop-works.failed.items c.reserve.new.self.items _ _ _ c.loop-works.works c.loop-works.faults c.reserve.ensures.items first in
-    let one = acted done.some.last c.args.now c.in-Ok-Did.field-0 c.in-Ok-Did.effects c.work.new.self c.in-Ok-Did.field-0-is (c.in-Ok-Did.ensures.ok done.some.last done.some.stands) in
-    let there = told_there c.args.now s c.loop-works.engine c.reserve.new.self.items _ _ _ c.loop-works.works c.loop-works.faults done c.in-Ok-Did.effects.items c.work.new.self one c.effects_name_open_ends.ensures.takes c.effects_name_open_ends.ensures.acts c.what_ends_stays_ended.ensures.acts h in
-    let short = told_short c.args.now s c.loop-works.engine c.reserve.new.self.items _ _ _ c.loop-works.works c.loop-works.faults done c.in-Ok-Did.effects.items c.work.new.self one c.an_act_has_three_effects_at_most.ensures in
+    let one = acted done.some.last c.args.now c.in-Ok-Did.field-0 c.in-Ok-Did.effects c.work.new.self c.in-Ok-Did.field-0-is (c.in-Ok-Did.ensures.ok done.some.last done.some.represents) in
+    let there = emitted_there c.args.now s c.loop-works.engine c.reserve.new.self.items _ _ _ c.loop-works.works c.loop-works.faults done c.in-Ok-Did.effects.items c.work.new.self one c.effects_name_open_ends.ensures.takes c.effects_name_open_ends.ensures.acts c.what_ends_stays_ended.ensures.acts h in
+    let short = emitted_short c.args.now s c.loop-works.engine c.reserve.new.self.items _ _ _ c.loop-works.works c.loop-works.faults done c.in-Ok-Did.effects.items c.work.new.self one c.an_act_has_three_effects_at_most.ensures in
     let room : vec_len c.reserve.new.self + 3 ≤ vec_capacity c.reserve.new.self = search rules in
     let long = ap (λ (es : List Effect). length es) c.deref.ensures.value in
-    absurd (c.in-Err-carry_out.ensures.never (omega (arith, room, short, long)) one.after one.stands (subst (λ (es : List Effect). AreThere one.after (map end_of es)) (sym c.deref.ensures.value) there))
+    absurd (c.in-Err-carry_out.ensures.never (omega (arith, room, short, long)) one.after one.represents (subst (λ (es : List Effect). AreThere one.after (map end_of es)) (sym c.deref.ensures.value) there))
 
 pub loop-works-preserved : goal.loop-works-preserved
-loop-works-preserved g c = λ s stands h.
-    let first = c.loop-works.invariant s stands h in
+loop-works-preserved g c = λ s represents h.
+    let first = c.loop-works.invariant s represents h in
     let done = same_gone c.args.now s c.loop-works.engine c.loop-works.failed.items c.reserve.new.self.items _ _ _ c.loop-works.works c.loop-works.faults c.reserve.ensures.items first in
-    let one = acted done.some.last c.args.now c.in-Ok-Did.field-0 c.in-Ok-Did.effects c.work.new.self c.in-Ok-Did.field-0-is (c.in-Ok-Did.ensures.ok done.some.last done.some.stands) in
-    let there = told_there c.args.now s c.loop-works.engine c.reserve.new.self.items _ _ _ c.loop-works.works c.loop-works.faults done c.in-Ok-Did.effects.items c.work.new.self one c.effects_name_open_ends.ensures.takes c.effects_name_open_ends.ensures.acts c.what_ends_stays_ended.ensures.acts h in
-    let short = told_short c.args.now s c.loop-works.engine c.reserve.new.self.items _ _ _ c.loop-works.works c.loop-works.faults done c.in-Ok-Did.effects.items c.work.new.self one c.an_act_has_three_effects_at_most.ensures in
+    let one = acted done.some.last c.args.now c.in-Ok-Did.field-0 c.in-Ok-Did.effects c.work.new.self c.in-Ok-Did.field-0-is (c.in-Ok-Did.ensures.ok done.some.last done.some.represents) in
+    let there = emitted_there c.args.now s c.loop-works.engine c.reserve.new.self.items _ _ _ c.loop-works.works c.loop-works.faults done c.in-Ok-Did.effects.items c.work.new.self one c.effects_name_open_ends.ensures.takes c.effects_name_open_ends.ensures.acts c.what_ends_stays_ended.ensures.acts h in
+    let short = emitted_short c.args.now s c.loop-works.engine c.reserve.new.self.items _ _ _ c.loop-works.works c.loop-works.faults done c.in-Ok-Did.effects.items c.work.new.self one c.an_act_has_three_effects_at_most.ensures in
     let long = ap (λ (es : List Effect). length es) c.deref.ensures.value in
-    let out = same_told one.after c.reserve.new.self.items c.in-Ok-Did.effects.items c.deref.result.now c.carry_out.new.engine c.carry_out.new.failed.items _ _ _ c.in-Ok-carry_out.more c.deref.ensures.value
-    (c.in-Ok-carry_out.ensures.ok one.after one.stands (subst (λ (es : List Effect). AreThere one.after (map end_of es)) (sym c.deref.ensures.value) there)) in
+    let out = same_emitted one.after c.reserve.new.self.items c.in-Ok-Did.effects.items c.deref.result.now c.carry_out.new.engine c.carry_out.new.failed.items _ _ _ c.in-Ok-carry_out.more c.deref.ensures.value
+    (c.in-Ok-carry_out.ensures.ok one.after one.represents (subst (λ (es : List Effect). AreThere one.after (map end_of es)) (sym c.deref.ensures.value) there)) in
     let count = c.in-Ok-carry_out.ensures.few in
     let small : c.in-Ok-carry_out.more ≤ 3 = omega (arith, count, long, short) in
     let few = done.few in

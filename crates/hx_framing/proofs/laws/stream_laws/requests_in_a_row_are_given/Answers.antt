@@ -26,12 +26,12 @@ hi_head = asked (codes "PUT") (codes "/a") 1 (field (codes "Content-Length") (co
 abbrev abc_head : RequestHead
 abc_head = asked (codes "PUT") (codes "/a") 1 (field (codes "Transfer-Encoding") (codes " chunked") ∷ [])
 
-reads_hi : (told : Bool) → Reads 1000 false told in_a_row (Spelled hi two)
+reads_hi : (continue_sent : Bool) → Reads 1000 false continue_sent in_a_row (Spelled hi two)
 unfolding httparse_on_literals
 reads_hi true = reads_request 1000 false true in_a_row hi_head 38 _ refl refl refl refl
 reads_hi false = reads_request 1000 false false in_a_row hi_head 38 _ refl refl refl refl
 
-reads_abc : (told : Bool) → Reads 1000 false told two (Spelled abc (codes "PUT"))
+reads_abc : (continue_sent : Bool) → Reads 1000 false continue_sent two (Spelled abc (codes "PUT"))
 unfolding httparse_on_literals
 reads_abc true = reads_request 1000 false true two abc_head 47 _ refl refl refl refl
 reads_abc false = reads_request 1000 false false two abc_head 47 _ refl refl refl refl

@@ -12,7 +12,7 @@ use Rattle.hx_framing.proofs.readers.response_reading.skip_interim.Goals as goal
 
 -- where the next head ends, as the loop has it
 place_of : (bytes : List ℕ) (at n : ℕ) (next : Option ℕ) → next ≡ head_length (take 32768 (drop at bytes)) → next ≡ Some n → head_length (take 32768 (drop at bytes)) ≡ Some n
-place_of bytes at n next told is = sym told ∙ is
+place_of bytes at n next continue_sent is = sym continue_sent ∙ is
 
 pub split_at-requires : goal.split_at-requires
 split_at-requires c =

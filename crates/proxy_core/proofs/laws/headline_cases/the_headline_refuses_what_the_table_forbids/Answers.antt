@@ -31,13 +31,13 @@ pub returns-clause-sent_from_the_store : goal.returns-clause-sent_from_the_store
 unfolding digits httpdate_on_literals matches_line verdict_of policy_of decision_of reuse_rule_of storage_rule_of forwarded_of split_off freshened_of error_rule_on
 returns-clause-sent_from_the_store c = refuse held_a (Arrive 110 2 get_admin) (sends 1 (codes "x")) (uses 1) refl refl refl
 
-pub returns-clause-told_another_line : goal.returns-clause-told_another_line
+pub returns-clause-named_another_line : goal.returns-clause-named_another_line
 unfolding digits httpdate_on_literals matches_line verdict_of policy_of decision_of reuse_rule_of storage_rule_of forwarded_of split_off freshened_of error_rule_on
-returns-clause-told_another_line c = refuse [] (Arrive 100 1 get_admin) (refused 100 (Denied 2) get_admin) (has_bytes (bytes_of (refused 100 (Denied 2) get_admin))) refl refl refl
+returns-clause-named_another_line c = refuse [] (Arrive 100 1 get_admin) (refused 100 (Denied 2) get_admin) (has_bytes (bytes_of (refused 100 (Denied 2) get_admin))) refl refl refl
 
-pub returns-clause-told_that_none_matches : goal.returns-clause-told_that_none_matches
+pub returns-clause-named_none_that_matches : goal.returns-clause-named_none_that_matches
 unfolding digits httpdate_on_literals matches_line verdict_of policy_of decision_of reuse_rule_of storage_rule_of forwarded_of split_off freshened_of error_rule_on
-returns-clause-told_that_none_matches c = refuse [] (Arrive 100 1 get_admin) (refused 100 NoLine get_admin) (has_bytes (bytes_of (refused 100 NoLine get_admin))) refl refl refl
+returns-clause-named_none_that_matches c = refuse [] (Arrive 100 1 get_admin) (refused 100 NoLine get_admin) (has_bytes (bytes_of (refused 100 NoLine get_admin))) refl refl refl
 
 pub returns-clause-made_to_wait : goal.returns-clause-made_to_wait
 unfolding digits httpdate_on_literals matches_line verdict_of policy_of decision_of reuse_rule_of storage_rule_of forwarded_of split_off freshened_of error_rule_on

@@ -9,13 +9,13 @@ use Rattle.proxy_engine.proofs.Searching.{map_kept}
 use Rattle.proxy_engine.proofs.Changes.{changed_connection, closed_over, free_there, free_activity}
 use Rattle.proxy_engine.proofs.endpoints.marks.close_at.Goals as goal
 
-pub returns-then-close-clause-stands : goal.returns-then-close-clause-stands
-returns-then-close-clause-stands c = λ s links core first h.
+pub returns-then-close-clause-represents : goal.returns-then-close-clause-represents
+returns-then-close-clause-represents c = λ s links core first h.
     let cs = c.args.connections.now.items in
     let i = c.args.i in
-    subst (λ (ds : List (Option Connection)). Represents (state ds links core first) (with_connection s i (closing c.args.close))) (sym c.let_go.ensures)
+    subst (λ (ds : List (Option Connection)). Represents (state ds links core first) (with_connection s i (closing c.args.close))) (sym c.release.ensures)
     (subst (λ (b : Bool). Represents (state (set cs i None) links core first) (with_connection s i (closing b))) (sym c.if-close.true)
     (changed_connection (closing true) cs links core first s i None (inside cs i (free_there _ c.requires.free)) (λ k q. closed_over _ k (free_activity _ c.requires.free) q) h))
 
 pub returns-then-close-clause-activities : goal.returns-then-close-clause-activities
-returns-then-close-clause-activities c = ap activities_of c.let_go.ensures ∙ map_kept activity_of c.args.connections.now.items c.args.i None None (sym (free_activity _ c.requires.free))
+returns-then-close-clause-activities c = ap activities_of c.release.ensures ∙ map_kept activity_of c.args.connections.now.items c.args.i None None (sym (free_activity _ c.requires.free))

@@ -10,10 +10,10 @@ use Rattle.proxy_engine.proofs.Keeping.{inside}
 use Rattle.proxy_engine.proofs.Changes.{changed_connection}
 use Rattle.proxy_engine.proofs.endpoints.marks.link_at.Goals as goal
 
-pub returns-clause-stands : goal.returns-clause-stands
-returns-clause-stands c = λ s links core first h.
+pub returns-clause-represents : goal.returns-clause-represents
+returns-clause-represents c = λ s links core first h.
     changed_connection (doing (Forwarded c.args.place)) c.args.connections.now.items links core first s c.args.i (Some c.link_to.new.connection) (inside c.args.connections.now.items c.args.i (ap is_some (sym c.in-Some.ensures.value)))
-    (λ k q. c.link_to.ensures.stands k (subst (λ (o : Option Connection). ConnectionRepresents o k) (sym c.in-Some.ensures.value) q)) h
+    (λ k q. c.link_to.ensures.represents k (subst (λ (o : Option Connection). ConnectionRepresents o k) (sym c.in-Some.ensures.value) q)) h
 
 pub returns-clause-activities : goal.returns-clause-activities
 returns-clause-activities c = map-set activity_of c.args.connections.now.items c.args.i (Some c.link_to.new.connection) ∙ ap (λ (a : Activity). set (activities_of c.args.connections.now.items) c.args.i a) c.link_to.ensures.activity

@@ -3,7 +3,7 @@ use Rattle.proxy_core.specs.State.{State as CoreState}
 use Rattle.proxy_script.specs.declared.effect_list.Effect.TheVariants.{Drop}
 use Rattle.proxy_engine.specs.State.{LinkRepresents}
 use Rattle.proxy_engine.proofs.Parts.{both_length}
-use Rattle.proxy_engine.proofs.Acting.{told_one}
+use Rattle.proxy_engine.proofs.Acting.{emitted_one}
 use Rattle.proxy_engine.proofs.Pairs.{within_links, link_there, paired_ended}
 use Rattle.proxy_engine.proofs.Stepping.{abandoned_done}
 use Rattle.proxy_engine.proofs.engine.Engine.abandon_link.Goals as goal
@@ -20,8 +20,8 @@ returns-clause-ok g c = rw (← c.self.view_is) (
     let within = within_links c.self.inside.ends.connections.items c.self.inside.ends.links.items c.self.inside.core.exchanges c.args.i c.args.l (rw (← c.self.view_is) at c.requires.linked) c.self.invariant in
     let number : c.number_at.result ≡ c.self.inside.ends.first_link + c.args.l = c.number_at.ensures (omega (arith, links, within)) in
     abandoned_done s c.free_lost.new.connections.items c.free_lost.new.links.items c.self.inside.core c.abandon.new.self c.self.inside.ends.first_link now c.args.i c.args.l c.in-Ok.field-0 c.put.new.effects.items c.in-Ok.ensures.ok
-    (told_one c.in_ok-effects.effects.items c.put.new.effects.items _ c.put.ensures.items c.in_ok-effects.ensures.items ∙ ap (λ (n : ℕ). Drop n ∷ []) number) first_is h.core
-    (c.free_lost.ensures.stands s c.self.inside.core c.self.inside.ends.first_link h)
+    (emitted_one c.in_ok-effects.effects.items c.put.new.effects.items _ c.put.ensures.items c.in_ok-effects.ensures.items ∙ ap (λ (n : ℕ). Drop n ∷ []) number) first_is h.core
+    (c.free_lost.ensures.represents s c.self.inside.core c.self.inside.ends.first_link h)
     )
 
 pub invariant_of-self : goal.invariant_of-self

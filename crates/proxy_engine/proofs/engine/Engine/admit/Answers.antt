@@ -43,8 +43,8 @@ returns-clause-ok g c = rw (← c.self.view_is) (
     led
     (c.set_address.ensures.max_body ∙ c.in_ok-upstream.ensures.max_body ∙ ap (λ (t : Table). t.max_body) c.config.ensures) (c.set_address.ensures.to_head ∙ c.in_ok-upstream.ensures.to_head)
     (c.carry_out.ensures.effects ∙ ap (λ (b : List Effect). b ++ effects_on c.args.i (c.self.inside.ends.first_link + length ks) (came_at upstream.address.items c.in-Ok.outcome)) c.in_ok-effects.ensures.items)
-    (λ t k most stands. subst (λ (n : ℕ). Represents (state c.carry_out.new.self.connections.items c.carry_out.new.self.links.items k n) (after_on c.args.i upstream.to_head (came_at upstream.address.items c.in-Ok.outcome) t)) c.carry_out.ensures.first (c.carry_out.ensures.stands t k most stands))
-    (c.pass_at.ensures.stands s (Message r) ks core c.self.inside.ends.first_link due here))
+    (λ t k most represents. subst (λ (n : ℕ). Represents (state c.carry_out.new.self.connections.items c.carry_out.new.self.links.items k n) (after_on c.args.i upstream.to_head (came_at upstream.address.items c.in-Ok.outcome) t)) c.carry_out.ensures.first (c.carry_out.ensures.represents t k most represents))
+    (c.pass_at.ensures.represents s (Message r) ks core c.self.inside.ends.first_link due here))
     )
 
 pub lacks_memory-requires : goal.lacks_memory-requires

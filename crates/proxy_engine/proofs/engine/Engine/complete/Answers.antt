@@ -11,7 +11,7 @@ use Rattle.proxy_engine.specs.declared.endpoints.ends.Link.{Link}
 use Rattle.proxy_engine.proofs.Parts.{both_length, both_at}
 use Rattle.proxy_engine.proofs.Keeping.{inside}
 use Rattle.proxy_engine.proofs.Changes.{finish_there}
-use Rattle.proxy_engine.proofs.Acting.{one_finish, told_one}
+use Rattle.proxy_engine.proofs.Acting.{one_finish, emitted_one}
 use Rattle.proxy_engine.proofs.Ending.{goes_given, remains, one_more}
 use Rattle.proxy_engine.proofs.Pairs.{within_connections, owned_link, is_open, is_out, still_here, paired_finished}
 use Rattle.proxy_engine.proofs.Stepping.{finished_done, ends_table, link_counts}
@@ -131,17 +131,17 @@ returns-clause-ok g c = rw (← c.self.view_is) (
     let owner = subst (λ (o : Option Link). LinkRepresents o (get_or s.links j no_link)) there (both_at LinkRepresents ks s.links j None no_link h.links within) in
     let link = owned_link cs ks core.exchanges j x there c.self.invariant in
     let is_there = is_open cs ks core.exchanges i j link c.self.invariant in
-    let told : c.put.new.effects.items ≡ Drop (c.self.inside.ends.first_link + j) ∷ [] = told_one c.in_ok-effects.effects.items c.put.new.effects.items _ c.put.ensures.items c.in_ok-effects.ensures.items ∙ ap (λ (n : ℕ). Drop n ∷ []) number in
+    let emitted : c.put.new.effects.items ≡ Drop (c.self.inside.ends.first_link + j) ∷ [] = emitted_one c.in_ok-effects.effects.items c.put.new.effects.items _ c.put.ensures.items c.in_ok-effects.ensures.items ∙ ap (λ (n : ℕ). Drop n ∷ []) number in
     let upstream = c.set_address.new.self in
     let led : came_at upstream.address.items c.in_ok-outcome.outcome ≡ came core.table c.in_ok-outcome.outcome =
     c.set_address.ensures.came ∙ ap (λ (t : Table). came t c.in_ok-outcome.outcome) (c.config.ensures ∙ ends_table core c.end.new.core c.args.now (i + 1) ended.0 c.in_ok-outcome.outcome ended.2) in
-    let free = c.free.ensures.stands s core c.self.inside.ends.first_link (subst (λ (ls : List (Option Link)). Represents (state cs ls core c.self.inside.ends.first_link) s) (sym items) h) in
+    let free = c.free.ensures.represents s core c.self.inside.ends.first_link (subst (λ (ls : List (Option Link)). Represents (state cs ls core c.self.inside.ends.first_link) s) (sym items) h) in
     let fresh = c.free.ensures.links in
     subst (λ (n : ℕ). Done s c.args.now (Finishes j f) c.carry_out.new.effects.items (state c.carry_out.new.self.connections.items c.carry_out.new.self.links.items c.end.new.core n)) (sym c.carry_out.ensures.first)
     (subst (λ (x : Finish). Done s c.args.now (Finishes j x) c.carry_out.new.effects.items (state c.carry_out.new.self.connections.items c.carry_out.new.self.links.items c.end.new.core c.self.inside.ends.first_link)) (sym same)
     (finished_done s c.free.new.connections.items c.carry_out.new.self.connections.items c.free.new.links.items c.carry_out.new.self.links.items core c.end.new.core c.self.inside.ends.first_link c.args.now i j upstream.max_body ended.0 c.in_ok-outcome.outcome
     upstream.address.items upstream.to_head c.carry_out.new.effects.items is_there (λ t. let few = (rw (← c.self.view_is) at c.requires.left) ended.0 due t in omega (arith, few, links)) ended.2 led (c.set_address.ensures.max_body ∙ c.in_ok-upstream.ensures.max_body)
     (c.set_address.ensures.to_head ∙ c.in_ok-upstream.ensures.to_head) (omega (arith, fresh, sizes, links, first_is))
-    (c.carry_out.ensures.effects ∙ ap (λ (b : List Effect). b ++ effects_on i (c.self.inside.ends.first_link + length c.free.new.links.items) (came_at upstream.address.items c.in_ok-outcome.outcome)) told)
-    first_is h.core owner.connection free (λ t k most stands. subst (λ (n : ℕ). Represents (state c.carry_out.new.self.connections.items c.carry_out.new.self.links.items k n) (after_on i upstream.to_head (came_at upstream.address.items c.in_ok-outcome.outcome) t)) c.carry_out.ensures.first (c.carry_out.ensures.stands t k most stands))))
+    (c.carry_out.ensures.effects ∙ ap (λ (b : List Effect). b ++ effects_on i (c.self.inside.ends.first_link + length c.free.new.links.items) (came_at upstream.address.items c.in_ok-outcome.outcome)) emitted)
+    first_is h.core owner.connection free (λ t k most represents. subst (λ (n : ℕ). Represents (state c.carry_out.new.self.connections.items c.carry_out.new.self.links.items k n) (after_on i upstream.to_head (came_at upstream.address.items c.in_ok-outcome.outcome) t)) c.carry_out.ensures.first (c.carry_out.ensures.represents t k most represents))))
     )

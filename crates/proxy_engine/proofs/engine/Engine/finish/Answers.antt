@@ -5,18 +5,18 @@ use Rattle.proxy_engine.specs.Actions.{EndFault}
 use Rattle.proxy_engine.specs.declared.work.EngineFault.TheVariants.{OutOfMemory, Spent}
 use Rattle.proxy_engine.proofs.Parts.{both_length}
 use Rattle.proxy_engine.proofs.Changes.{finish_there}
-use Rattle.proxy_engine.proofs.Stepping.{spent_failed, spent_told, memory_told}
-use Rattle.proxy_engine.proofs.engine.Engine.finish.Goals.{else-is_spent-via-then-is_spent+else-is_answered, else-is_spent-via-else-is_spent}
+use Rattle.proxy_engine.proofs.Stepping.{exhausted_failed, exhausted_found, memory_found}
+use Rattle.proxy_engine.proofs.engine.Engine.finish.Goals.{else-is_exhausted-via-then-is_exhausted+else-is_answered, else-is_exhausted-via-else-is_exhausted}
 use Rattle.proxy_engine.proofs.engine.Engine.finish.Goals as goal
 
 pub at-requires : goal.at-requires
 at-requires g c = finish_there _ (rw (← c.self.view_is) at c.requires.due)
 
-pub returns-then-is_answered-clause-spent : goal.returns-then-is_answered-clause-spent
-returns-then-is_answered-clause-spent g c = λ f shown.
+pub returns-then-is_answered-clause-exhausted : goal.returns-then-is_answered-clause-exhausted
+returns-then-is_answered-clause-exhausted g c = λ f shown.
     let here = ap finish_at (sym c.at.ensures) ∙ (rw (← c.self.view_is) at shown) in
     subst (λ (e : State). EndFault (nat_le (2 ^ 64) (e.first + length e.links)) f Spent) c.self.view_is
-    (spent_told _ f (sym c.is_spent.ensures ∙ c.if-is_spent.true) (sym (c.is_answered.ensures f here) ∙ c.if-is_answered.true))
+    (exhausted_found _ f (sym c.is_exhausted.ensures ∙ c.if-is_exhausted.true) (sym (c.is_answered.ensures f here) ∙ c.if-is_answered.true))
 
 pub returns-then-is_answered-clause-fault : goal.returns-then-is_answered-clause-fault
 returns-then-is_answered-clause-fault g c = rw (← c.self.view_is) (
@@ -24,18 +24,18 @@ returns-then-is_answered-clause-fault g c = rw (← c.self.view_is) (
     let here = ap finish_at (sym c.at.ensures) ∙ shown in
     let links = both_length LinkRepresents c.self.inside.ends.links.items s.links h.links in
     let first_is : c.self.inside.ends.first_link ≡ s.first = h.first in
-    let many = leb-true (2 ^ 64) (c.self.inside.ends.first_link + length c.self.inside.ends.links.items) (sym c.is_spent.ensures ∙ c.if-is_spent.true) in
-    spent_failed s c.args.j f (sym (c.is_answered.ensures f here) ∙ c.if-is_answered.true) (omega (arith, many, links)) due
+    let many = leb-true (2 ^ 64) (c.self.inside.ends.first_link + length c.self.inside.ends.links.items) (sym c.is_exhausted.ensures ∙ c.if-is_exhausted.true) in
+    exhausted_failed s c.args.j f (sym (c.is_answered.ensures f here) ∙ c.if-is_answered.true) (omega (arith, many, links)) due
     )
 
-pub returns-in-Err-clause-spent : goal.returns-in-Err-clause-spent
-returns-in-Err-clause-spent g c = λ f shown.
+pub returns-in-Err-clause-exhausted : goal.returns-in-Err-clause-exhausted
+returns-in-Err-clause-exhausted g c = λ f shown.
     let there = rw (← c.self.view_is) at shown in
     subst (λ (e : State). EndFault (nat_le (2 ^ 64) (e.first + length e.links)) f OutOfMemory) c.self.view_is
-    (memory_told _ f (λ may. elim c.else-is_spent.branch [
-      | else-is_spent-via-then-is_spent+else-is_answered w ↦
+    (memory_found _ f (λ may. elim c.else-is_exhausted.branch [
+      | else-is_exhausted-via-then-is_exhausted+else-is_answered w ↦
           let here = ap finish_at (sym w.at.ensures) ∙ there in
           let yes : false ≡ true = sym w.if-is_answered.false ∙ (w.is_answered.ensures f here ∙ may) in
           absurd (cc)
-      | else-is_spent-via-else-is_spent w ↦ sym c.is_spent.ensures ∙ w.if-is_spent.false
+      | else-is_exhausted-via-else-is_exhausted w ↦ sym c.is_exhausted.ensures ∙ w.if-is_exhausted.false
     ]))

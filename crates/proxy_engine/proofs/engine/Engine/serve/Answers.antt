@@ -24,9 +24,9 @@ returns-in-Arrive-clause-ok g c =
     let known = c.in-Ok.ensures in
     let read = arrival_action known.0 c.in-Ok.action c.in-Arrive.asked c.in-Arrive.is known.3 in
     let due = subst (λ (e : State). action_at (get_or e.connections c.args.i None) ≡ Some known.0) c.self.view_is (ap action_at c.at.ensures ∙ known.1) in
-    on_ok c.arrive.result _ _ (λ told does s a shown h.
+    on_ok c.arrive.result _ _ (λ emitted does s a shown h.
     let same : a ≡ known.0 = one_action _ known.0 a due shown in
-    subst (λ (b : Next Request). Done s c.args.now (Serves c.args.i b) told.items c.arrive.new.self) (sym (same ∙ read.1))
+    subst (λ (b : Next Request). Done s c.args.now (Serves c.args.i b) emitted.items c.arrive.new.self) (sym (same ∙ read.1))
     (does s read.0 read.2 (due ∙ ap (λ (b : Next Request). Some b) read.1) h)) c.arrive.ensures.ok
 
 pub returns-in-Arrive-clause-less : goal.returns-in-Arrive-clause-less

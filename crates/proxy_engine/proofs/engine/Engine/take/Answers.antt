@@ -29,9 +29,9 @@ returns-in-End-clause-ok g c = on_ok c.finish_client.result _ _
     c.finish_client.ensures.ok
 
 pub returns-in-Gone-clause-ok : goal.returns-in-Gone-clause-ok
-returns-in-Gone-clause-ok g c = on_ok c.lose_client.result _ _
-    (λ k s h. subst (λ (x : Happening). Takes s (said x) (state c.lose_client.new.connections.items c.self.inside.ends.links.items c.self.inside.core c.self.inside.ends.first_link)) (sym c.in-Gone.is) (k s c.self.inside.ends.links.items c.self.inside.core c.self.inside.ends.first_link (subst (λ (e : State). Represents e s) (sym c.self.view_is) h)))
-    c.lose_client.ensures.ok
+returns-in-Gone-clause-ok g c = on_ok c.disconnect_client.result _ _
+    (λ k s h. subst (λ (x : Happening). Takes s (said x) (state c.disconnect_client.new.connections.items c.self.inside.ends.links.items c.self.inside.core c.self.inside.ends.first_link)) (sym c.in-Gone.is) (k s c.self.inside.ends.links.items c.self.inside.core c.self.inside.ends.first_link (subst (λ (e : State). Represents e s) (sym c.self.view_is) h)))
+    c.disconnect_client.ensures.ok
 
 pub returns-in-Link-clause-ok : goal.returns-in-Link-clause-ok
 returns-in-Link-clause-ok g c = on_ok c.answer.result _ _

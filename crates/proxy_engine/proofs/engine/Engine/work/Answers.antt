@@ -2,7 +2,7 @@ use Rattle.std.proofs.Common.{List, Option, sym, subst}
 use Rattle.proxy_engine.specs.Due.{Abandons}
 use Rattle.proxy_engine.specs.State.{Represents, state}
 use Rattle.proxy_engine.specs.declared.endpoints.ends.Connection.{Connection}
-use Rattle.proxy_engine.proofs.Spending.{lost_first}
+use Rattle.proxy_engine.proofs.Exhausting.{lost_first}
 use Rattle.proxy_engine.proofs.engine.Engine.work.Goals as goal
 
 pub returns-in-Ok-clause-ok : goal.returns-in-Ok-clause-ok
@@ -12,5 +12,5 @@ returns-in-Ok-clause-ok g c = rw (← c.self.view_is) (
     (Abandons c.in-Some.i c.in-Some.link, c.in-Some.ensures.first s.connections h.connections, c.in-Ok.ensures.ok s c.args.now here)
     )
 
-pub returns-in-Err-clause-spent : goal.returns-in-Err-clause-spent
-returns-in-Err-clause-spent g c = rw (← c.self.view_is) (λ memory s h. lost_first c.abandon.new.self s c.in-Some.i c.in-Some.link (c.in-Some.ensures.first s.connections h.connections))
+pub returns-in-Err-clause-exhausted : goal.returns-in-Err-clause-exhausted
+returns-in-Err-clause-exhausted g c = rw (← c.self.view_is) (λ memory s h. lost_first c.abandon.new.self s c.in-Some.i c.in-Some.link (c.in-Some.ensures.first s.connections h.connections))

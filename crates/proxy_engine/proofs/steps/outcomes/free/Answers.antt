@@ -11,23 +11,23 @@ use Rattle.proxy_engine.proofs.Searching.{sum_changed}
 use Rattle.proxy_engine.proofs.Changes.{changed_link}
 use Rattle.proxy_engine.proofs.steps.outcomes.free.Goals as goal
 
-pub returns-clause-stands : goal.returns-clause-stands
-returns-clause-stands c = λ s core first h.
+pub returns-clause-represents : goal.returns-clause-represents
+returns-clause-represents c = λ s core first h.
     let cs = c.args.connections.now.items in
     let ks = c.args.links.now.items in
     let j = c.args.j in
-    c.unlink_at.ensures.stands (with_link s j dropping) c.let_go.new.self.items core first
-    (subst (λ (ls : List (Option Link)). Represents (state cs ls core first) (with_link s j dropping)) (sym c.let_go.ensures.items)
+    c.unlink_at.ensures.represents (with_link s j dropping) c.release.new.self.items core first
+    (subst (λ (ls : List (Option Link)). Represents (state cs ls core first) (with_link s j dropping)) (sym c.release.ensures.items)
     (changed_link dropping cs ks core first s j None (inside ks j c.requires.link) (λ k q. refl) h))
 
 pub returns-clause-owners : goal.returns-clause-owners
-returns-clause-owners c = ap owners_of c.let_go.ensures.items ∙ map-set owner_of c.args.links.now.items c.args.j None
+returns-clause-owners c = ap owners_of c.release.ensures.items ∙ map-set owner_of c.args.links.now.items c.args.j None
 
 pub returns-clause-load : goal.returns-clause-load
 returns-clause-load c =
     let ks = c.args.links.now.items in
     let sum = sum_changed link_load ks c.args.j None None (inside ks c.args.j c.requires.link) in
-    omega (arith, sum, ap (sum_by link_load) c.let_go.ensures.items, c.unlink_at.ensures.load)
+    omega (arith, sum, ap (sum_by link_load) c.release.ensures.items, c.unlink_at.ensures.load)
 
 pub returns-clause-links : goal.returns-clause-links
-returns-clause-links c = ap length c.let_go.ensures.items ∙ length-set c.args.links.now.items c.args.j None
+returns-clause-links c = ap length c.release.ensures.items ∙ length-set c.args.links.now.items c.args.j None

@@ -12,26 +12,26 @@ use Rattle.proxy_engine.proofs.Searching.{sum_changed}
 use Rattle.proxy_engine.proofs.Changes.{changed_connection, changed_link, lost_over, gone_there, counts_one}
 use Rattle.proxy_engine.proofs.steps.outcomes.free_lost.Goals as goal
 
-pub let_go-requires-2 : goal.let_go-requires-2
-let_go-requires-2 c = inside c.args.connections.now.items c.args.i (gone_there _ true c.requires.connection)
+pub release-requires-2 : goal.release-requires-2
+release-requires-2 c = inside c.args.connections.now.items c.args.i (gone_there _ true c.requires.connection)
 
-pub returns-clause-stands : goal.returns-clause-stands
-returns-clause-stands c = λ s core first h.
+pub returns-clause-represents : goal.returns-clause-represents
+returns-clause-represents c = λ s core first h.
     let cs = c.args.connections.now.items in
     let ks = c.args.links.now.items in
     let i = c.args.i in
     let j = c.args.j in
-    let dropped : Represents (state cs c.let_go.new.self.items core first) (with_link s j dropping) =
-    subst (λ (ls : List (Option Link)). Represents (state cs ls core first) (with_link s j dropping)) (sym c.let_go.ensures.items)
+    let dropped : Represents (state cs c.release.new.self.items core first) (with_link s j dropping) =
+    subst (λ (ls : List (Option Link)). Represents (state cs ls core first) (with_link s j dropping)) (sym c.release.ensures.items)
     (changed_link dropping cs ks core first s j None (inside ks j c.requires.link) (λ k q. refl) h) in
-    subst (λ (ds : List (Option Connection)). Represents (state ds c.let_go.new.self.items core first) (freed s j i)) (sym c.let_go-2.ensures)
-    (changed_connection (doing Free) cs c.let_go.new.self.items core first (with_link s j dropping) i None (inside cs i (gone_there _ true c.requires.connection)) (λ k q. lost_over _ k c.requires.connection q) dropped)
+    subst (λ (ds : List (Option Connection)). Represents (state ds c.release.new.self.items core first) (freed s j i)) (sym c.release-2.ensures)
+    (changed_connection (doing Free) cs c.release.new.self.items core first (with_link s j dropping) i None (inside cs i (gone_there _ true c.requires.connection)) (λ k q. lost_over _ k c.requires.connection q) dropped)
 
 pub returns-clause-activities : goal.returns-clause-activities
-returns-clause-activities c = ap activities_of c.let_go-2.ensures ∙ map-set activity_of c.args.connections.now.items c.args.i None
+returns-clause-activities c = ap activities_of c.release-2.ensures ∙ map-set activity_of c.args.connections.now.items c.args.i None
 
 pub returns-clause-owners : goal.returns-clause-owners
-returns-clause-owners c = ap owners_of c.let_go.ensures.items ∙ map-set owner_of c.args.links.now.items c.args.j None
+returns-clause-owners c = ap owners_of c.release.ensures.items ∙ map-set owner_of c.args.links.now.items c.args.j None
 
 pub returns-clause-load : goal.returns-clause-load
 returns-clause-load c =
@@ -40,4 +40,4 @@ returns-clause-load c =
     let there = gone_there _ true c.requires.connection in
     let links = sum_changed link_load ks c.args.j None None (inside ks c.args.j c.requires.link) in
     let connections = sum_changed connection_load cs c.args.i None None (inside cs c.args.i there) in
-    omega (arith, links, connections, counts_one _ there, ap (sum_by link_load) c.let_go.ensures.items, ap (sum_by connection_load) c.let_go-2.ensures)
+    omega (arith, links, connections, counts_one _ there, ap (sum_by link_load) c.release.ensures.items, ap (sum_by connection_load) c.release-2.ensures)

@@ -13,8 +13,8 @@ returns-clause-ok c = λ s links core first a w h.
     record {
       after = with_connection s i (closing true);
       does = refused_served s c.args.now i a c.args.why c.args.head c.send_reply.new.effects.items (with_connection s i (closing true)) w record {
-        told_is = c.send_reply.ensures.effects ∙ (ap (λ (b : List Effect). b ++ Client (i + 1) c.in_ok-bytes.bytes ∷ Close (i + 1) ∷ []) c.in_ok-effects.ensures.items ∙ ap (λ (b : List ℕ). Client (i + 1) b ∷ Close (i + 1) ∷ []) text);
+        emitted_is = c.send_reply.ensures.effects ∙ (ap (λ (b : List Effect). b ++ Client (i + 1) c.in_ok-bytes.bytes ∷ Close (i + 1) ∷ []) c.in_ok-effects.ensures.items ∙ ap (λ (b : List ℕ). Client (i + 1) b ∷ Close (i + 1) ∷ []) text);
         after_is = refl;
       };
-      stands = c.send_reply.ensures.stands s links core first h;
+      represents = c.send_reply.ensures.represents s links core first h;
     }

@@ -6,7 +6,7 @@ use Rattle.proxy_engine.specs.Acts.{passing}
 use Rattle.proxy_engine.specs.State.{action_load}
 use Rattle.proxy_engine.proofs.Keeping.{inside}
 use Rattle.proxy_engine.proofs.Changes.{free_there, action_free}
-use Rattle.proxy_engine.proofs.Acting.{told_one}
+use Rattle.proxy_engine.proofs.Acting.{emitted_one}
 use Rattle.proxy_engine.proofs.steps.serving.send_continue.Goals as goal
 
 pub prove-unreachable-requires : goal.prove-unreachable-requires
@@ -17,8 +17,8 @@ prove-unreachable-requires c =
 pub returns-clause-ok : goal.returns-clause-ok
 returns-clause-ok c = λ s links core first now due h. record {
   after = with_connection s c.args.i (passing NeedsContinue);
-  does = (told_one c.in_ok-effects.effects.items c.put.new.effects.items _ c.put.ensures.items c.in_ok-effects.ensures.items ∙ ap (λ (b : List ℕ). Client (c.args.i + 1) b ∷ []) c.in_ok-bytes.ensures, refl);
-  stands = c.pass_at.ensures.stands s NeedsContinue links core first due h;
+  does = (emitted_one c.in_ok-effects.effects.items c.put.new.effects.items _ c.put.ensures.items c.in_ok-effects.ensures.items ∙ ap (λ (b : List ℕ). Client (c.args.i + 1) b ∷ []) c.in_ok-bytes.ensures, refl);
+  represents = c.pass_at.ensures.represents s NeedsContinue links core first due h;
 }
 
 pub returns-clause-less : goal.returns-clause-less

@@ -10,7 +10,7 @@ use Rattle.proxy_server.proofs.recording.RecordingSockets.read.Goals.{in-Some+el
 
 pub returns-then-not-note-clause-did : goal.returns-then-not-note-clause-did
 returns-then-not-note-clause-did g c =
-    let failed = c.if-not-note.ensures.told refl in
+    let failed = c.if-not-note.ensures.reported refl in
     (c.note.ensures.kept, _, c.read-received.ensures.did, passes_nothing (is_some c.note.new.fault) _ _ failed, λ ok. absurd (true≢false (sym failed ∙ ok)))
 
 pub returns-then-is_err-clause-did : goal.returns-then-is_err-clause-did

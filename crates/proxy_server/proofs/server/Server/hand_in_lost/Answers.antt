@@ -9,6 +9,6 @@ loop-preserved g c =
     elim c.match-next_lost.branch [
       | in-Some w ↦
           subst (LosesOn c.args.self.now) (sym w.self-is)
-          (on_from c.a_turn_is_served_behind_losses.ensures.more c.args.self.now c.loop.self c.self-in-loop.inside.engine w.lose.new.self c.self-in-loop.view_is c.loop.invariant w.lose.ensures.on)
+          (on_from c.a_turn_is_served_behind_losses.ensures.more c.args.self.now c.loop.self c.self-in-loop.inside.engine w.disconnect.new.self c.self-in-loop.view_is c.loop.invariant w.disconnect.ensures.on)
       | in_default w ↦ subst (LosesOn c.args.self.now) (sym (w.self-is ∙ c.self-in-loop.view_is)) c.loop.invariant
     ]

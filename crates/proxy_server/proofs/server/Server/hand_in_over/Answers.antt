@@ -9,6 +9,6 @@ loop-end-preserved g c =
     elim c.if-is_over.branch [
       | then-is_over+else-not-may_happen w ↦
           subst (LosesOn c.args.self.now) (sym w.self-is)
-          (on_from c.a_turn_is_served_behind_losses.ensures.more c.args.self.now c.loop-end.self c.is_over.new.self w.let_go.new.self c.is_over.ensures c.loop-end.invariant w.let_go.ensures.on)
+          (on_from c.a_turn_is_served_behind_losses.ensures.more c.args.self.now c.loop-end.self c.is_over.new.self w.release.new.self c.is_over.ensures c.loop-end.invariant w.release.ensures.on)
       | else-is_over w ↦ subst (LosesOn c.args.self.now) (sym (w.self-is ∙ c.is_over.ensures)) c.loop-end.invariant
     ]

@@ -8,6 +8,6 @@ loop-end-preserved g c =
     elim c.if-may_park.branch [
       | then-may_park w ↦
           subst (LosesOn c.args.self.now) (sym w.self-is)
-          (c.a_turn_is_served_behind_losses.ensures.more c.args.self.now c.loop-end.self w.let_go.new.self c.loop-end.invariant w.let_go.ensures.on)
+          (c.a_turn_is_served_behind_losses.ensures.more c.args.self.now c.loop-end.self w.release.new.self c.loop-end.invariant w.release.ensures.on)
       | else-may_park w ↦ subst (LosesOn c.args.self.now) (sym w.self-is) c.loop-end.invariant
     ]

@@ -1,5 +1,5 @@
 use Rattle.std.proofs.Common.{subst}
-use Rattle.proxy_turn.specs.Served.{HasLived}
+use Rattle.proxy_turn.specs.Served.{IsReachable}
 use Rattle.proxy_server.proofs.Living.{answered_on}
 use Rattle.proxy_server.proofs.server.Server.serve_turn.Goals as goal
 
@@ -12,10 +12,10 @@ pub returns-clause-table : goal.returns-clause-table
 returns-clause-table g c =
     let laws = c.engines_live_on.ensures in
     let goes = answered_on laws.stays laws.turns c.args.self.now c.serve_next-served.new.self c.serve_next-served.result c.serve_next-served.ensures in
-    (laws.table c.args.self.now c.serve_next-served.new.self goes (subst HasLived c.self.view_is c.self.invariant)).0
+    (laws.table c.args.self.now c.serve_next-served.new.self goes (subst IsReachable c.self.view_is c.self.invariant)).0
 
 pub returns-clause-limit : goal.returns-clause-limit
 returns-clause-limit g c =
     let laws = c.engines_live_on.ensures in
     let goes = answered_on laws.stays laws.turns c.args.self.now c.serve_next-served.new.self c.serve_next-served.result c.serve_next-served.ensures in
-    (laws.table c.args.self.now c.serve_next-served.new.self goes (subst HasLived c.self.view_is c.self.invariant)).1
+    (laws.table c.args.self.now c.serve_next-served.new.self goes (subst IsReachable c.self.view_is c.self.invariant)).1

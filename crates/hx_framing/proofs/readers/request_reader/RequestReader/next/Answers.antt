@@ -3,7 +3,7 @@ use Rattle.hx_framing.specs.declared.messages.Request.{Request}
 use Rattle.hx_framing.specs.declared.readers.request_reader.RequestPhase.{RequestPhase}
 use Rattle.hx_framing.specs.Progress.{Progress, moved}
 use Rattle.hx_framing.specs.RequestStream.{Answers, NeedsMemory}
-use Rattle.hx_framing.specs.RequestState.{State, StandsFor}
+use Rattle.hx_framing.specs.RequestState.{State, RepresentsStream}
 use Rattle.hx_framing.proofs.readers.request_reader.RequestReader.next.Goals as goal
 
 pub returns-in-BeforeHead-clause-answers : goal.returns-in-BeforeHead-clause-answers
@@ -15,10 +15,10 @@ returns-in-BeforeHead-clause-answers c =
       ended = c.self.inside.ended;
       phase = f;
     }) (c.replace.ensures.after ∙ sym c.in-BeforeHead.is ∙ c.replace.ensures.value) ∙ c.self.view_is in
-    subst (λ (s : State). IfOk c.read_head.result (λ answer. (p : Progress Request) → StandsFor s p → Answers p answer)) same c.read_head.ensures.answers
+    subst (λ (s : State). IfOk c.read_head.result (λ answer. (p : Progress Request) → RepresentsStream s p → Answers p answer)) same c.read_head.ensures.answers
 
-pub returns-in-BeforeHead-clause-stands : goal.returns-in-BeforeHead-clause-stands
-returns-in-BeforeHead-clause-stands c =
+pub returns-in-BeforeHead-clause-represents : goal.returns-in-BeforeHead-clause-represents
+returns-in-BeforeHead-clause-represents c =
     let same = ap (λ (f : RequestPhase). record {
       max_body = c.self.inside.max_body;
       unread = c.self.inside.unread.items;
@@ -26,7 +26,7 @@ returns-in-BeforeHead-clause-stands c =
       ended = c.self.inside.ended;
       phase = f;
     }) (c.replace.ensures.after ∙ sym c.in-BeforeHead.is ∙ c.replace.ensures.value) ∙ c.self.view_is in
-    subst (λ (s : State). IfOk c.read_head.result (λ answer. (p : Progress Request) → StandsFor s p → StandsFor c.read_head.new.self (moved p answer))) same c.read_head.ensures.stands
+    subst (λ (s : State). IfOk c.read_head.result (λ answer. (p : Progress Request) → RepresentsStream s p → RepresentsStream c.read_head.new.self (moved p answer))) same c.read_head.ensures.represents
 
 pub returns-in-InContent-clause-answers : goal.returns-in-InContent-clause-answers
 returns-in-InContent-clause-answers c =
@@ -37,10 +37,10 @@ returns-in-InContent-clause-answers c =
       ended = c.self.inside.ended;
       phase = f;
     }) (sym c.in-InContent.is ∙ c.replace.ensures.value) ∙ c.self.view_is in
-    subst (λ (s : State). IfOk c.read_content.result (λ answer. (p : Progress Request) → StandsFor s p → Answers p answer)) same c.read_content.ensures.answers
+    subst (λ (s : State). IfOk c.read_content.result (λ answer. (p : Progress Request) → RepresentsStream s p → Answers p answer)) same c.read_content.ensures.answers
 
-pub returns-in-InContent-clause-stands : goal.returns-in-InContent-clause-stands
-returns-in-InContent-clause-stands c =
+pub returns-in-InContent-clause-represents : goal.returns-in-InContent-clause-represents
+returns-in-InContent-clause-represents c =
     let same = ap (λ (f : RequestPhase). record {
       max_body = c.self.inside.max_body;
       unread = c.self.inside.unread.items;
@@ -48,7 +48,7 @@ returns-in-InContent-clause-stands c =
       ended = c.self.inside.ended;
       phase = f;
     }) (sym c.in-InContent.is ∙ c.replace.ensures.value) ∙ c.self.view_is in
-    subst (λ (s : State). IfOk c.read_content.result (λ answer. (p : Progress Request) → StandsFor s p → StandsFor c.read_content.new.self (moved p answer))) same c.read_content.ensures.stands
+    subst (λ (s : State). IfOk c.read_content.result (λ answer. (p : Progress Request) → RepresentsStream s p → RepresentsStream c.read_content.new.self (moved p answer))) same c.read_content.ensures.represents
 
 pub returns-in-BeforeHead-clause-memory_last : goal.returns-in-BeforeHead-clause-memory_last
 returns-in-BeforeHead-clause-memory_last c =
@@ -59,7 +59,7 @@ returns-in-BeforeHead-clause-memory_last c =
       ended = c.self.inside.ended;
       phase = f;
     }) (c.replace.ensures.after ∙ sym c.in-BeforeHead.is ∙ c.replace.ensures.value) ∙ c.self.view_is in
-    subst (λ (s : State). OnErr c.read_head.result ((p : Progress Request) → StandsFor s p → NeedsMemory p)) same c.read_head.ensures.memory_last
+    subst (λ (s : State). OnErr c.read_head.result ((p : Progress Request) → RepresentsStream s p → NeedsMemory p)) same c.read_head.ensures.memory_last
 
 pub returns-in-InContent-clause-memory_last : goal.returns-in-InContent-clause-memory_last
 returns-in-InContent-clause-memory_last c =
@@ -70,4 +70,4 @@ returns-in-InContent-clause-memory_last c =
       ended = c.self.inside.ended;
       phase = f;
     }) (sym c.in-InContent.is ∙ c.replace.ensures.value) ∙ c.self.view_is in
-    subst (λ (s : State). OnErr c.read_content.result ((p : Progress Request) → StandsFor s p → NeedsMemory p)) same c.read_content.ensures.memory_last
+    subst (λ (s : State). OnErr c.read_content.result ((p : Progress Request) → RepresentsStream s p → NeedsMemory p)) same c.read_content.ensures.memory_last

@@ -6,11 +6,11 @@ use Rattle.hx_framing.specs.Reading.{Incomplete, Spelled, Faulty}
 use Rattle.hx_framing.specs.declared.messages.Response.{Response}
 use Rattle.hx_framing.specs.Progress.{Progress}
 use Rattle.hx_framing.specs.ResponseHeadProgress.{HasFinalHead}
-use Rattle.hx_framing.specs.ResponseState.{State, StandsFor}
+use Rattle.hx_framing.specs.ResponseState.{State, RepresentsStream}
 use Rattle.hx_framing.specs.ResponseStream.{NeedsMemory}
 use Rattle.hx_framing.proofs.MemoryLemmas.{on_err}
 use Rattle.hx_framing.proofs.ResponseMemory.{head_needs}
-use Rattle.hx_framing.proofs.ResponseStreams.{answers_by, before, kept_reads, stands_passed, stands_begun, stands_given, stands_fault}
+use Rattle.hx_framing.proofs.ResponseStreams.{answers_by, before, kept_reads, represents_passed, represents_begun, represents_given, represents_fault}
 use Rattle.hx_framing.proofs.BodyLemmas.{open_bounded}
 use Rattle.hx_framing.proofs.ResponseContents.{progress_of}
 use Rattle.hx_framing.proofs.readers.response_reader.ResponseReader.read_head.Goals as goal
@@ -20,20 +20,20 @@ returns-in-Incomplete-clause-answers c = λ p h.
     let k = progress_of c.args.self.now _ _ _ _ _ _ (head_progress.Incomplete c.in-Incomplete.n) (ap (λ (s : State). s.max_body) c.self.view_is) (ap (λ (s : State). s.to_head) c.self.view_is) (ap (λ (s : State). s.ended) c.self.view_is) c.as_slice.ensures (ap (λ (q : Queue). q.items) c.head_length-head_length.ensures.same ∙ ap (λ (s : State). s.unread) c.self.view_is) c.in-Incomplete.is c.in_ok-n.ensures.progress in
     answers_by p _ Incomplete (before c.args.self.now p c.requires h).none h (kept_reads c.args.self.now p _ c.requires h k.1)
 
-pub returns-in-Incomplete-clause-stands : goal.returns-in-Incomplete-clause-stands
-returns-in-Incomplete-clause-stands c = λ p h.
+pub returns-in-Incomplete-clause-represents : goal.returns-in-Incomplete-clause-represents
+returns-in-Incomplete-clause-represents c = λ p h.
     let k = progress_of c.args.self.now _ _ _ _ _ _ (head_progress.Incomplete c.in-Incomplete.n) (ap (λ (s : State). s.max_body) c.self.view_is) (ap (λ (s : State). s.to_head) c.self.view_is) (ap (λ (s : State). s.ended) c.self.view_is) c.as_slice.ensures (ap (λ (q : Queue). q.items) c.head_length-head_length.ensures.same ∙ ap (λ (s : State). s.unread) c.self.view_is) c.in-Incomplete.is c.in_ok-n.ensures.progress in
-    stands_passed c.args.self.now _ p c.in-Incomplete.n (record { max_body = ap (λ (s : State). s.max_body) c.self.view_is; to_head = ap (λ (s : State). s.to_head) c.self.view_is; ended = ap (λ (s : State). s.ended) c.self.view_is }) c.requires (ap (λ (s : State). s.phase) c.self.view_is ∙ c.requires) (c.take_front.ensures.items ∙ ap (drop c.in-Incomplete.n) (ap (λ (q : Queue). q.items) c.head_length-head_length.ensures.same ∙ ap (λ (s : State). s.unread) c.self.view_is)) k.2 h
+    represents_passed c.args.self.now _ p c.in-Incomplete.n (record { max_body = ap (λ (s : State). s.max_body) c.self.view_is; to_head = ap (λ (s : State). s.to_head) c.self.view_is; ended = ap (λ (s : State). s.ended) c.self.view_is }) c.requires (ap (λ (s : State). s.phase) c.self.view_is ∙ c.requires) (c.take_front.ensures.items ∙ ap (drop c.in-Incomplete.n) (ap (λ (q : Queue). q.items) c.head_length-head_length.ensures.same ∙ ap (λ (s : State). s.unread) c.self.view_is)) k.2 h
 
 pub returns-in-InContent-clause-answers : goal.returns-in-InContent-clause-answers
 returns-in-InContent-clause-answers c = λ p h.
     let k = progress_of c.args.self.now _ _ _ _ _ _ (head_progress.InContent c.in-InContent.head c.in-InContent.content c.in-InContent.n) (ap (λ (s : State). s.max_body) c.self.view_is) (ap (λ (s : State). s.to_head) c.self.view_is) (ap (λ (s : State). s.ended) c.self.view_is) c.as_slice.ensures (ap (λ (q : Queue). q.items) c.head_length-head_length.ensures.same ∙ ap (λ (s : State). s.unread) c.self.view_is) c.in-InContent.is c.in_ok-n.ensures.progress in
     answers_by p _ Incomplete (before c.args.self.now p c.requires h).none h (kept_reads c.args.self.now p _ c.requires h k.1)
 
-pub returns-in-InContent-clause-stands : goal.returns-in-InContent-clause-stands
-returns-in-InContent-clause-stands c = λ p h.
+pub returns-in-InContent-clause-represents : goal.returns-in-InContent-clause-represents
+returns-in-InContent-clause-represents c = λ p h.
     let k = progress_of c.args.self.now _ _ _ _ _ _ (head_progress.InContent c.in-InContent.head c.in-InContent.content c.in-InContent.n) (ap (λ (s : State). s.max_body) c.self.view_is) (ap (λ (s : State). s.to_head) c.self.view_is) (ap (λ (s : State). s.ended) c.self.view_is) c.as_slice.ensures (ap (λ (q : Queue). q.items) c.head_length-head_length.ensures.same ∙ ap (λ (s : State). s.unread) c.self.view_is) c.in-InContent.is c.in_ok-n.ensures.progress in
-    stands_begun c.args.self.now _ p c.in-InContent.head c.in-InContent.content c.in-InContent.n (record { max_body = ap (λ (s : State). s.max_body) c.self.view_is; to_head = ap (λ (s : State). s.to_head) c.self.view_is; ended = ap (λ (s : State). s.ended) c.self.view_is }) c.requires refl (ap (λ (q : Queue). q.items) c.note_open_line.ensures ∙ c.take_front-in-InContent.ensures.items ∙ ap (drop c.in-InContent.n) (ap (λ (q : Queue). q.items) c.head_length-head_length.ensures.same ∙ ap (λ (s : State). s.unread) c.self.view_is)) k.2 h
+    represents_begun c.args.self.now _ p c.in-InContent.head c.in-InContent.content c.in-InContent.n (record { max_body = ap (λ (s : State). s.max_body) c.self.view_is; to_head = ap (λ (s : State). s.to_head) c.self.view_is; ended = ap (λ (s : State). s.ended) c.self.view_is }) c.requires refl (ap (λ (q : Queue). q.items) c.note_open_line.ensures ∙ c.take_front-in-InContent.ensures.items ∙ ap (drop c.in-InContent.n) (ap (λ (q : Queue). q.items) c.head_length-head_length.ensures.same ∙ ap (λ (s : State). s.unread) c.self.view_is)) k.2 h
 
 pub returns-in-InContent-clause-unfinished : goal.returns-in-InContent-clause-unfinished
 returns-in-InContent-clause-unfinished c = λ more.
@@ -48,24 +48,24 @@ returns-in-Message-clause-answers c = λ p h.
     let k = progress_of c.args.self.now _ _ _ _ _ _ (head_progress.Message c.in-Message.response c.in-Message.n) (ap (λ (s : State). s.max_body) c.self.view_is) (ap (λ (s : State). s.to_head) c.self.view_is) (ap (λ (s : State). s.ended) c.self.view_is) c.as_slice.ensures (ap (λ (q : Queue). q.items) c.head_length-head_length.ensures.same ∙ ap (λ (s : State). s.unread) c.self.view_is) c.in-Message.is c.in_ok-n.ensures.progress in
     answers_by p _ (Spelled c.in-Message.response (drop c.in-Message.n c.args.self.now.unread)) (before c.args.self.now p c.requires h).none h (kept_reads c.args.self.now p _ c.requires h k.1)
 
-pub returns-in-Message-clause-stands : goal.returns-in-Message-clause-stands
-returns-in-Message-clause-stands c = λ p h.
+pub returns-in-Message-clause-represents : goal.returns-in-Message-clause-represents
+returns-in-Message-clause-represents c = λ p h.
     let k = progress_of c.args.self.now _ _ _ _ _ _ (head_progress.Message c.in-Message.response c.in-Message.n) (ap (λ (s : State). s.max_body) c.self.view_is) (ap (λ (s : State). s.to_head) c.self.view_is) (ap (λ (s : State). s.ended) c.self.view_is) c.as_slice.ensures (ap (λ (q : Queue). q.items) c.head_length-head_length.ensures.same ∙ ap (λ (s : State). s.unread) c.self.view_is) c.in-Message.is c.in_ok-n.ensures.progress in
-    stands_given c.args.self.now _ p c.in-Message.response _ (record { max_body = ap (λ (s : State). s.max_body) c.self.view_is; to_head = ap (λ (s : State). s.to_head) c.self.view_is; ended = ap (λ (s : State). s.ended) c.self.view_is }) (before c.args.self.now p c.requires h).none refl (kept_reads c.args.self.now p (Spelled c.in-Message.response (drop c.in-Message.n c.args.self.now.unread)) c.requires h k.1) h
+    represents_given c.args.self.now _ p c.in-Message.response _ (record { max_body = ap (λ (s : State). s.max_body) c.self.view_is; to_head = ap (λ (s : State). s.to_head) c.self.view_is; ended = ap (λ (s : State). s.ended) c.self.view_is }) (before c.args.self.now p c.requires h).none refl (kept_reads c.args.self.now p (Spelled c.in-Message.response (drop c.in-Message.n c.args.self.now.unread)) c.requires h k.1) h
 
 pub returns-in-Faulty-clause-answers : goal.returns-in-Faulty-clause-answers
 returns-in-Faulty-clause-answers c = λ p h.
     let k = progress_of c.args.self.now _ _ _ _ _ _ (head_progress.Faulty c.in-Faulty.fault) (ap (λ (s : State). s.max_body) c.self.view_is) (ap (λ (s : State). s.to_head) c.self.view_is) (ap (λ (s : State). s.ended) c.self.view_is) c.as_slice.ensures (ap (λ (q : Queue). q.items) c.head_length-head_length.ensures.same ∙ ap (λ (s : State). s.unread) c.self.view_is) c.in-Faulty.is c.in_ok-n.ensures.progress in
     answers_by p _ (Faulty c.in-Faulty.fault) (before c.args.self.now p c.requires h).none h (kept_reads c.args.self.now p _ c.requires h k.1)
 
-pub returns-in-Faulty-clause-stands : goal.returns-in-Faulty-clause-stands
-returns-in-Faulty-clause-stands c = λ p h.
+pub returns-in-Faulty-clause-represents : goal.returns-in-Faulty-clause-represents
+returns-in-Faulty-clause-represents c = λ p h.
     let k = progress_of c.args.self.now _ _ _ _ _ _ (head_progress.Faulty c.in-Faulty.fault) (ap (λ (s : State). s.max_body) c.self.view_is) (ap (λ (s : State). s.to_head) c.self.view_is) (ap (λ (s : State). s.ended) c.self.view_is) c.as_slice.ensures (ap (λ (q : Queue). q.items) c.head_length-head_length.ensures.same ∙ ap (λ (s : State). s.unread) c.self.view_is) c.in-Faulty.is c.in_ok-n.ensures.progress in
-    stands_fault c.args.self.now _ p c.in-Faulty.fault (record { max_body = ap (λ (s : State). s.max_body) c.self.view_is; to_head = ap (λ (s : State). s.to_head) c.self.view_is; ended = ap (λ (s : State). s.ended) c.self.view_is }) (before c.args.self.now p c.requires h).none refl (kept_reads c.args.self.now p (Faulty c.in-Faulty.fault) c.requires h k.1) h
+    represents_fault c.args.self.now _ p c.in-Faulty.fault (record { max_body = ap (λ (s : State). s.max_body) c.self.view_is; to_head = ap (λ (s : State). s.to_head) c.self.view_is; ended = ap (λ (s : State). s.ended) c.self.view_is }) (before c.args.self.now p c.requires h).none refl (kept_reads c.args.self.now p (Faulty c.in-Faulty.fault) c.requires h k.1) h
 
 pub returns-in_err-n-clause-memory_last : goal.returns-in_err-n-clause-memory_last
 returns-in_err-n-clause-memory_last c =
     let has : HasFinalHead c.args.self.now.unread
     = subst (λ (u : List ℕ). HasFinalHead u) (c.as_slice.ensures ∙ ap (λ (q : Queue). q.items) c.head_length-head_length.ensures.same ∙ ap (λ (s : State). s.unread) c.self.view_is) c.in_err-n.ensures.memory_last in
-    let needs : (p : Progress Response) → StandsFor c.args.self.now p → NeedsMemory p = λ p h. head_needs c.args.self.now p c.requires has h in
+    let needs : (p : Progress Response) → RepresentsStream c.args.self.now p → NeedsMemory p = λ p h. head_needs c.args.self.now p c.requires has h in
     on_err _ needs

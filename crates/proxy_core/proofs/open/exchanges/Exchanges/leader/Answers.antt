@@ -2,7 +2,7 @@ use Rattle.std.proofs.Common.{◌∙◌, false, ap, sym}
 use Rattle.proxy_core.specs.Leading.{leader}
 use Rattle.proxy_core.specs.Waiters.{set_has}
 use Rattle.proxy_core.specs.Gets.{asks_for}
-use Rattle.proxy_core.proofs.Told.{passes}
+use Rattle.proxy_core.proofs.Indexed.{passes}
 use Rattle.proxy_core.proofs.Gets.{none_asks}
 use Rattle.proxy_core.proofs.open.exchanges.Exchanges.leader.Goals as goal
 

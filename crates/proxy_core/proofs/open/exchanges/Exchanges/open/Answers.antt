@@ -5,7 +5,7 @@ use Rattle.std.specs.Map.{values_of}
 use Rattle.proxy_core.specs.declared.open.exchange.Exchange.{Exchange}
 use Rattle.proxy_core.specs.Outcomes.{find_exchange}
 use Rattle.proxy_core.specs.Arrivals.{AreIndexed}
-use Rattle.proxy_core.proofs.Gets.{AllTold, gets-entered, gets-again, gets-not}
+use Rattle.proxy_core.proofs.Gets.{AllIndexed, gets-entered, gets-again, gets-not}
 use Rattle.proxy_core.specs.Waiters.{waits_in}
 use Rattle.proxy_core.specs.Releases.{is_within, ReleasedPass}
 use Rattle.proxy_core.specs.Kept.{AreKept}
@@ -43,7 +43,7 @@ invariant_of-self-in-Ok c =
             waiters = waiters-entered n x es s.waiting c.enter.new.waiting c.in_ok-arrival.ensures c.in-Ok.ensures.entered i.waiters;
           });
       releases = c.settle.ensures.settled;
-      asking = subst (AllTold c.enter.new.gets) (sym c.in-Ok.ensures.ok)
+      asking = subst (AllIndexed c.enter.new.gets) (sym c.in-Ok.ensures.ok)
           (gets-entered n x es s.gets c.enter.new.gets c.in_ok-arrival.ensures c.in-Ok.ensures.asks c.self.invariant.asking);
       trim_waits = c.enter.ensures.trim_waits c.self.invariant.trim_waits;
       trim_gets = c.enter.ensures.trim_gets c.self.invariant.trim_gets;

@@ -4,7 +4,7 @@ use Rattle.std.specs.BTreeMap.{get}
 use Rattle.std.specs.Map.{values_of}
 use Rattle.proxy_core.specs.declared.open.exchange.Exchange.{Exchange}
 use Rattle.proxy_core.specs.State.{overtake}
-use Rattle.proxy_core.proofs.Gets.{AllTold, gets-on_all, overtake-asked}
+use Rattle.proxy_core.proofs.Gets.{AllIndexed, gets-on_all, overtake-asked}
 use Rattle.proxy_core.specs.Waiters.{waits_in}
 use Rattle.proxy_core.specs.Releases.{is_within, ReleasedPass}
 use Rattle.proxy_core.proofs.Releases.{pass-changed, released-overtaken}
@@ -30,7 +30,7 @@ invariant_of-self c =
             waiters = waiters-on_all (overtake c.args.key.now) (overtake-stage c.args.key.now) s.by_arrival.entries s.waiting c.self.invariant.indexes.waiters;
           });
       releases = c.settle.ensures.settled;
-      asking = subst (AllTold s.gets) (sym c.overtake_each.ensures)
+      asking = subst (AllIndexed s.gets) (sym c.overtake_each.ensures)
           (gets-on_all (overtake c.args.key.now) (overtake-asked c.args.key.now) s.by_arrival.entries s.gets c.self.invariant.asking);
       trim_waits = c.self.invariant.trim_waits;
       trim_gets = c.self.invariant.trim_gets;

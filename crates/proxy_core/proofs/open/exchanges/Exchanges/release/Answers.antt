@@ -7,13 +7,13 @@ use Rattle.proxy_core.specs.Leading.{waits_for}
 use Rattle.proxy_core.specs.State.{release}
 use Rattle.proxy_core.specs.Arrivals.{on_all, AreIndexed}
 use Rattle.std.specs.BTreeSet.{contains}
-use Rattle.proxy_core.proofs.Gets.{AllTold, gets-on_all, release-asked}
+use Rattle.proxy_core.proofs.Gets.{AllIndexed, gets-on_all, release-asked}
 use Rattle.proxy_core.specs.Waiters.{waits_in}
 use Rattle.proxy_core.specs.Releases.{is_within, ReleasedPass}
 use Rattle.proxy_core.proofs.Releases.{pass-freed}
 use Rattle.proxy_core.proofs.ExchangeLists.{release-id}
 use Rattle.proxy_core.proofs.Arrivals.{indexed_on_all, values_on_all}
-use Rattle.proxy_core.proofs.Told.{passes}
+use Rattle.proxy_core.proofs.Indexed.{passes}
 use Rattle.proxy_core.proofs.Waiters.{none_released, waiters-released}
 use Rattle.proxy_core.proofs.open.exchanges.Exchanges.release.Goals as goal
 
@@ -44,7 +44,7 @@ invariant_of-self c =
             waiters = waiters-released q s.by_arrival.entries s.waiting c.take.new.self c.take.ensures.emptied c.self.invariant.indexes.waiters;
           });
       releases = c.settle.ensures.settled;
-      asking = subst (AllTold s.gets) (sym c.release_each.ensures) (gets-on_all (release q) (release-asked q) s.by_arrival.entries s.gets c.self.invariant.asking);
+      asking = subst (AllIndexed s.gets) (sym c.release_each.ensures) (gets-on_all (release q) (release-asked q) s.by_arrival.entries s.gets c.self.invariant.asking);
       trim_waits = c.take.ensures.trim c.self.invariant.trim_waits;
       trim_gets = c.self.invariant.trim_gets;
     }

@@ -10,7 +10,7 @@ use Rattle.proxy_core.proofs.Gets as gets
 use Rattle.proxy_core.proofs.Gets.{gets-on_all, sent_out-asked}
 use Rattle.proxy_core.specs.Releases.{is_within, ReleasedPass}
 use Rattle.proxy_core.proofs.Releases.{pass-changed, released-sent}
-use Rattle.proxy_core.proofs.Waiters.{AllTold, waiters-written}
+use Rattle.proxy_core.proofs.Waiters.{AllIndexed, waiters-written}
 use Rattle.proxy_core.specs.Arrivals.{on_all, IsIndexed, arrival_of}
 use Rattle.proxy_core.proofs.ExchangeLists.{sent_out-id}
 use Rattle.proxy_core.proofs.Arrivals.{indexed_on_all, values_on_all, sent_out-others, sent_written, same_all, has_number}
@@ -37,12 +37,12 @@ invariant_of-self c =
       indexes = record {
         ids = subst (λ (zs : List (ℕ × Exchange)). IsIndexed zs (λ id. get nat_cmp s.arrivals id)) (sym is)
             (indexed_on_all (sent_out c.args.id c.args.now c.args.rule c.args.condition) (sent_out-id c.args.id c.args.now c.args.rule c.args.condition) s.by_arrival.entries _ c.self.invariant.indexes.ids);
-        waiters = subst (AllTold c.leave.new.self) (sym (c.get_mut.follows.holds c.go_out.new.self).0)
+        waiters = subst (AllIndexed c.leave.new.self) (sym (c.get_mut.follows.holds c.go_out.new.self).0)
             (waiters-written c.in-Some.arrival.now c.in-Some-get_mut.x.now c.go_out.new.self s.by_arrival.entries s.waiting c.leave.new.self (sym c.in-Some-get_mut.ensures.value)
             (ap (λ (x : Exchange). is_forwarded x.stage) c.go_out.ensures) c.leave.ensures.left c.self.invariant.indexes.waiters);
       };
       releases = c.settle.ensures.settled;
-      asking = subst (gets.AllTold s.gets) (sym is) (gets-on_all (sent_out c.args.id c.args.now c.args.rule c.args.condition) (sent_out-asked c.args.id c.args.now c.args.rule c.args.condition) s.by_arrival.entries s.gets c.self.invariant.asking);
+      asking = subst (gets.AllIndexed s.gets) (sym is) (gets-on_all (sent_out c.args.id c.args.now c.args.rule c.args.condition) (sent_out-asked c.args.id c.args.now c.args.rule c.args.condition) s.by_arrival.entries s.gets c.self.invariant.asking);
       trim_waits = c.leave.ensures.trim c.self.invariant.trim_waits;
       trim_gets = c.self.invariant.trim_gets;
     }

@@ -15,8 +15,8 @@ returns c =
     let age =
     c.as_bytes.ensures.value ∙ c.format.ensures.text ∙ ap decimal c.current_age-age.ensures
     ∙ ap (λ (e : Stored). decimal (age_of e.times reply.sent_at)) c.entry.view_is in
-    let told = c.as_slice.ensures ∙ c.in_ok-member.ensures in
+    let shown = c.as_slice.ensures ∙ c.in_ok-member.ensures in
     let same =
     lines_added fields (line (codes "Age") c.as_bytes.result.now) (line (codes "Cache-Status") c.as_slice.result.now)
-    ∙ (λ i. (fields ++ line (codes "Age") (age i) ∷ []) ++ line (codes "Cache-Status") (told i) ∷ []) in
+    ∙ (λ i. (fields ++ line (codes "Age") (age i) ∷ []) ++ line (codes "Cache-Status") (shown i) ∷ []) in
     subst (λ (lines : List Field). IfOk c.write_response_with.result (λ text. text ≡ response_text c.args.status lines c.args.length reply.asked.now.close c.args.content.now)) same c.write_response_with.ensures

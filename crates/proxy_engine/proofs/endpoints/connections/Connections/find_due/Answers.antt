@@ -22,9 +22,9 @@ invariant_of-self c = (
   (λ q there. c.self.invariant.3 q (c.first_due.ensures.fewer q there)),
 )
 
-pub returns-clause-stands : goal.returns-clause-stands
-returns-clause-stands c = λ ss both.
-    both_listed LooksLikeConnection ConnectionRepresents (λ x y r s h. r.stands s h) c.self.inside.ends c.first_due.new.ends c.self.inside.count c.first_due.ensures.alike ss
+pub returns-clause-represents : goal.returns-clause-represents
+returns-clause-represents c = λ ss both.
+    both_listed LooksLikeConnection ConnectionRepresents (λ x y r s h. r.represents s h) c.self.inside.ends c.first_due.new.ends c.self.inside.count c.first_due.ensures.alike ss
     (subst (λ (v : EndList Connection). Both ConnectionRepresents v.items ss) (sym c.self.view_is) both)
 
 pub returns-clause-found : goal.returns-clause-found

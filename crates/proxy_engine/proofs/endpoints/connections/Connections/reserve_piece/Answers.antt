@@ -33,9 +33,9 @@ returns-clause-ok c =
     (λ roomy. subst (λ (o : Option Connection). IsRoomy o piece) (sym (listed_at c.reserve_at.new.ends c.self.inside.count c.args.i None c.if-i-self.false)) roomy)
     c.reserve_at.ensures.ok
 
-pub returns-clause-stands : goal.returns-clause-stands
-returns-clause-stands c = λ ss both.
-    both_listed GrowsConnection ConnectionRepresents (λ x y r s h. r.alike.stands s h) c.self.inside.ends c.reserve_at.new.ends c.self.inside.count c.reserve_at.ensures.grows ss
+pub returns-clause-represents : goal.returns-clause-represents
+returns-clause-represents c = λ ss both.
+    both_listed GrowsConnection ConnectionRepresents (λ x y r s h. r.alike.represents s h) c.self.inside.ends c.reserve_at.new.ends c.self.inside.count c.reserve_at.ensures.grows ss
     (subst (λ (v : EndList Connection). Both ConnectionRepresents v.items ss) (sym c.self.view_is) both)
 
 pub returns-clause-activities : goal.returns-clause-activities

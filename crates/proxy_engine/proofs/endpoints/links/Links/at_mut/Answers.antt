@@ -2,7 +2,7 @@ use Rattle.std.proofs.Common.{◌≡◌, ◌≢◌, ◌+◌, ◌^◌, ◌&&◌, 
 use Rattle.std.specs.Ordering.{nat_cmp}
 use Rattle.std.specs.BTreeMap.{BTreeMap, get}
 use Rattle.proxy_engine.specs.ReadyList.{listed, IsMarked}
-use Rattle.proxy_engine.specs.Marked.{EndList, may_stand}
+use Rattle.proxy_engine.specs.Marked.{EndList, may_finish}
 use Rattle.proxy_engine.specs.declared.endpoints.ends.Link.{Link}
 use Rattle.proxy_engine.proofs.Shown.{none_from}
 use Rattle.proxy_engine.proofs.Keeping.{seen_at, listed_set, lent_if, elsewhere}
@@ -10,7 +10,7 @@ use Rattle.proxy_engine.proofs.Marking.{has_room, marked_put, below_put, same_li
 use Rattle.proxy_engine.proofs.endpoints.links.Links.at_mut.Goals as goal
 
 pub put-requires : goal.put-requires
-put-requires c = has_room may_stand c.self.inside.ends c.self.inside.stirred c.args.j c.self.invariant.0 (sym c.contains_key.ensures ∙ c.if-not-contains_key.false)
+put-requires c = has_room may_finish c.self.inside.ends c.self.inside.ready_links c.args.j c.self.invariant.0 (sym c.contains_key.ensures ∙ c.if-not-contains_key.false)
 
 pub invariant_of-self-lent : goal.invariant_of-self-lent
 invariant_of-self-lent c = λ r.
@@ -18,17 +18,17 @@ invariant_of-self-lent c = λ r.
     let j = c.args.j in
     let here = sym c.contains_key.ensures ∙ c.if-not-contains_key.false in
     let seen = seen_at m c.self.inside.count j c.args.self.now.items (ap (λ (v : EndList Link). v.items) c.self.view_is) c.requires in
-    let below = below_put c.self.inside.count c.self.inside.stirred.places c.put.new.self.places j c.self.invariant.1 seen.0 c.put.ensures.only in (
+    let below = below_put c.self.inside.count c.self.inside.ready_links.places c.put.new.self.places j c.self.invariant.1 seen.0 c.put.ensures.only in (
       (λ w.
           let held = c.get_mut.follows.holds w in
           let updates = held.3 here in (
-            marked_put may_stand m (c.get_mut.follows.lender w) c.self.inside.stirred c.put.new.self j c.self.invariant.0 (λ q other. updates.2 q (elsewhere j q other)) (ap is_some updates.1) held.2 c.put.ensures.there c.put.ensures.others c.put.ensures.only
+            marked_put may_finish m (c.get_mut.follows.lender w) c.self.inside.ready_links c.put.new.self j c.self.invariant.0 (λ q other. updates.2 q (elsewhere j q other)) (ap is_some updates.1) held.2 c.put.ensures.there c.put.ensures.others c.put.ensures.only
                 c.put.ensures.room c.put.ensures.falls,
             below,
           )),
       (
-        subst (λ (k : BTreeMap ℕ Link). IsMarked may_stand k c.put.new.self) (sym c.get_mut.follows.holds-at-none)
-            (marked_put may_stand m m c.self.inside.stirred c.put.new.self j c.self.invariant.0 (λ q other. refl) here refl c.put.ensures.there c.put.ensures.others c.put.ensures.only c.put.ensures.room c.put.ensures.falls),
+        subst (λ (k : BTreeMap ℕ Link). IsMarked may_finish k c.put.new.self) (sym c.get_mut.follows.holds-at-none)
+            (marked_put may_finish m m c.self.inside.ready_links c.put.new.self j c.self.invariant.0 (λ q other. refl) here refl c.put.ensures.there c.put.ensures.others c.put.ensures.only c.put.ensures.room c.put.ensures.falls),
         below,
       ),
     )

@@ -1,27 +1,27 @@
 use Rattle.std.proofs.Common.{sym, ap, ◌∙◌, subst, arith, sum_by, Some}
 use Rattle.proxy_engine.specs.Pairing.{owner_of, owners_of}
 use Rattle.proxy_engine.specs.EngineModel.{no_link}
-use Rattle.proxy_engine.specs.Due.{Stood}
+use Rattle.proxy_engine.specs.Due.{FinishDue}
 use Rattle.proxy_engine.specs.State.{Both, LinkRepresents, finish_at, link_load}
-use Rattle.proxy_engine.specs.Marked.{EndList, LooksLikeLink, may_stand}
+use Rattle.proxy_engine.specs.Marked.{EndList, LooksLikeLink, may_finish}
 use Rattle.proxy_engine.specs.declared.endpoints.ends.Link.{Link}
 use Rattle.proxy_engine.proofs.Searching.{both_listed, map_listed, sum_listed}
-use Rattle.proxy_engine.proofs.Marking.{unstood, unstood_over}
+use Rattle.proxy_engine.proofs.Marking.{no_finish_due, no_finish_due_over}
 use Rattle.proxy_engine.proofs.Finding.{due_found}
-use Rattle.proxy_engine.proofs.Spending.{stops_at}
+use Rattle.proxy_engine.proofs.Exhausting.{stops_at}
 use Rattle.proxy_engine.proofs.Acting.{on_ok, stays_err}
 use Rattle.proxy_engine.proofs.endpoints.links.Links.find_finished.Goals as goal
 
 pub invariant_of-self : goal.invariant_of-self
 invariant_of-self c = (c.first_due.ensures.marked, (λ q there. c.self.invariant.1 q (c.first_due.ensures.fewer q there)))
 
-pub returns-clause-stands : goal.returns-clause-stands
-returns-clause-stands c = λ ss both.
-    both_listed LooksLikeLink LinkRepresents (λ x y r s h. r.stands s h) c.self.inside.ends c.first_due.new.ends c.self.inside.count c.first_due.ensures.alike ss
+pub returns-clause-represents : goal.returns-clause-represents
+returns-clause-represents c = λ ss both.
+    both_listed LooksLikeLink LinkRepresents (λ x y r s h. r.represents s h) c.self.inside.ends c.first_due.new.ends c.self.inside.count c.first_due.ensures.alike ss
     (subst (λ (v : EndList Link). Both LinkRepresents v.items ss) (sym c.self.view_is) both)
 
 pub returns-clause-found : goal.returns-clause-found
-returns-clause-found c = on_ok c.first_due.result _ _ (λ r h. due_found LinkRepresents Stood may_stand no_link finish_at c.first_due.new.ends c.self.inside.count c.self.inside.stirred.places unstood unstood_over r c.self.invariant.1 h) c.first_due.ensures.found
+returns-clause-found c = on_ok c.first_due.result _ _ (λ r h. due_found LinkRepresents FinishDue may_finish no_link finish_at c.first_due.new.ends c.self.inside.count c.self.inside.ready_links.places no_finish_due no_finish_due_over r c.self.invariant.1 h) c.first_due.ensures.found
 
 pub returns-clause-owners : goal.returns-clause-owners
 returns-clause-owners c =
@@ -33,4 +33,4 @@ returns-clause-load c =
     omega (arith, less, ap (λ (v : EndList Link). sum_by link_load v.items) c.self.view_is)
 
 pub returns-clause-failed : goal.returns-clause-failed
-returns-clause-failed c = stays_err c.first_due.result _ _ (λ h. stops_at c.first_due.new.ends c.self.inside.count c.self.inside.stirred.places c.self.invariant.1 h) c.first_due.ensures.failed
+returns-clause-failed c = stays_err c.first_due.result _ _ (λ h. stops_at c.first_due.new.ends c.self.inside.count c.self.inside.ready_links.places c.self.invariant.1 h) c.first_due.ensures.failed

@@ -2,7 +2,7 @@ use Rattle.std.proofs.Common.{◌≡◌, ◌+◌, ◌^◌, nat_lt, List, [], ◌
 use Rattle.std.specs.Ordering.{nat_cmp}
 use Rattle.std.specs.BTreeMap.{get, Updates}
 use Rattle.proxy_engine.specs.ReadyList.{listed}
-use Rattle.proxy_engine.specs.Marked.{EndList, may_stand}
+use Rattle.proxy_engine.specs.Marked.{EndList, may_finish}
 use Rattle.proxy_engine.specs.declared.endpoints.ends.Link.{Link}
 use Rattle.proxy_engine.proofs.Keeping.{elsewhere, listed_more, listed_same, surely, surely_size, both_true}
 use Rattle.proxy_engine.proofs.Marking.{has_room, marked_put, below_put, below_more}
@@ -11,7 +11,7 @@ use Rattle.proxy_engine.proofs.endpoints.links.Links.put.Goals as goal
 pub put-requires : goal.put-requires
 put-requires c =
     let there = both_true (nat_lt (c.self.inside.count + 1) (2 ^ 64)) (is_some (get nat_cmp c.self.inside.ends c.self.inside.count)) (ap (λ (v : EndList Link). v.has_room) c.self.view_is ∙ c.requires) in
-    has_room may_stand c.self.inside.ends c.self.inside.stirred c.self.inside.count c.self.invariant.0 there.1
+    has_room may_finish c.self.inside.ends c.self.inside.ready_links c.self.inside.count c.self.invariant.0 there.1
 
 pub invariant_of-self : goal.invariant_of-self
 invariant_of-self c =
@@ -21,8 +21,8 @@ invariant_of-self c =
     let there = both_true (nat_lt (c.self.inside.count + 1) (2 ^ 64)) (is_some (get nat_cmp c.self.inside.ends c.self.inside.count)) (ap (λ (v : EndList Link). v.has_room) c.self.view_is ∙ c.requires) in
     let updates = surely c.insert.result (get nat_cmp m n) (Updates nat_cmp m k n (Some c.args.link)) c.insert.ensures.updates c.insert.ensures.absent there.1 in
     let size = surely_size c.insert.result (get nat_cmp m n) (length k.entries) (length m.entries) c.insert.ensures.old c.insert.ensures.len c.insert.ensures.absent there.1 in (
-      marked_put may_stand m k c.self.inside.stirred c.put.new.self n c.self.invariant.0 (λ q other. updates.2 q (elsewhere n q other)) (ap is_some updates.1) size c.put.ensures.there c.put.ensures.others c.put.ensures.only c.put.ensures.room c.put.ensures.falls,
-      below_put (n + 1) c.self.inside.stirred.places c.put.new.self.places n (below_more n _ c.self.invariant.1) (omega arith) c.put.ensures.only,
+      marked_put may_finish m k c.self.inside.ready_links c.put.new.self n c.self.invariant.0 (λ q other. updates.2 q (elsewhere n q other)) (ap is_some updates.1) size c.put.ensures.there c.put.ensures.others c.put.ensures.only c.put.ensures.room c.put.ensures.falls,
+      below_put (n + 1) c.self.inside.ready_links.places c.put.new.self.places n (below_more n _ c.self.invariant.1) (omega arith) c.put.ensures.only,
     )
 
 pub returns : goal.returns

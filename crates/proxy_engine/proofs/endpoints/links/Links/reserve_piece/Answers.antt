@@ -3,10 +3,10 @@ use Rattle.proxy_engine.specs.Pairing.{owner_of, owners_of}
 use Rattle.proxy_engine.specs.State.{Both, LinkRepresents}
 use Rattle.proxy_engine.specs.Room.{IsRoomyLink, piece}
 use Rattle.proxy_engine.specs.Held.{GrowsLink}
-use Rattle.proxy_engine.specs.Marked.{EndList, may_stand}
+use Rattle.proxy_engine.specs.Marked.{EndList, may_finish}
 use Rattle.proxy_engine.specs.declared.endpoints.ends.Link.{Link}
 use Rattle.proxy_engine.proofs.Keeping.{listed_at, listed_same, listed_length}
-use Rattle.proxy_engine.proofs.Marking.{marked_alike, grown_stand, same_list}
+use Rattle.proxy_engine.proofs.Marking.{marked_alike, grown_finish, same_list}
 use Rattle.proxy_engine.proofs.Searching.{both_listed, map_listed}
 use Rattle.proxy_engine.proofs.Readable.{beyond, by_place}
 use Rattle.proxy_engine.proofs.Acting.{does_ok, stays_err}
@@ -14,7 +14,7 @@ use Rattle.proxy_engine.proofs.endpoints.links.Links.reserve_piece.Goals as goal
 
 pub invariant_of-self : goal.invariant_of-self
 invariant_of-self c = (
-  marked_alike may_stand GrowsLink c.self.inside.ends c.reserve_at.new.ends c.self.inside.stirred grown_stand c.self.invariant.0 c.reserve_at.ensures.grows c.reserve_at.ensures.size,
+  marked_alike may_finish GrowsLink c.self.inside.ends c.reserve_at.new.ends c.self.inside.ready_links grown_finish c.self.invariant.0 c.reserve_at.ensures.grows c.reserve_at.ensures.size,
   c.self.invariant.1,
 )
 
@@ -29,9 +29,9 @@ returns-clause-ok c =
     (λ roomy. subst (λ (o : Option Link). IsRoomyLink o piece) (sym (listed_at c.reserve_at.new.ends c.self.inside.count c.args.j None c.if-j-self.false)) roomy)
     c.reserve_at.ensures.ok
 
-pub returns-clause-stands : goal.returns-clause-stands
-returns-clause-stands c = λ ss both.
-    both_listed GrowsLink LinkRepresents (λ x y r s h. r.alike.stands s h) c.self.inside.ends c.reserve_at.new.ends c.self.inside.count c.reserve_at.ensures.grows ss
+pub returns-clause-represents : goal.returns-clause-represents
+returns-clause-represents c = λ ss both.
+    both_listed GrowsLink LinkRepresents (λ x y r s h. r.alike.represents s h) c.self.inside.ends c.reserve_at.new.ends c.self.inside.count c.reserve_at.ensures.grows ss
     (subst (λ (v : EndList Link). Both LinkRepresents v.items ss) (sym c.self.view_is) both)
 
 pub returns-clause-owners : goal.returns-clause-owners

@@ -1,0 +1,8 @@
+use Rattle.proxy_turn.proofs.Stepping.{turns_are_executed, turns_emit}
+use Rattle.proxy_turn.proofs.laws.turns_are_executed.Goals as goal
+
+pub returns-clause-executed : goal.returns-clause-executed
+returns-clause-executed c = turns_are_executed
+
+pub returns-clause-reports : goal.returns-clause-reports
+returns-clause-reports c = turns_emit
