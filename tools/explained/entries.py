@@ -60,7 +60,7 @@ class Words:
         return Entry(
             f"reuse-{number}",
             title,
-            self.parts(rows, self.sources.definition("ReuseRule", name, ["against", "stands"])),
+            self.parts(rows, self.sources.definition("ReuseRule", name, ["against", "applies"])),
         )
 
     def storing(self, name):
@@ -69,7 +69,7 @@ class Words:
         return Entry(
             f"storing-{number}",
             f"rule {number} of storing, {name}",
-            self.parts(rows, self.sources.definition("StoreRule", name, ["stands"])),
+            self.parts(rows, self.sources.definition("StoreRule", name, ["applies"])),
         )
 
     def error(self, name):
@@ -96,7 +96,7 @@ class Words:
     def target(self, name):
         rows = self.documents.row(lambda it: it["Fault"] == name, "Fault", "Stands where", "RFC", "Answer")
         word = self.sources.texts("target_word", "TargetFault")[name]
-        defined = self.sources.definition("TargetFault", name, ["stands"])
+        defined = self.sources.definition("TargetFault", name, ["applies"])
         return Entry(
             f"target-{word}",
             f"refused: {word}: fault {rows[1].get('No')} of targets, {name}",

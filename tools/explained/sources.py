@@ -42,7 +42,9 @@ class Sources:
         return {name: int(right) for name, right in self.table(function, type).items()}
 
     def definition(self, type, name, functions):
-        """Where the condition of a rule stands: the first of these functions that says something of it."""
+        """Where the condition of a rule is: the first of these functions that says something of it; fails where none is there."""
+        if not any((it, type) in self.equations for it in functions):
+            raise LookupError(f"no definition {' or '.join(functions)} of {type} stands in crates/*/specs")
         for it in functions:
             right = self.equations.get((it, type), {}).get(name)
             if right and right != "false":
