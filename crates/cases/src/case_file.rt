@@ -124,10 +124,19 @@ impl<'a> Player<'a> {
 
     fn play(&mut self, alloc: Global, report: &mut String, block: &Block<'a>) -> Result<(), Fault> {
         let (label, answer) = labelled(block.head)?;
-        let own = [label];
-        let mut input = block.body.as_slice();
+        let input = block.body.as_slice();
         if input.is_empty() {
-            input = own.as_slice();
+            let input = [label];
+            let input = input.as_slice();
+            return self.judge(
+                alloc,
+                report,
+                &Case {
+                    label,
+                    answer,
+                    input,
+                },
+            );
         }
         self.judge(
             alloc,
