@@ -370,6 +370,25 @@ impl<S: Stream + Drop> Clients<S> {
         }
     }
 
+    /// The same, unless that one came in this very millisecond: its request may be on its way.
+    pub(crate) fn drop_quiet(&mut self, now: u64) -> bool {
+        match self.lines.first(Line::Idle) {
+            Some(key) if self.is_quiet(key, now) => {
+                self.cut(key, Cut::Room);
+                true
+            }
+            _ => false,
+        }
+    }
+
+    /// Whether no byte of a client came or went in this millisecond, nor the client itself.
+    fn is_quiet(&self, key: usize, now: u64) -> bool {
+        match self.streams.get(key) {
+            Some(client) => client.peer.heard < now,
+            None => false,
+        }
+    }
+
     /// Where more is kept for clients than may be, those with the most give way.
     pub(crate) fn keep_within(&mut self) {
         for _ in 0..self.streams.len() {

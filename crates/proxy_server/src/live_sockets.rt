@@ -356,8 +356,9 @@ impl<'a, R: Net> LiveSockets<'a, R> {
             Err(e) if e.kind() == ErrorKind::ConnectionAborted => true,
             Err(e) if e.kind() == ErrorKind::Interrupted => true,
             Err(e) => {
-                // Where descriptors have run out an idle client gives way, else it is tried again after a pause.
-                let again = wants_descriptors(&e) && self.clients.drop_idle();
+                // Where descriptors have run out an idle client gives way, else it is tried again after a
+                // pause. The system says so too where no connection waits: who has just come stays.
+                let again = wants_descriptors(&e) && self.clients.drop_quiet(self.now);
                 if !again {
                     self.doors.count_refused(&e);
                 }
