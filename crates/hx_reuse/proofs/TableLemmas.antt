@@ -9,7 +9,7 @@ use Rattle.hx_reuse.specs.declared.rule.ReuseRule.TheVariants.{Operator, Method,
 use Rattle.hx_reuse.specs.declared.rule.ErrorRule.{ErrorRule}
 use Rattle.hx_reuse.specs.declared.rule.ErrorRule.TheVariants as on_error
 use Rattle.hx_reuse.specs.Words.{number_of, error_number_of}
-use Rattle.hx_reuse.specs.Rules.{Situation, against, stands_on_chosen, applies, reuse_rules, names_entry}
+use Rattle.hx_reuse.specs.Rules.{Situation, against, applies_to_chosen, applies, reuse_rules, names_entry}
 use Rattle.hx_reuse.specs.ErrorRules.{error_rules}
 use Rattle.hx_fields.proofs.JoinedTests.{never}
 
@@ -33,7 +33,7 @@ each_is_listed PastMaxStale = refl
 each_is_listed StaleMaxAge = refl
 each_is_listed StaleMinFresh = refl
 
-pub on_the_chosen : (rule : ReuseRule) (policy : Policy) (held : List Stored) (asked : Asked) (now : ℕ) → names_entry rule ≡ true → applies rule policy held asked now ≡ stands_on_chosen rule policy held asked now
+pub on_the_chosen : (rule : ReuseRule) (policy : Policy) (held : List Stored) (asked : Asked) (now : ℕ) → names_entry rule ≡ true → applies rule policy held asked now ≡ applies_to_chosen rule policy held asked now
 on_the_chosen Operator policy held asked now h = absurd (never (sym h))
 on_the_chosen Method policy held asked now h = absurd (never (sym h))
 on_the_chosen Content policy held asked now h = absurd (never (sym h))

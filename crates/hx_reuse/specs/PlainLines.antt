@@ -85,8 +85,8 @@ plain_against_chosen which e asked now =
     plain_against which (lifetime_of e.fields) (age_of e.times now) (occurrences_of e.fields)
     (occurrences_of asked.fields)
 
-abbrev pub plain_stands_on_chosen : ReuseRule → List Stored → Asked → ℕ → Bool
-plain_stands_on_chosen which held asked now =
+abbrev pub plain_applies_to_chosen : ReuseRule → List Stored → Asked → ℕ → Bool
+plain_applies_to_chosen which held asked now =
     is_some_and (λ e. plain_against_chosen which e asked now) (chosen_of held asked)
 
 abbrev pub plain_applies : ReuseRule → Bool → List Stored → Asked → ℕ → Bool
@@ -97,17 +97,17 @@ plain_applies Range caches held asked now = asks_for_range asked
 plain_applies Precondition caches held asked now = has_precondition asked
 plain_applies UriMiss caches held asked now = length (of_key held asked) == 0
 plain_applies VaryMiss caches held asked now = is_none (chosen_of held asked)
-plain_applies ResponseNoCache caches held asked now = plain_stands_on_chosen ResponseNoCache held asked now
-plain_applies RequestNoCache caches held asked now = plain_stands_on_chosen RequestNoCache held asked now
-plain_applies AboveMaxAge caches held asked now = plain_stands_on_chosen AboveMaxAge held asked now
-plain_applies BelowMinFresh caches held asked now = plain_stands_on_chosen BelowMinFresh held asked now
-plain_applies MustRevalidate caches held asked now = plain_stands_on_chosen MustRevalidate held asked now
-plain_applies NoLifetime caches held asked now = plain_stands_on_chosen NoLifetime held asked now
-plain_applies StaleNoCache caches held asked now = plain_stands_on_chosen StaleNoCache held asked now
-plain_applies NoMaxStale caches held asked now = plain_stands_on_chosen NoMaxStale held asked now
-plain_applies PastMaxStale caches held asked now = plain_stands_on_chosen PastMaxStale held asked now
-plain_applies StaleMaxAge caches held asked now = plain_stands_on_chosen StaleMaxAge held asked now
-plain_applies StaleMinFresh caches held asked now = plain_stands_on_chosen StaleMinFresh held asked now
+plain_applies ResponseNoCache caches held asked now = plain_applies_to_chosen ResponseNoCache held asked now
+plain_applies RequestNoCache caches held asked now = plain_applies_to_chosen RequestNoCache held asked now
+plain_applies AboveMaxAge caches held asked now = plain_applies_to_chosen AboveMaxAge held asked now
+plain_applies BelowMinFresh caches held asked now = plain_applies_to_chosen BelowMinFresh held asked now
+plain_applies MustRevalidate caches held asked now = plain_applies_to_chosen MustRevalidate held asked now
+plain_applies NoLifetime caches held asked now = plain_applies_to_chosen NoLifetime held asked now
+plain_applies StaleNoCache caches held asked now = plain_applies_to_chosen StaleNoCache held asked now
+plain_applies NoMaxStale caches held asked now = plain_applies_to_chosen NoMaxStale held asked now
+plain_applies PastMaxStale caches held asked now = plain_applies_to_chosen PastMaxStale held asked now
+plain_applies StaleMaxAge caches held asked now = plain_applies_to_chosen StaleMaxAge held asked now
+plain_applies StaleMinFresh caches held asked now = plain_applies_to_chosen StaleMinFresh held asked now
 
 unfoldable pub plain_decision_of : Bool → List Stored → Asked → ℕ → Decision
 plain_decision_of caches held asked now =

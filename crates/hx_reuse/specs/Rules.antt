@@ -124,8 +124,8 @@ against UriMiss s = false
 against VaryMiss s = false
 
 -- a rule on the chosen response: one is chosen, and the condition of the rule holds of it
-abbrev pub stands_on_chosen : ReuseRule → Policy → List Stored → Asked → ℕ → Bool
-stands_on_chosen rule policy held asked now =
+abbrev pub applies_to_chosen : ReuseRule → Policy → List Stored → Asked → ℕ → Bool
+applies_to_chosen rule policy held asked now =
     is_some_and (λ e. against rule (situation policy e asked now)) (chosen_of held asked)
 
 -- the condition of each rule, under what the operator's line says of caching
@@ -145,17 +145,17 @@ applies UriMiss policy held asked now = length (of_key held asked) == 0
 -- RFC 9111, section 4.1
 applies VaryMiss policy held asked now = is_none (chosen_of held asked)
 -- those on the chosen response
-applies ResponseNoCache policy held asked now = stands_on_chosen ResponseNoCache policy held asked now
-applies RequestNoCache policy held asked now = stands_on_chosen RequestNoCache policy held asked now
-applies AboveMaxAge policy held asked now = stands_on_chosen AboveMaxAge policy held asked now
-applies BelowMinFresh policy held asked now = stands_on_chosen BelowMinFresh policy held asked now
-applies MustRevalidate policy held asked now = stands_on_chosen MustRevalidate policy held asked now
-applies NoLifetime policy held asked now = stands_on_chosen NoLifetime policy held asked now
-applies StaleNoCache policy held asked now = stands_on_chosen StaleNoCache policy held asked now
-applies NoMaxStale policy held asked now = stands_on_chosen NoMaxStale policy held asked now
-applies PastMaxStale policy held asked now = stands_on_chosen PastMaxStale policy held asked now
-applies StaleMaxAge policy held asked now = stands_on_chosen StaleMaxAge policy held asked now
-applies StaleMinFresh policy held asked now = stands_on_chosen StaleMinFresh policy held asked now
+applies ResponseNoCache policy held asked now = applies_to_chosen ResponseNoCache policy held asked now
+applies RequestNoCache policy held asked now = applies_to_chosen RequestNoCache policy held asked now
+applies AboveMaxAge policy held asked now = applies_to_chosen AboveMaxAge policy held asked now
+applies BelowMinFresh policy held asked now = applies_to_chosen BelowMinFresh policy held asked now
+applies MustRevalidate policy held asked now = applies_to_chosen MustRevalidate policy held asked now
+applies NoLifetime policy held asked now = applies_to_chosen NoLifetime policy held asked now
+applies StaleNoCache policy held asked now = applies_to_chosen StaleNoCache policy held asked now
+applies NoMaxStale policy held asked now = applies_to_chosen NoMaxStale policy held asked now
+applies PastMaxStale policy held asked now = applies_to_chosen PastMaxStale policy held asked now
+applies StaleMaxAge policy held asked now = applies_to_chosen StaleMaxAge policy held asked now
+applies StaleMinFresh policy held asked now = applies_to_chosen StaleMinFresh policy held asked now
 
 -- the rules by their numbers
 abbrev pub request_rules : List ReuseRule

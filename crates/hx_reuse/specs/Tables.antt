@@ -5,7 +5,8 @@ use Rattle.hx_hop.specs.declared.request_view.Asked.{Asked}
 use Rattle.hx_store.specs.Stored.{Stored}
 use Rattle.hx_policy.specs.declared.words.Policy.{Policy}
 use Rattle.hx_reuse.specs.Words.{number_of, error_number_of}
-use Rattle.hx_reuse.specs.Rules.{Situation, against, stands_on_chosen, applies, request_rules, entry_rules, reuse_rules}
+use Rattle.hx_reuse.specs.Rules.{Situation, against, applies_to_chosen, applies}
+use Rattle.hx_reuse.specs.Rules.{request_rules, entry_rules, reuse_rules}
 use Rattle.hx_reuse.specs.Rules.{names_entry}
 use Rattle.hx_reuse.specs.ErrorRules.{error_rules}
 use Rattle.hx_reuse.specs.declared.rule.ReuseRule.{ReuseRule}
@@ -33,10 +34,10 @@ abbrev pub EntryRulesNameTheResponse : Type 0
 EntryRulesNameTheResponse = filter names_entry reuse_rules ≡ entry_rules
 
 -- each of these stands by its own condition
-abbrev pub EntryRulesStandOnTheChosen : Type 0
-EntryRulesStandOnTheChosen =
+abbrev pub EntryRulesApplyToTheChosen : Type 0
+EntryRulesApplyToTheChosen =
     (rule : ReuseRule) (policy : Policy) (held : List Stored) (asked : Asked) (now : ℕ) →
-    names_entry rule ≡ true → applies rule policy held asked now ≡ stands_on_chosen rule policy held asked now
+    names_entry rule ≡ true → applies rule policy held asked now ≡ applies_to_chosen rule policy held asked now
 
 -- and none of the others has a condition on a response
 abbrev pub OthersAreAgainstNone : Type 0

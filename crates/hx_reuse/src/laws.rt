@@ -20,7 +20,7 @@ ghost use Rattle.hx_reuse.specs.LineWords.{StatedLimitStays};
 ghost use Rattle.hx_reuse.specs.Promises.{SendsNoOtherRequestsVariant, SendsNoOtherVariant, NeverSendsStaleAgainst};
 ghost use Rattle.hx_reuse.specs.Promises.{NeverOutlastsWhatItStates, NeverSendsUnvalidated, NeverSendsOnError};
 ghost use Rattle.hx_reuse.specs.Tables.{RulesAreInOrder, EachRuleIsListed, RulesAreInGroups};
-ghost use Rattle.hx_reuse.specs.Tables.{EntryRulesNameTheResponse, EntryRulesStandOnTheChosen, OthersAreAgainstNone};
+ghost use Rattle.hx_reuse.specs.Tables.{EntryRulesNameTheResponse, EntryRulesApplyToTheChosen, OthersAreAgainstNone};
 ghost use Rattle.hx_reuse.specs.Tables.{ErrorRulesAreInOrder, EachErrorRuleIsListed};
 
 use hx_vary::kept_is_enough;
@@ -145,7 +145,7 @@ pub fn the_tables_of_the_rules_agree()
     ensures listed { EachRuleIsListed }
     ensures groups { RulesAreInGroups }
     ensures named { EntryRulesNameTheResponse }
-    ensures chosen { EntryRulesStandOnTheChosen }
+    ensures chosen { EntryRulesApplyToTheChosen }
     ensures others { OthersAreAgainstNone }
     ensures error_numbers { ErrorRulesAreInOrder }
     ensures error_listed { EachErrorRuleIsListed }
