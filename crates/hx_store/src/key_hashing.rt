@@ -4,6 +4,7 @@
 ghost use Rattle.std.specs.Hash.{u64 as writes_of};
 ghost use Rattle.std.specs.Hash.DefaultHasher.{initial, write};
 ghost use Rattle.std.specs.List.{fold};
+ghost use Rattle.std.specs.Prelude.{◌≡◌};
 
 use std::hash::{BuildHasher, DefaultHasher, Hasher};
 
@@ -14,7 +15,9 @@ pub(crate) struct KeyHashing {
 }
 
 impl KeyHashing {
-    pub(crate) fn new(seed: u64) -> KeyHashing {
+    pub(crate) fn new(seed: u64) -> KeyHashing
+        ensures { result.seed ≡ seed }
+    {
         KeyHashing { seed }
     }
 }

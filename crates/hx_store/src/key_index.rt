@@ -6,7 +6,7 @@
 ghost use Rattle.std.specs.Prelude.{◌≡◌, ◌==◌, [], not, length, option_copied, IfOk, OnOk, OnErr, slice_get};
 ghost use Rattle.std.specs.Bool.{OnFalse, OnTrue};
 ghost use Rattle.hx_target.specs.declared.keys.Key.{Key as StoreKey};
-ghost use Rattle.std.specs.HashMap.{get};
+ghost use Rattle.std.specs.HashMap.{get, hasher_of};
 ghost use Rattle.hx_target.specs.Keys.{same_key};
 ghost use Rattle.std.specs.Ordering.{nat_cmp};
 ghost use Rattle.hx_store.specs.Index.{indexed, marks_at, IsMarkedAnew, IsPutIn, IsPutInIf, IsTakenOut, IsSameIndex};
@@ -37,6 +37,7 @@ impl KeyIndex {
     pub(crate) fn new(alloc: Global, seed: u64) -> KeyIndex
         ensures empty { (key : StoreKey) → marks_at result key ≡ [] }
         ensures trim { IsTrim result }
+        ensures seeded { (hasher_of result.serials).seed ≡ seed }
     {
         KeyIndex {
             serials: HashMap::with_hasher(alloc, KeyHashing::new(seed)),
