@@ -1,6 +1,7 @@
 pub mod FirstFaults
 pub mod HostIndices
 pub mod Items
+pub mod KeysListed
 pub mod LinesRead
 pub mod Readings
 pub mod TablePaths

@@ -1,6 +1,6 @@
 -- What holds of each line without fault holds of all the lines of a table that is read.
 use Rattle.std.proofs.Common.{◌≡◌, ℕ, ◌+◌, Bool, true, false, cond, List, codes, Option, Some, None, refl, sym, ◌∙◌, subst}
-use Rattle.std.specs.Prelude.{Ok, not, unwrap_or, is_none}
+use Rattle.std.specs.Prelude.{Ok, not, unwrap_or, option_map, is_none}
 use Rattle.std.specs.List.{All}
 use Rattle.std.proofs.lemmas.List.Elements.{All-nil, All-cons}
 use Rattle.toml.specs.Data.{Items, no_items, item, Members, as_table}
@@ -18,6 +18,10 @@ use Rattle.hx_allow.specs.declared.values.TableVersion.{TableVersion}
 pub none_applies : {A : Type 0} (b : Bool) (o : Option A) (x : A) → cond b (Some x) o ≡ None → (b ≡ false) × (o ≡ None)
 none_applies true o x e = cc
 none_applies false o x e = (refl, e)
+
+pub none_mapped : {A B : Type 0} (f : A → B) (o : Option A) → option_map f o ≡ None → o ≡ None
+none_mapped f None e = refl
+none_mapped f (Some x) e = cc
 
 or_later_none : (a b : Option ConfigFault) → or_later a b ≡ None → (a ≡ None) × (b ≡ None)
 or_later_none None b e = (refl, e)

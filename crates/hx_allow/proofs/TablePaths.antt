@@ -8,15 +8,17 @@ use Rattle.toml.specs.Data.{Members}
 use Rattle.hx_target.specs.declared.targets.Target.{Target}
 use Rattle.hx_target.specs.Paths.{has_bad_escape, has_dot_segment, table_path_of}
 use Rattle.hx_allow.specs.Lines.{Line as PlainLine, Table}
-use Rattle.hx_allow.specs.LineWords.{first_bad_word}
-use Rattle.hx_allow.specs.LineTables.{is_line_host, are_line_methods, is_path_byte, ends_open, is_line_path, is_line_origin, is_line_cache, line_fault, line_of}
+use Rattle.hx_allow.specs.Rows.{fault_of}
+use Rattle.hx_allow.specs.LineTables.{is_path_byte, ends_open, is_line_path, first_bad_key, line_fault, line_of}
 use Rattle.hx_allow.specs.Matching.{matches_host, matches_method, matches_path, matches_line, verdict_by, verdict_from, verdict_of}
 use Rattle.hx_allow.specs.Tables.{ReadsAs, version_of}
 use Rattle.hx_allow.specs.Values.{first_unknown, text_at, items_at, is_some_and}
-use Rattle.hx_allow.specs.declared.faults.ConfigFault.TheVariants.{UnknownKey, BadHost, BadMethod, BadPath, BadOrigin, BadCache, BadWord}
+use Rattle.hx_allow.specs.declared.faults.ConfigFault.TheVariants.{UnknownKey}
+use Rattle.hx_allow.specs.declared.rows.LineKey.TheVariants.{Path}
 use Rattle.hx_allow.specs.declared.values.Scope.TheVariants.{Line}
 use Rattle.hx_allow.specs.declared.values.TableVersion.{TableVersion}
-use Rattle.hx_allow.proofs.LinesRead.{none_applies, each_line_read}
+use Rattle.hx_allow.proofs.KeysListed.{each_good}
+use Rattle.hx_allow.proofs.LinesRead.{none_mapped, each_line_read}
 
 matches_alike : (line : PlainLine) (method : List ℕ) (a b : Target) → a.key.host ≡ b.key.host → a.table_path ≡ b.table_path → matches_line line method a ≡ matches_line line method b
 unfolding matches_line
@@ -45,10 +47,6 @@ not_true : (b : Bool) → not b ≡ true → b ≡ false
 not_true true e = cc
 not_true false e = refl
 
-not_false : (b : Bool) → not b ≡ false → b ≡ true
-not_false true e = refl
-not_false false e = cc
-
 no_bad_escape : (text : List ℕ) → is_line_path text ≡ true → has_bad_escape text ≡ false
 unfolding is_line_path
 no_bad_escape text is =
@@ -67,15 +65,9 @@ line_is once version n ms none = by_keys (first_unknown (Line version) ms) refl
     by_keys : (o : Option (List ℕ)) → first_unknown (Line version) ms ≡ o → IsTablePath (line_of ms)
     by_keys (Some key) e = let bad : line_fault version n ms ≡ Some (UnknownKey key) = rw e refl in cc
     by_keys None e =
-        let cache = cond (not (is_line_cache ms)) (Some (BadCache n)) (option_map (BadWord n) (first_bad_word ms)) in
-        let origin = cond (not (is_some_and is_line_origin (text_at (codes "origin") ms))) (Some (BadOrigin n)) cache in
-        let path = cond (not (is_some_and is_line_path (text_at (codes "path") ms))) (Some (BadPath n)) origin in
-        let methods = cond (not (is_some_and are_line_methods (items_at (codes "methods") ms))) (Some (BadMethod n)) path in
-        let is : line_fault version n ms ≡ cond (not (is_some_and is_line_host (text_at (codes "host") ms))) (Some (BadHost n)) methods = rw e refl in
-        let host_is = none_applies (not (is_some_and is_line_host (text_at (codes "host") ms))) methods (BadHost n) (sym is ∙ none) in
-        let methods_are = none_applies (not (is_some_and are_line_methods (items_at (codes "methods") ms))) path (BadMethod n) host_is.1 in
-        let path_stands = none_applies (not (is_some_and is_line_path (text_at (codes "path") ms))) origin (BadPath n) methods_are.1 in
-        path_is once (text_at (codes "path") ms) (not_false (is_some_and is_line_path (text_at (codes "path") ms)) path_stands.0)
+        let is : line_fault version n ms ≡ option_map (fault_of n) (first_bad_key ms) = rw e refl in
+        let good : is_some_and is_line_path (text_at (codes "path") ms) ≡ true = each_good ms (none_mapped (fault_of n) (first_bad_key ms) (sym is ∙ none)) Path in
+        path_is once (text_at (codes "path") ms) good
 
 pub read_paths_are : Once → (bytes : List ℕ) (table : Table) → ReadsAs bytes (Ok table) → All IsTablePath table.lines
 read_paths_are once bytes table (inl (t, is, e)) = each_line_read IsTablePath t table (line_is once (version_of t)) e

@@ -1,7 +1,7 @@
 -- What the versions of the table share: a line without the keys that a version adds says the same in each, a table of the
 -- first has no line with `cache`, and one of the first two none with a word of the third.
 use Rattle.std.proofs.Common.{◌≡◌, Less, Equal, Greater, Ordering, is_eq, nat_cmp, ℕ, ◌+◌, Bool, true, false, cond, List, codes, Option, Some, None, refl, ap, sym, ◌∙◌, subst}
-use Rattle.std.specs.Prelude.{Ok, Err, not, is_none, bytes_eq, unwrap_or, option_map}
+use Rattle.std.specs.Prelude.{Ok, Err, not, is_none, ◌&&◌, bytes_eq, unwrap_or, option_map}
 use Rattle.std.specs.List.{All}
 use Rattle.std.specs.Ordering.{match_ordering}
 use Rattle.std.specs.Cmp.Lexicographic.{slice_cmp, nat_list_eq_equiv}
@@ -10,19 +10,27 @@ use Rattle.std.proofs.lemmas.Map.Text.{is_eq-slice_cmp}
 use Rattle.toml.specs.Data.{Data, Items, no_items, item, Members, no_members, member, get_member, as_table}
 use Rattle.hx_policy.specs.Words.{plain}
 use Rattle.hx_allow.specs.Lines.{Line as PlainLine, Table}
-use Rattle.hx_allow.specs.LineWords.{says, first_bad_word, policy_read}
-use Rattle.hx_allow.specs.LineTables.{is_line_host, are_line_methods, is_line_path, is_line_origin, is_line_cache, line_fault, line_of, lines_fault, or_later, item_fault}
+use Rattle.hx_allow.specs.Keys.{word_key}
+use Rattle.hx_allow.specs.LineWords.{says, policy_read}
+use Rattle.hx_allow.specs.Rows.{Row, line_row, word_row, line_keys, fault_of, has_keys_of}
+use Rattle.hx_allow.specs.LineTables.{is_good_at, is_good, first_bad_key, line_fault, line_of, lines_fault, or_later, item_fault}
 use Rattle.hx_allow.specs.Tables.{is_name, number_fault, lines_at, version_of, table_fault, judge_table, fault_or_table}
-use Rattle.hx_allow.specs.Values.{is_known, first_unknown, text_at, items_at, is_some_and}
+use Rattle.hx_allow.specs.Values.{is_known, is_key_of, first_unknown, text_at, is_some_and}
 use Rattle.hx_allow.specs.Versions.{HasNoWord}
 use Rattle.hx_allow.specs.declared.faults.ConfigFault.{ConfigFault}
-use Rattle.hx_allow.specs.declared.faults.ConfigFault.TheVariants.{UnknownKey, BadName, BadNumber, BadHost, BadMethod, BadPath, BadOrigin, BadCache, BadWord, NoLines}
+use Rattle.hx_allow.specs.declared.faults.ConfigFault.TheVariants.{UnknownKey, BadName, BadNumber, BadCache, BadWord, NoLines}
 use Rattle.hx_allow.specs.declared.faults.LineWord.{LineWord}
+use Rattle.hx_allow.specs.declared.faults.LineWord.TheVariants.{Lifetime, StaleIfError, SetCookie, Errors, RequestDirectives, Wait, Explain}
+use Rattle.hx_allow.specs.declared.rows.LineKey.{LineKey}
+use Rattle.hx_allow.specs.declared.rows.LineKey.TheVariants.{Host, Methods, Path, Origin, Cache, Word}
+use Rattle.hx_allow.specs.declared.rows.Place.{Place}
+use Rattle.hx_allow.specs.declared.rows.Place.TheVariants.{Needed, AllowingLine, CachingLine}
 use Rattle.hx_allow.specs.declared.faults.NumberKey.{NumberKey}
 use Rattle.hx_allow.specs.declared.values.Scope.{Scope}
 use Rattle.hx_allow.specs.declared.values.Scope.TheVariants.{Top, Line}
 use Rattle.hx_allow.specs.declared.values.TableVersion.{TableVersion}
 use Rattle.hx_allow.specs.declared.values.TableVersion.TheVariants.{One, Two, Three}
+use Rattle.hx_allow.proofs.KeysListed.{each_key, found_fails, any_alike}
 use Rattle.hx_allow.proofs.LinesRead.{each_line_read}
 
 -- ---- keys
@@ -65,33 +73,42 @@ not_among_known scope word (member key value ms) unknown none =
 no_cache : (ms : Members) → first_unknown (Line One) ms ≡ None → get_member (codes "cache") ms ≡ None
 no_cache ms none = not_among_known (Line One) (codes "cache") ms refl none
 
--- where no word of the third version stands none is bad, and the policy is that of the versions before
-pub no_bad_word : (ms : Members) → HasNoWord ms → first_bad_word ms ≡ None
-no_bad_word ms none = rw none.lifetime (rw none.stale_if_error (rw none.set_cookie (rw none.errors (rw none.request_directives (rw none.wait (rw none.explain refl))))))
-
+-- where no word of the third version stands, the policy is that of the versions before
 pub plain_policy : (ms : Members) → HasNoWord ms → policy_read ms ≡ plain (not (says (codes "cache") (codes "off") ms))
-plain_policy ms none = rw none.lifetime (rw none.stale_if_error (rw none.set_cookie (rw none.errors (rw none.request_directives (rw none.wait (rw none.explain refl))))))
+plain_policy ms none =
+    let lifetime : get_member (codes "lifetime") ms ≡ None = none Lifetime in
+    let stale_if_error : get_member (codes "stale-if-error") ms ≡ None = none StaleIfError in
+    let set_cookie : get_member (codes "set-cookie") ms ≡ None = none SetCookie in
+    let errors : get_member (codes "errors") ms ≡ None = none Errors in
+    let request_directives : get_member (codes "request-directives") ms ≡ None = none RequestDirectives in
+    let wait : get_member (codes "wait") ms ≡ None = none Wait in
+    let explain : get_member (codes "explain") ms ≡ None = none Explain in
+    rw lifetime (rw stale_if_error (rw set_cookie (rw errors (rw request_directives (rw wait (rw explain refl))))))
+
+abbrev is_needed : Place → Bool
+is_needed Needed = true
+is_needed _ = false
+
+abbrev is_no_needed_word : LineKey → Bool
+is_no_needed_word (Word word) = not (is_needed (word_row word).place)
+is_no_needed_word key = true
+
+-- a version before the third has none of its words
+abbrev is_no_word_of : TableVersion → LineKey → Bool
+is_no_word_of version (Word word) = not (is_known (Line version) (word_key word))
+is_no_word_of version key = true
+
+not_true : (b : Bool) → not b ≡ true → b ≡ false
+not_true true e = cc
+not_true false e = refl
+
+unknown_word : (version : TableVersion) (word : LineWord) → ¬ (version ≡ Three) → is_known (Line version) (word_key word) ≡ false
+unknown_word One word other = not_true (is_known (Line One) (word_key word)) (each_key (is_no_word_of One) refl (Word word))
+unknown_word Two word other = not_true (is_known (Line Two) (word_key word)) (each_key (is_no_word_of Two) refl (Word word))
+unknown_word Three word other = absurd (other refl)
 
 no_words : (version : TableVersion) (ms : Members) → ¬ (version ≡ Three) → first_unknown (Line version) ms ≡ None → HasNoWord ms
-no_words One ms other none = record {
-  lifetime = not_among_known (Line One) (codes "lifetime") ms refl none;
-  stale_if_error = not_among_known (Line One) (codes "stale-if-error") ms refl none;
-  set_cookie = not_among_known (Line One) (codes "set-cookie") ms refl none;
-  errors = not_among_known (Line One) (codes "errors") ms refl none;
-  request_directives = not_among_known (Line One) (codes "request-directives") ms refl none;
-  wait = not_among_known (Line One) (codes "wait") ms refl none;
-  explain = not_among_known (Line One) (codes "explain") ms refl none;
-}
-no_words Two ms other none = record {
-  lifetime = not_among_known (Line Two) (codes "lifetime") ms refl none;
-  stale_if_error = not_among_known (Line Two) (codes "stale-if-error") ms refl none;
-  set_cookie = not_among_known (Line Two) (codes "set-cookie") ms refl none;
-  errors = not_among_known (Line Two) (codes "errors") ms refl none;
-  request_directives = not_among_known (Line Two) (codes "request-directives") ms refl none;
-  wait = not_among_known (Line Two) (codes "wait") ms refl none;
-  explain = not_among_known (Line Two) (codes "explain") ms refl none;
-}
-no_words Three ms other none = absurd (other refl)
+no_words version ms other none = λ word. not_among_known (Line version) (word_key word) ms (unknown_word version word other) none
 
 -- ---- lines that say nothing new read alike
 
@@ -102,19 +119,32 @@ same_unknown (member key value ms) none =
     let other = is_other (codes "cache") key value (get_member (codes "cache") ms) none in
     rw other.0 (rw (same_unknown ms other.1) refl)
 
+and_false : (b : Bool) → (b && false) ≡ false
+and_false true = refl
+and_false false = refl
+
 -- where no word stands, the last two do
+known_alike : (key : List ℕ) → ((word : LineWord) → bytes_eq key (word_key word) ≡ false) → is_known (Line Three) key ≡ is_known (Line Two) key
+known_alike key other = any_alike (λ known. is_key_of Three key (line_row known)) (λ known. is_key_of Two key (line_row known)) line_keys alike
+  where
+    alike : (known : LineKey) → is_key_of Three key (line_row known) ≡ is_key_of Two key (line_row known)
+    alike Host = refl
+    alike Methods = refl
+    alike Path = refl
+    alike Origin = refl
+    alike Cache = refl
+    alike (Word word) =
+        ap (λ b. has_keys_of Three (word_row word).since && b) (other word)
+        ∙ (and_false (has_keys_of Three (word_row word).since)
+        ∙ (sym (and_false (has_keys_of Two (word_row word).since))
+        ∙ sym (ap (λ b. has_keys_of Two (word_row word).since && b) (other word))))
+
 pub without_words : (ms : Members) → HasNoWord ms → first_unknown (Line Three) ms ≡ first_unknown (Line Two) ms
 without_words no_members none = refl
 without_words (member key value ms) none =
-    let lifetime = is_other (codes "lifetime") key value (get_member (codes "lifetime") ms) none.lifetime in
-    let stale_if_error = is_other (codes "stale-if-error") key value (get_member (codes "stale-if-error") ms) none.stale_if_error in
-    let set_cookie = is_other (codes "set-cookie") key value (get_member (codes "set-cookie") ms) none.set_cookie in
-    let errors = is_other (codes "errors") key value (get_member (codes "errors") ms) none.errors in
-    let request_directives = is_other (codes "request-directives") key value (get_member (codes "request-directives") ms) none.request_directives in
-    let wait = is_other (codes "wait") key value (get_member (codes "wait") ms) none.wait in
-    let explain = is_other (codes "explain") key value (get_member (codes "explain") ms) none.explain in
-    let rest : HasNoWord ms = record { lifetime = lifetime.1; stale_if_error = stale_if_error.1; set_cookie = set_cookie.1; errors = errors.1; request_directives = request_directives.1; wait = wait.1; explain = explain.1 } in
-    rw lifetime.0 (rw stale_if_error.0 (rw set_cookie.0 (rw errors.0 (rw request_directives.0 (rw wait.0 (rw explain.0 (rw (without_words ms rest) refl)))))))
+    let others : (word : LineWord) → (bytes_eq key (word_key word) ≡ false) × (get_member (word_key word) ms ≡ None) =
+    λ word. is_other (word_key word) key value (get_member (word_key word) ms) (none word) in
+    rw (known_alike key (λ word. (others word).0)) (rw (without_words ms (λ word. (others word).1)) refl)
 
 pub same_fault : (version : TableVersion) (n : ℕ) (ms : Members) → get_member (codes "cache") ms ≡ None → HasNoWord ms → line_fault version n ms ≡ line_fault One n ms
 unfolding line_fault
@@ -143,35 +173,28 @@ neither_gives : (a b : Option ConfigFault) (fault : ConfigFault) → ¬ (a ≡ S
 neither_gives None b fault first later = later
 neither_gives (Some x) b fault first later = first
 
--- what is told of the added keys of a line
-abbrev added_fault : ℕ → Members → Option ConfigFault
-added_fault n ms = cond (not (is_line_cache ms)) (Some (BadCache n)) (option_map (BadWord n) (first_bad_word ms))
-
 module _ (fault : ConfigFault) (is_added : is_of_added_key fault ≡ true) where
   not_it : (x : ConfigFault) → is_of_added_key x ≡ false → ¬ (x ≡ fault)
   not_it x other same =
       let bad : is_of_added_key fault ≡ false = subst (λ f. is_of_added_key f ≡ false) same other in
       cc
 
-  module _ (version : TableVersion) (never : (n : ℕ) (ms : Members) → first_unknown (Line version) ms ≡ None → ¬ (added_fault n ms ≡ Some fault)) where
+  module _ (version : TableVersion) (never : (n : ℕ) (ms : Members) (key : LineKey) → first_unknown (Line version) ms ≡ None → is_good ms key ≡ false → ¬ (fault_of n key ≡ fault)) where
     not_refused : (n : ℕ) (ms : Members) → ¬ (line_fault version n ms ≡ Some fault)
     unfolding line_fault
-    not_refused n ms bad = by_keys (first_unknown (Line version) ms) refl
+    not_refused n ms bad = by_keys (first_unknown (Line version) ms) refl (first_bad_key ms) refl
       where
-        by_keys : (o : Option (List ℕ)) → first_unknown (Line version) ms ≡ o → ⊥
-        by_keys (Some key) e =
+        by_keys : (o : Option (List ℕ)) → first_unknown (Line version) ms ≡ o → (p : Option LineKey) → first_bad_key ms ≡ p → ⊥
+        by_keys (Some key) e p f =
             let is : line_fault version n ms ≡ Some (UnknownKey key) = rw e refl in
             not_it (UnknownKey key) refl cc
-        by_keys None e =
-            let origin = cond (not (is_some_and is_line_origin (text_at (codes "origin") ms))) (Some (BadOrigin n)) (added_fault n ms) in
-            let path = cond (not (is_some_and is_line_path (text_at (codes "path") ms))) (Some (BadPath n)) origin in
-            let methods = cond (not (is_some_and are_line_methods (items_at (codes "methods") ms))) (Some (BadMethod n)) path in
-            let is : line_fault version n ms ≡ cond (not (is_some_and is_line_host (text_at (codes "host") ms))) (Some (BadHost n)) methods = rw e refl in
-            let past_host = other_stands (not (is_some_and is_line_host (text_at (codes "host") ms))) (BadHost n) methods fault (not_it (BadHost n) refl) (sym is ∙ bad) in
-            let past_methods = other_stands (not (is_some_and are_line_methods (items_at (codes "methods") ms))) (BadMethod n) path fault (not_it (BadMethod n) refl) past_host in
-            let past_path = other_stands (not (is_some_and is_line_path (text_at (codes "path") ms))) (BadPath n) origin fault (not_it (BadPath n) refl) past_methods in
-            let past_origin = other_stands (not (is_some_and is_line_origin (text_at (codes "origin") ms))) (BadOrigin n) (added_fault n ms) fault (not_it (BadOrigin n) refl) past_path in
-            never n ms e past_origin
+        by_keys None e None f =
+            let is : line_fault version n ms ≡ None = rw e (ap (option_map (fault_of n)) f) in
+            cc
+        by_keys None e (Some key) f =
+            let is : line_fault version n ms ≡ Some (fault_of n key) = rw e (ap (option_map (fault_of n)) f) in
+            let same : fault_of n key ≡ fault = cc in
+            never n ms key e (found_fails (is_good ms) line_keys key f) same
 
     item_not_refused : (n : ℕ) (o : Option Members) → ¬ (item_fault version n o ≡ Some fault)
     item_not_refused n None bad = cc
@@ -212,32 +235,39 @@ module _ (fault : ConfigFault) (is_added : is_of_added_key fault ≡ true) where
             let both : other ≡ fault = cc in
             table_not_refused t same (e ∙ ap Some both)
 
-no_fault_of_words : (n line : ℕ) (o : Option LineWord) → ¬ (option_map (BadWord n) o ≡ Some (BadCache line))
-no_fault_of_words n line None bad = cc
-no_fault_of_words n line (Some word) bad = cc
+never_of_cache : (line n : ℕ) (ms : Members) (key : LineKey) → first_unknown (Line One) ms ≡ None → is_good ms key ≡ false → ¬ (fault_of n key ≡ BadCache line)
+never_of_cache line n ms Host known bad same = cc
+never_of_cache line n ms Methods known bad same = cc
+never_of_cache line n ms Path known bad same = cc
+never_of_cache line n ms Origin known bad same = cc
+never_of_cache line n ms Cache known bad same =
+    let good : is_good ms Cache ≡ true = rw (no_cache ms known) refl in
+    cc
+never_of_cache line n ms (Word word) known bad same = cc
 
-never_of_cache : (line n : ℕ) (ms : Members) → first_unknown (Line One) ms ≡ None → ¬ (added_fault n ms ≡ Some (BadCache line))
-never_of_cache line n ms known bad =
-    let good : is_line_cache ms ≡ true = rw (no_cache ms known) refl in
-    let is : added_fault n ms ≡ option_map (BadWord n) (first_bad_word ms) = rw good refl in
-    no_fault_of_words n line (first_bad_word ms) (sym is ∙ bad)
+-- a key that needn't stand is good where it doesn't
+missing_is_good : (place : Place) (row : Row) (ms : Members) → is_needed place ≡ false → get_member row.key ms ≡ None → is_good_at place row ms ≡ true
+missing_is_good Needed row ms other none = cc
+missing_is_good AllowingLine row ms other none = rw none refl
+missing_is_good CachingLine row ms other none = rw none refl
 
-never_of_words : (version : TableVersion) (line : ℕ) (word : LineWord) (n : ℕ) (ms : Members) → ¬ (version ≡ Three) → first_unknown (Line version) ms ≡ None → ¬ (added_fault n ms ≡ Some (BadWord line word))
-never_of_words version line word n ms other known bad =
-    let none : first_bad_word ms ≡ None = no_bad_word ms (no_words version ms other known) in
-    let is : added_fault n ms ≡ cond (not (is_line_cache ms)) (Some (BadCache n)) None = rw none refl in
-    by_cache (not (is_line_cache ms)) (sym is ∙ bad)
-  where
-    by_cache : (b : Bool) → ¬ (cond b (Some (BadCache n)) None ≡ Some (BadWord line word))
-    by_cache true e = cc
-    by_cache false e = cc
+never_of_words : (version : TableVersion) (line : ℕ) (word : LineWord) (n : ℕ) (ms : Members) (key : LineKey) → ¬ (version ≡ Three) → first_unknown (Line version) ms ≡ None → is_good ms key ≡ false → ¬ (fault_of n key ≡ BadWord line word)
+never_of_words version line word n ms Host other known bad same = cc
+never_of_words version line word n ms Methods other known bad same = cc
+never_of_words version line word n ms Path other known bad same = cc
+never_of_words version line word n ms Origin other known bad same = cc
+never_of_words version line word n ms Cache other known bad same = cc
+never_of_words version line word n ms (Word bad_word) other known bad same =
+    let place : is_needed (word_row bad_word).place ≡ false = not_true (is_needed (word_row bad_word).place) (each_key is_no_needed_word refl (Word bad_word)) in
+    let good : is_good ms (Word bad_word) ≡ true = missing_is_good (word_row bad_word).place (word_row bad_word) ms place (no_words version ms other known bad_word) in
+    cc
 
 pub never_refused : (t : Members) (line : ℕ) → version_of t ≡ One → ¬ (judge_table t ≡ Err (BadCache line))
 never_refused t line one = never_judged (BadCache line) refl One (never_of_cache line) t one
 
 pub never_refused_for_words : (t : Members) (line : ℕ) (word : LineWord) → ¬ (version_of t ≡ Three) → ¬ (judge_table t ≡ Err (BadWord line word))
 never_refused_for_words t line word other =
-    never_judged (BadWord line word) refl (version_of t) (λ n ms known. never_of_words (version_of t) line word n ms other known) t refl
+    never_judged (BadWord line word) refl (version_of t) (λ n ms key known bad. never_of_words (version_of t) line word n ms key other known bad) t refl
 
 -- ---- what lines say
 

@@ -1,36 +1,18 @@
 -- The keys of numbers and of a line's words, as they stand in the table, and the numbers of faults.
-use Rattle.std.specs.Prelude.{ℕ, List, [], ◌∷◌, codes, map}
+use Rattle.std.specs.Prelude.{ℕ, List}
+use Rattle.hx_allow.specs.Rows.{number_row, word_row}
 use Rattle.hx_allow.specs.declared.faults.ConfigFault.{ConfigFault}
 use Rattle.hx_allow.specs.declared.faults.ConfigFault.TheVariants.{NotToml, UnknownKey, BadName, BadNumber, BadHost}
 use Rattle.hx_allow.specs.declared.faults.ConfigFault.TheVariants.{BadMethod, BadPath, BadOrigin, NoLines, OutOfMemory}
 use Rattle.hx_allow.specs.declared.faults.ConfigFault.TheVariants.{BadCache, BadWord}
 use Rattle.hx_allow.specs.declared.faults.LineWord.{LineWord}
-use Rattle.hx_allow.specs.declared.faults.LineWord.TheVariants.{Lifetime, StaleIfError, SetCookie, Errors}
-use Rattle.hx_allow.specs.declared.faults.LineWord.TheVariants.{RequestDirectives, Wait, Explain}
 use Rattle.hx_allow.specs.declared.faults.NumberKey.{NumberKey}
-use Rattle.hx_allow.specs.declared.faults.NumberKey.TheVariants.{Version, Capacity, MaxBody, MaxStored}
 
 abbrev pub key_text : NumberKey → List ℕ
-key_text Version = codes "version"
-key_text Capacity = codes "capacity"
-key_text MaxBody = codes "max_body"
-key_text MaxStored = codes "max_stored"
+key_text number = (number_row number).key
 
 abbrev pub word_key : LineWord → List ℕ
-word_key Lifetime = codes "lifetime"
-word_key StaleIfError = codes "stale-if-error"
-word_key SetCookie = codes "set-cookie"
-word_key Errors = codes "errors"
-word_key RequestDirectives = codes "request-directives"
-word_key Wait = codes "wait"
-word_key Explain = codes "explain"
-
--- the words of a line, in the order in which they are looked at
-abbrev pub line_words : List LineWord
-line_words = Lifetime ∷ StaleIfError ∷ SetCookie ∷ Errors ∷ RequestDirectives ∷ Wait ∷ Explain ∷ []
-
-abbrev pub word_keys : List (List ℕ)
-word_keys = map word_key line_words
+word_key word = (word_row word).key
 
 -- the numbers of the faults, which order them
 abbrev pub fault_number : ConfigFault → ℕ

@@ -8,6 +8,7 @@ pub mod Lines
 pub mod Matching
 pub mod PathTails
 pub mod NeverReached
+pub mod Rows
 pub mod Tables
 pub mod Values
 pub mod Versions

@@ -1,6 +1,6 @@
 -- What a `[[line]]` table says, or its first fault.
 use Rattle.std.specs.Prelude.{ℕ, ◌+◌, ◌-◌, ◌==◌, nat_le, Bool, not, ◌&&◌, ◌||◌, if◌then◌else◌, List, [], ◌∷◌, length}
-use Rattle.std.specs.Prelude.{slice_index, codes, bytes_eq, Option, Some, None, is_none, unwrap_or, option_map}
+use Rattle.std.specs.Prelude.{slice_index, codes, bytes_eq, Option, Some, None, is_none, unwrap_or, option_map, find, is_some}
 use Rattle.std.specs.List.{list_any, list_all}
 use Rattle.std.specs.Char.{is_ascii_uppercase}
 use Rattle.http_uri.specs.ByteClasses.{slash, hash_sign, question_mark}
@@ -10,17 +10,21 @@ use Rattle.hx_target.specs.Hosts.{is_host}
 use Rattle.hx_target.specs.Paths.{has_bad_escape, has_dot_segment, table_path_of}
 use Rattle.hx_allow.specs.Addresses.{is_address}
 use Rattle.hx_allow.specs.Lines.{Line as PlainLine}
-use Rattle.hx_allow.specs.LineWords.{first_bad_word, policy_read}
+use Rattle.hx_allow.specs.LineWords.{has_either, denies, takes_words, policy_read}
 use Rattle.hx_allow.specs.Matching.{is_never_allowed}
-use Rattle.hx_allow.specs.Values.{first_unknown, text_at, is_some_and, counts_within, all_items, unless_text, texts_of}
+use Rattle.hx_allow.specs.Rows.{Kind, one_of, a_host, some_methods, a_path, an_origin, Row, least, greatest, line_row, line_keys}
+use Rattle.hx_allow.specs.Rows.{fault_of}
+use Rattle.hx_allow.specs.Values.{first_unknown, text_at, number_between, is_some_and, counts_within, all_items, unless_text, texts_of}
 use Rattle.hx_allow.specs.Values.{items_at}
 use Rattle.hx_allow.specs.declared.values.Scope.TheVariants.{Line}
 use Rattle.hx_allow.specs.declared.values.TableVersion.{TableVersion}
 use Rattle.hx_allow.specs.declared.faults.ConfigFault.{ConfigFault}
 use Rattle.hx_allow.specs.declared.faults.FoundFault.{FoundFault}
 use Rattle.hx_allow.specs.declared.faults.FoundFault.TheVariants as found
-use Rattle.hx_allow.specs.declared.faults.ConfigFault.TheVariants.{UnknownKey, BadHost, BadMethod, BadPath, BadOrigin}
-use Rattle.hx_allow.specs.declared.faults.ConfigFault.TheVariants.{BadCache, BadWord}
+use Rattle.hx_allow.specs.declared.faults.ConfigFault.TheVariants.{UnknownKey}
+use Rattle.hx_allow.specs.declared.rows.LineKey.{LineKey}
+use Rattle.hx_allow.specs.declared.rows.Place.{Place}
+use Rattle.hx_allow.specs.declared.rows.Place.TheVariants.{Needed, AllowingLine, CachingLine}
 
 -- `*`, or a host in lower case
 unfoldable pub is_line_host : List ℕ → Bool
@@ -52,17 +56,29 @@ is_line_path text =
 abbrev pub is_line_origin : List ℕ → Bool
 is_line_origin text = bytes_eq text (codes "deny") || is_address text
 
-abbrev pub denies : Members → Bool
-denies ms = is_some_and (λ text. bytes_eq text (codes "deny")) (text_at (codes "origin") ms)
+-- the value of a key is of this kind
+abbrev pub is_of_kind : Kind → List ℕ → Members → Bool
+is_of_kind (one_of first second) key ms = has_either key first second ms
+is_of_kind a_host key ms = is_some_and is_line_host (text_at key ms)
+is_of_kind some_methods key ms = is_some_and are_line_methods (items_at key ms)
+is_of_kind a_path key ms = is_some_and is_line_path (text_at key ms)
+is_of_kind an_origin key ms = is_some_and is_line_origin (text_at key ms)
+is_of_kind kind key ms = is_some (number_between (least kind) (greatest kind) (get_member key ms))
 
--- `on` or `off`
-abbrev pub is_cache_word : List ℕ → Bool
-is_cache_word text = bytes_eq text (codes "on") || bytes_eq text (codes "off")
+-- a row's key has a good value in a line that takes it, or needn't stand and doesn't
+abbrev pub is_good_at : Place → Row → Members → Bool
+is_good_at Needed row ms = is_of_kind row.kind row.key ms
+is_good_at AllowingLine row ms =
+    is_none (get_member row.key ms) || (is_of_kind row.kind row.key ms && not (denies ms))
+is_good_at CachingLine row ms =
+    is_none (get_member row.key ms) || (is_of_kind row.kind row.key ms && takes_words ms)
 
--- `cache` doesn't stand, or it is such a word in a line that doesn't deny
-abbrev pub is_line_cache : Members → Bool
-is_line_cache ms =
-    is_none (get_member (codes "cache") ms) || (is_some_and is_cache_word (text_at (codes "cache") ms) && not (denies ms))
+abbrev pub is_good : Members → LineKey → Bool
+is_good ms key = is_good_at (line_row key).place (line_row key) ms
+
+-- the first key that isn't good, in the order in which they are looked at
+abbrev pub first_bad_key : Members → Option LineKey
+first_bad_key ms = find (λ key. not (is_good ms key)) line_keys
 
 -- the first fault of the line with this number, in a table of this version
 unfoldable pub line_fault : TableVersion → ℕ → Members → Option ConfigFault
@@ -70,13 +86,7 @@ line_fault version n ms = after_keys (first_unknown (Line version) ms)
   where
     after_keys : Option (List ℕ) → Option ConfigFault
     after_keys (Some key) = Some (UnknownKey key)
-    after_keys None =
-        if not (is_some_and is_line_host (text_at (codes "host") ms)) then Some (BadHost n)
-        else if not (is_some_and are_line_methods (items_at (codes "methods") ms)) then Some (BadMethod n)
-        else if not (is_some_and is_line_path (text_at (codes "path") ms)) then Some (BadPath n)
-        else if not (is_some_and is_line_origin (text_at (codes "origin") ms)) then Some (BadOrigin n)
-        else if not (is_line_cache ms) then Some (BadCache n)
-        else option_map (BadWord n) (first_bad_word ms)
+    after_keys None = option_map (fault_of n) (first_bad_key ms)
 
 -- the line, where it has no fault
 unfoldable pub line_of : Members → PlainLine

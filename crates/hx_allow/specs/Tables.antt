@@ -11,10 +11,10 @@ use Rattle.std.specs.List.{list_all}
 use Rattle.std.specs.Char.{is_ascii_lowercase, is_ascii_digit}
 use Rattle.toml.specs.Data.{Items, no_items, Members, get_member, as_table}
 use Rattle.toml.specs.Parse.{parse_document}
-use Rattle.hx_allow.specs.Keys.{key_text}
 use Rattle.hx_allow.specs.Lines.{Table}
 use Rattle.hx_allow.specs.LineTables.{lines_fault, lines_of}
-use Rattle.hx_allow.specs.Values.{first_unknown, text_at, number_between, is_some_and, counts_within, all_items}
+use Rattle.hx_allow.specs.Rows.{number_row, number_keys}
+use Rattle.hx_allow.specs.Values.{first_unknown, text_at, number_in, is_some_and, counts_within, all_items}
 use Rattle.hx_allow.specs.Values.{items_at}
 use Rattle.hx_allow.specs.declared.values.Scope.TheVariants.{Top}
 use Rattle.hx_allow.specs.declared.values.TableVersion.{TableVersion}
@@ -35,21 +35,8 @@ is_name_byte b = is_ascii_lowercase b || is_ascii_digit b || (b == 45)
 unfoldable pub is_name : List ℕ → Bool
 is_name text = nat_le (length text) 32 && is_ascii_lowercase (slice_index text 0) && list_all is_name_byte text
 
--- the least and the greatest number of a key
-abbrev pub least : NumberKey → ℕ
-least Version = 1
-least Capacity = 1
-least MaxBody = 0
-least MaxStored = 0
-
-abbrev pub greatest : NumberKey → ℕ
-greatest Version = 3
-greatest Capacity = 65536
-greatest MaxBody = 16777216
-greatest MaxStored = 16777216
-
 abbrev pub number_at : NumberKey → Members → Option ℕ
-number_at key t = number_between (least key) (greatest key) (get_member (key_text key) t)
+number_at key t = number_in (number_row key) t
 
 -- the version that the number of `version` names
 abbrev pub version_of : Members → TableVersion
@@ -67,10 +54,6 @@ if_lines ds = if are_lines ds then Some ds else None
 
 abbrev pub lines_at : Members → Option Items
 lines_at t = option_and_then if_lines (items_at (codes "line") t)
-
--- the keys of numbers, in the order in which they are looked at
-abbrev pub number_keys : List NumberKey
-number_keys = Version ∷ Capacity ∷ MaxBody ∷ MaxStored ∷ []
 
 -- the first key whose number is missing or out of bounds
 abbrev pub number_fault : Members → Option NumberKey

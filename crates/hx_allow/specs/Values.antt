@@ -1,5 +1,5 @@
 -- What the operator's table reads of a TOML table: keys, texts, numbers and arrays.
-use Rattle.std.specs.Prelude.{ℕ, ◌+◌, nat_le, ℤ, pos, negsuc, Bool, true, false, ◌&&◌, if◌then◌else◌, List, [], ◌∷◌}
+use Rattle.std.specs.Prelude.{ℕ, ◌+◌, nat_le, ℤ, pos, negsuc, Bool, true, false, ◌&&◌, ◌||◌, if◌then◌else◌, List, [], ◌∷◌}
 use Rattle.std.specs.Prelude.{codes, bytes_eq, Option, Some, None}
 use Rattle.std.specs.Option.{option_and_then}
 use Rattle.std.specs.List.{list_any}
@@ -8,22 +8,19 @@ use Rattle.toml.specs.Data.{as_array}
 use Rattle.hx_allow.specs.declared.values.Scope.{Scope}
 use Rattle.hx_allow.specs.declared.values.Scope.TheVariants.{Top, Line}
 use Rattle.hx_allow.specs.declared.values.TableVersion.{TableVersion}
-use Rattle.hx_allow.specs.Keys.{word_keys}
-use Rattle.hx_allow.specs.declared.values.TableVersion.TheVariants.{One, Two, Three}
+use Rattle.hx_allow.specs.Keys.{key_text}
+use Rattle.hx_allow.specs.Rows.{Row, number_keys, line_row, line_keys, has_keys_of, least, greatest}
 
--- the keys of a line that a version has besides those of the first
-abbrev pub further_keys : TableVersion → List (List ℕ)
-further_keys One = []
-further_keys Two = codes "cache" ∷ []
-further_keys Three = codes "cache" ∷ word_keys
+-- the key of a row, which a version has
+abbrev pub is_key_of : TableVersion → List ℕ → Row → Bool
+is_key_of version key row = has_keys_of version row.since && bytes_eq key row.key
 
 -- the keys that stand at the top, and in a line
-abbrev pub known_keys : Scope → List (List ℕ)
-known_keys Top = codes "version" ∷ codes "name" ∷ codes "capacity" ∷ codes "max_body" ∷ codes "max_stored" ∷ codes "line" ∷ []
-known_keys (Line version) = codes "host" ∷ codes "methods" ∷ codes "path" ∷ codes "origin" ∷ further_keys version
-
 abbrev pub is_known : Scope → List ℕ → Bool
-is_known scope key = list_any (bytes_eq key) (known_keys scope)
+is_known Top key =
+    bytes_eq key (codes "name") || bytes_eq key (codes "line")
+    || list_any (λ number. bytes_eq key (key_text number)) number_keys
+is_known (Line version) key = list_any (λ known. is_key_of version key (line_row known)) line_keys
 
 -- the first key that isn't known; the members of a table ascend by the bytes of their keys, so it is the least
 abbrev pub first_unknown : Scope → Members → Option (List ℕ)
@@ -41,6 +38,10 @@ within low high (Some (negsuc n)) = None
 -- a whole number within bounds
 abbrev pub number_between : ℕ → ℕ → Option Data → Option ℕ
 number_between low high value = within low high (option_and_then as_integer value)
+
+-- the number of a row's key, where it is whole and within its bounds
+abbrev pub number_in : Row → Members → Option ℕ
+number_in row ms = number_between (least row.kind) (greatest row.kind) (get_member row.key ms)
 
 abbrev pub is_some_and : {A : Type 0} → (A → Bool) → Option A → Bool
 is_some_and test None = false

@@ -24,12 +24,7 @@ impl NumberKey {
     pub fn as_str(self) -> &'static str
         ensures { result.now ≡ key_text self }
     {
-        match self {
-            NumberKey::Version => "version",
-            NumberKey::Capacity => "capacity",
-            NumberKey::MaxBody => "max_body",
-            NumberKey::MaxStored => "max_stored",
-        }
+        self.row().key
     }
 }
 
@@ -58,15 +53,7 @@ impl LineWord {
     pub fn as_str(self) -> &'static str
         ensures { result.now ≡ word_key self }
     {
-        match self {
-            LineWord::Lifetime => "lifetime",
-            LineWord::StaleIfError => "stale-if-error",
-            LineWord::SetCookie => "set-cookie",
-            LineWord::Errors => "errors",
-            LineWord::RequestDirectives => "request-directives",
-            LineWord::Wait => "wait",
-            LineWord::Explain => "explain",
-        }
+        self.row().key
     }
 }
 

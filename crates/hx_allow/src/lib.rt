@@ -18,6 +18,7 @@ mod lines;
 mod matching;
 mod path_tails;
 mod reading;
+mod rows;
 mod shadows;
 mod table_cases;
 mod table_laws;

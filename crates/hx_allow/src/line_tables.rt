@@ -5,24 +5,27 @@ ghost use Rattle.toml.specs.Data.{as_str, as_table, no_items};
 ghost use Rattle.hx_target.specs.Paths.{table_path_of};
 ghost use Rattle.std.specs.List.{list_any, list_all};
 ghost use Rattle.std.specs.Char.{is_ascii_uppercase};
-ghost use Rattle.toml.specs.View.{table_view, items_view, view};
+ghost use Rattle.toml.specs.View.{table_view, array_view, items_view, view};
 ghost use Rattle.hx_allow.specs.Values.{is_some_and, items_at, unless_text, texts_of};
 ghost use Rattle.hx_allow.specs.LineTables.{is_line_host, is_line_method, are_line_methods, is_path_byte, ends_open};
-ghost use Rattle.hx_allow.specs.LineTables.{is_line_path, is_line_origin, denies, is_cache_word, is_line_cache};
+ghost use Rattle.hx_allow.specs.LineTables.{is_line_path, is_line_origin, is_of_kind, is_good_at, first_bad_key};
+ghost use Rattle.hx_allow.specs.Rows.{kind_seen, row_seen};
 ghost use Rattle.hx_allow.specs.LineTables.{line_fault, line_of, lines_fault, lines_of, item_fault, fault_found};
 
 use crate::ConfigFault;
 use crate::addresses::is_address;
 use crate::faults::FoundFault;
-use crate::line_words::{first_bad_word, policy_read};
+use crate::line_words::{denies, has_either, policy_read, takes_words};
 use crate::lines::{Line, is_never_allowed};
 use crate::path_tails::PathTail;
+use crate::rows::{Kind, LINE_KEYS, LineKey, Place, Row};
 use crate::values::{
-    Scope, TableVersion, array_at, counts_within, first_unknown, text_at, value_at,
+    Scope, TableVersion, array_at, counts_within, first_unknown, number_between, text_at, value_at,
 };
 use hx_fields::{Bytes, is_token};
 use hx_target::{has_bad_escape, is_host, names_a_dot_segment, table_path};
 use std::alloc::{AllocError, Global};
+use toml::value::Array;
 use toml::{Table, Value};
 
 fn has_uppercase(text: &[u8]) -> bool
@@ -77,10 +80,10 @@ fn are_line_methods(values: &[Value]) -> bool
     true
 }
 
-fn are_good_methods(table: &Table) -> bool
-    ensures { result ≡ is_some_and are_line_methods (items_at (codes "methods") (table_view table.now)) }
+fn are_good_methods(values: Option<&Array>) -> bool
+    ensures { result ≡ is_some_and are_line_methods (option_map (λ a. array_view a.now) values.entry) }
 {
-    match array_at(table, "methods") {
+    match values {
         Some(values) => are_line_methods(values),
         None => false,
     }
@@ -133,31 +136,44 @@ fn is_good_origin(text: Option<&str>) -> bool
     }
 }
 
-fn denies(table: &Table) -> bool
-    ensures { result ≡ denies (table_view table.now) }
+/// Whether the value of a key is of a kind.
+fn is_of_kind(kind: Kind, key: &str, table: &Table) -> bool
+    ensures { result ≡ is_of_kind (kind_seen kind) key.now (table_view table.now) }
 {
-    match text_at(table, "origin") {
-        Some(text) => text == "deny",
-        None => false,
+    match kind {
+        Kind::OneOf(first, second) => has_either(table, key, first, second),
+        Kind::Host => is_good_host(text_at(table, key)),
+        Kind::Methods => are_good_methods(array_at(table, key)),
+        Kind::Path => is_good_path(text_at(table, key)),
+        Kind::Origin => is_good_origin(text_at(table, key)),
+        _ => {
+            let (low, high) = kind.bounds();
+            number_between(table, key, low, high).is_some()
+        }
     }
 }
 
-fn is_cache_word(value: &Value) -> bool
-    ensures { result ≡ is_some_and is_cache_word (as_str (view value.now)) }
+/// Whether a row's key has a good value in a line that takes it, or needn't stand and doesn't.
+fn is_good(row: Row, table: &Table) -> bool
+    ensures { result ≡ is_good_at row.place (row_seen row) (table_view table.now) }
 {
-    match value.as_str() {
-        Some(text) => text == "on" || text == "off",
-        None => false,
+    match row.place {
+        Place::Needed => is_of_kind(row.kind, row.key, table),
+        Place::AllowingLine => value_at(table, row.key).is_none()
+            || (is_of_kind(row.kind, row.key, table) && !denies(table)),
+        Place::CachingLine => value_at(table, row.key).is_none()
+            || (is_of_kind(row.kind, row.key, table) && takes_words(table)),
     }
 }
 
-fn is_good_cache(table: &Table) -> bool
-    ensures { result ≡ is_line_cache (table_view table.now) }
+/// The first key that isn't good, in the order in which they are looked at.
+fn first_bad_key(table: &Table) -> Option<LineKey>
+    ensures { result ≡ first_bad_key (table_view table.now) }
 {
-    match value_at(table, "cache") {
-        Some(value) => is_cache_word(value) && !denies(table),
-        None => true,
-    }
+    LINE_KEYS
+        .iter()
+        .copied()
+        .find(|key| !is_good(key.row(), table))
 }
 
 /// The first fault of a line.
@@ -169,23 +185,8 @@ fn line_fault(version: TableVersion, number: u16, table: &Table) -> Option<Found
     if let Some(key) = first_unknown(Scope::Line(version), table) {
         return Some(FoundFault::UnknownKey(key));
     }
-    if !is_good_host(text_at(table, "host")) {
-        return Some(FoundFault::Other(ConfigFault::BadHost(number)));
-    }
-    if !are_good_methods(table) {
-        return Some(FoundFault::Other(ConfigFault::BadMethod(number)));
-    }
-    if !is_good_path(text_at(table, "path")) {
-        return Some(FoundFault::Other(ConfigFault::BadPath(number)));
-    }
-    if !is_good_origin(text_at(table, "origin")) {
-        return Some(FoundFault::Other(ConfigFault::BadOrigin(number)));
-    }
-    if !is_good_cache(table) {
-        return Some(FoundFault::Other(ConfigFault::BadCache(number)));
-    }
-    let word = first_bad_word(table)?;
-    Some(FoundFault::Other(ConfigFault::BadWord(number, word)))
+    let key = first_bad_key(table)?;
+    Some(FoundFault::Other(key.fault(number)))
 }
 
 /// The text of a host, but for one that stands for every host.

@@ -1,31 +1,17 @@
-//! The words of a line: the first that can't stand, and what they say of caching.
+//! What a line says of caching, and which lines may say it.
 ghost use Rattle.std.specs.Prelude.{◌≡◌};
 ghost use Rattle.toml.specs.View.{table_view};
-ghost use Rattle.hx_allow.specs.LineWords.{lifetime_at, stale_if_error_at, has_either, has_good_value, says};
-ghost use Rattle.hx_allow.specs.LineWords.{takes_words, has_good_word, first_bad_word, policy_read};
+ghost use Rattle.hx_allow.specs.LineWords.{has_either, says, denies, takes_words, says_second, policy_read};
+ghost use Rattle.hx_allow.specs.Rows.{row_seen};
 
 use crate::faults::LineWord;
-use crate::values::{number_between, text_at, value_at};
+use crate::rows::{Kind, LineKey, Row};
+use crate::values::{number_in, text_at};
 use hx_policy::Policy;
 use toml::Table;
 
-/// The most seconds that a lifetime has (RFC 9111, section 1.2.2).
-const MOST_SECONDS: u32 = 2_147_483_648;
-
-fn lifetime_at(table: &Table) -> Option<u32>
-    ensures { result ≡ lifetime_at (table_view table.now) }
-{
-    number_between(table, "lifetime", 1, MOST_SECONDS)
-}
-
-fn stale_if_error_at(table: &Table) -> Option<u32>
-    ensures { result ≡ stale_if_error_at (table_view table.now) }
-{
-    number_between(table, "stale-if-error", 0, MOST_SECONDS)
-}
-
 /// Whether the text of a key is one of two.
-fn has_either(table: &Table, key: &str, first: &str, second: &str) -> bool
+pub fn has_either(table: &Table, key: &str, first: &str, second: &str) -> bool
     ensures { result ≡ has_either key.now first.now second.now (table_view table.now) }
 {
     match text_at(table, key) {
@@ -44,58 +30,27 @@ fn says(table: &Table, key: &str, word: &str) -> bool
     }
 }
 
-fn has_good_value(word: LineWord, table: &Table) -> bool
-    ensures { result ≡ has_good_value word (table_view table.now) }
+pub fn denies(table: &Table) -> bool
+    ensures { result ≡ denies (table_view table.now) }
 {
-    match word {
-        LineWord::Lifetime => lifetime_at(table).is_some(),
-        LineWord::StaleIfError => stale_if_error_at(table).is_some(),
-        LineWord::SetCookie => has_either(table, "set-cookie", "stored", "not-stored"),
-        LineWord::Errors => has_either(table, "errors", "stored", "not-stored"),
-        LineWord::RequestDirectives => has_either(table, "request-directives", "heeded", "ignored"),
-        LineWord::Wait => has_either(table, "wait", "missing", "missing-or-stale"),
-        LineWord::Explain => has_either(table, "explain", "reuse", "storing"),
-    }
+    says(table, "origin", "deny")
 }
 
-fn takes_words(table: &Table) -> bool
+/// Whether a line has an origin and its cache on.
+pub fn takes_words(table: &Table) -> bool
     ensures { result ≡ takes_words (table_view table.now) }
 {
-    !says(table, "origin", "deny") && !says(table, "cache", "off")
+    !denies(table) && !says(table, "cache", "off")
 }
 
-fn has_good_word(word: LineWord, table: &Table) -> bool
-    ensures { result ≡ has_good_word word (table_view table.now) }
+/// Whether a key says the second of its two texts.
+fn says_second(row: Row, table: &Table) -> bool
+    ensures { result ≡ says_second (row_seen row) (table_view table.now) }
 {
-    value_at(table, word.as_str()).is_none() || (has_good_value(word, table) && takes_words(table))
-}
-
-/// The first word of a line that can't stand there, in the table's order.
-pub fn first_bad_word(table: &Table) -> Option<LineWord>
-    ensures { result ≡ first_bad_word (table_view table.now) }
-{
-    if !has_good_word(LineWord::Lifetime, table) {
-        return Some(LineWord::Lifetime);
+    match row.kind {
+        Kind::OneOf(_, second) => says(table, row.key, second),
+        _ => false,
     }
-    if !has_good_word(LineWord::StaleIfError, table) {
-        return Some(LineWord::StaleIfError);
-    }
-    if !has_good_word(LineWord::SetCookie, table) {
-        return Some(LineWord::SetCookie);
-    }
-    if !has_good_word(LineWord::Errors, table) {
-        return Some(LineWord::Errors);
-    }
-    if !has_good_word(LineWord::RequestDirectives, table) {
-        return Some(LineWord::RequestDirectives);
-    }
-    if !has_good_word(LineWord::Wait, table) {
-        return Some(LineWord::Wait);
-    }
-    if !has_good_word(LineWord::Explain, table) {
-        return Some(LineWord::Explain);
-    }
-    None
 }
 
 /// What a line without fault says of caching.
@@ -103,13 +58,13 @@ pub fn policy_read(table: &Table) -> Policy
     ensures { result ≡ policy_read (table_view table.now) }
 {
     Policy {
-        caches: !says(table, "cache", "off"),
-        lifetime: lifetime_at(table),
-        stale_if_error: stale_if_error_at(table),
-        stores_cookies: !says(table, "set-cookie", "not-stored"),
-        stores_errors: !says(table, "errors", "not-stored"),
-        heeds_requests: !says(table, "request-directives", "ignored"),
-        waits_for_stale: says(table, "wait", "missing-or-stale"),
-        explains_storing: says(table, "explain", "storing"),
+        caches: !says_second(LineKey::Cache.row(), table),
+        lifetime: number_in(LineWord::Lifetime.row(), table),
+        stale_if_error: number_in(LineWord::StaleIfError.row(), table),
+        stores_cookies: !says_second(LineWord::SetCookie.row(), table),
+        stores_errors: !says_second(LineWord::Errors.row(), table),
+        heeds_requests: !says_second(LineWord::RequestDirectives.row(), table),
+        waits_for_stale: says_second(LineWord::Wait.row(), table),
+        explains_storing: says_second(LineWord::Explain.row(), table),
     }
 }

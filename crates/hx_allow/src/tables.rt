@@ -14,8 +14,9 @@ use crate::host_index::HostIndex;
 use crate::limits::MOST_LINES;
 use crate::line_tables::{lines_fault, lines_of};
 use crate::lines::longest_origin;
+use crate::rows::NUMBER_KEYS;
 use crate::values::{
-    Scope, TableVersion, array_at, counts_within, first_unknown, number_between, text_at,
+    Scope, TableVersion, array_at, counts_within, first_unknown, number_in, text_at,
 };
 use crate::{Config, ConfigFault, NumberKey};
 use hx_fields::Bytes;
@@ -57,12 +58,7 @@ fn is_good_name(text: Option<&str>) -> bool
 fn number_at(table: &Table, key: NumberKey) -> Option<u32>
     ensures { result ≡ number_at key (table_view table.now) }
 {
-    match key {
-        NumberKey::Version => number_between(table, "version", 1, 3),
-        NumberKey::Capacity => number_between(table, "capacity", 1, 65_536),
-        NumberKey::MaxBody => number_between(table, "max_body", 0, 16_777_216),
-        NumberKey::MaxStored => number_between(table, "max_stored", 0, 16_777_216),
-    }
+    number_in(key.row(), table)
 }
 
 fn version_of(table: &Table) -> TableVersion
@@ -111,19 +107,10 @@ fn lines_at(table: &Table) -> Option<&Array>
 fn number_fault(table: &Table) -> Option<NumberKey>
     ensures { result ≡ number_fault (table_view table.now) }
 {
-    if number_at(table, NumberKey::Version).is_none() {
-        return Some(NumberKey::Version);
-    }
-    if number_at(table, NumberKey::Capacity).is_none() {
-        return Some(NumberKey::Capacity);
-    }
-    if number_at(table, NumberKey::MaxBody).is_none() {
-        return Some(NumberKey::MaxBody);
-    }
-    if number_at(table, NumberKey::MaxStored).is_none() {
-        return Some(NumberKey::MaxStored);
-    }
-    None
+    NUMBER_KEYS
+        .iter()
+        .copied()
+        .find(|key| number_at(table, *key).is_none())
 }
 
 /// The first fault of a table.

@@ -5,9 +5,12 @@ ghost use Rattle.std.specs.BTreeMap.{keys};
 ghost use Rattle.std.specs.Option.{option_copied};
 ghost use Rattle.toml.specs.Data.{get_member};
 ghost use Rattle.toml.specs.View.{table_view, array_view, items_view, view};
-ghost use Rattle.hx_allow.specs.Keys.{word_keys};
-ghost use Rattle.hx_allow.specs.Values.{is_known, first_unknown, text_at, items_at, number_between, counts_within};
+ghost use Rattle.hx_allow.specs.Keys.{key_text};
+ghost use Rattle.hx_allow.specs.Rows.{number_keys, line_row, row_seen};
+ghost use Rattle.hx_allow.specs.Values.{is_known, is_key_of, first_unknown, text_at, items_at};
+ghost use Rattle.hx_allow.specs.Values.{number_between, number_in, counts_within};
 
+use crate::rows::{LINE_KEYS, LineKey, NUMBER_KEYS, Row};
 use toml::value::Array;
 use toml::{Table, Value};
 
@@ -36,44 +39,36 @@ fn is_known(scope: Scope, key: &[u8]) -> bool
 {
     match scope {
         Scope::Top => is_top_key(key),
-        Scope::Line(TableVersion::One) => is_line_key(key),
-        Scope::Line(TableVersion::Two) => is_line_key(key) || key == b"cache".as_slice(),
-        Scope::Line(TableVersion::Three) => is_line_key(key)
-            || key == b"cache".as_slice()
-            || is_word_key(key),
+        Scope::Line(version) => is_line_key(version, key),
     }
 }
 
 fn is_top_key(key: &[u8]) -> bool
     ensures { result ≡ is_known Scope.Top key.now }
 {
-    key == b"version".as_slice()
-        || key == b"name".as_slice()
-        || key == b"capacity".as_slice()
-        || key == b"max_body".as_slice()
-        || key == b"max_stored".as_slice()
-        || key == b"line".as_slice()
+    key == b"name".as_slice() || key == b"line".as_slice() || is_number_key(key)
 }
 
-fn is_line_key(key: &[u8]) -> bool
-    ensures { result ≡ is_known (Scope.Line TableVersion.One) key.now }
+fn is_number_key(key: &[u8]) -> bool
+    ensures { result ≡ list_any (λ number. bytes_eq key.now (key_text number)) number_keys }
 {
-    key == b"host".as_slice()
-        || key == b"methods".as_slice()
-        || key == b"path".as_slice()
-        || key == b"origin".as_slice()
+    NUMBER_KEYS
+        .iter()
+        .any(|number| key == number.as_str().as_bytes())
 }
 
-fn is_word_key(key: &[u8]) -> bool
-    ensures { result ≡ list_any (bytes_eq key.now) word_keys }
+fn is_line_key(version: TableVersion, key: &[u8]) -> bool
+    ensures { result ≡ is_known (Scope.Line version) key.now }
 {
-    key == b"lifetime".as_slice()
-        || key == b"stale-if-error".as_slice()
-        || key == b"set-cookie".as_slice()
-        || key == b"errors".as_slice()
-        || key == b"request-directives".as_slice()
-        || key == b"wait".as_slice()
-        || key == b"explain".as_slice()
+    LINE_KEYS.iter().any(|known| is_same(version, key, *known))
+}
+
+/// Whether lines of a version have the known key, and this is it.
+fn is_same(version: TableVersion, key: &[u8], known: LineKey) -> bool
+    ensures { result ≡ is_key_of version key.now (line_row known) }
+{
+    let row = known.row();
+    row.is_of(version) && key == row.key.as_bytes()
 }
 
 fn unknown_key(scope: Scope, table: &Table) -> Option<&String>
@@ -129,6 +124,14 @@ pub fn number_between(table: &Table, key: &str, low: u32, high: u32) -> Option<u
         Some(value) => within(low, high, value.as_integer()),
         None => None,
     }
+}
+
+/// The number of a row's key, where it is whole and within its bounds.
+pub(crate) fn number_in(row: Row, table: &Table) -> Option<u32>
+    ensures { result ≡ number_in (row_seen row) (table_view table.now) }
+{
+    let (low, high) = row.kind.bounds();
+    number_between(table, row.key, low, high)
 }
 
 fn within(low: u32, high: u32, number: Option<i64>) -> Option<u32>

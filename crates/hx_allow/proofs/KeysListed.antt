@@ -1,0 +1,65 @@
+-- Each key of a line is one of those that are looked at, and where no key is bad each of them is good.
+use Rattle.std.proofs.Common.{◌≡◌, ℕ, Bool, true, false, cond, List, [], ◌∷◌, Option, Some, None, refl, arith}
+use Rattle.std.specs.Prelude.{not, ◌&&◌, find}
+use Rattle.std.specs.List.{All, list_all, list_any}
+use Rattle.std.proofs.lemmas.Bool.{and_parts}
+use Rattle.std.proofs.lemmas.List.Elements.{All-nil, All-cons}
+use Rattle.toml.specs.Data.{Members}
+use Rattle.hx_allow.specs.LineTables.{is_good, first_bad_key}
+use Rattle.hx_allow.specs.Rows.{line_keys}
+use Rattle.hx_allow.specs.declared.faults.LineWord.TheVariants.{Lifetime, StaleIfError, SetCookie, Errors, RequestDirectives, Wait, Explain}
+use Rattle.hx_allow.specs.declared.rows.LineKey.{LineKey}
+use Rattle.hx_allow.specs.declared.rows.LineKey.TheVariants.{Host, Methods, Path, Origin, Cache, Word}
+use Rattle.hx_allow.proofs.LinesRead.{none_applies}
+
+-- what holds of the list holds of each key
+listed : (P : LineKey → Type 0) → All P line_keys → (key : LineKey) → P key
+listed P all Host = all 0 Host (omega arith)
+listed P all Methods = all 1 Host (omega arith)
+listed P all Path = all 2 Host (omega arith)
+listed P all Origin = all 3 Host (omega arith)
+listed P all Cache = all 4 Host (omega arith)
+listed P all (Word Lifetime) = all 5 Host (omega arith)
+listed P all (Word StaleIfError) = all 6 Host (omega arith)
+listed P all (Word SetCookie) = all 7 Host (omega arith)
+listed P all (Word Errors) = all 8 Host (omega arith)
+listed P all (Word RequestDirectives) = all 9 Host (omega arith)
+listed P all (Word Wait) = all 10 Host (omega arith)
+listed P all (Word Explain) = all 11 Host (omega arith)
+
+-- ---- what a test of the list tells of each
+
+module _ {A : Type 0} (p : A → Bool) where
+  all_pass : (xs : List A) → list_all p xs ≡ true → All (λ x. p x ≡ true) xs
+  all_pass [] e = All-nil (λ x. p x ≡ true)
+  all_pass (x ∷ xs) e =
+      let parts = and_parts (p x) (list_all p xs) e in
+      All-cons (λ x. p x ≡ true) x xs parts.0 (all_pass xs parts.1)
+
+  not_false : (b : Bool) → not b ≡ false → b ≡ true
+  not_false true e = refl
+  not_false false e = cc
+
+  none_fails : (xs : List A) → find (λ x. not (p x)) xs ≡ None → All (λ x. p x ≡ true) xs
+  none_fails [] e = All-nil (λ x. p x ≡ true)
+  none_fails (x ∷ xs) e =
+      let parts = none_applies (not (p x)) (find (λ x. not (p x)) xs) x e in
+      All-cons (λ x. p x ≡ true) x xs (not_false (p x) parts.0) (none_fails xs parts.1)
+
+  pub found_fails : (xs : List A) (y : A) → find (λ x. not (p x)) xs ≡ Some y → p y ≡ false
+  found_fails [] y e = cc
+  found_fails (x ∷ xs) y e = by_first (p x) refl e (found_fails xs y)
+    where
+      by_first : (b : Bool) → p x ≡ b → cond (not b) (Some x) (find (λ x. not (p x)) xs) ≡ Some y → (find (λ x. not (p x)) xs ≡ Some y → p y ≡ false) → p y ≡ false
+      by_first true is e rest = rest e
+      by_first false is e rest = cc
+
+pub each_key : (p : LineKey → Bool) → list_all p line_keys ≡ true → (key : LineKey) → p key ≡ true
+each_key p e = listed (λ key. p key ≡ true) (all_pass p line_keys e)
+
+pub each_good : (ms : Members) → first_bad_key ms ≡ None → (key : LineKey) → is_good ms key ≡ true
+each_good ms none = listed (λ key. is_good ms key ≡ true) (none_fails (is_good ms) line_keys none)
+
+pub any_alike : (p q : LineKey → Bool) (keys : List LineKey) → ((key : LineKey) → p key ≡ q key) → list_any p keys ≡ list_any q keys
+any_alike p q [] same = refl
+any_alike p q (key ∷ keys) same = rw (same key) (rw (any_alike p q keys same) refl)

@@ -1,0 +1,144 @@
+-- The keys of the operator's table: a row for each, and the order in which their faults are looked for.
+--
+-- number_row, word_row, line_row: the row of a key     number_keys, line_words, line_keys: their order
+-- fault_of: what is told of a line whose key is missing, or stands as it can't
+-- words_of_versions: which keys a version adds, in words
+use Rattle.std.specs.Prelude.{ℕ, nat_le, Bool, List, [], ◌∷◌, codes, map}
+use Rattle.hx_allow.specs.declared.faults.ConfigFault.{ConfigFault}
+use Rattle.hx_allow.specs.declared.faults.ConfigFault.TheVariants.{BadHost, BadMethod, BadPath, BadOrigin, BadCache}
+use Rattle.hx_allow.specs.declared.faults.ConfigFault.TheVariants.{BadWord}
+use Rattle.hx_allow.specs.declared.faults.LineWord.{LineWord}
+use Rattle.hx_allow.specs.declared.faults.LineWord.TheVariants.{Lifetime, StaleIfError, SetCookie, Errors}
+use Rattle.hx_allow.specs.declared.faults.LineWord.TheVariants.{RequestDirectives, Wait, Explain}
+use Rattle.hx_allow.specs.declared.faults.NumberKey.{NumberKey}
+use Rattle.hx_allow.specs.declared.faults.NumberKey.TheVariants.{Version, Capacity, MaxBody, MaxStored}
+use Rattle.hx_allow.specs.declared.rows.Kind.{Kind as SourceKind}
+use Rattle.hx_allow.specs.declared.rows.Kind.TheVariants as source
+use Rattle.hx_allow.specs.declared.rows.LineKey.{LineKey}
+use Rattle.hx_allow.specs.declared.rows.LineKey.TheVariants.{Host, Methods, Path, Origin, Cache, Word}
+use Rattle.hx_allow.specs.declared.rows.Place.{Place}
+use Rattle.hx_allow.specs.declared.rows.Place.TheVariants.{Needed, AllowingLine, CachingLine}
+use Rattle.hx_allow.specs.declared.rows.Row.{Row as SourceRow}
+use Rattle.hx_allow.specs.declared.values.TableVersion.{TableVersion}
+use Rattle.hx_allow.specs.declared.values.TableVersion.TheVariants.{One, Two, Three}
+
+-- what the value of a key has to be
+pub data Kind : Type 0 where
+  -- a whole number from the first to the second, and one of seconds
+  a_number : ℕ → ℕ → Kind
+  some_seconds : ℕ → ℕ → Kind
+  -- the number of a version
+  a_version : Kind
+  -- one of two texts; where the key doesn't stand it is as with the first
+  one_of : List ℕ → List ℕ → Kind
+  a_host : Kind
+  some_methods : Kind
+  a_path : Kind
+  an_origin : Kind
+
+-- A key, the version since which it is known, what its value has to be, and where it may stand.
+pub record Row : Type 0 where
+  pub key : List ℕ
+  pub since : TableVersion
+  pub kind : Kind
+  pub place : Place
+
+-- a key that each version has, and that has to stand
+abbrev pub needed : List ℕ → Kind → Row
+needed key kind = record { key = key; since = One; kind = kind; place = Needed }
+
+-- a key of a line that has an origin and its cache on
+abbrev pub of_caching : List ℕ → TableVersion → Kind → Row
+of_caching key since kind = record { key = key; since = since; kind = kind; place = CachingLine }
+
+abbrev pub number_row : NumberKey → Row
+number_row Version = needed (codes "version") a_version
+number_row Capacity = needed (codes "capacity") (a_number 1 65536)
+number_row MaxBody = needed (codes "max_body") (a_number 0 16777216)
+number_row MaxStored = needed (codes "max_stored") (a_number 0 16777216)
+
+-- the keys of numbers, in the order in which they are looked at
+abbrev pub number_keys : List NumberKey
+number_keys = Version ∷ Capacity ∷ MaxBody ∷ MaxStored ∷ []
+
+-- the most seconds that a lifetime has (RFC 9111, section 1.2.2)
+abbrev pub most_seconds : ℕ
+most_seconds = 2147483648
+
+abbrev pub word_row : LineWord → Row
+word_row Lifetime = of_caching (codes "lifetime") Three (some_seconds 1 most_seconds)
+word_row StaleIfError = of_caching (codes "stale-if-error") Three (some_seconds 0 most_seconds)
+word_row SetCookie = of_caching (codes "set-cookie") Three (one_of (codes "stored") (codes "not-stored"))
+word_row Errors = of_caching (codes "errors") Three (one_of (codes "stored") (codes "not-stored"))
+word_row RequestDirectives = of_caching (codes "request-directives") Three (one_of (codes "heeded") (codes "ignored"))
+word_row Wait = of_caching (codes "wait") Three (one_of (codes "missing") (codes "missing-or-stale"))
+word_row Explain = of_caching (codes "explain") Three (one_of (codes "reuse") (codes "storing"))
+
+-- the words of a line, in the order in which they are looked at
+abbrev pub line_words : List LineWord
+line_words = Lifetime ∷ StaleIfError ∷ SetCookie ∷ Errors ∷ RequestDirectives ∷ Wait ∷ Explain ∷ []
+
+abbrev pub words_of_versions : List ℕ
+words_of_versions = codes "cache needs version = 2 or 3, and lifetime, stale-if-error, set-cookie, errors, request-directives, wait and explain need version = 3"
+
+abbrev pub line_row : LineKey → Row
+line_row Host = needed (codes "host") a_host
+line_row Methods = needed (codes "methods") some_methods
+line_row Path = needed (codes "path") a_path
+line_row Origin = needed (codes "origin") an_origin
+line_row Cache = record {
+  key = codes "cache";
+  since = Two;
+  kind = one_of (codes "on") (codes "off");
+  place = AllowingLine;
+}
+line_row (Word word) = word_row word
+
+-- the keys of a line, in the order in which they are looked at
+abbrev pub line_keys : List LineKey
+line_keys = Host ∷ Methods ∷ Path ∷ Origin ∷ Cache ∷ map Word line_words
+
+-- the fault of a key in the line with this number
+abbrev pub fault_of : ℕ → LineKey → ConfigFault
+fault_of n Host = BadHost n
+fault_of n Methods = BadMethod n
+fault_of n Path = BadPath n
+fault_of n Origin = BadOrigin n
+fault_of n Cache = BadCache n
+fault_of n (Word word) = BadWord n word
+
+abbrev pub version_number : TableVersion → ℕ
+version_number One = 1
+version_number Two = 2
+version_number Three = 3
+
+-- a version has the keys of the versions before it
+abbrev pub has_keys_of : TableVersion → TableVersion → Bool
+has_keys_of version since = nat_le (version_number since) (version_number version)
+
+-- the least and the greatest number of a kind
+abbrev pub least : Kind → ℕ
+least (a_number low high) = low
+least (some_seconds low high) = low
+least a_version = 1
+least _ = 0
+
+abbrev pub greatest : Kind → ℕ
+greatest (a_number low high) = high
+greatest (some_seconds low high) = high
+greatest a_version = 3
+greatest _ = 0
+
+-- the rows of the code
+abbrev pub kind_seen : SourceKind → Kind
+kind_seen (source.Number low high) = a_number low high
+kind_seen (source.Seconds low high) = some_seconds low high
+kind_seen source.Version = a_version
+kind_seen (source.OneOf first second) = one_of first.now second.now
+kind_seen source.Host = a_host
+kind_seen source.Methods = some_methods
+kind_seen source.Path = a_path
+kind_seen source.Origin = an_origin
+
+abbrev pub row_seen : SourceRow → Row
+row_seen row = record { key = row.key.now; since = row.since; kind = kind_seen row.kind; place = row.place }

@@ -1,0 +1,225 @@
+//! The keys of the operator's table: a row for each, and the order in which their faults are looked
+//! for. `specs/Rows.antt` has the same rows.
+ghost use Rattle.std.specs.Prelude.{◌≡◌};
+ghost use Rattle.hx_allow.specs.Rows.{number_row, word_row, line_row, fault_of, has_keys_of, version_number, needed};
+ghost use Rattle.hx_allow.specs.Rows.{of_caching, least, greatest, row_seen, kind_seen};
+
+use crate::faults::{ConfigFault, LineWord, NumberKey};
+use crate::values::TableVersion;
+use crate::values::TableVersion::{One, Three, Two};
+use Kind::{Number, OneOf, Seconds};
+
+/// The most seconds that a lifetime has (RFC 9111, section 1.2.2).
+const MOST_SECONDS: u32 = 2_147_483_648;
+
+/// What the value of a key has to be.
+#[derive(Clone, Copy)]
+pub(crate) enum Kind {
+    /// A whole number from the first to the second.
+    Number(u32, u32),
+    /// The same, of seconds.
+    Seconds(u32, u32),
+    /// The number of a version.
+    Version,
+    /// One of two texts. Where the key doesn't stand it is as with the first.
+    OneOf(&'static str, &'static str),
+    Host,
+    Methods,
+    Path,
+    Origin,
+}
+
+/// Where a key may stand.
+#[derive(Clone, Copy)]
+pub(crate) enum Place {
+    /// It has to stand in each table, or in each line.
+    Needed,
+    /// In a line that has an origin.
+    AllowingLine,
+    /// In a line that has an origin and its cache on.
+    CachingLine,
+}
+
+/// A key, the version since which it is known, what its value has to be, and where it may stand.
+#[derive(Clone, Copy)]
+pub(crate) struct Row {
+    pub key: &'static str,
+    pub since: TableVersion,
+    pub kind: Kind,
+    pub place: Place,
+}
+
+/// A key of a line.
+#[derive(Clone, Copy)]
+pub(crate) enum LineKey {
+    Host,
+    Methods,
+    Path,
+    Origin,
+    Cache,
+    Word(LineWord),
+}
+
+/// The keys of numbers, in the order in which they are looked at.
+pub(crate) const NUMBER_KEYS: [NumberKey; 4] = [
+    NumberKey::Version,
+    NumberKey::Capacity,
+    NumberKey::MaxBody,
+    NumberKey::MaxStored,
+];
+
+/// The keys of a line, in the order in which they are looked at.
+pub(crate) const LINE_KEYS: [LineKey; 12] = [
+    LineKey::Host,
+    LineKey::Methods,
+    LineKey::Path,
+    LineKey::Origin,
+    LineKey::Cache,
+    LineKey::Word(LineWord::Lifetime),
+    LineKey::Word(LineWord::StaleIfError),
+    LineKey::Word(LineWord::SetCookie),
+    LineKey::Word(LineWord::Errors),
+    LineKey::Word(LineWord::RequestDirectives),
+    LineKey::Word(LineWord::Wait),
+    LineKey::Word(LineWord::Explain),
+];
+
+/// Which keys a version adds, in words.
+pub(crate) const WORDS_OF_VERSIONS: &str =
+    "cache needs version = 2 or 3, and lifetime, stale-if-error, set-cookie, errors, request-directives, wait and explain need version = 3";
+
+impl NumberKey {
+    pub(crate) fn row(self) -> Row
+        ensures { row_seen result ≡ number_row self }
+    {
+        match self {
+            NumberKey::Version => Row::needed("version", Kind::Version),
+            NumberKey::Capacity => Row::needed("capacity", Number(1, 65_536)),
+            NumberKey::MaxBody => Row::needed("max_body", Number(0, 16_777_216)),
+            NumberKey::MaxStored => Row::needed("max_stored", Number(0, 16_777_216)),
+        }
+    }
+}
+
+impl LineWord {
+    pub(crate) fn row(self) -> Row
+        ensures { row_seen result ≡ word_row self }
+    {
+        match self {
+            LineWord::Lifetime => Row::of_caching("lifetime", Three, Seconds(1, MOST_SECONDS)),
+            LineWord::StaleIfError => Row::of_caching(
+                "stale-if-error",
+                Three,
+                Seconds(0, MOST_SECONDS),
+            ),
+            LineWord::SetCookie => Row::of_caching(
+                "set-cookie",
+                Three,
+                OneOf("stored", "not-stored"),
+            ),
+            LineWord::Errors => Row::of_caching("errors", Three, OneOf("stored", "not-stored")),
+            LineWord::RequestDirectives => Row::of_caching(
+                "request-directives",
+                Three,
+                OneOf("heeded", "ignored"),
+            ),
+            LineWord::Wait => Row::of_caching("wait", Three, OneOf("missing", "missing-or-stale")),
+            LineWord::Explain => Row::of_caching("explain", Three, OneOf("reuse", "storing")),
+        }
+    }
+}
+
+impl LineKey {
+    pub(crate) fn row(self) -> Row
+        ensures { row_seen result ≡ line_row self }
+    {
+        match self {
+            LineKey::Host => Row::needed("host", Kind::Host),
+            LineKey::Methods => Row::needed("methods", Kind::Methods),
+            LineKey::Path => Row::needed("path", Kind::Path),
+            LineKey::Origin => Row::needed("origin", Kind::Origin),
+            LineKey::Cache => Row {
+                key: "cache",
+                since: Two,
+                kind: OneOf("on", "off"),
+                place: Place::AllowingLine,
+            },
+            LineKey::Word(word) => word.row(),
+        }
+    }
+
+    /// The fault of the key in the line with this number.
+    pub(crate) fn fault(self, number: u16) -> ConfigFault
+        ensures fault { result ≡ fault_of number self }
+        ensures found_fault { ¬ (result ≡ ConfigFault.OutOfMemory) }
+    {
+        match self {
+            LineKey::Host => ConfigFault::BadHost(number),
+            LineKey::Methods => ConfigFault::BadMethod(number),
+            LineKey::Path => ConfigFault::BadPath(number),
+            LineKey::Origin => ConfigFault::BadOrigin(number),
+            LineKey::Cache => ConfigFault::BadCache(number),
+            LineKey::Word(word) => ConfigFault::BadWord(number, word),
+        }
+    }
+}
+
+impl Row {
+    /// A key that each version has, and that has to stand.
+    fn needed(key: &'static str, kind: Kind) -> Row
+        ensures { row_seen result ≡ needed key.now (kind_seen kind) }
+    {
+        Row {
+            key,
+            since: One,
+            kind,
+            place: Place::Needed,
+        }
+    }
+
+    /// A key of a line that has an origin and its cache on.
+    fn of_caching(key: &'static str, since: TableVersion, kind: Kind) -> Row
+        ensures { row_seen result ≡ of_caching key.now since (kind_seen kind) }
+    {
+        Row {
+            key,
+            since,
+            kind,
+            place: Place::CachingLine,
+        }
+    }
+
+    /// Whether tables of a version have the key.
+    pub(crate) fn is_of(&self, version: TableVersion) -> bool
+        ensures { result ≡ has_keys_of version self.now.since }
+    {
+        self.since.number() <= version.number()
+    }
+}
+
+impl TableVersion {
+    fn number(self) -> u8
+        ensures { result ≡ version_number self }
+    {
+        match self {
+            TableVersion::One => 1,
+            TableVersion::Two => 2,
+            TableVersion::Three => 3,
+        }
+    }
+}
+
+impl Kind {
+    /// The least and the greatest number of a kind.
+    pub(crate) fn bounds(self) -> (u32, u32)
+        ensures least { result.0 ≡ least (kind_seen self) }
+        ensures greatest { result.1 ≡ greatest (kind_seen self) }
+    {
+        match self {
+            Kind::Number(low, high) => (low, high),
+            Kind::Seconds(low, high) => (low, high),
+            Kind::Version => (1, 3),
+            _ => (0, 0),
+        }
+    }
+}
