@@ -4,11 +4,11 @@ use Rattle.hx_allow.specs.declared.faults.ConfigFault.{ConfigFault}
 use Rattle.hx_allow.specs.declared.faults.ConfigFault.TheVariants.{NotToml, UnknownKey, BadName, BadNumber, BadHost}
 use Rattle.hx_allow.specs.declared.faults.ConfigFault.TheVariants.{BadMethod, BadPath, BadOrigin, NoLines, OutOfMemory}
 use Rattle.hx_allow.specs.declared.faults.ConfigFault.TheVariants.{BadCache, BadWord}
-use Rattle.hx_allow.specs.declared.faults.LineWord.{LineWord}
-use Rattle.hx_allow.specs.declared.faults.LineWord.TheVariants.{Lifetime, StaleIfError, SetCookie, Errors}
-use Rattle.hx_allow.specs.declared.faults.LineWord.TheVariants.{RequestDirectives, Wait, Explain}
-use Rattle.hx_allow.specs.declared.faults.NumberKey.{NumberKey}
-use Rattle.hx_allow.specs.declared.faults.NumberKey.TheVariants.{Version, Capacity, MaxBody, MaxStored}
+use Rattle.hx_allow.specs.declared.rows.LineKey.TheVariants.{Host, Methods, Path, Origin, Cache}
+use Rattle.hx_allow.specs.declared.rows.Place.{Place}
+use Rattle.hx_allow.specs.declared.rows.Place.TheVariants.{Needed, AllowingLine, CachingLine}
+use Rattle.hx_allow.specs.Rows.{Kind, a_number, some_seconds, a_version, one_of, a_host, some_methods, a_path, an_origin}
+use Rattle.hx_allow.specs.Rows.{Row, number_row, word_row, line_row, words_of_versions}
 
 -- the line at fault, counted from 1
 abbrev pub line_at_fault : ConfigFault → Option ℕ
@@ -20,37 +20,57 @@ line_at_fault (BadCache line) = Some line
 line_at_fault (BadWord line word) = Some line
 line_at_fault _ = None
 
--- what the number of a key has to be
-abbrev pub words_of_number : NumberKey → List ℕ
-words_of_number Version = codes "version has to be 1, 2 or 3, without quotes"
-words_of_number Capacity = codes "capacity has to be a whole number from 1 to 65536, without quotes"
-words_of_number MaxBody = codes "max_body has to be a whole number from 0 to 16777216, without quotes"
-words_of_number MaxStored = codes "max_stored has to be a whole number from 0 to 16777216, without quotes"
+-- numbers between which one has to be
+abbrev pub words_of_bounds : ℕ → ℕ → List ℕ
+words_of_bounds low high = decimal low ++ (codes " to " ++ (decimal high ++ codes ", without quotes"))
 
--- what a word of a line has to be
-abbrev pub words_of_word : LineWord → List ℕ
-words_of_word Lifetime = codes "lifetime has to be a whole number of seconds from 1 to 2147483648, without quotes, in a line that has an origin and its cache on"
-words_of_word StaleIfError = codes "stale-if-error has to be a whole number of seconds from 0 to 2147483648, without quotes, in a line that has an origin and its cache on"
-words_of_word SetCookie = codes "set-cookie has to be \"stored\" or \"not-stored\", in a line that has an origin and its cache on"
-words_of_word Errors = codes "errors has to be \"stored\" or \"not-stored\", in a line that has an origin and its cache on"
-words_of_word RequestDirectives = codes "request-directives has to be \"heeded\" or \"ignored\", in a line that has an origin and its cache on"
-words_of_word Wait = codes "wait has to be \"missing\" or \"missing-or-stale\", in a line that has an origin and its cache on"
-words_of_word Explain = codes "explain has to be \"reuse\" or \"storing\", in a line that has an origin and its cache on"
+-- what a value has to be
+abbrev pub words_of_kind : Kind → List ℕ
+words_of_kind (a_number low high) = codes "be a whole number from " ++ words_of_bounds low high
+words_of_kind (some_seconds low high) = codes "be a whole number of seconds from " ++ words_of_bounds low high
+words_of_kind a_version = codes "be 1, 2 or 3, without quotes"
+words_of_kind (one_of first second) = codes "be \"" ++ (first ++ (codes "\" or \"" ++ (second ++ codes "\"")))
+words_of_kind a_host = codes "be \"*\" or one host in lower case, without a port, an IPv6 address in brackets"
+words_of_kind some_methods = codes "be a list of 1 to 32, each \"*\" or a method of at most 15 bytes, but not CONNECT, TRACE or OPTIONS"
+words_of_kind a_path = codes "begin with / and not to end with it, but for / itself; no ?, #, blank, byte above 7E, segment . or .., or % without two hexadecimal digits behind it"
+words_of_kind an_origin = codes "be \"deny\" or an IPv4 address and a port, as in \"127.0.0.1:8081\""
+
+-- where a key may stand
+abbrev pub words_of_place : Place → List ℕ
+words_of_place Needed = []
+words_of_place AllowingLine = codes ", and not to stand in a line that denies"
+words_of_place CachingLine = codes ", in a line that has an origin and its cache on"
+
+abbrev pub words_of_row : Row → List ℕ
+words_of_row row = row.key ++ (codes " has to " ++ (words_of_kind row.kind ++ words_of_place row.place))
+
+-- the row of the key at fault
+abbrev pub row_at_fault : ConfigFault → Option Row
+row_at_fault (BadNumber number) = Some (number_row number)
+row_at_fault (BadHost line) = Some (line_row Host)
+row_at_fault (BadMethod line) = Some (line_row Methods)
+row_at_fault (BadPath line) = Some (line_row Path)
+row_at_fault (BadOrigin line) = Some (line_row Origin)
+row_at_fault (BadCache line) = Some (line_row Cache)
+row_at_fault (BadWord line word) = Some (word_row word)
+row_at_fault _ = None
+
+-- what has to stand there, of a fault without a row
+abbrev pub words_without_row : ConfigFault → List ℕ
+words_without_row NotToml = codes "the table is no TOML, has a key twice, or has more than 1048576 bytes; look for a quote or bracket that is missing"
+words_without_row (UnknownKey key) = codes "a key isn't known where it stands; correct its spelling or delete it: behind [[line]] keys belong to that line; " ++ words_of_versions
+words_without_row BadName = codes "name has to be a lower-case letter and at most 31 of a-z, 0-9 and -, in quotes"
+words_without_row NoLines = codes "a table has 1 to 256 lines, each of which begins with [[line]]"
+words_without_row OutOfMemory = codes "no memory is left for the table"
+words_without_row _ = []
+
+abbrev pub words_by : Option Row → ConfigFault → List ℕ
+words_by (Some row) fault = words_of_row row
+words_by None fault = words_without_row fault
 
 -- what has to stand there
 abbrev pub words_of : ConfigFault → List ℕ
-words_of NotToml = codes "the table is no TOML, has a key twice, or has more than 1048576 bytes; look for a quote or bracket that is missing"
-words_of (UnknownKey key) = codes "a key isn't known where it stands; correct its spelling or delete it: behind [[line]] keys belong to that line; cache needs version = 2 or 3, and lifetime, stale-if-error, set-cookie, errors, request-directives, wait and explain need version = 3"
-words_of BadName = codes "name has to be a lower-case letter and at most 31 of a-z, 0-9 and -, in quotes"
-words_of (BadNumber key) = words_of_number key
-words_of (BadHost line) = codes "host has to be \"*\" or one host in lower case, without a port, an IPv6 address in brackets"
-words_of (BadMethod line) = codes "methods has to be a list of 1 to 32, each \"*\" or a method of at most 15 bytes, but not CONNECT, TRACE or OPTIONS"
-words_of (BadPath line) = codes "path has to begin with / and not to end with it, but for / itself; no ?, #, blank, byte above 7E, segment . or .., or % without two hexadecimal digits behind it"
-words_of (BadOrigin line) = codes "origin has to be \"deny\" or an IPv4 address and a port, as in \"127.0.0.1:8081\""
-words_of NoLines = codes "a table has 1 to 256 lines, each of which begins with [[line]]"
-words_of OutOfMemory = codes "no memory is left for the table"
-words_of (BadCache line) = codes "cache has to be \"on\" or \"off\", and not to stand in a line that denies"
-words_of (BadWord line word) = words_of_word word
+words_of fault = words_by (row_at_fault fault) fault
 
 -- the place in the table, where a line is at fault
 abbrev pub place_text : Option ℕ → List ℕ

@@ -1,8 +1,10 @@
 //! What is wrong with a table and what may stand there, in words for the operator. No text takes memory.
-ghost use Rattle.std.specs.Prelude.{◌≡◌, None, Some};
-ghost use Rattle.hx_allow.specs.FaultTexts.{line_at_fault, words_of_number, words_of_word, words_of};
+ghost use Rattle.std.specs.Prelude.{◌≡◌, None, Some, option_map};
+ghost use Rattle.hx_allow.specs.FaultTexts.{line_at_fault, row_at_fault, words_without_row};
+ghost use Rattle.hx_allow.specs.Rows.{row_seen};
 
-use crate::faults::{ConfigFault, LineWord, NumberKey};
+use crate::faults::ConfigFault;
+use crate::rows::{Kind, LineKey, Place, Row};
 use std::fmt;
 use std::fmt::Formatter;
 
@@ -21,45 +23,25 @@ fn line_at_fault(fault: &ConfigFault) -> Option<u16>
     }
 }
 
-/// What the number of this key has to be.
-fn words_of_number(key: NumberKey) -> &'static str
-    ensures { result.now ≡ words_of_number key }
+/// The row of the key at fault.
+fn row_at_fault(fault: &ConfigFault) -> Option<Row>
+    ensures { option_map row_seen result ≡ row_at_fault fault.now }
 {
-    match key {
-        NumberKey::Version => "version has to be 1, 2 or 3, without quotes",
-        NumberKey::Capacity => "capacity has to be a whole number from 1 to 65536, without quotes",
-        NumberKey::MaxBody =>
-            "max_body has to be a whole number from 0 to 16777216, without quotes",
-        NumberKey::MaxStored =>
-            "max_stored has to be a whole number from 0 to 16777216, without quotes",
+    match fault {
+        ConfigFault::BadNumber(number) => Some(number.row()),
+        ConfigFault::BadHost(_) => Some(LineKey::Host.row()),
+        ConfigFault::BadMethod(_) => Some(LineKey::Methods.row()),
+        ConfigFault::BadPath(_) => Some(LineKey::Path.row()),
+        ConfigFault::BadOrigin(_) => Some(LineKey::Origin.row()),
+        ConfigFault::BadCache(_) => Some(LineKey::Cache.row()),
+        ConfigFault::BadWord(_, word) => Some(word.row()),
+        _ => None,
     }
 }
 
-/// What this key of a line has to be.
-fn words_of_word(word: LineWord) -> &'static str
-    ensures { result.now ≡ words_of_word word }
-{
-    match word {
-        LineWord::Lifetime =>
-            "lifetime has to be a whole number of seconds from 1 to 2147483648, without quotes, in a line that has an origin and its cache on",
-        LineWord::StaleIfError =>
-            "stale-if-error has to be a whole number of seconds from 0 to 2147483648, without quotes, in a line that has an origin and its cache on",
-        LineWord::SetCookie =>
-            "set-cookie has to be \"stored\" or \"not-stored\", in a line that has an origin and its cache on",
-        LineWord::Errors =>
-            "errors has to be \"stored\" or \"not-stored\", in a line that has an origin and its cache on",
-        LineWord::RequestDirectives =>
-            "request-directives has to be \"heeded\" or \"ignored\", in a line that has an origin and its cache on",
-        LineWord::Wait =>
-            "wait has to be \"missing\" or \"missing-or-stale\", in a line that has an origin and its cache on",
-        LineWord::Explain =>
-            "explain has to be \"reuse\" or \"storing\", in a line that has an origin and its cache on",
-    }
-}
-
-/// What has to stand there.
-fn words_of(fault: &ConfigFault) -> &'static str
-    ensures { result.now ≡ words_of fault.now }
+/// What has to stand there, of a fault without a row.
+fn words_without_row(fault: &ConfigFault) -> &'static str
+    ensures { result.now ≡ words_without_row fault.now }
 {
     match fault {
         ConfigFault::NotToml =>
@@ -68,20 +50,89 @@ fn words_of(fault: &ConfigFault) -> &'static str
             "a key isn't known where it stands; correct its spelling or delete it: behind [[line]] keys belong to that line; cache needs version = 2 or 3, and lifetime, stale-if-error, set-cookie, errors, request-directives, wait and explain need version = 3",
         ConfigFault::BadName =>
             "name has to be a lower-case letter and at most 31 of a-z, 0-9 and -, in quotes",
-        ConfigFault::BadNumber(key) => words_of_number(*key),
-        ConfigFault::BadHost(_) =>
-            "host has to be \"*\" or one host in lower case, without a port, an IPv6 address in brackets",
-        ConfigFault::BadMethod(_) =>
-            "methods has to be a list of 1 to 32, each \"*\" or a method of at most 15 bytes, but not CONNECT, TRACE or OPTIONS",
-        ConfigFault::BadPath(_) =>
-            "path has to begin with / and not to end with it, but for / itself; no ?, #, blank, byte above 7E, segment . or .., or % without two hexadecimal digits behind it",
-        ConfigFault::BadOrigin(_) =>
-            "origin has to be \"deny\" or an IPv4 address and a port, as in \"127.0.0.1:8081\"",
         ConfigFault::NoLines => "a table has 1 to 256 lines, each of which begins with [[line]]",
         ConfigFault::OutOfMemory => "no memory is left for the table",
-        ConfigFault::BadCache(_) =>
-            "cache has to be \"on\" or \"off\", and not to stand in a line that denies",
-        ConfigFault::BadWord(_, word) => words_of_word(*word),
+        _ => "",
+    }
+}
+
+impl fmt::Display for Kind {
+    ghost use Rattle.std.specs.Prelude.{Some};
+    ghost use Rattle.hx_allow.specs.FaultTexts.{words_of_kind};
+    ghost use Rattle.hx_allow.specs.Rows.{kind_seen};
+
+    ghost output = { λ kind. Some (words_of_kind (kind_seen kind)) };
+
+    fn fmt<W: fmt::Write>(&self, f: &mut Formatter<W>) -> fmt::Result {
+        match self {
+            Kind::Number(low, high) => write!(
+                f,
+                "be a whole number from {low} to {high}, without quotes"
+            ),
+            Kind::Seconds(low, high) => write!(
+                f,
+                "be a whole number of seconds from {low} to {high}, without quotes"
+            ),
+            Kind::Version => f.write_str("be 1, 2 or 3, without quotes"),
+            Kind::OneOf(first, second) => write!(f, "be \"{first}\" or \"{second}\""),
+            Kind::Host => f.write_str(
+                "be \"*\" or one host in lower case, without a port, an IPv6 address in brackets",
+            ),
+            Kind::Methods => f.write_str(
+                "be a list of 1 to 32, each \"*\" or a method of at most 15 bytes, but not CONNECT, TRACE or OPTIONS",
+            ),
+            Kind::Path => f.write_str(
+                "begin with / and not to end with it, but for / itself; no ?, #, blank, byte above 7E, segment . or .., or % without two hexadecimal digits behind it",
+            ),
+            Kind::Origin => f.write_str(
+                "be \"deny\" or an IPv4 address and a port, as in \"127.0.0.1:8081\"",
+            ),
+        }
+    }
+}
+
+impl fmt::Display for Place {
+    ghost use Rattle.std.specs.Prelude.{Some};
+    ghost use Rattle.hx_allow.specs.FaultTexts.{words_of_place};
+
+    ghost output = { λ place. Some (words_of_place place) };
+
+    fn fmt<W: fmt::Write>(&self, f: &mut Formatter<W>) -> fmt::Result {
+        match self {
+            Place::Needed => Ok(()),
+            Place::AllowingLine => f.write_str(", and not to stand in a line that denies"),
+            Place::CachingLine => f.write_str(", in a line that has an origin and its cache on"),
+        }
+    }
+}
+
+impl fmt::Display for Row {
+    ghost use Rattle.std.specs.Prelude.{Some};
+    ghost use Rattle.hx_allow.specs.FaultTexts.{words_of_row};
+    ghost use Rattle.hx_allow.specs.Rows.{row_seen};
+
+    ghost output = { λ row. Some (words_of_row (row_seen row)) };
+
+    fn fmt<W: fmt::Write>(&self, f: &mut Formatter<W>) -> fmt::Result {
+        write!(f, "{} has to {}{}", self.key, self.kind, self.place)
+    }
+}
+
+/// What has to stand there, as text.
+#[derive(Drop)]
+struct Words<'a>(&'a ConfigFault);
+
+impl fmt::Display for Words<'_> {
+    ghost use Rattle.std.specs.Prelude.{Some};
+    ghost use Rattle.hx_allow.specs.FaultTexts.{words_of};
+
+    ghost output = { λ words. Some (words_of words.0.now) };
+
+    fn fmt<W: fmt::Write>(&self, f: &mut Formatter<W>) -> fmt::Result {
+        match row_at_fault(self.0) {
+            Some(row) => write!(f, "{row}"),
+            None => f.write_str(words_without_row(self.0)),
+        }
     }
 }
 
@@ -95,6 +146,6 @@ impl fmt::Display for ConfigFault {
         if let Some(line) = line_at_fault(self) {
             write!(f, "in [[line]] number {line} ")?;
         }
-        f.write_str(words_of(self))
+        write!(f, "{}", Words(self))
     }
 }

@@ -6,6 +6,7 @@
 
 mod addresses;
 mod config;
+mod fault_text_cases;
 mod fault_texts;
 mod faults;
 mod host_index;
@@ -28,6 +29,7 @@ mod verdicts;
 mod worked_cases;
 
 pub use config::Config;
+pub use fault_text_cases::{places_of_faults, words_of_lines, words_of_the_top, words_of_words};
 pub use faults::{ConfigFault, LineWord, NumberKey};
 pub use laws::{
     a_fault_of_the_second_line_has_its_number, a_table_is_read_in_one_way,
