@@ -1,12 +1,16 @@
--- Each key of a line is one of those that are looked at, and where no key is bad each of them is good.
-use Rattle.std.proofs.Common.{◌≡◌, ℕ, Bool, true, false, cond, List, [], ◌∷◌, Option, Some, None, refl, arith}
+-- Each key of a line is one of those that are looked at, and a line without words has a plain policy. Where no key is bad
+-- each of them is good. What has a line for each key stands in front.
+use Rattle.std.proofs.Common.{◌≡◌, ℕ, Bool, true, false, cond, List, [], ◌∷◌, codes, Option, Some, None, refl, arith}
 use Rattle.std.specs.Prelude.{not, ◌&&◌, find}
 use Rattle.std.specs.List.{All, list_all, list_any}
 use Rattle.std.proofs.lemmas.Bool.{and_parts}
 use Rattle.std.proofs.lemmas.List.Elements.{All-nil, All-cons}
-use Rattle.toml.specs.Data.{Members}
+use Rattle.toml.specs.Data.{Members, get_member}
+use Rattle.hx_policy.specs.Words.{plain}
 use Rattle.hx_allow.specs.LineTables.{is_good, first_bad_key}
+use Rattle.hx_allow.specs.LineWords.{says, policy_read}
 use Rattle.hx_allow.specs.Rows.{line_keys}
+use Rattle.hx_allow.specs.Versions.{HasNoWord}
 use Rattle.hx_allow.specs.declared.faults.LineWord.TheVariants.{Lifetime, StaleIfError, SetCookie, Errors, RequestDirectives, Wait, Explain}
 use Rattle.hx_allow.specs.declared.rows.LineKey.{LineKey}
 use Rattle.hx_allow.specs.declared.rows.LineKey.TheVariants.{Host, Methods, Path, Origin, Cache, Word}
@@ -26,6 +30,18 @@ listed P all (Word Errors) = all 8 Host (omega arith)
 listed P all (Word RequestDirectives) = all 9 Host (omega arith)
 listed P all (Word Wait) = all 10 Host (omega arith)
 listed P all (Word Explain) = all 11 Host (omega arith)
+
+-- where no word of the third version stands, the policy is that of the versions before
+pub plain_policy : (ms : Members) → HasNoWord ms → policy_read ms ≡ plain (not (says (codes "cache") (codes "off") ms))
+plain_policy ms none =
+    let lifetime : get_member (codes "lifetime") ms ≡ None = none Lifetime in
+    let stale_if_error : get_member (codes "stale-if-error") ms ≡ None = none StaleIfError in
+    let set_cookie : get_member (codes "set-cookie") ms ≡ None = none SetCookie in
+    let errors : get_member (codes "errors") ms ≡ None = none Errors in
+    let request_directives : get_member (codes "request-directives") ms ≡ None = none RequestDirectives in
+    let wait : get_member (codes "wait") ms ≡ None = none Wait in
+    let explain : get_member (codes "explain") ms ≡ None = none Explain in
+    rw lifetime (rw stale_if_error (rw set_cookie (rw errors (rw request_directives (rw wait (rw explain refl))))))
 
 -- ---- what a test of the list tells of each
 

@@ -11,7 +11,7 @@ use Rattle.toml.specs.Data.{Data, Items, no_items, item, Members, no_members, me
 use Rattle.hx_policy.specs.Words.{plain}
 use Rattle.hx_allow.specs.Lines.{Line as PlainLine, Table}
 use Rattle.hx_allow.specs.Keys.{word_key}
-use Rattle.hx_allow.specs.LineWords.{says, policy_read}
+use Rattle.hx_allow.specs.LineWords.{says}
 use Rattle.hx_allow.specs.Rows.{Row, line_row, word_row, line_keys, fault_of, has_keys_of}
 use Rattle.hx_allow.specs.LineTables.{is_good_at, is_good, first_bad_key, line_fault, line_of, lines_fault, or_later, item_fault}
 use Rattle.hx_allow.specs.Tables.{is_name, number_fault, lines_at, version_of, table_fault, judge_table, fault_or_table}
@@ -20,7 +20,6 @@ use Rattle.hx_allow.specs.Versions.{HasNoWord}
 use Rattle.hx_allow.specs.declared.faults.ConfigFault.{ConfigFault}
 use Rattle.hx_allow.specs.declared.faults.ConfigFault.TheVariants.{UnknownKey, BadName, BadNumber, BadCache, BadWord, NoLines}
 use Rattle.hx_allow.specs.declared.faults.LineWord.{LineWord}
-use Rattle.hx_allow.specs.declared.faults.LineWord.TheVariants.{Lifetime, StaleIfError, SetCookie, Errors, RequestDirectives, Wait, Explain}
 use Rattle.hx_allow.specs.declared.rows.LineKey.{LineKey}
 use Rattle.hx_allow.specs.declared.rows.LineKey.TheVariants.{Host, Methods, Path, Origin, Cache, Word}
 use Rattle.hx_allow.specs.declared.rows.Place.{Place}
@@ -30,7 +29,7 @@ use Rattle.hx_allow.specs.declared.values.Scope.{Scope}
 use Rattle.hx_allow.specs.declared.values.Scope.TheVariants.{Top, Line}
 use Rattle.hx_allow.specs.declared.values.TableVersion.{TableVersion}
 use Rattle.hx_allow.specs.declared.values.TableVersion.TheVariants.{One, Two, Three}
-use Rattle.hx_allow.proofs.KeysListed.{each_key, found_fails, any_alike}
+use Rattle.hx_allow.proofs.KeysListed.{each_key, found_fails, any_alike, plain_policy}
 use Rattle.hx_allow.proofs.LinesRead.{each_line_read}
 
 -- ---- keys
@@ -72,18 +71,6 @@ not_among_known scope word (member key value ms) unknown none =
 
 no_cache : (ms : Members) → first_unknown (Line One) ms ≡ None → get_member (codes "cache") ms ≡ None
 no_cache ms none = not_among_known (Line One) (codes "cache") ms refl none
-
--- where no word of the third version stands, the policy is that of the versions before
-pub plain_policy : (ms : Members) → HasNoWord ms → policy_read ms ≡ plain (not (says (codes "cache") (codes "off") ms))
-plain_policy ms none =
-    let lifetime : get_member (codes "lifetime") ms ≡ None = none Lifetime in
-    let stale_if_error : get_member (codes "stale-if-error") ms ≡ None = none StaleIfError in
-    let set_cookie : get_member (codes "set-cookie") ms ≡ None = none SetCookie in
-    let errors : get_member (codes "errors") ms ≡ None = none Errors in
-    let request_directives : get_member (codes "request-directives") ms ≡ None = none RequestDirectives in
-    let wait : get_member (codes "wait") ms ≡ None = none Wait in
-    let explain : get_member (codes "explain") ms ≡ None = none Explain in
-    rw lifetime (rw stale_if_error (rw set_cookie (rw errors (rw request_directives (rw wait (rw explain refl))))))
 
 abbrev is_needed : Place → Bool
 is_needed Needed = true

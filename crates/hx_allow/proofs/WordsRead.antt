@@ -17,9 +17,8 @@ use Rattle.hx_allow.specs.declared.rows.Place.{Place}
 use Rattle.hx_allow.specs.declared.rows.Place.TheVariants.{Needed, AllowingLine, CachingLine}
 use Rattle.hx_allow.specs.declared.values.Scope.TheVariants.{Line}
 use Rattle.hx_allow.specs.declared.values.TableVersion.{TableVersion}
-use Rattle.hx_allow.proofs.KeysListed.{each_key, each_good}
+use Rattle.hx_allow.proofs.KeysListed.{each_key, each_good, plain_policy}
 use Rattle.hx_allow.proofs.LinesRead.{none_mapped, each_line_read}
-use Rattle.hx_allow.proofs.Versions.{plain_policy}
 
 abbrev is_of_caching : Place → Bool
 is_of_caching CachingLine = true
