@@ -6,11 +6,12 @@ use Rattle.std.proofs.lemmas.List.Elements.{All-nil, All-cons}
 use Rattle.toml.specs.Data.{Items, no_items, item, Members, as_table}
 use Rattle.hx_allow.specs.Lines.{Line, Table}
 use Rattle.hx_allow.specs.LineTables.{line_fault, line_of, lines_fault, lines_of, or_later, item_fault, with_line}
-use Rattle.hx_allow.specs.Tables.{is_name, number_fault, lines_at, version_of, table_fault, table_of, judge_table, fault_or_table}
+use Rattle.hx_allow.specs.Rows.{fault_at_top}
+use Rattle.hx_allow.specs.Tables.{first_bad_at_top, lines_at, version_of, table_fault, table_of, judge_table, fault_or_table}
 use Rattle.hx_allow.specs.Values.{first_unknown, text_at, is_some_and}
 use Rattle.hx_allow.specs.declared.faults.ConfigFault.{ConfigFault}
-use Rattle.hx_allow.specs.declared.faults.ConfigFault.TheVariants.{UnknownKey, BadName, BadNumber, NoLines}
-use Rattle.hx_allow.specs.declared.faults.NumberKey.{NumberKey}
+use Rattle.hx_allow.specs.declared.faults.ConfigFault.TheVariants.{UnknownKey}
+use Rattle.hx_allow.specs.declared.rows.TopKey.{TopKey}
 use Rattle.hx_allow.specs.declared.values.Scope.TheVariants.{Top}
 use Rattle.hx_allow.specs.declared.values.TableVersion.{TableVersion}
 
@@ -40,20 +41,14 @@ module _ (P : Line → Type 0) (version : TableVersion) (line_is : (n : ℕ) (ms
 
 no_line_fault : (t : Members) → table_fault t ≡ None → lines_fault (version_of t) 1 (unwrap_or (lines_at t) no_items) ≡ None
 unfolding table_fault
-no_line_fault t none = by_keys (first_unknown Top t) refl (number_fault t) refl
+no_line_fault t none = by_keys (first_unknown Top t) refl (first_bad_at_top t) refl
   where
-    by_keys : (o : Option (List ℕ)) → first_unknown Top t ≡ o → (p : Option NumberKey) → number_fault t ≡ p → lines_fault (version_of t) 1 (unwrap_or (lines_at t) no_items) ≡ None
+    by_keys : (o : Option (List ℕ)) → first_unknown Top t ≡ o → (p : Option TopKey) → first_bad_at_top t ≡ p → lines_fault (version_of t) 1 (unwrap_or (lines_at t) no_items) ≡ None
     by_keys (Some key) e p f = let bad : table_fault t ≡ Some (UnknownKey key) = rw e refl in cc
-    by_keys None e (Some key) f =
-        let is : table_fault t ≡ cond (not (is_some_and is_name (text_at (codes "name") t))) (Some BadName) (Some (BadNumber key)) = rw e (rw f refl) in
-        let name_is = none_applies (not (is_some_and is_name (text_at (codes "name") t))) (Some (BadNumber key)) BadName (sym is ∙ none) in
-        let bad = name_is.1 in
-        cc
+    by_keys None e (Some key) f = let bad : table_fault t ≡ Some (fault_at_top key) = rw e (rw f refl) in cc
     by_keys None e None f =
-        let lines = cond (is_none (lines_at t)) (Some NoLines) (lines_fault (version_of t) 1 (unwrap_or (lines_at t) no_items)) in
-        let is : table_fault t ≡ cond (not (is_some_and is_name (text_at (codes "name") t))) (Some BadName) lines = rw e (rw f refl) in
-        let name_is = none_applies (not (is_some_and is_name (text_at (codes "name") t))) lines BadName (sym is ∙ none) in
-        (none_applies (is_none (lines_at t)) (lines_fault (version_of t) 1 (unwrap_or (lines_at t) no_items)) NoLines name_is.1).1
+        let is : table_fault t ≡ lines_fault (version_of t) 1 (unwrap_or (lines_at t) no_items) = rw e (rw f refl) in
+        sym is ∙ none
 
 module _ (P : Line → Type 0) (t : Members) (table : Table) (line_is : (n : ℕ) (ms : Members) → line_fault (version_of t) n ms ≡ None → P (line_of ms)) where
   by_fault : (o : Option ConfigFault) → table_fault t ≡ o → Ok table ≡ fault_or_table o t → All P table.lines

@@ -12,9 +12,9 @@ use Rattle.hx_policy.specs.Words.{plain}
 use Rattle.hx_allow.specs.Lines.{Line as PlainLine, Table}
 use Rattle.hx_allow.specs.Keys.{word_key}
 use Rattle.hx_allow.specs.LineWords.{says}
-use Rattle.hx_allow.specs.Rows.{Row, line_row, word_row, line_keys, fault_of, has_keys_of}
+use Rattle.hx_allow.specs.Rows.{Row, line_row, word_row, line_keys, fault_at_top, fault_of, has_keys_of}
 use Rattle.hx_allow.specs.LineTables.{is_good_at, is_good, first_bad_key, line_fault, line_of, lines_fault, or_later, item_fault}
-use Rattle.hx_allow.specs.Tables.{is_name, number_fault, lines_at, version_of, table_fault, judge_table, fault_or_table}
+use Rattle.hx_allow.specs.Tables.{first_bad_at_top, lines_at, version_of, table_fault, judge_table, fault_or_table}
 use Rattle.hx_allow.specs.Values.{is_known, is_key_of, first_unknown, text_at, is_some_and}
 use Rattle.hx_allow.specs.Versions.{HasNoWord}
 use Rattle.hx_allow.specs.declared.faults.ConfigFault.{ConfigFault}
@@ -23,8 +23,9 @@ use Rattle.hx_allow.specs.declared.faults.LineWord.{LineWord}
 use Rattle.hx_allow.specs.declared.rows.LineKey.{LineKey}
 use Rattle.hx_allow.specs.declared.rows.LineKey.TheVariants.{Host, Methods, Path, Origin, Cache, Word}
 use Rattle.hx_allow.specs.declared.rows.Place.{Place}
+use Rattle.hx_allow.specs.declared.rows.TopKey.{TopKey}
+use Rattle.hx_allow.specs.declared.rows.TopKey.TheVariants.{Name, Number, Lines}
 use Rattle.hx_allow.specs.declared.rows.Place.TheVariants.{Needed, AllowingLine, CachingLine}
-use Rattle.hx_allow.specs.declared.faults.NumberKey.{NumberKey}
 use Rattle.hx_allow.specs.declared.values.Scope.{Scope}
 use Rattle.hx_allow.specs.declared.values.Scope.TheVariants.{Top, Line}
 use Rattle.hx_allow.specs.declared.values.TableVersion.{TableVersion}
@@ -151,11 +152,6 @@ is_of_added_key (BadCache line) = true
 is_of_added_key (BadWord line word) = true
 is_of_added_key _ = false
 
--- a fault that isn't this one is passed over
-other_stands : (b : Bool) (x : ConfigFault) (o : Option ConfigFault) (fault : ConfigFault) → ¬ (x ≡ fault) → cond b (Some x) o ≡ Some fault → o ≡ Some fault
-other_stands true x o fault other e = let same : x ≡ fault = cc in absurd (other same)
-other_stands false x o fault other e = e
-
 neither_gives : (a b : Option ConfigFault) (fault : ConfigFault) → ¬ (a ≡ Some fault) → ¬ (b ≡ Some fault) → ¬ (or_later a b ≡ Some fault)
 neither_gives None b fault first later = later
 neither_gives (Some x) b fault first later = first
@@ -194,22 +190,24 @@ module _ (fault : ConfigFault) (is_added : is_of_added_key fault ≡ true) where
 
     table_not_refused : (t : Members) → version_of t ≡ version → ¬ (table_fault t ≡ Some fault)
     unfolding table_fault
-    table_not_refused t same bad = by_keys (first_unknown Top t) refl (number_fault t) refl
+    table_not_refused t same bad = by_keys (first_unknown Top t) refl (first_bad_at_top t) refl
       where
-        by_keys : (o : Option (List ℕ)) → first_unknown Top t ≡ o → (p : Option NumberKey) → number_fault t ≡ p → ⊥
+        not_at_top : (key : TopKey) → ¬ (fault_at_top key ≡ fault)
+        not_at_top Name = not_it BadName refl
+        not_at_top (Number key) = not_it (BadNumber key) refl
+        not_at_top Lines = not_it NoLines refl
+
+        by_keys : (o : Option (List ℕ)) → first_unknown Top t ≡ o → (p : Option TopKey) → first_bad_at_top t ≡ p → ⊥
         by_keys (Some key) e p f =
             let is : table_fault t ≡ Some (UnknownKey key) = rw e refl in
             not_it (UnknownKey key) refl cc
         by_keys None e (Some key) f =
-            let is : table_fault t ≡ cond (not (is_some_and is_name (text_at (codes "name") t))) (Some BadName) (Some (BadNumber key)) = rw e (rw f refl) in
-            let past_name = other_stands (not (is_some_and is_name (text_at (codes "name") t))) BadName (Some (BadNumber key)) fault (not_it BadName refl) (sym is ∙ bad) in
-            not_it (BadNumber key) refl cc
+            let is : table_fault t ≡ Some (fault_at_top key) = rw e (rw f refl) in
+            let found : fault_at_top key ≡ fault = cc in
+            not_at_top key found
         by_keys None e None f =
-            let lines = lines_fault version 1 (unwrap_or (lines_at t) no_items) in
-            let many = cond (is_none (lines_at t)) (Some NoLines) lines in
-            let is : table_fault t ≡ cond (not (is_some_and is_name (text_at (codes "name") t))) (Some BadName) many = rw e (rw f (rw same refl)) in
-            let past_name = other_stands (not (is_some_and is_name (text_at (codes "name") t))) BadName many fault (not_it BadName refl) (sym is ∙ bad) in
-            lines_not_refused 1 (unwrap_or (lines_at t) no_items) (other_stands (is_none (lines_at t)) NoLines lines fault (not_it NoLines refl) past_name)
+            let is : table_fault t ≡ lines_fault version 1 (unwrap_or (lines_at t) no_items) = rw e (rw f (rw same refl)) in
+            lines_not_refused 1 (unwrap_or (lines_at t) no_items) (sym is ∙ bad)
 
     never_judged : (t : Members) → version_of t ≡ version → ¬ (judge_table t ≡ Err fault)
     unfolding judge_table

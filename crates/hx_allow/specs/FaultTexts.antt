@@ -6,9 +6,11 @@ use Rattle.hx_allow.specs.declared.faults.ConfigFault.TheVariants.{BadMethod, Ba
 use Rattle.hx_allow.specs.declared.faults.ConfigFault.TheVariants.{BadCache, BadWord}
 use Rattle.hx_allow.specs.declared.rows.LineKey.TheVariants.{Host, Methods, Path, Origin, Cache}
 use Rattle.hx_allow.specs.declared.rows.Place.{Place}
+use Rattle.hx_allow.specs.declared.rows.TopKey.TheVariants.{Name}
 use Rattle.hx_allow.specs.declared.rows.Place.TheVariants.{Needed, AllowingLine, CachingLine}
-use Rattle.hx_allow.specs.Rows.{Kind, a_number, some_seconds, a_version, one_of, a_host, some_methods, a_path, an_origin}
-use Rattle.hx_allow.specs.Rows.{Row, number_row, word_row, line_row, words_of_versions}
+use Rattle.hx_allow.specs.Rows.{Kind, a_number, some_seconds, a_version, one_of, a_name, some_lines, a_host}
+use Rattle.hx_allow.specs.Rows.{some_methods, a_path, an_origin}
+use Rattle.hx_allow.specs.Rows.{Row, number_row, top_row, word_row, line_row, words_of_versions}
 
 -- the line at fault, counted from 1
 abbrev pub line_at_fault : ConfigFault → Option ℕ
@@ -30,6 +32,8 @@ words_of_kind (a_number low high) = codes "be a whole number from " ++ words_of_
 words_of_kind (some_seconds low high) = codes "be a whole number of seconds from " ++ words_of_bounds low high
 words_of_kind a_version = codes "be 1, 2 or 3, without quotes"
 words_of_kind (one_of first second) = codes "be \"" ++ (first ++ (codes "\" or \"" ++ (second ++ codes "\"")))
+words_of_kind a_name = codes "be a lower-case letter and at most 31 of a-z, 0-9 and -, in quotes"
+words_of_kind some_lines = codes "be 1 to 256 lines, each of which begins with [[line]]"
 words_of_kind a_host = codes "be \"*\" or one host in lower case, without a port, an IPv6 address in brackets"
 words_of_kind some_methods = codes "be a list of 1 to 32, each \"*\" or a method of at most 15 bytes, but not CONNECT, TRACE or OPTIONS"
 words_of_kind a_path = codes "begin with / and not to end with it, but for / itself; no ?, #, blank, byte above 7E, segment . or .., or % without two hexadecimal digits behind it"
@@ -46,6 +50,7 @@ words_of_row row = row.key ++ (codes " has to " ++ (words_of_kind row.kind ++ wo
 
 -- the row of the key at fault
 abbrev pub row_at_fault : ConfigFault → Option Row
+row_at_fault BadName = Some (top_row Name)
 row_at_fault (BadNumber number) = Some (number_row number)
 row_at_fault (BadHost line) = Some (line_row Host)
 row_at_fault (BadMethod line) = Some (line_row Methods)
@@ -59,7 +64,6 @@ row_at_fault _ = None
 abbrev pub words_without_row : ConfigFault → List ℕ
 words_without_row NotToml = codes "the table is no TOML, has a key twice, or has more than 1048576 bytes; look for a quote or bracket that is missing"
 words_without_row (UnknownKey key) = codes "a key isn't known where it stands; correct its spelling or delete it: behind [[line]] keys belong to that line; " ++ words_of_versions
-words_without_row BadName = codes "name has to be a lower-case letter and at most 31 of a-z, 0-9 and -, in quotes"
 words_without_row NoLines = codes "a table has 1 to 256 lines, each of which begins with [[line]]"
 words_without_row OutOfMemory = codes "no memory is left for the table"
 words_without_row _ = []

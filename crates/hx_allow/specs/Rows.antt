@@ -1,12 +1,13 @@
 -- The keys of the operator's table: a row for each, and the order in which their faults are looked for.
 --
--- number_row, word_row, line_row: the row of a key     number_keys, line_words, line_keys: their order
--- fault_of: what is told of a line whose key is missing, or stands as it can't
+-- number_row, top_row: the row of a key at the top     top_keys: their order
+-- word_row, line_row: the row of a key of a line       line_words, line_keys: their order
+-- fault_at_top, fault_of: what is told of a key that is missing, or stands as it can't
 -- words_of_versions: which keys a version adds, in words
 use Rattle.std.specs.Prelude.{ℕ, nat_le, Bool, List, [], ◌∷◌, codes, map}
 use Rattle.hx_allow.specs.declared.faults.ConfigFault.{ConfigFault}
-use Rattle.hx_allow.specs.declared.faults.ConfigFault.TheVariants.{BadHost, BadMethod, BadPath, BadOrigin, BadCache}
-use Rattle.hx_allow.specs.declared.faults.ConfigFault.TheVariants.{BadWord}
+use Rattle.hx_allow.specs.declared.faults.ConfigFault.TheVariants.{BadName, BadNumber, NoLines, BadHost, BadMethod}
+use Rattle.hx_allow.specs.declared.faults.ConfigFault.TheVariants.{BadPath, BadOrigin, BadCache, BadWord}
 use Rattle.hx_allow.specs.declared.faults.LineWord.{LineWord}
 use Rattle.hx_allow.specs.declared.faults.LineWord.TheVariants.{Lifetime, StaleIfError, SetCookie, Errors}
 use Rattle.hx_allow.specs.declared.faults.LineWord.TheVariants.{RequestDirectives, Wait, Explain}
@@ -19,6 +20,8 @@ use Rattle.hx_allow.specs.declared.rows.LineKey.TheVariants.{Host, Methods, Path
 use Rattle.hx_allow.specs.declared.rows.Place.{Place}
 use Rattle.hx_allow.specs.declared.rows.Place.TheVariants.{Needed, AllowingLine, CachingLine}
 use Rattle.hx_allow.specs.declared.rows.Row.{Row as SourceRow}
+use Rattle.hx_allow.specs.declared.rows.TopKey.{TopKey}
+use Rattle.hx_allow.specs.declared.rows.TopKey.TheVariants.{Name, Number, Lines}
 use Rattle.hx_allow.specs.declared.values.TableVersion.{TableVersion}
 use Rattle.hx_allow.specs.declared.values.TableVersion.TheVariants.{One, Two, Three}
 
@@ -31,6 +34,8 @@ pub data Kind : Type 0 where
   a_version : Kind
   -- one of two texts; where the key doesn't stand it is as with the first
   one_of : List ℕ → List ℕ → Kind
+  a_name : Kind
+  some_lines : Kind
   a_host : Kind
   some_methods : Kind
   a_path : Kind
@@ -57,9 +62,19 @@ number_row Capacity = needed (codes "capacity") (a_number 1 65536)
 number_row MaxBody = needed (codes "max_body") (a_number 0 16777216)
 number_row MaxStored = needed (codes "max_stored") (a_number 0 16777216)
 
--- the keys of numbers, in the order in which they are looked at
-abbrev pub number_keys : List NumberKey
-number_keys = Version ∷ Capacity ∷ MaxBody ∷ MaxStored ∷ []
+abbrev pub top_row : TopKey → Row
+top_row Name = needed (codes "name") a_name
+top_row (Number key) = number_row key
+top_row Lines = needed (codes "line") some_lines
+
+-- the keys at the top, in the order in which they are looked at
+abbrev pub top_keys : List TopKey
+top_keys = Name ∷ Number Version ∷ Number Capacity ∷ Number MaxBody ∷ Number MaxStored ∷ Lines ∷ []
+
+abbrev pub fault_at_top : TopKey → ConfigFault
+fault_at_top Name = BadName
+fault_at_top (Number key) = BadNumber key
+fault_at_top Lines = NoLines
 
 -- the most seconds that a lifetime has (RFC 9111, section 1.2.2)
 abbrev pub most_seconds : ℕ
@@ -135,6 +150,8 @@ kind_seen (source.Number low high) = a_number low high
 kind_seen (source.Seconds low high) = some_seconds low high
 kind_seen source.Version = a_version
 kind_seen (source.OneOf first second) = one_of first.now second.now
+kind_seen source.Name = a_name
+kind_seen source.Lines = some_lines
 kind_seen source.Host = a_host
 kind_seen source.Methods = some_methods
 kind_seen source.Path = a_path

@@ -13,14 +13,16 @@ use Rattle.toml.specs.Data.{Items, no_items, Members, get_member, as_table}
 use Rattle.toml.specs.Parse.{parse_document}
 use Rattle.hx_allow.specs.Lines.{Table}
 use Rattle.hx_allow.specs.LineTables.{lines_fault, lines_of}
-use Rattle.hx_allow.specs.Rows.{number_row, number_keys}
+use Rattle.hx_allow.specs.Rows.{number_row, top_keys, fault_at_top}
 use Rattle.hx_allow.specs.Values.{first_unknown, text_at, number_in, is_some_and, counts_within, all_items}
 use Rattle.hx_allow.specs.Values.{items_at}
 use Rattle.hx_allow.specs.declared.values.Scope.TheVariants.{Top}
 use Rattle.hx_allow.specs.declared.values.TableVersion.{TableVersion}
 use Rattle.hx_allow.specs.declared.values.TableVersion.TheVariants.{One, Two, Three}
 use Rattle.hx_allow.specs.declared.faults.ConfigFault.{ConfigFault}
-use Rattle.hx_allow.specs.declared.faults.ConfigFault.TheVariants.{NotToml, UnknownKey, BadName, BadNumber, NoLines}
+use Rattle.hx_allow.specs.declared.faults.ConfigFault.TheVariants.{NotToml, UnknownKey}
+use Rattle.hx_allow.specs.declared.rows.TopKey.{TopKey}
+use Rattle.hx_allow.specs.declared.rows.TopKey.TheVariants.{Name, Number, Lines}
 use Rattle.hx_allow.specs.declared.faults.NumberKey.{NumberKey}
 use Rattle.hx_allow.specs.declared.faults.NumberKey.TheVariants.{Version, Capacity, MaxBody, MaxStored}
 
@@ -55,24 +57,26 @@ if_lines ds = if are_lines ds then Some ds else None
 abbrev pub lines_at : Members → Option Items
 lines_at t = option_and_then if_lines (items_at (codes "line") t)
 
--- the first key whose number is missing or out of bounds
-abbrev pub number_fault : Members → Option NumberKey
-number_fault t = find (λ key. is_none (number_at key t)) number_keys
+abbrev pub is_good_at_top : Members → TopKey → Bool
+is_good_at_top t Name = is_some_and is_name (text_at (codes "name") t)
+is_good_at_top t (Number key) = is_some (number_at key t)
+is_good_at_top t Lines = is_some (lines_at t)
+
+-- the first key at the top that is missing or isn't good, in the order in which they are looked at
+abbrev pub first_bad_at_top : Members → Option TopKey
+first_bad_at_top t = find (λ key. not (is_good_at_top t key)) top_keys
 
 -- the first fault of a table, in the order in which they are looked for
 unfoldable pub table_fault : Members → Option ConfigFault
 table_fault t = after_keys (first_unknown Top t)
   where
-    after_name : Option NumberKey → Option ConfigFault
-    after_name (Some key) = Some (BadNumber key)
-    after_name None = if is_none (lines_at t) then Some NoLines
-        else lines_fault (version_of t) 1 (unwrap_or (lines_at t) no_items)
+    after_top : Option TopKey → Option ConfigFault
+    after_top (Some key) = Some (fault_at_top key)
+    after_top None = lines_fault (version_of t) 1 (unwrap_or (lines_at t) no_items)
 
     after_keys : Option (List ℕ) → Option ConfigFault
     after_keys (Some key) = Some (UnknownKey key)
-    after_keys None =
-        if not (is_some_and is_name (text_at (codes "name") t)) then Some BadName
-        else after_name (number_fault t)
+    after_keys None = after_top (first_bad_at_top t)
 
 -- what a table says, where it has no fault
 unfoldable pub table_of : Members → Table

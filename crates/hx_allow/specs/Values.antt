@@ -8,8 +8,7 @@ use Rattle.toml.specs.Data.{as_array}
 use Rattle.hx_allow.specs.declared.values.Scope.{Scope}
 use Rattle.hx_allow.specs.declared.values.Scope.TheVariants.{Top, Line}
 use Rattle.hx_allow.specs.declared.values.TableVersion.{TableVersion}
-use Rattle.hx_allow.specs.Keys.{key_text}
-use Rattle.hx_allow.specs.Rows.{Row, number_keys, line_row, line_keys, has_keys_of, least, greatest}
+use Rattle.hx_allow.specs.Rows.{Row, top_row, top_keys, line_row, line_keys, has_keys_of, least, greatest}
 
 -- the key of a row, which a version has
 abbrev pub is_key_of : TableVersion → List ℕ → Row → Bool
@@ -17,9 +16,7 @@ is_key_of version key row = has_keys_of version row.since && bytes_eq key row.ke
 
 -- the keys that stand at the top, and in a line
 abbrev pub is_known : Scope → List ℕ → Bool
-is_known Top key =
-    bytes_eq key (codes "name") || bytes_eq key (codes "line")
-    || list_any (λ number. bytes_eq key (key_text number)) number_keys
+is_known Top key = list_any (λ known. bytes_eq key (top_row known).key) top_keys
 is_known (Line version) key = list_any (λ known. is_key_of version key (line_row known)) line_keys
 
 -- the first key that isn't known; the members of a table ascend by the bytes of their keys, so it is the least

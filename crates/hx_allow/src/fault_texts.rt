@@ -4,7 +4,7 @@ ghost use Rattle.hx_allow.specs.FaultTexts.{line_at_fault, row_at_fault, words_w
 ghost use Rattle.hx_allow.specs.Rows.{row_seen};
 
 use crate::faults::ConfigFault;
-use crate::rows::{Kind, LineKey, Place, Row};
+use crate::rows::{Kind, LineKey, Place, Row, TopKey};
 use std::fmt;
 use std::fmt::Formatter;
 
@@ -28,6 +28,7 @@ fn row_at_fault(fault: &ConfigFault) -> Option<Row>
     ensures { option_map row_seen result ≡ row_at_fault fault.now }
 {
     match fault {
+        ConfigFault::BadName => Some(TopKey::Name.row()),
         ConfigFault::BadNumber(number) => Some(number.row()),
         ConfigFault::BadHost(_) => Some(LineKey::Host.row()),
         ConfigFault::BadMethod(_) => Some(LineKey::Methods.row()),
@@ -48,8 +49,6 @@ fn words_without_row(fault: &ConfigFault) -> &'static str
             "the table is no TOML, has a key twice, or has more than 1048576 bytes; look for a quote or bracket that is missing",
         ConfigFault::UnknownKey(_) =>
             "a key isn't known where it stands; correct its spelling or delete it: behind [[line]] keys belong to that line; cache needs version = 2 or 3, and lifetime, stale-if-error, set-cookie, errors, request-directives, wait and explain need version = 3",
-        ConfigFault::BadName =>
-            "name has to be a lower-case letter and at most 31 of a-z, 0-9 and -, in quotes",
         ConfigFault::NoLines => "a table has 1 to 256 lines, each of which begins with [[line]]",
         ConfigFault::OutOfMemory => "no memory is left for the table",
         _ => "",
@@ -75,6 +74,10 @@ impl fmt::Display for Kind {
             ),
             Kind::Version => f.write_str("be 1, 2 or 3, without quotes"),
             Kind::OneOf(first, second) => write!(f, "be \"{first}\" or \"{second}\""),
+            Kind::Name => f.write_str(
+                "be a lower-case letter and at most 31 of a-z, 0-9 and -, in quotes",
+            ),
+            Kind::Lines => f.write_str("be 1 to 256 lines, each of which begins with [[line]]"),
             Kind::Host => f.write_str(
                 "be \"*\" or one host in lower case, without a port, an IPv6 address in brackets",
             ),

@@ -2,7 +2,7 @@
 //! for. `specs/Rows.antt` has the same rows.
 ghost use Rattle.std.specs.Prelude.{◌≡◌};
 ghost use Rattle.hx_allow.specs.Rows.{number_row, word_row, line_row, fault_of, has_keys_of, version_number, needed};
-ghost use Rattle.hx_allow.specs.Rows.{of_caching, least, greatest, row_seen, kind_seen};
+ghost use Rattle.hx_allow.specs.Rows.{of_caching, least, greatest, row_seen, kind_seen, top_row, fault_at_top};
 
 use crate::faults::{ConfigFault, LineWord, NumberKey};
 use crate::values::TableVersion;
@@ -23,6 +23,8 @@ pub(crate) enum Kind {
     Version,
     /// One of two texts. Where the key doesn't stand it is as with the first.
     OneOf(&'static str, &'static str),
+    Name,
+    Lines,
     Host,
     Methods,
     Path,
@@ -49,6 +51,14 @@ pub(crate) struct Row {
     pub place: Place,
 }
 
+/// A key at the top.
+#[derive(Clone, Copy)]
+pub(crate) enum TopKey {
+    Name,
+    Number(NumberKey),
+    Lines,
+}
+
 /// A key of a line.
 #[derive(Clone, Copy)]
 pub(crate) enum LineKey {
@@ -60,12 +70,14 @@ pub(crate) enum LineKey {
     Word(LineWord),
 }
 
-/// The keys of numbers, in the order in which they are looked at.
-pub(crate) const NUMBER_KEYS: [NumberKey; 4] = [
-    NumberKey::Version,
-    NumberKey::Capacity,
-    NumberKey::MaxBody,
-    NumberKey::MaxStored,
+/// The keys at the top, in the order in which they are looked at.
+pub(crate) const TOP_KEYS: [TopKey; 6] = [
+    TopKey::Name,
+    TopKey::Number(NumberKey::Version),
+    TopKey::Number(NumberKey::Capacity),
+    TopKey::Number(NumberKey::MaxBody),
+    TopKey::Number(NumberKey::MaxStored),
+    TopKey::Lines,
 ];
 
 /// The keys of a line, in the order in which they are looked at.
@@ -97,6 +109,30 @@ impl NumberKey {
             NumberKey::Capacity => Row::needed("capacity", Number(1, 65_536)),
             NumberKey::MaxBody => Row::needed("max_body", Number(0, 16_777_216)),
             NumberKey::MaxStored => Row::needed("max_stored", Number(0, 16_777_216)),
+        }
+    }
+}
+
+impl TopKey {
+    pub(crate) fn row(self) -> Row
+        ensures { row_seen result ≡ top_row self }
+    {
+        match self {
+            TopKey::Name => Row::needed("name", Kind::Name),
+            TopKey::Number(key) => key.row(),
+            TopKey::Lines => Row::needed("line", Kind::Lines),
+        }
+    }
+
+    /// The fault of the key.
+    pub(crate) fn fault(self) -> ConfigFault
+        ensures fault { result ≡ fault_at_top self }
+        ensures found_fault { ¬ (result ≡ ConfigFault.OutOfMemory) }
+    {
+        match self {
+            TopKey::Name => ConfigFault::BadName,
+            TopKey::Number(key) => ConfigFault::BadNumber(key),
+            TopKey::Lines => ConfigFault::NoLines,
         }
     }
 }

@@ -7,14 +7,14 @@ ghost use Rattle.toml.specs.View.{table_view, array_view, items_view, view};
 ghost use Rattle.hx_allow.specs.Values.{is_some_and, text_at};
 ghost use Rattle.hx_allow.specs.LineTables.{fault_found};
 ghost use Rattle.hx_allow.specs.Tables.{is_name_byte, is_name, number_at, version_of, are_lines, lines_at, table_fault};
-ghost use Rattle.hx_allow.specs.Tables.{table_of, judge_table, number_fault, is_out_of_memory};
+ghost use Rattle.hx_allow.specs.Tables.{table_of, judge_table, is_good_at_top, first_bad_at_top, is_out_of_memory};
 
 use crate::faults::FoundFault;
 use crate::host_index::HostIndex;
 use crate::limits::MOST_LINES;
 use crate::line_tables::{lines_fault, lines_of};
 use crate::lines::longest_origin;
-use crate::rows::NUMBER_KEYS;
+use crate::rows::{TOP_KEYS, TopKey};
 use crate::values::{
     Scope, TableVersion, array_at, counts_within, first_unknown, number_in, text_at,
 };
@@ -103,14 +103,24 @@ fn lines_at(table: &Table) -> Option<&Array>
     }
 }
 
-/// The first fault of a number, in the order of the keys.
-fn number_fault(table: &Table) -> Option<NumberKey>
-    ensures { result ≡ number_fault (table_view table.now) }
+fn is_good_at_top(key: TopKey, table: &Table) -> bool
+    ensures { result ≡ is_good_at_top (table_view table.now) key }
 {
-    NUMBER_KEYS
+    match key {
+        TopKey::Name => is_good_name(text_at(table, "name")),
+        TopKey::Number(key) => number_at(table, key).is_some(),
+        TopKey::Lines => lines_at(table).is_some(),
+    }
+}
+
+/// The first key at the top that is missing or isn't good, in the order in which they are looked at.
+fn first_bad_at_top(table: &Table) -> Option<TopKey>
+    ensures { result ≡ first_bad_at_top (table_view table.now) }
+{
+    TOP_KEYS
         .iter()
         .copied()
-        .find(|key| number_at(table, *key).is_none())
+        .find(|key| !is_good_at_top(*key, table))
 }
 
 /// The first fault of a table.
@@ -122,16 +132,11 @@ fn table_fault(table: &Table) -> Option<FoundFault<'_>>
     if let Some(key) = first_unknown(Scope::Top, table) {
         return Some(FoundFault::UnknownKey(key));
     }
-    if !is_good_name(text_at(table, "name")) {
-        return Some(FoundFault::Other(ConfigFault::BadName));
+    if let Some(key) = first_bad_at_top(table) {
+        return Some(FoundFault::Other(key.fault()));
     }
-    if let Some(key) = number_fault(table) {
-        return Some(FoundFault::Other(ConfigFault::BadNumber(key)));
-    }
-    match lines_at(table) {
-        Some(values) => lines_fault(version_of(table), values),
-        None => Some(FoundFault::Other(ConfigFault::NoLines)),
-    }
+    let values = lines_at(table)?;
+    lines_fault(version_of(table), values)
 }
 
 /// What a table without fault says.

@@ -1,16 +1,14 @@
 //! What the operator's table reads of a TOML table: keys, texts, numbers and arrays.
 ghost use Rattle.std.specs.Prelude.{◌≡◌, ◌≤◌, length, true, codes, find, not, string_bytes, option_map, bytes_eq};
-ghost use Rattle.std.specs.List.{list_any};
 ghost use Rattle.std.specs.BTreeMap.{keys};
 ghost use Rattle.std.specs.Option.{option_copied};
 ghost use Rattle.toml.specs.Data.{get_member};
 ghost use Rattle.toml.specs.View.{table_view, array_view, items_view, view};
-ghost use Rattle.hx_allow.specs.Keys.{key_text};
-ghost use Rattle.hx_allow.specs.Rows.{number_keys, line_row, row_seen};
+ghost use Rattle.hx_allow.specs.Rows.{top_row, line_row, row_seen};
 ghost use Rattle.hx_allow.specs.Values.{is_known, is_key_of, first_unknown, text_at, items_at};
 ghost use Rattle.hx_allow.specs.Values.{number_between, number_in, counts_within};
 
-use crate::rows::{LINE_KEYS, LineKey, NUMBER_KEYS, Row};
+use crate::rows::{LINE_KEYS, LineKey, Row, TOP_KEYS, TopKey};
 use toml::value::Array;
 use toml::{Table, Value};
 
@@ -46,15 +44,14 @@ fn is_known(scope: Scope, key: &[u8]) -> bool
 fn is_top_key(key: &[u8]) -> bool
     ensures { result ≡ is_known Scope.Top key.now }
 {
-    key == b"name".as_slice() || key == b"line".as_slice() || is_number_key(key)
+    TOP_KEYS.iter().any(|known| is_at_top(key, *known))
 }
 
-fn is_number_key(key: &[u8]) -> bool
-    ensures { result ≡ list_any (λ number. bytes_eq key.now (key_text number)) number_keys }
+/// Whether the known key is this one.
+fn is_at_top(key: &[u8], known: TopKey) -> bool
+    ensures { result ≡ bytes_eq key.now (top_row known).key }
 {
-    NUMBER_KEYS
-        .iter()
-        .any(|number| key == number.as_str().as_bytes())
+    key == known.row().key.as_bytes()
 }
 
 fn is_line_key(version: TableVersion, key: &[u8]) -> bool
