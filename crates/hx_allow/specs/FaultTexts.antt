@@ -10,7 +10,7 @@ use Rattle.hx_allow.specs.declared.rows.TopKey.TheVariants.{Name}
 use Rattle.hx_allow.specs.declared.rows.Place.TheVariants.{Needed, AllowingLine, CachingLine}
 use Rattle.hx_allow.specs.Rows.{Kind, a_number, some_seconds, a_version, one_of, a_name, some_lines, a_host}
 use Rattle.hx_allow.specs.Rows.{some_methods, a_path, an_origin}
-use Rattle.hx_allow.specs.Rows.{Row, number_row, top_row, word_row, line_row, words_of_versions}
+use Rattle.hx_allow.specs.Rows.{Row, number_row, top_row, word_row, line_row, words_of_unknown_key}
 
 -- the line at fault, counted from 1
 abbrev pub line_at_fault : ConfigFault → Option ℕ
@@ -63,7 +63,7 @@ row_at_fault _ = None
 -- what has to stand there, of a fault without a row
 abbrev pub words_without_row : ConfigFault → List ℕ
 words_without_row NotToml = codes "the table is no TOML, has a key twice, or has more than 1048576 bytes; look for a quote or bracket that is missing"
-words_without_row (UnknownKey key) = codes "a key isn't known where it stands; correct its spelling or delete it: behind [[line]] keys belong to that line; " ++ words_of_versions
+words_without_row (UnknownKey key) = words_of_unknown_key
 words_without_row NoLines = codes "a table has 1 to 256 lines, each of which begins with [[line]]"
 words_without_row OutOfMemory = codes "no memory is left for the table"
 words_without_row _ = []

@@ -1,6 +1,7 @@
 -- What a `[[line]]` table says, or its first fault.
 use Rattle.std.specs.Prelude.{ℕ, ◌+◌, ◌-◌, ◌==◌, nat_le, Bool, not, ◌&&◌, ◌||◌, if◌then◌else◌, List, [], ◌∷◌, length}
-use Rattle.std.specs.Prelude.{slice_index, codes, bytes_eq, Option, Some, None, is_none, unwrap_or, option_map, find, is_some}
+use Rattle.std.specs.Prelude.{slice_index, codes, bytes_eq, Option, Some, None, is_none, unwrap_or}
+use Rattle.std.specs.Prelude.{option_map, find, is_some}
 use Rattle.std.specs.List.{list_any, list_all}
 use Rattle.std.specs.Char.{is_ascii_uppercase}
 use Rattle.http_uri.specs.ByteClasses.{slash, hash_sign, question_mark}
@@ -12,10 +13,10 @@ use Rattle.hx_allow.specs.Addresses.{is_address}
 use Rattle.hx_allow.specs.Lines.{Line as PlainLine}
 use Rattle.hx_allow.specs.LineWords.{has_either, denies, takes_words, policy_read}
 use Rattle.hx_allow.specs.Matching.{is_never_allowed}
-use Rattle.hx_allow.specs.Rows.{Kind, one_of, a_host, some_methods, a_path, an_origin, Row, least, greatest, line_row, line_keys}
-use Rattle.hx_allow.specs.Rows.{fault_of}
-use Rattle.hx_allow.specs.Values.{first_unknown, text_at, number_between, is_some_and, counts_within, all_items, unless_text, texts_of}
-use Rattle.hx_allow.specs.Values.{items_at}
+use Rattle.hx_allow.specs.Rows.{Kind, one_of, a_host, some_methods, a_path, an_origin, Row, line_row}
+use Rattle.hx_allow.specs.Rows.{line_keys, fault_of, least, greatest}
+use Rattle.hx_allow.specs.Values.{first_unknown, text_at, number_between, is_some_and, counts_within, all_items}
+use Rattle.hx_allow.specs.Values.{unless_text, texts_of, items_at}
 use Rattle.hx_allow.specs.declared.values.Scope.TheVariants.{Line}
 use Rattle.hx_allow.specs.declared.values.TableVersion.{TableVersion}
 use Rattle.hx_allow.specs.declared.faults.ConfigFault.{ConfigFault}

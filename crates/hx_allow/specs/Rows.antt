@@ -3,7 +3,7 @@
 -- number_row, top_row: the row of a key at the top     top_keys: their order
 -- word_row, line_row: the row of a key of a line       line_words, line_keys: their order
 -- fault_at_top, fault_of: what is told of a key that is missing, or stands as it can't
--- words_of_versions: which keys a version adds, in words
+-- words_of_unknown_key: what is told of a key that isn't known
 use Rattle.std.specs.Prelude.{ℕ, nat_le, Bool, List, [], ◌∷◌, codes, map}
 use Rattle.hx_allow.specs.declared.faults.ConfigFault.{ConfigFault}
 use Rattle.hx_allow.specs.declared.faults.ConfigFault.TheVariants.{BadName, BadNumber, NoLines, BadHost, BadMethod}
@@ -93,8 +93,9 @@ word_row Explain = of_caching (codes "explain") Three (one_of (codes "reuse") (c
 abbrev pub line_words : List LineWord
 line_words = Lifetime ∷ StaleIfError ∷ SetCookie ∷ Errors ∷ RequestDirectives ∷ Wait ∷ Explain ∷ []
 
-abbrev pub words_of_versions : List ℕ
-words_of_versions = codes "cache needs version = 2 or 3, and lifetime, stale-if-error, set-cookie, errors, request-directives, wait and explain need version = 3"
+-- what is told of a key that isn't known, with the keys that a version adds
+abbrev pub words_of_unknown_key : List ℕ
+words_of_unknown_key = codes "a key isn't known where it stands; correct its spelling or delete it: behind [[line]] keys belong to that line; cache needs version = 2 or 3, and lifetime, stale-if-error, set-cookie, errors, request-directives, wait and explain need version = 3"
 
 abbrev pub line_row : LineKey → Row
 line_row Host = needed (codes "host") a_host

@@ -4,7 +4,7 @@ ghost use Rattle.hx_allow.specs.FaultTexts.{line_at_fault, row_at_fault, words_w
 ghost use Rattle.hx_allow.specs.Rows.{row_seen};
 
 use crate::faults::ConfigFault;
-use crate::rows::{Kind, LineKey, Place, Row, TopKey};
+use crate::rows::{Kind, LineKey, Place, Row, TopKey, WORDS_OF_UNKNOWN_KEY};
 use std::fmt;
 use std::fmt::Formatter;
 
@@ -47,8 +47,7 @@ fn words_without_row(fault: &ConfigFault) -> &'static str
     match fault {
         ConfigFault::NotToml =>
             "the table is no TOML, has a key twice, or has more than 1048576 bytes; look for a quote or bracket that is missing",
-        ConfigFault::UnknownKey(_) =>
-            "a key isn't known where it stands; correct its spelling or delete it: behind [[line]] keys belong to that line; cache needs version = 2 or 3, and lifetime, stale-if-error, set-cookie, errors, request-directives, wait and explain need version = 3",
+        ConfigFault::UnknownKey(_) => WORDS_OF_UNKNOWN_KEY,
         ConfigFault::NoLines => "a table has 1 to 256 lines, each of which begins with [[line]]",
         ConfigFault::OutOfMemory => "no memory is left for the table",
         _ => "",

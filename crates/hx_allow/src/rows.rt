@@ -96,9 +96,9 @@ pub(crate) const LINE_KEYS: [LineKey; 12] = [
     LineKey::Word(LineWord::Explain),
 ];
 
-/// Which keys a version adds, in words.
-pub(crate) const WORDS_OF_VERSIONS: &str =
-    "cache needs version = 2 or 3, and lifetime, stale-if-error, set-cookie, errors, request-directives, wait and explain need version = 3";
+/// What is told of a key that isn't known, with the keys that a version adds.
+pub(crate) const WORDS_OF_UNKNOWN_KEY: &str =
+    "a key isn't known where it stands; correct its spelling or delete it: behind [[line]] keys belong to that line; cache needs version = 2 or 3, and lifetime, stale-if-error, set-cookie, errors, request-directives, wait and explain need version = 3";
 
 impl NumberKey {
     pub(crate) fn row(self) -> Row
