@@ -26,14 +26,14 @@ line_at_fault _ = None
 abbrev pub words_of_bounds : ℕ → ℕ → List ℕ
 words_of_bounds low high = decimal low ++ (codes " to " ++ (decimal high ++ codes ", without quotes"))
 
--- what a value has to be
+-- what a value has to be; of the lines it is told without their key
 abbrev pub words_of_kind : Kind → List ℕ
 words_of_kind (a_number low high) = codes "be a whole number from " ++ words_of_bounds low high
 words_of_kind (some_seconds low high) = codes "be a whole number of seconds from " ++ words_of_bounds low high
 words_of_kind a_version = codes "be 1, 2 or 3, without quotes"
 words_of_kind (one_of first second) = codes "be \"" ++ (first ++ (codes "\" or \"" ++ (second ++ codes "\"")))
 words_of_kind a_name = codes "be a lower-case letter and at most 31 of a-z, 0-9 and -, in quotes"
-words_of_kind some_lines = codes "be 1 to 256 lines, each of which begins with [[line]]"
+words_of_kind some_lines = []
 words_of_kind a_host = codes "be \"*\" or one host in lower case, without a port, an IPv6 address in brackets"
 words_of_kind some_methods = codes "be a list of 1 to 32, each \"*\" or a method of at most 15 bytes, but not CONNECT, TRACE or OPTIONS"
 words_of_kind a_path = codes "begin with / and not to end with it, but for / itself; no ?, #, blank, byte above 7E, segment . or .., or % without two hexadecimal digits behind it"

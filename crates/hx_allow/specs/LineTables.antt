@@ -1,7 +1,7 @@
 -- What a `[[line]]` table says, or its first fault.
 use Rattle.std.specs.Prelude.{ℕ, ◌+◌, ◌-◌, ◌==◌, nat_le, Bool, not, ◌&&◌, ◌||◌, if◌then◌else◌, List, [], ◌∷◌, length}
 use Rattle.std.specs.Prelude.{slice_index, codes, bytes_eq, Option, Some, None, is_none, unwrap_or}
-use Rattle.std.specs.Prelude.{option_map, find, is_some}
+use Rattle.std.specs.Prelude.{option_map, find, is_some, false}
 use Rattle.std.specs.List.{list_any, list_all}
 use Rattle.std.specs.Char.{is_ascii_uppercase}
 use Rattle.http_uri.specs.ByteClasses.{slash, hash_sign, question_mark}
@@ -13,8 +13,8 @@ use Rattle.hx_allow.specs.Addresses.{is_address}
 use Rattle.hx_allow.specs.Lines.{Line as PlainLine}
 use Rattle.hx_allow.specs.LineWords.{has_either, denies, takes_words, policy_read}
 use Rattle.hx_allow.specs.Matching.{is_never_allowed}
-use Rattle.hx_allow.specs.Rows.{Kind, one_of, a_host, some_methods, a_path, an_origin, Row, line_row}
-use Rattle.hx_allow.specs.Rows.{line_keys, fault_of, least, greatest}
+use Rattle.hx_allow.specs.Rows.{Kind, a_number, some_seconds, one_of, a_host, some_methods, a_path, an_origin, Row, line_row}
+use Rattle.hx_allow.specs.Rows.{line_keys, fault_of}
 use Rattle.hx_allow.specs.Values.{first_unknown, text_at, number_between, is_some_and, counts_within, all_items}
 use Rattle.hx_allow.specs.Values.{unless_text, texts_of, items_at}
 use Rattle.hx_allow.specs.declared.values.Scope.TheVariants.{Line}
@@ -57,14 +57,16 @@ is_line_path text =
 abbrev pub is_line_origin : List ℕ → Bool
 is_line_origin text = bytes_eq text (codes "deny") || is_address text
 
--- the value of a key is of this kind
+-- the value of a key is of this kind, of those that stand in a line
 abbrev pub is_of_kind : Kind → List ℕ → Members → Bool
+is_of_kind (a_number low high) key ms = is_some (number_between low high (get_member key ms))
+is_of_kind (some_seconds low high) key ms = is_some (number_between low high (get_member key ms))
 is_of_kind (one_of first second) key ms = has_either key first second ms
 is_of_kind a_host key ms = is_some_and is_line_host (text_at key ms)
 is_of_kind some_methods key ms = is_some_and are_line_methods (items_at key ms)
 is_of_kind a_path key ms = is_some_and is_line_path (text_at key ms)
 is_of_kind an_origin key ms = is_some_and is_line_origin (text_at key ms)
-is_of_kind kind key ms = is_some (number_between (least kind) (greatest kind) (get_member key ms))
+is_of_kind _ key ms = false
 
 -- a row's key has a good value in a line that takes it, or needn't stand and doesn't
 abbrev pub is_good_at : Place → Row → Members → Bool

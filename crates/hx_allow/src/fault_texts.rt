@@ -76,7 +76,7 @@ impl fmt::Display for Kind {
             Kind::Name => f.write_str(
                 "be a lower-case letter and at most 31 of a-z, 0-9 and -, in quotes",
             ),
-            Kind::Lines => f.write_str("be 1 to 256 lines, each of which begins with [[line]]"),
+            Kind::Lines => Ok(()),
             Kind::Host => f.write_str(
                 "be \"*\" or one host in lower case, without a port, an IPv6 address in brackets",
             ),

@@ -136,20 +136,19 @@ fn is_good_origin(text: Option<&str>) -> bool
     }
 }
 
-/// Whether the value of a key is of a kind.
+/// Whether the value of a key is of a kind, of those that stand in a line.
 fn is_of_kind(kind: Kind, key: &str, table: &Table) -> bool
     ensures { result ≡ is_of_kind (kind_seen kind) key.now (table_view table.now) }
 {
     match kind {
+        Kind::Number(low, high) => number_between(table, key, low, high).is_some(),
+        Kind::Seconds(low, high) => number_between(table, key, low, high).is_some(),
         Kind::OneOf(first, second) => has_either(table, key, first, second),
         Kind::Host => is_good_host(text_at(table, key)),
         Kind::Methods => are_good_methods(array_at(table, key)),
         Kind::Path => is_good_path(text_at(table, key)),
         Kind::Origin => is_good_origin(text_at(table, key)),
-        _ => {
-            let (low, high) = kind.bounds();
-            number_between(table, key, low, high).is_some()
-        }
+        _ => false,
     }
 }
 
