@@ -1,7 +1,7 @@
 -- Each key of a line is one of those that are looked at, and a line without words has a plain policy. Where no key is bad
 -- each of them is good. What has a line for each key stands in front.
-use Rattle.std.proofs.Common.{◌≡◌, ℕ, Bool, true, false, cond, List, [], ◌∷◌, codes, Option, Some, None, refl, arith}
-use Rattle.std.specs.Prelude.{not, ◌&&◌, find}
+use Rattle.std.proofs.Common.{◌≡◌, Bool, true, false, cond, List, [], ◌∷◌, codes, Some, None, refl, arith}
+use Rattle.std.specs.Prelude.{not, find}
 use Rattle.std.specs.List.{All, list_all, list_any}
 use Rattle.std.proofs.lemmas.Bool.{and_parts}
 use Rattle.std.proofs.lemmas.List.Elements.{All-nil, All-cons}

@@ -1,6 +1,6 @@
 -- What holds of each line without fault holds of all the lines of a table that is read.
-use Rattle.std.proofs.Common.{◌≡◌, ℕ, ◌+◌, Bool, true, false, cond, List, codes, Option, Some, None, refl, sym, ◌∙◌, subst}
-use Rattle.std.specs.Prelude.{Ok, not, unwrap_or, option_map, is_none}
+use Rattle.std.proofs.Common.{◌≡◌, ℕ, ◌+◌, Bool, true, false, cond, List, Option, Some, None, refl, sym, ◌∙◌, subst}
+use Rattle.std.specs.Prelude.{Ok, unwrap_or, option_map}
 use Rattle.std.specs.List.{All}
 use Rattle.std.proofs.lemmas.List.Elements.{All-nil, All-cons}
 use Rattle.toml.specs.Data.{Items, no_items, item, Members, as_table}
@@ -8,7 +8,7 @@ use Rattle.hx_allow.specs.Lines.{Line, Table}
 use Rattle.hx_allow.specs.LineTables.{line_fault, line_of, lines_fault, lines_of, or_later, item_fault, with_line}
 use Rattle.hx_allow.specs.Rows.{fault_at_top}
 use Rattle.hx_allow.specs.Tables.{first_bad_at_top, lines_at, version_of, table_fault, table_of, judge_table, fault_or_table}
-use Rattle.hx_allow.specs.Values.{first_unknown, text_at, is_some_and}
+use Rattle.hx_allow.specs.Values.{first_unknown}
 use Rattle.hx_allow.specs.declared.faults.ConfigFault.{ConfigFault}
 use Rattle.hx_allow.specs.declared.faults.ConfigFault.TheVariants.{UnknownKey}
 use Rattle.hx_allow.specs.declared.rows.TopKey.{TopKey}

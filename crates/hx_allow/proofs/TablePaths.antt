@@ -12,7 +12,7 @@ use Rattle.hx_allow.specs.Rows.{fault_of}
 use Rattle.hx_allow.specs.LineTables.{is_path_byte, ends_open, is_line_path, first_bad_key, line_fault, line_of}
 use Rattle.hx_allow.specs.Matching.{matches_host, matches_method, matches_path, matches_line, verdict_by, verdict_from, verdict_of}
 use Rattle.hx_allow.specs.Tables.{ReadsAs, version_of}
-use Rattle.hx_allow.specs.Values.{first_unknown, text_at, items_at, is_some_and}
+use Rattle.hx_allow.specs.Values.{first_unknown, text_at, is_some_and}
 use Rattle.hx_allow.specs.declared.faults.ConfigFault.TheVariants.{UnknownKey}
 use Rattle.hx_allow.specs.declared.rows.LineKey.TheVariants.{Path}
 use Rattle.hx_allow.specs.declared.values.Scope.TheVariants.{Line}

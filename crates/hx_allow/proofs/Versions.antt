@@ -1,7 +1,7 @@
 -- What the versions of the table share: a line without the keys that a version adds says the same in each, a table of the
 -- first has no line with `cache`, and one of the first two none with a word of the third.
 use Rattle.std.proofs.Common.{◌≡◌, Less, Equal, Greater, Ordering, is_eq, nat_cmp, ℕ, ◌+◌, Bool, true, false, cond, List, codes, Option, Some, None, refl, ap, sym, ◌∙◌, subst}
-use Rattle.std.specs.Prelude.{Ok, Err, not, is_none, ◌&&◌, bytes_eq, unwrap_or, option_map}
+use Rattle.std.specs.Prelude.{Ok, Err, not, ◌&&◌, bytes_eq, unwrap_or, option_map}
 use Rattle.std.specs.List.{All}
 use Rattle.std.specs.Ordering.{match_ordering}
 use Rattle.std.specs.Cmp.Lexicographic.{slice_cmp, nat_list_eq_equiv}
@@ -15,7 +15,7 @@ use Rattle.hx_allow.specs.LineWords.{says}
 use Rattle.hx_allow.specs.Rows.{Row, line_row, word_row, line_keys, fault_at_top, fault_of, has_keys_of}
 use Rattle.hx_allow.specs.LineTables.{is_good_at, is_good, first_bad_key, line_fault, line_of, lines_fault, or_later, item_fault}
 use Rattle.hx_allow.specs.Tables.{first_bad_at_top, lines_at, version_of, table_fault, judge_table, fault_or_table}
-use Rattle.hx_allow.specs.Values.{is_known, is_key_of, first_unknown, text_at, is_some_and}
+use Rattle.hx_allow.specs.Values.{is_known, is_key_of, first_unknown}
 use Rattle.hx_allow.specs.Versions.{HasNoWord}
 use Rattle.hx_allow.specs.declared.faults.ConfigFault.{ConfigFault}
 use Rattle.hx_allow.specs.declared.faults.ConfigFault.TheVariants.{UnknownKey, BadName, BadNumber, BadCache, BadWord, NoLines}

@@ -1,5 +1,5 @@
 -- A line without fault that has a word of the third version allows and has its cache on.
-use Rattle.std.proofs.Common.{◌≡◌, inl, inr, ℕ, Bool, true, false, cond, List, codes, Option, Some, None, refl, ap, sym, ◌∙◌}
+use Rattle.std.proofs.Common.{◌≡◌, inl, inr, ℕ, Bool, true, false, List, codes, Option, Some, None, refl, ap, sym, ◌∙◌}
 use Rattle.std.specs.Prelude.{Ok, not, ◌&&◌, ◌||◌, is_none, is_some, bytes_eq, option_map}
 use Rattle.std.specs.List.{All}
 use Rattle.toml.specs.Data.{Data, Members, get_member}
@@ -8,7 +8,7 @@ use Rattle.hx_allow.specs.LineWords.{says, takes_words}
 use Rattle.hx_allow.specs.Rows.{Row, word_row, fault_of}
 use Rattle.hx_allow.specs.LineTables.{is_line_origin, is_of_kind, is_good_at, first_bad_key, line_fault, line_of}
 use Rattle.hx_allow.specs.Tables.{version_of, judge_table}
-use Rattle.hx_allow.specs.Values.{first_unknown, text_at, items_at, is_some_and, unless_text}
+use Rattle.hx_allow.specs.Values.{first_unknown, text_at, is_some_and, unless_text}
 use Rattle.hx_allow.specs.Versions.{HasNoWord, TakesItsWords}
 use Rattle.hx_allow.specs.declared.faults.ConfigFault.TheVariants.{UnknownKey}
 use Rattle.hx_allow.specs.declared.rows.LineKey.{LineKey}

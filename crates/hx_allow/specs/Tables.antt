@@ -4,12 +4,12 @@
 -- judge_table: one or the other
 -- ReadsAs: the same of bytes, with the reading of TOML as a relation
 use Rattle.std.specs.Prelude.{◌≡◌, ◌⊎◌, ◌≤◌, ℕ, ◌==◌, nat_le, Bool, true, false, not, ◌&&◌, ◌||◌, if◌then◌else◌, List}
-use Rattle.std.specs.Prelude.{[], ◌∷◌, length, slice_index, find, codes, IsUtf8, Option, Some, None, is_some, is_none}
+use Rattle.std.specs.Prelude.{[], length, slice_index, find, codes, IsUtf8, Option, Some, None, is_some}
 use Rattle.std.specs.Prelude.{unwrap_or, Result, Ok, Err}
 use Rattle.std.specs.Option.{option_and_then}
 use Rattle.std.specs.List.{list_all}
 use Rattle.std.specs.Char.{is_ascii_lowercase, is_ascii_digit}
-use Rattle.toml.specs.Data.{Items, no_items, Members, get_member, as_table}
+use Rattle.toml.specs.Data.{Items, no_items, Members, as_table}
 use Rattle.toml.specs.Parse.{parse_document}
 use Rattle.hx_allow.specs.Lines.{Table}
 use Rattle.hx_allow.specs.LineTables.{lines_fault, lines_of}

@@ -1,6 +1,6 @@
 -- What the operator's table reads of a TOML table: keys, texts, numbers and arrays.
 use Rattle.std.specs.Prelude.{ℕ, ◌+◌, nat_le, ℤ, pos, negsuc, Bool, true, false, ◌&&◌, if◌then◌else◌, List, [], ◌∷◌}
-use Rattle.std.specs.Prelude.{codes, bytes_eq, Option, Some, None}
+use Rattle.std.specs.Prelude.{bytes_eq, Option, Some, None}
 use Rattle.std.specs.Option.{option_and_then}
 use Rattle.std.specs.List.{list_any}
 use Rattle.toml.specs.Data.{Data, as_integer, Items, no_items, item, Members, no_members, member, get_member, as_str}
