@@ -17,7 +17,7 @@ ghost use Rattle.proxy_turn.specs.Received.{IsReceived};
 use crate::recorder::{RecordFault, Recorder};
 use hx_status::FailKind;
 use proxy_script::Happening;
-use proxy_turn::{End, Received, SocketFailed, Sockets, arrival, ending, loss};
+use proxy_turn::{End, Received, SocketFailed, Sockets, happening_of, loss};
 use std::io::Write;
 
 /// Sockets, and the record of what they give, where one is written.
@@ -45,22 +45,6 @@ fn place(end: End) -> (u8, u64) {
         End::Listener => (0, 0),
         End::Link(l) => (1, l),
         End::Client(n) => (2, n),
-    }
-}
-
-/// What a read comes to.
-fn happening_of<'a>(
-    end: End,
-    received: &Result<Received, SocketFailed>,
-    buf: &'a [u8],
-) -> Option<Happening<'a>>
-    ensures { option_map said result ≡ said_by end (given_of received.now buf.now) }
-{
-    match received {
-        Ok(Received::Nothing) => None,
-        Ok(Received::Bytes(n)) => arrival(end, buf.get(..*n).unwrap_or(buf)),
-        Ok(Received::End) => ending(end),
-        Err(_) => loss(end, FailKind::Closed),
     }
 }
 

@@ -2,8 +2,10 @@
 
 ghost use Rattle.std.specs.Prelude.{◌≡◌, option_map};
 ghost use Rattle.proxy_engine.specs.Happenings.{said};
-ghost use Rattle.proxy_turn.specs.Turn.{arrived, ended, lost};
+ghost use Rattle.proxy_turn.specs.Calls.{given_of};
+ghost use Rattle.proxy_turn.specs.Turn.{arrived, ended, lost, said_by};
 
+use crate::sockets::{Received, SocketFailed};
 use hx_status::FailKind;
 use proxy_engine::{End, Happening};
 
@@ -37,5 +39,21 @@ pub fn loss(end: End, kind: FailKind) -> Option<Happening<'static>>
         End::Listener => None,
         End::Client(n) => Some(Happening::Gone(n)),
         End::Link(l) => Some(Happening::Fail(l, kind)),
+    }
+}
+
+/// What a read of an end comes to: the bytes are those at the front of the buffer. A failed read loses the end.
+pub fn happening_of<'a>(
+    end: End,
+    received: &Result<Received, SocketFailed>,
+    buf: &'a [u8],
+) -> Option<Happening<'a>>
+    ensures { option_map said result ≡ said_by end (given_of received.now buf.now) }
+{
+    match received {
+        Ok(Received::Nothing) => None,
+        Ok(Received::Bytes(n)) => arrival(end, buf.get(..*n).unwrap_or(buf)),
+        Ok(Received::End) => ending(end),
+        Err(_) => loss(end, FailKind::Closed),
     }
 }

@@ -15,7 +15,7 @@ mod sockets;
 mod turn_cases;
 mod turns;
 
-pub use crate::happenings::{arrival, ending, loss};
+pub use crate::happenings::{arrival, ending, happening_of, loss};
 pub use crate::laws::{a_turn_is_served_behind_losses, engines_live_on, turns_are_executed};
 pub use crate::limits::{MOST_WORKS, PIECE};
 pub use crate::logged::{Gave, Logged, LoggedCall, turn_with_log};

@@ -10,11 +10,10 @@ ghost use Rattle.proxy_turn.specs.Turn.{TurnsAndCalls};
 ghost use Rattle.proxy_turn.specs.Parts.{Asks, IsThere, ReadsOne, ReadsNone, ReadsAll, WorksAll};
 
 use crate::effects::{carry_out, take};
-use crate::happenings::{arrival, ending, loss};
+use crate::happenings::happening_of;
 use crate::limits::{MOST_EFFECTS, MOST_OPEN, MOST_WORKS, PIECE};
 use crate::report::{Report, TurnFault};
-use crate::sockets::{Received, Sockets};
-use hx_status::FailKind;
+use crate::sockets::Sockets;
 use hx_store::Shelf;
 use proxy_engine::{
     End, Engine, Happening, Work, an_act_has_three_effects_at_most, effects_name_open_ends,
@@ -72,21 +71,9 @@ fn read_one<S: Shelf, K: Sockets>(
         (calls (K.accepts sockets.new) (K.reads sockets.new) (K.failures sockets.new)) fault) }
 {
     engine.reserve(alloc, end)?;
-    match sockets.read(end, buf) {
-        Ok(Received::Nothing) => Ok(0),
-        Ok(Received::Bytes(len)) => {
-            take(engine, alloc, arrival(end, &buf[..len]))?;
-            Ok(0)
-        }
-        Ok(Received::End) => {
-            take(engine, alloc, ending(end))?;
-            Ok(0)
-        }
-        Err(_) => {
-            take(engine, alloc, loss(end, FailKind::Closed))?;
-            Ok(1)
-        }
-    }
+    let received = sockets.read(end, buf);
+    take(engine, alloc, happening_of(end, &received, buf))?;
+    Ok(u64::from(received.is_err()))
 }
 
 /// Reads once from each end from which bytes may come; answers how often, and how many calls failed.
