@@ -15,6 +15,7 @@ pub mod Marked
 pub mod Held
 pub mod Actions
 pub mod Pairing
+pub mod DueActs
 pub mod OpenEnds
 pub mod Orderly
 pub mod Drops

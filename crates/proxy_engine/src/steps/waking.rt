@@ -1,5 +1,5 @@
 //! A request that waited for the answer to another is judged anew.
-ghost use Rattle.std.specs.Prelude.{◌≡◌, ℕ, ◌+◌, ◌<◌, ◌^◌, length, Some, IfOk, IfErr, OnOk, OnErr};
+ghost use Rattle.std.specs.Prelude.{◌≡◌, ◌+◌, ◌<◌, ◌^◌, length, Some, IfOk, IfErr, OnOk, OnErr};
 ghost use Rattle.hx_fields.specs.declared.limits.TheConstants.{END_OF_TIME};
 ghost use Rattle.proxy_core.specs.Waiting.{IsReady};
 ghost use Rattle.proxy_engine.specs.EngineModel.{EngineModel};
@@ -46,30 +46,29 @@ impl<S: Shelf> Engine<S> {
         Ok(effects)
     }
 
-    /// The request of an id is judged anew, unless no link number is left for it. That is told before any memory is
-    /// asked for.
+    /// The request of the connection at a place is judged anew, unless no link number is left for it. That is told
+    /// before any memory is asked for.
     pub(crate) fn wake(
         &mut self,
         alloc: Global,
         now: u64,
-        id: u64,
+        i: u64,
     ) -> Result<Vec<Effect>, EngineFault>
-        requires ready { IsReady id self.old.core.exchanges }
+        requires ready { IsReady (i + 1) self.old.core.exchanges }
         requires here { NoneLost self.old.connections }
         requires early { now < END_OF_TIME }
-        ensures ok { IfOk result (λ effects. (s : EngineModel) → (i : ℕ) → id ≡ i + 1 → Represents self.old s
+        ensures ok { IfOk result (λ effects. (s : EngineModel) → Represents self.old s
             → Done s now (Wakes i) effects.items self.new) }
         ensures less { OnOk result (load_at self.new < load_at self.old) }
         ensures exhausted { result ≡ Err EngineFault.OutOfMemory → self.old.first + length self.old.links < 2 ^ 64 }
-        ensures fault { IfErr result (λ fault. (s : EngineModel) → (i : ℕ) → id ≡ i + 1 → IsDueFirst s (Some (Wakes i))
+        ensures fault { IfErr result (λ fault. (s : EngineModel) → IsDueFirst s (Some (Wakes i))
             → Represents self.old s → Failed s fault) }
         ensures err { OnErr result (self.new ≡ self.old) }
     {
         if self.ends.is_exhausted() {
             return Err(EngineFault::Spent);
         }
-        prove!(id > 0);
-        match self.wake_at(alloc, now, id - 1) {
+        match self.wake_at(alloc, now, i) {
             Ok(effects) => Ok(effects),
             Err(_) => Err(EngineFault::OutOfMemory),
         }
