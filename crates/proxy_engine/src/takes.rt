@@ -58,7 +58,9 @@ fn send(connection: &mut Connection, bytes: &[u8]) -> Result<(), AllocError>
     if connection.gone || connection.ended {
         return Ok(());
     }
-    connection.reader.feed(bytes)
+    connection.reader.inner.feed(bytes)?;
+    connection.reader.ask_again();
+    Ok(())
 }
 
 fn feed_link(link: &mut Link, bytes: &[u8]) -> Result<(), AllocError>
@@ -72,7 +74,9 @@ fn feed_link(link: &mut Link, bytes: &[u8]) -> Result<(), AllocError>
     if link.failed.is_some() || link.ended {
         return Ok(());
     }
-    link.reader.feed(bytes)
+    link.reader.inner.feed(bytes)?;
+    link.reader.ask_again();
+    Ok(())
 }
 
 fn end(connection: &mut Connection)
@@ -81,7 +85,8 @@ fn end(connection: &mut Connection)
     ensures activity { connection.new.activity ≡ connection.old.activity }
 {
     if !connection.gone {
-        connection.reader.finish();
+        connection.reader.inner.finish();
+        connection.reader.ask_again();
         connection.ended = true;
     }
 }
@@ -100,7 +105,8 @@ fn close_link(link: &mut Link)
     ensures connection { link.new.connection ≡ link.old.connection }
 {
     if link.failed.is_none() {
-        link.reader.finish();
+        link.reader.inner.finish();
+        link.reader.ask_again();
         link.ended = true;
     }
 }
