@@ -2,10 +2,11 @@
 --
 -- IsFirstOf: whatever an engine stands for, that act is due first
 -- ShowsLost, ShowsFinish, ShowsReady, ShowsAction: that, and what the looks have left      IsFound: of each act
-use Rattle.std.specs.Prelude.{◌≡◌, ℕ, ◌+◌, true, Option, None, Some, slice_index_or}
+use Rattle.std.specs.Prelude.{◌≡◌, ℕ, true, Option, None, Some, slice_index_or}
 use Rattle.hx_framing.specs.declared.messages.Request.{Request}
 use Rattle.hx_framing.specs.declared.messages.Next.{Next}
 use Rattle.proxy_core.specs.Waiting.{IsReady}
+use Rattle.proxy_engine.specs.Numbers.{connection_number}
 use Rattle.proxy_engine.specs.Activities.{link_of, has_exchange}
 use Rattle.proxy_engine.specs.EngineModel.{EngineModel}
 use Rattle.proxy_engine.specs.Due.{Act, Abandons, Finish, Finishes, Wakes, Serves, IsDueFirst}
@@ -35,7 +36,7 @@ pub record ShowsFinish (old new : State) (j : ℕ) : Type 0 where
 -- the request of the client at a place waited, and may be judged anew
 pub record ShowsReady (old new : State) (i : ℕ) : Type 0 where
   pub here : NoneLost new.connections
-  pub ready : IsReady (i + 1) new.core.exchanges
+  pub ready : IsReady (connection_number i) new.core.exchanges
   pub first : IsFirstOf old (Some (Wakes i))
 
 -- the stream of the client at a place asks for something

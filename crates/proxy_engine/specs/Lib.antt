@@ -1,3 +1,4 @@
+pub mod Numbers
 pub mod Lookahead
 pub mod Peeked
 pub mod Happenings

@@ -7,6 +7,7 @@ ghost use Rattle.proxy_engine.specs.State.{Represents, load_at, Did, Failed, Les
 ghost use Rattle.proxy_engine.specs.Exhausted.{ReportsExhausted};
 ghost use Rattle.proxy_engine.specs.DueActs.{IsFound};
 
+use crate::endpoints::numbers::connection_place;
 use crate::engine::Engine;
 use crate::work::{EngineFault, Work};
 use hx_store::Shelf;
@@ -42,7 +43,7 @@ impl<S: Shelf> Engine<S> {
         }
         if let Some(id) = self.core.first_ready() {
             prove!(id > 0);
-            return Ok(DueAct::Wake(id - 1));
+            return Ok(DueAct::Wake(connection_place(id)));
         }
         match self.ends.connections.find_due(alloc)? {
             Some(place) => Ok(DueAct::Serve(place)),
