@@ -48,7 +48,11 @@ impl<R: Reader> Peeked<R> {
         ensures inner { self.new.inner ≡ self.old.inner }
         ensures ahead { self.new.ahead ≡ asked_again self.old.ahead }
     {
-        self.ahead.ask_again();
+        match self.ahead {
+            Lookahead::Unknown => {}
+            Lookahead::Quiet => self.ahead = Lookahead::Unknown,
+            Lookahead::Due(_) => {}
+        }
     }
 
     /// Sees what is due next, and keeps it. Whatever it answers, it stands for the same streams.
