@@ -111,6 +111,10 @@ pub on_err : {A E : Type 0} (r : Result A E) (P Q : E → Type 0) → ((e : E) �
 on_err (Ok a) P Q f p = tt
 on_err (Err e) P Q f p = f e p
 
+pub err_always : {A E : Type 0} (r : Result A E) (P : Type 0) → P → OnErr r P
+err_always (Ok a) P p = tt
+err_always (Err e) P p = p
+
 pub stays_err : {A E : Type 0} (r : Result A E) (P Q : Type 0) → (P → Q) → OnErr r P → OnErr r Q
 stays_err (Ok a) P Q f p = tt
 stays_err (Err e) P Q f p = f p

@@ -4,6 +4,7 @@ pub mod ActivityCases
 pub mod Keeping
 pub mod Shown
 pub mod Changes
+pub mod Feeding
 pub mod Taking
 pub mod Searching
 pub mod Falling

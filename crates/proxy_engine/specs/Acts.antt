@@ -25,6 +25,7 @@ use Rattle.proxy_core.specs.declared.event.Event.{Event}
 use Rattle.proxy_core.specs.declared.event.Event.TheVariants as events
 use Rattle.proxy_script.specs.declared.effect_list.Effect.{Effect}
 use Rattle.proxy_script.specs.declared.effect_list.Effect.TheVariants as effects
+use Rattle.proxy_engine.specs.Numbers.{connection_number, link_number}
 use Rattle.proxy_engine.specs.Admitted.{Refusal, IsAdmitted}
 use Rattle.proxy_engine.specs.EngineModel.{EngineModel, ConnectionModel, LinkModel, opened, connection_at, link_at}
 use Rattle.proxy_engine.specs.EngineModel.{with_connection, with_link, with_core}
@@ -84,7 +85,7 @@ freed_by s None i = with_connection s i (doing Free)
 
 -- which is told
 abbrev pub drops_on : ℕ → Option ℕ → List Effect
-drops_on first (Some l) = effects.Drop (first + l) ∷ []
+drops_on first (Some l) = effects.Drop (link_number first l) ∷ []
 drops_on first None = []
 
 -- a link is opened for the connection at i; it answers a HEAD or not
@@ -104,7 +105,7 @@ asks_head (Some x) = is_head x.asked
 -- for the connection at i; the next link has this number
 abbrev pub effects_on : ℕ → ℕ → Came → List Effect
 effects_on i number (Replies bytes close) =
-    effects.Client (i + 1) bytes ∷ (if close then effects.Close (i + 1) ∷ [] else [])
+    effects.Client (connection_number i) bytes ∷ (if close then effects.Close (connection_number i) ∷ [] else [])
 effects_on i number (Forwards address bytes) = effects.Forward number address bytes ∷ []
 effects_on i number Queues = []
 effects_on i number Nothing = []
@@ -117,7 +118,7 @@ after_on i to_head Nothing s = s
 
 -- the number of the next link
 abbrev pub next_number : EngineModel → ℕ
-next_number s = s.first + length s.links
+next_number s = link_number s.first (length s.links)
 
 -- The core was stepped by this event, on the connection at i; before that the model was t, with s's core and links.
 -- Links that it opens answer a HEAD or not; the effects `before` come first.
@@ -136,26 +137,28 @@ continue_text = codes "HTTP/1.1 100 Continue\r\n\r\n"
 -- the proxy answers by itself, and closes
 pub record Refuses (s : EngineModel) (now i : ℕ) (why : Cause) (head : Bool) (emitted : List Effect)
     (after : EngineModel) : Type 0 where
-  pub emitted_is : emitted ≡ effects.Client (i + 1) (refused_text (date_text_of now) why true head)
-      ∷ effects.Close (i + 1)
+  pub emitted_is : emitted ≡ effects.Client (connection_number i) (refused_text (date_text_of now) why true head)
+      ∷ effects.Close (connection_number i)
       ∷ []
   pub after_is : after ≡ with_connection s i (closing true)
 
 abbrev pub Closes : EngineModel → ℕ → List Effect → EngineModel → Type 0
-Closes s i emitted after = (emitted ≡ effects.Close (i + 1) ∷ []) × (after ≡ with_connection s i (closing true))
+Closes s i emitted after =
+    (emitted ≡ effects.Close (connection_number i) ∷ []) × (after ≡ with_connection s i (closing true))
 
 -- a request arrives at the core, or is refused
 abbrev pub Arrives : EngineModel → ℕ → ℕ → Request → Result Asked Refusal → List Effect → EngineModel → Type 0
 Arrives s now i r (Ok asked) emitted after =
     (next_number s < 2 ^ 64) × StepsOn s (with_connection s i (passing (next.Message r))) i (is_head asked)
-    (events.Arrive now (i + 1) asked) [] emitted after
+    (events.Arrive now (connection_number i) asked) [] emitted after
 Arrives s now i r (Err refusal) emitted after = Refuses s now i refusal.why refusal.head emitted after
 
 -- what a client's stream asks for is done
 abbrev pub Served : EngineModel → ℕ → ℕ → Next Request → List Effect → EngineModel → Type 0
 Served s now i next.More emitted after = ⊥
 Served s now i next.NeedsContinue emitted after =
-    (emitted ≡ effects.Client (i + 1) continue_text ∷ []) × (after ≡ with_connection s i (passing next.NeedsContinue))
+    (emitted ≡ effects.Client (connection_number i) continue_text ∷ [])
+    × (after ≡ with_connection s i (passing next.NeedsContinue))
 Served s now i (next.Message r) emitted after =
     (judged : Result Asked Refusal) × IsAdmitted r judged × Arrives s now i r judged emitted after
 Served s now i (next.Refused frame.Truncated) emitted after = Closes s i emitted after
@@ -180,22 +183,24 @@ Served s now i next.End emitted after = Closes s i emitted after
 -- the exchange on the link at j, of the connection at i, is finished
 abbrev pub Finished : EngineModel → ℕ → ℕ → ℕ → Finish → List Effect → EngineModel → Type 0
 Finished s now j i (Gives r) emitted after =
-    (next_number s < 2 ^ 64) × StepsOn s (freed s j i) i (asks_head (find_exchange (i + 1) s.core.exchanges))
-    (events.Answer now (i + 1) r) (effects.Drop (s.first + j) ∷ []) emitted after
+    (next_number s < 2 ^ 64) × StepsOn s (freed s j i) i
+    (asks_head (find_exchange (connection_number i) s.core.exchanges)) (events.Answer now (connection_number i) r)
+    (effects.Drop (link_number s.first j) ∷ []) emitted after
 Finished s now j i (Breaks kind) emitted after =
-    StepsOn s (freed s j i) i (asks_head (find_exchange (i + 1) s.core.exchanges)) (events.Fail now (i + 1) kind)
-    (effects.Drop (s.first + j) ∷ []) emitted after
+    StepsOn s (freed s j i) i (asks_head (find_exchange (connection_number i) s.core.exchanges))
+    (events.Fail now (connection_number i) kind) (effects.Drop (link_number s.first j) ∷ []) emitted after
 
 -- the request of the connection at i waited, and is judged anew
 abbrev pub Woken : EngineModel → ℕ → ℕ → List Effect → EngineModel → Type 0
 Woken s now i emitted after =
     (next_number s < 2 ^ 64) × StepsOn s (with_connection s i (doing Free)) i
-    (asks_head (find_exchange (i + 1) s.core.exchanges)) (events.Wake now (i + 1)) [] emitted after
+    (asks_head (find_exchange (connection_number i) s.core.exchanges)) (events.Wake now (connection_number i)) []
+    emitted after
 
 -- an act was done, with these effects
 abbrev pub Does : EngineModel → ℕ → Act → List Effect → EngineModel → Type 0
 Does s now (Abandons i l) emitted after =
-    StepsOn s (freed_by s l i) i false (events.Abandon (i + 1)) (drops_on s.first l) emitted after
+    StepsOn s (freed_by s l i) i false (events.Abandon (connection_number i)) (drops_on s.first l) emitted after
 Does s now (Finishes j finish) emitted after = Finished s now j (link_at s j).connection finish emitted after
 Does s now (Wakes i) emitted after = Woken s now i emitted after
 Does s now (Serves i action) emitted after = Served s now i action emitted after

@@ -6,6 +6,7 @@ use Rattle.std.specs.Prelude.{◌≡◌, ◌⊎◌, ℕ, ◌+◌, ◌<◌, ◌�
 use Rattle.std.specs.List.{AllByRecursion}
 use Rattle.proxy_script.specs.declared.effect_list.Effect.{Effect}
 use Rattle.proxy_script.specs.declared.effect_list.Effect.TheVariants as effects
+use Rattle.proxy_engine.specs.Numbers.{link_number}
 use Rattle.proxy_engine.specs.Happenings.{Said}
 use Rattle.proxy_engine.specs.EngineModel.{EngineModel, link_at, heard}
 use Rattle.proxy_engine.specs.Due.{Act}
@@ -36,7 +37,7 @@ ActsEmitDrops =
     (s : EngineModel) (now : ℕ) (act : Act) (emitted : List Effect) (after : EngineModel) (j : ℕ)
     → Does s now act emitted after → j < length after.links → (link_at after j).dropped ≡ true →
     ((j < length s.links) × ((link_at s j).dropped ≡ true))
-    ⊎ ((rest : List Effect) × (emitted ≡ effects.Drop (s.first + j) ∷ rest))
+    ⊎ ((rest : List Effect) × (emitted ≡ effects.Drop (link_number s.first j) ∷ rest))
 
 -- what happens drops no link
 abbrev pub TakesDropNone : Type 0

@@ -15,6 +15,7 @@ use Rattle.hx_framing.specs.RequestStream.{Answers as RequestAnswers}
 use Rattle.hx_framing.specs.ResponseStream.{Answers as ResponseAnswers}
 use Rattle.hx_status.specs.declared.cause.FailKind.{FailKind}
 use Rattle.hx_status.specs.declared.cause.FailKind.TheVariants as kinds
+use Rattle.proxy_engine.specs.Numbers.{connection_number}
 use Rattle.proxy_engine.specs.Activities.{link_of, has_exchange}
 use Rattle.proxy_core.specs.Leading.{ready_ids}
 use Rattle.proxy_core.specs.State.{State as CoreState}
@@ -104,7 +105,7 @@ IsDueFirst s (Some (Finishes j f)) =
     IsFirst Lost no_connection s.connections None × IsFirst FinishDue no_link s.links (Some (j, f))
 IsDueFirst s (Some (Wakes i)) =
     IsFirst Lost no_connection s.connections None × IsFirst FinishDue no_link s.links None
-    × (next_ready s.core ≡ Some (i + 1))
+    × (next_ready s.core ≡ Some (connection_number i))
 IsDueFirst s (Some (Serves i w)) =
     IsFirst Lost no_connection s.connections None × IsFirst FinishDue no_link s.links None × (next_ready s.core ≡ None)
     × IsFirst Wanted no_connection s.connections (Some (i, w))

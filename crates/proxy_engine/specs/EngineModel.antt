@@ -10,6 +10,7 @@ use Rattle.hx_framing.specs.declared.messages.Response.{Response}
 use Rattle.hx_framing.specs.Progress.{Progress, start, fed, finished}
 use Rattle.hx_status.specs.declared.cause.FailKind.{FailKind}
 use Rattle.proxy_core.specs.State.{State as CoreState}
+use Rattle.proxy_engine.specs.Numbers.{connection_number, connection_place, link_place}
 use Rattle.proxy_engine.specs.Happenings.{Said, Accepts, Sends, Hears, Ends, Leaves, Shuts, Fails}
 use Rattle.proxy_engine.specs.declared.endpoints.activities.Activity.{Activity}
 use Rattle.proxy_engine.specs.declared.endpoints.activities.Activity.TheVariants.{Free}
@@ -60,11 +61,11 @@ abbrev pub connection_fault : ℕ → ℕ → Option EngineFault
 connection_fault count n = if nat_lt 0 n && nat_le n count then None else Some NotAccepted
 
 abbrev pub link_fault : ℕ → ℕ → ℕ → Option EngineFault
-link_fault first count l = if nat_le first l && nat_lt (l - first) count then None else Some WrongNumber
+link_fault first count l = if nat_le first l && nat_lt (link_place first l) count then None else Some WrongNumber
 
 -- why a happening isn't taken
 abbrev pub fault_of : EngineModel → Said → Option EngineFault
-fault_of s (Accepts n) = if n == length s.connections + 1 then None else Some WrongNumber
+fault_of s (Accepts n) = if n == connection_number (length s.connections) then None else Some WrongNumber
 fault_of s (Sends n bytes) = connection_fault (length s.connections) n
 fault_of s (Ends n) = connection_fault (length s.connections) n
 fault_of s (Leaves n) = connection_fault (length s.connections) n
@@ -103,8 +104,8 @@ keeps_answer k = not (k.dropped || (is_some k.failed || k.progress.ended))
 -- a connection is kept, and bytes where they are; marks take no memory
 abbrev pub keeps : EngineModel → Said → Bool
 keeps s (Accepts n) = true
-keeps s (Sends n bytes) = keeps_bytes (connection_at s (n - 1))
-keeps s (Hears l bytes) = keeps_answer (link_at s (l - s.first))
+keeps s (Sends n bytes) = keeps_bytes (connection_at s (connection_place n))
+keeps s (Hears l bytes) = keeps_answer (link_at s (link_place s.first l))
 keeps s (Ends n) = false
 keeps s (Leaves n) = false
 keeps s (Shuts l) = false
@@ -139,9 +140,9 @@ heard s (Accepts n) =
       core = s.core;
       first = s.first;
     }
-heard s (Sends n bytes) = with_connection s (n - 1) (sent bytes)
-heard s (Ends n) = with_connection s (n - 1) ended
-heard s (Leaves n) = with_connection s (n - 1) left
-heard s (Hears l bytes) = with_link s (l - s.first) (heard_by bytes)
-heard s (Shuts l) = with_link s (l - s.first) shut
-heard s (Fails l kind) = with_link s (l - s.first) (failed_by kind)
+heard s (Sends n bytes) = with_connection s (connection_place n) (sent bytes)
+heard s (Ends n) = with_connection s (connection_place n) ended
+heard s (Leaves n) = with_connection s (connection_place n) left
+heard s (Hears l bytes) = with_link s (link_place s.first l) (heard_by bytes)
+heard s (Shuts l) = with_link s (link_place s.first l) shut
+heard s (Fails l kind) = with_link s (link_place s.first l) (failed_by kind)

@@ -19,6 +19,7 @@ use Rattle.proxy_core.specs.declared.event.Event.TheVariants as events
 use Rattle.proxy_core.specs.Traces.{Item, begun as core_begun}
 use Rattle.proxy_script.specs.declared.effect_list.Effect.{Effect}
 use Rattle.proxy_script.specs.declared.effect_list.Effect.TheVariants as effects
+use Rattle.proxy_engine.specs.Numbers.{connection_number, link_number}
 use Rattle.proxy_engine.specs.Admitted.{Refusal, IsAdmitted}
 use Rattle.proxy_engine.specs.Happenings.{Said}
 use Rattle.proxy_engine.specs.EngineModel.{EngineModel, link_at, heard, fault_of}
@@ -57,19 +58,20 @@ place_of s (Serves i action) = i
 -- the link on which its exchange stood is dropped, if it had one
 abbrev pub drops_of : EngineModel → Act → List Effect
 drops_of s (Abandons i l) = drops_on s.first l
-drops_of s (Finishes j finish) = effects.Drop (s.first + j) ∷ []
+drops_of s (Finishes j finish) = effects.Drop (link_number s.first j) ∷ []
 drops_of s (Wakes i) = []
 drops_of s (Serves i action) = []
 
 -- The event that an act asks the core about at a moment: the client's going away, the response that the origin's stream
 -- spells, the failure, the wake, or the request that the client's stream spells.
 abbrev pub IsEventOf : EngineModel → ℕ → Act → Event → Type 0
-IsEventOf s now (Abandons i l) event = event ≡ events.Abandon (i + 1)
-IsEventOf s now (Finishes j (Gives r)) event = event ≡ events.Answer now ((link_at s j).connection + 1) r
-IsEventOf s now (Finishes j (Breaks kind)) event = event ≡ events.Fail now ((link_at s j).connection + 1) kind
-IsEventOf s now (Wakes i) event = event ≡ events.Wake now (i + 1)
+IsEventOf s now (Abandons i l) event = event ≡ events.Abandon (connection_number i)
+IsEventOf s now (Finishes j (Gives r)) event = event ≡ events.Answer now (connection_number (link_at s j).connection) r
+IsEventOf s now (Finishes j (Breaks kind)) event =
+    event ≡ events.Fail now (connection_number (link_at s j).connection) kind
+IsEventOf s now (Wakes i) event = event ≡ events.Wake now (connection_number i)
 IsEventOf s now (Serves i (next.Message r)) event =
-    (asked : Asked) × IsAdmitted r (Ok asked) × (event ≡ events.Arrive now (i + 1) asked)
+    (asked : Asked) × IsAdmitted r (Ok asked) × (event ≡ events.Arrive now (connection_number i) asked)
 IsEventOf s now (Serves i next.More) event = ⊥
 IsEventOf s now (Serves i next.NeedsContinue) event = ⊥
 IsEventOf s now (Serves i (next.Refused fault)) event = ⊥
@@ -98,11 +100,12 @@ pub record IsEmitted (table : Table) (s : EngineModel) (now : ℕ) (act : Act) (
 -- effects without a step of the core, on the connection at a place: a continue, the proxy's answer to what is no
 -- request, or a close
 pub data IsOwn (now place : ℕ) (emitted : List Effect) : Type 0 where
-  Continues : emitted ≡ effects.Client (place + 1) continue_text ∷ [] → IsOwn now place emitted
+  Continues : emitted ≡ effects.Client (connection_number place) continue_text ∷ [] → IsOwn now place emitted
   Refuses : (why : Cause) (head : Bool) → emitted
-      ≡ effects.Client (place + 1) (refused_text (date_text_of now) why true head) ∷ effects.Close (place + 1) ∷ []
+      ≡ effects.Client (connection_number place) (refused_text (date_text_of now) why true head)
+      ∷ effects.Close (connection_number place) ∷ []
       → IsOwn now place emitted
-  Closes : emitted ≡ effects.Close (place + 1) ∷ [] → IsOwn now place emitted
+  Closes : emitted ≡ effects.Close (connection_number place) ∷ [] → IsOwn now place emitted
 
 -- a step from this model to the next did the next item of the trace, or no step of the core
 abbrev pub Adds : Table → EngineModel → Step → EngineModel → List Item → List Item → Type 0

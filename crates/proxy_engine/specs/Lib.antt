@@ -1,3 +1,4 @@
+pub mod Numbers
 pub mod Lookahead
 pub mod Peeked
 pub mod Happenings
@@ -15,6 +16,7 @@ pub mod Marked
 pub mod Held
 pub mod Actions
 pub mod Pairing
+pub mod DueActs
 pub mod OpenEnds
 pub mod Orderly
 pub mod Drops

@@ -9,6 +9,7 @@ use Rattle.std.specs.Prelude.{length}
 use Rattle.proxy_core.specs.State.{State as CoreState}
 use Rattle.proxy_script.specs.declared.effect_list.Effect.{Effect}
 use Rattle.proxy_script.specs.declared.effect_list.Effect.TheVariants as effects
+use Rattle.proxy_engine.specs.Numbers.{connection_number, link_number}
 use Rattle.proxy_engine.specs.Happenings.{Said}
 use Rattle.proxy_engine.specs.declared.endpoints.activities.Activity.{Activity}
 use Rattle.proxy_engine.specs.declared.endpoints.activities.Activity.TheVariants.{Free}
@@ -33,18 +34,18 @@ pub record IsOrderly (s : EngineModel) : Type 0 where
 -- the connection of this number is neither closed nor gone
 pub record IsOpen (s : EngineModel) (n : ℕ) : Type 0 where
   pub place : ℕ
-  pub number : n ≡ place + 1
+  pub number : n ≡ connection_number place
   pub closed : (connection_at s place).closed ≡ false
   pub gone : (connection_at s place).gone ≡ false
 
 -- the connection of this number is closed
 abbrev pub IsClosed : EngineModel → ℕ → Type 0
-IsClosed s n = (i : ℕ) × (n ≡ i + 1) × ((connection_at s i).closed ≡ true)
+IsClosed s n = (i : ℕ) × (n ≡ connection_number i) × ((connection_at s i).closed ≡ true)
 
 -- the link of this number was open, and is dropped
 pub record Drops (s after : EngineModel) (l : ℕ) : Type 0 where
   pub place : ℕ
-  pub number : l ≡ s.first + place
+  pub number : l ≡ link_number s.first place
   pub still : (link_at s place).dropped ≡ false
   pub dropped : (link_at after place).dropped ≡ true
 

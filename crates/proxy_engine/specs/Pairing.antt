@@ -11,6 +11,7 @@ use Rattle.proxy_core.specs.Outcomes.{find_exchange}
 use Rattle.proxy_core.specs.declared.open.exchange.Exchange.{Exchange}
 use Rattle.proxy_core.specs.declared.outcome.Outcome.{Outcome}
 use Rattle.proxy_core.specs.declared.outcome.Outcome.TheVariants.{Reply, Forward, Waits, Ended}
+use Rattle.proxy_engine.specs.Numbers.{connection_number}
 use Rattle.proxy_engine.specs.Activities.{link_of, forwarded_in}
 use Rattle.proxy_engine.specs.State.{State}
 use Rattle.proxy_engine.specs.declared.endpoints.activities.Activity.{Activity}
@@ -60,7 +61,7 @@ forwarded_at id exchanges = option_map (λ (x : Exchange). is_forwarded x.stage)
 pub record Paired (activities : List Activity) (owners : List (Option ℕ)) (exchanges : List Exchange) : Type 0 where
   pub owned : (i j : ℕ) → link_of (activity_at activities i) ≡ Some j → at owners j ≡ Some i
   pub linked : (i j : ℕ) → at owners j ≡ Some i → link_of (activity_at activities i) ≡ Some j
-  pub opened : (i : ℕ) → forwarded_at (i + 1) exchanges ≡ forwarded_in (activity_at activities i)
+  pub opened : (i : ℕ) → forwarded_at (connection_number i) exchanges ≡ forwarded_in (activity_at activities i)
   pub numbered : forwarded_at 0 exchanges ≡ None
 
 abbrev pub activities_of : List (Option Connection) → List Activity

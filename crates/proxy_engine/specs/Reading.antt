@@ -6,6 +6,7 @@
 use Rattle.std.specs.Prelude.{◌≡◌, ℕ, ◌+◌, ◌^◌, List, [], ◌∷◌, ◌++◌, map, length, Bool, true, ◌&&◌, ◌||◌, not, nat_lt}
 use Rattle.std.specs.Prelude.{Option, None, Some, is_some, if◌then◌else◌}
 use Rattle.hx_framing.specs.RequestStream.{StreamSpells}
+use Rattle.proxy_engine.specs.Numbers.{connection_number, link_number}
 use Rattle.proxy_engine.specs.Activities.{has_exchange}
 use Rattle.proxy_engine.specs.EngineModel.{EngineModel, ConnectionModel, LinkModel, keeps_bytes, keeps_answer}
 use Rattle.proxy_engine.specs.declared.work.End.{End}
@@ -30,10 +31,10 @@ has_failed k = not k.dropped && is_some k.failed
 
 -- the link at a place, where the first has this number
 abbrev pub link_end : ℕ → ℕ → End
-link_end first j = ends.Link (first + j)
+link_end first j = ends.Link (link_number first j)
 
 abbrev pub client_end : ℕ → End
-client_end i = ends.Client (i + 1)
+client_end i = ends.Client (connection_number i)
 
 -- the links that aren't dropped, failed or shut, then the clients that may send a request
 abbrev pub ends_read : EngineModel → List End
@@ -48,7 +49,9 @@ open_count s = length (places_with is_open 0 s.connections)
 
 -- the number of the next connection, if one is left
 abbrev pub next_connection : EngineModel → Option ℕ
-next_connection s = if nat_lt (length s.connections + 1) (2 ^ 64) then Some (length s.connections + 1) else None
+next_connection s =
+    if nat_lt (connection_number (length s.connections))
+    (2 ^ 64) then Some (connection_number (length s.connections)) else None
 
 -- it is between two requests: it may send one, and each byte that it has sent belongs to a request that was used
 pub record IsBetween (c : ConnectionModel) : Type 0 where

@@ -14,6 +14,7 @@ use Rattle.hx_framing.specs.declared.messages.Next.{Next}
 use Rattle.hx_framing.specs.declared.messages.Next.TheVariants as next
 use Rattle.hx_status.specs.declared.cause.FailKind.{FailKind}
 use Rattle.proxy_core.specs.State.{State as CoreState}
+use Rattle.proxy_engine.specs.Numbers.{link_number}
 use Rattle.proxy_engine.specs.Activities.{has_exchange}
 use Rattle.proxy_engine.specs.Happenings.{Said}
 use Rattle.proxy_engine.specs.declared.endpoints.lookahead.Lookahead.{Lookahead}
@@ -84,7 +85,7 @@ pub record Tallies (cs : List (Option Connection)) (ks : List (Option Link)) (ke
   pub links : Both LinkRepresents ks s.links
   pub core : kept ≡ s.core
   pub first : number ≡ s.first
-  pub numbers : s.first + length s.links ≤ 2 ^ 64
+  pub numbers : link_number s.first (length s.links) ≤ 2 ^ 64
 
 abbrev pub Represents : State → EngineModel → Type 0
 Represents e s = Tallies e.connections e.links e.core e.first s

@@ -7,6 +7,7 @@ pub(crate) mod ends;
 pub(crate) mod links;
 pub(crate) mod lookahead;
 pub(crate) mod marks;
+pub(crate) mod numbers;
 pub(crate) mod open_ends;
 pub(crate) mod peeked;
 pub(crate) mod readers;

@@ -8,6 +8,7 @@ ghost use Rattle.proxy_engine.specs.State.{State, Represents, Takes, TakeFault, 
 
 use crate::endpoints::connections::Connections;
 use crate::endpoints::links::Links;
+use crate::endpoints::numbers::{connection_place, link_place};
 use crate::endpoints::open_ends::Ends;
 use crate::takes;
 use crate::work::{End, EngineFault};
@@ -126,11 +127,11 @@ impl<S: Shelf> Engine<S> {
                 }
                 self.ends.connections.reserve_one(alloc)
             }
-            End::Client(n) => self.ends.connections.reserve_piece(n.saturating_sub(1)),
+            End::Client(n) => self.ends.connections.reserve_piece(connection_place(n)),
             End::Link(l) => self
                 .ends
                 .links
-                .reserve_piece(l.saturating_sub(self.ends.first_link)),
+                .reserve_piece(link_place(self.ends.first_link, l)),
         }
     }
 
@@ -161,7 +162,7 @@ impl<S: Shelf> Engine<S> {
     pub fn is_between_requests(&self, n: u64) -> bool
         ensures { (s : EngineModel) → Represents self.now s → result ≡ true → IsBetween (connection_at s (n - 1)) }
     {
-        self.ends.connections.is_between(n.saturating_sub(1))
+        self.ends.connections.is_between(connection_place(n))
     }
 
     /// The ends from which bytes may come: each link that isn't dropped, failed or shut, then each open client without

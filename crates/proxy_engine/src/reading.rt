@@ -12,6 +12,7 @@ ghost use Rattle.proxy_engine.specs.Room.{HasSpare, piece};
 
 use crate::endpoints::endpoint::Endpoint;
 use crate::endpoints::ends::{Connection, Link};
+use crate::endpoints::numbers::{connection_number, link_number};
 use crate::work::End;
 use std::alloc::{AllocError, Global};
 use std::collections::BTreeMap;
@@ -76,7 +77,7 @@ pub(crate) fn push_clients(
 {
     for (i, connection) in ends {
         if *i < count && reads(connection) {
-            list.push(End::Client(*i + 1))?;
+            list.push(End::Client(connection_number(*i)))?;
         }
     }
     Ok(())
@@ -94,7 +95,7 @@ pub(crate) fn push_links(
 {
     for (j, link) in ends {
         if *j < count && answers(link) {
-            list.push(End::Link(first.wrapping_add(*j)))?;
+            list.push(End::Link(link_number(first, *j)))?;
         }
     }
     Ok(())
@@ -112,7 +113,7 @@ pub(crate) fn push_failed(
 {
     for (j, link) in ends {
         if *j < count && link.failed.is_some() {
-            list.push(End::Link(first.wrapping_add(*j)))?;
+            list.push(End::Link(link_number(first, *j)))?;
         }
     }
     Ok(())

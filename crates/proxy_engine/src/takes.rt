@@ -3,6 +3,7 @@ ghost use Rattle.std.specs.Prelude.{◌≡◌, ◌≢◌, ℕ, ◌+◌, ◌-◌,
 ghost use Rattle.std.specs.Prelude.{vec_len, vec_capacity, List, length, true, false, is_some, IsOk, IfOk, IfErr, OnOk};
 ghost use Rattle.std.specs.Prelude.{OnErr, Option, Some, None, Err, MatchOption, slice_index_or};
 ghost use Rattle.proxy_core.specs.State.{State as CoreState};
+ghost use Rattle.proxy_engine.specs.Numbers.{connection_number, connection_place, link_place};
 ghost use Rattle.proxy_engine.specs.Happenings.{Accepts, Sends, Hears, Ends, Leaves, Shuts, Fails};
 ghost use Rattle.proxy_engine.specs.EngineModel.{EngineModel, ConnectionModel, LinkModel, sent, ended, left, heard_by};
 ghost use Rattle.proxy_engine.specs.EngineModel.{shut, failed_by, keeps};
@@ -15,6 +16,7 @@ use crate::endpoints::activities::Activity;
 use crate::endpoints::connections::Connections;
 use crate::endpoints::ends::{Connection, Link};
 use crate::endpoints::links::Links;
+use crate::endpoints::numbers::{connection_place, link_place};
 use crate::endpoints::peeked::Peeked;
 use crate::work::EngineFault;
 use hx_framing::RequestReader;
@@ -22,26 +24,27 @@ use hx_status::FailKind;
 use std::alloc::{AllocError, Global};
 
 /// Where the connection of this number stands.
-fn connection_place(connections: &Connections, n: u64) -> Option<u64>
+fn find_connection(connections: &Connections, n: u64) -> Option<u64>
     ensures { MatchOption result (nat_lt 0 n && nat_le n (length connections.now.items) ≡ false)
-        (λ i. (nat_lt 0 n && nat_le n (length connections.now.items) ≡ true) × (i ≡ n - 1)
+        (λ i. (nat_lt 0 n && nat_le n (length connections.now.items) ≡ true) × (i ≡ connection_place n)
         × (i < length connections.now.items)) }
 {
     if 0 < n && n <= connections.len() {
-        Some(n - 1)
+        Some(connection_place(n))
     } else {
         None
     }
 }
 
 /// Where the link of this number stands.
-fn link_place(links: &Links, first: u64, l: u64) -> Option<u64>
-    ensures { MatchOption result (nat_le first l && nat_lt (l - first) (length links.now.items) ≡ false)
-        (λ j. (nat_le first l && nat_lt (l - first) (length links.now.items) ≡ true) × (j ≡ l - first)
-        × (j < length links.now.items)) }
+fn find_link(links: &Links, first: u64, l: u64) -> Option<u64>
+    ensures { MatchOption result (nat_le first l && nat_lt (link_place first l) (length links.now.items) ≡ false)
+        (λ j. (nat_le first l && nat_lt (link_place first l) (length links.now.items) ≡ true)
+        × (j ≡ link_place first l) × (j < length links.now.items)) }
 {
-    if first <= l && l - first < links.len() {
-        Some(l - first)
+    let place = link_place(first, l);
+    if first <= l && place < links.len() {
+        Some(place)
     } else {
         None
     }
@@ -58,7 +61,9 @@ fn send(connection: &mut Connection, bytes: &[u8]) -> Result<(), AllocError>
     if connection.gone || connection.ended {
         return Ok(());
     }
-    connection.reader.feed(bytes)
+    connection.reader.inner.feed(bytes)?;
+    connection.reader.ask_again();
+    Ok(())
 }
 
 fn feed_link(link: &mut Link, bytes: &[u8]) -> Result<(), AllocError>
@@ -72,7 +77,9 @@ fn feed_link(link: &mut Link, bytes: &[u8]) -> Result<(), AllocError>
     if link.failed.is_some() || link.ended {
         return Ok(());
     }
-    link.reader.feed(bytes)
+    link.reader.inner.feed(bytes)?;
+    link.reader.ask_again();
+    Ok(())
 }
 
 fn end(connection: &mut Connection)
@@ -81,7 +88,8 @@ fn end(connection: &mut Connection)
     ensures activity { connection.new.activity ≡ connection.old.activity }
 {
     if !connection.gone {
-        connection.reader.finish();
+        connection.reader.inner.finish();
+        connection.reader.ask_again();
         connection.ended = true;
     }
 }
@@ -100,7 +108,8 @@ fn close_link(link: &mut Link)
     ensures connection { link.new.connection ≡ link.old.connection }
 {
     if link.failed.is_none() {
-        link.reader.finish();
+        link.reader.inner.finish();
+        link.reader.ask_again();
         link.ended = true;
     }
 }
@@ -117,9 +126,9 @@ fn fail_link(link: &mut Link, kind: FailKind)
 
 /// Whether that is the next number.
 fn is_next(connections: &Connections, n: u64) -> bool
-    ensures { result ≡ (n == length connections.now.items + 1) }
+    ensures { result ≡ (n == connection_number (length connections.now.items)) }
 {
-    n != 0 && n - 1 == connections.len()
+    n != 0 && connection_place(n) == connections.len()
 }
 
 pub(crate) fn accept(
@@ -164,12 +173,12 @@ pub(crate) fn client(connections: &mut Connections, n: u64, bytes: &[u8]) -> Res
     ensures kept { result ≡ Err EngineFault.OutOfMemory → (s : EngineModel) → (links : List (Option Link))
         → (core : CoreState) → (first : ℕ) → Represents (state connections.old.items links core first) s
         → keeps s (Sends n bytes.now) ≡ true }
-    ensures reserved { IsRoomy (slice_index_or connections.old.items (n - 1) None) (length bytes.now)
+    ensures reserved { IsRoomy (slice_index_or connections.old.items (connection_place n) None) (length bytes.now)
         → result ≢ Err EngineFault.OutOfMemory }
     ensures activities { activities_of connections.new.items ≡ activities_of connections.old.items }
     ensures err { OnErr result (connections.new ≡ connections.old) }
 {
-    let Some(i) = connection_place(connections, n) else {
+    let Some(i) = find_connection(connections, n) else {
         return Err(EngineFault::NotAccepted);
     };
     let Some(connection) = connections.at_mut(i) else {
@@ -191,7 +200,7 @@ pub(crate) fn finish_client(connections: &mut Connections, n: u64) -> Result<(),
     ensures activities { activities_of connections.new.items ≡ activities_of connections.old.items }
     ensures err { OnErr result (connections.new ≡ connections.old) }
 {
-    let Some(i) = connection_place(connections, n) else {
+    let Some(i) = find_connection(connections, n) else {
         return Err(EngineFault::NotAccepted);
     };
     if let Some(connection) = connections.at_mut(i) {
@@ -210,7 +219,7 @@ pub(crate) fn disconnect_client(connections: &mut Connections, n: u64) -> Result
     ensures activities { activities_of connections.new.items ≡ activities_of connections.old.items }
     ensures err { OnErr result (connections.new ≡ connections.old) }
 {
-    let Some(i) = connection_place(connections, n) else {
+    let Some(i) = find_connection(connections, n) else {
         return Err(EngineFault::NotAccepted);
     };
     if !connections.has_exchange(i) {
@@ -230,12 +239,12 @@ pub(crate) fn answer(links: &mut Links, first: u64, l: u64, bytes: &[u8]) -> Res
     ensures kept { result ≡ Err EngineFault.OutOfMemory → (s : EngineModel) → (connections : List (Option Connection))
         → (core : CoreState) → Represents (state connections links.old.items core first) s → keeps s (Hears l bytes.now)
         ≡ true }
-    ensures reserved { IsRoomyLink (slice_index_or links.old.items (l - first) None) (length bytes.now)
+    ensures reserved { IsRoomyLink (slice_index_or links.old.items (link_place first l) None) (length bytes.now)
         → result ≢ Err EngineFault.OutOfMemory }
     ensures owners { owners_of links.new.items ≡ owners_of links.old.items }
     ensures err { OnErr result (links.new.items ≡ links.old.items) }
 {
-    let Some(j) = link_place(links, first, l) else {
+    let Some(j) = find_link(links, first, l) else {
         return Err(EngineFault::WrongNumber);
     };
     let Some(link) = links.at_mut(j) else {
@@ -257,7 +266,7 @@ pub(crate) fn shut_link(links: &mut Links, first: u64, l: u64) -> Result<(), Eng
     ensures owners { owners_of links.new.items ≡ owners_of links.old.items }
     ensures err { OnErr result (links.new.items ≡ links.old.items) }
 {
-    let Some(j) = link_place(links, first, l) else {
+    let Some(j) = find_link(links, first, l) else {
         return Err(EngineFault::WrongNumber);
     };
     if let Some(link) = links.at_mut(j) {
@@ -281,7 +290,7 @@ pub(crate) fn break_link(
     ensures owners { owners_of links.new.items ≡ owners_of links.old.items }
     ensures err { OnErr result (links.new.items ≡ links.old.items) }
 {
-    let Some(j) = link_place(links, first, l) else {
+    let Some(j) = find_link(links, first, l) else {
         return Err(EngineFault::WrongNumber);
     };
     if let Some(link) = links.at_mut(j) {

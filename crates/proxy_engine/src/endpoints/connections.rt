@@ -4,6 +4,7 @@ ghost use Rattle.std.specs.Prelude.{sum_by, true, is_some, IsOk, IfOk, IfSome, I
 ghost use Rattle.std.specs.Prelude.{slice_index_or, slice_set};
 ghost use Rattle.std.specs.Option.{option_copied_mut};
 ghost use Rattle.std.specs.Borrow.{LendsIf, sem};
+ghost use Rattle.proxy_engine.specs.Numbers.{connection_number};
 ghost use Rattle.proxy_engine.specs.EngineModel.{ConnectionModel, no_connection};
 ghost use Rattle.proxy_engine.specs.Due.{IsFirst, Lost};
 ghost use Rattle.proxy_engine.specs.Reading.{places_with, is_open, is_read, client_end, IsBetween};
@@ -15,6 +16,7 @@ ghost use Rattle.proxy_engine.specs.State.{connection_load};
 
 use crate::endpoints::activities::Activity;
 use crate::endpoints::ends::Connection;
+use crate::endpoints::numbers::{connection_number, next_connection};
 use crate::endpoints::peeked::Peeked;
 use crate::endpoints::ready_list::ReadyList;
 use crate::reading;
@@ -84,6 +86,16 @@ impl Connections {
         ensures { slice_index_or self.now.items i None ≡ Some result.now }
     {
         &self.ends[&i]
+    }
+
+    /// The number of the connection at a place, and the id of its exchange.
+    pub(crate) fn number_at(&self, i: u64) -> u64
+        requires { i < length self.now.items }
+        ensures { result ≡ connection_number i }
+    {
+        let count = self.len();
+        prove!(i < count);
+        connection_number(i)
     }
 
     /// Whether the connection at a place has an open exchange.
@@ -176,10 +188,10 @@ impl Connections {
 
     /// The number of the next connection, if one is left.
     pub(crate) fn next_number(&self) -> Option<u64>
-        ensures { result ≡ (if nat_lt (length self.now.items + 1)
-            (2 ^ 64) then Some (length self.now.items + 1) else None) }
+        ensures { result ≡ (if nat_lt (connection_number (length self.now.items))
+            (2 ^ 64) then Some (connection_number (length self.now.items)) else None) }
     {
-        self.count.checked_add(1)
+        next_connection(self.count)
     }
 
     /// How many are open: neither closed nor gone.

@@ -72,7 +72,7 @@ impl Endpoint for Connection {
     }
 
     fn reserve(&mut self, n: usize) -> Result<(), AllocError> {
-        self.reader.reserve(n)
+        self.reader.inner.reserve(n)
     }
 
     ghost looks_like_itself = { λ c. record { represents = λ s h. h; gone = refl; activity = refl; load = le_refl _ } };
@@ -120,7 +120,7 @@ impl Endpoint for Link {
     }
 
     fn reserve(&mut self, n: usize) -> Result<(), AllocError> {
-        self.reader.reserve(n)
+        self.reader.inner.reserve(n)
     }
 
     ghost looks_like_itself = { λ k. record { represents = λ s h. h; connection = refl; load = le_refl _ } };

@@ -1,6 +1,6 @@
 //! What is known of the next answer of a reader.
 ghost use Rattle.std.specs.Prelude.{◌≡◌, IfSome, is_some};
-ghost use Rattle.proxy_engine.specs.Lookahead.{ahead_by, asked_again, is_due};
+ghost use Rattle.proxy_engine.specs.Lookahead.{ahead_by, is_due};
 
 use hx_framing::Next;
 
@@ -23,17 +23,6 @@ impl<M: Drop> Lookahead<M> {
             Next::Message(message) => Lookahead::Due(Next::Message(message)),
             Next::Refused(fault) => Lookahead::Due(Next::Refused(fault)),
             Next::End => Lookahead::Due(Next::End),
-        }
-    }
-
-    /// Where nothing was due yet, something may be now.
-    pub(crate) fn ask_again(&mut self)
-        ensures { self.new ≡ asked_again self.old }
-    {
-        match self {
-            Lookahead::Unknown => {}
-            Lookahead::Quiet => *self = Lookahead::Unknown,
-            Lookahead::Due(_) => {}
         }
     }
 

@@ -1,10 +1,10 @@
 //! A reader that is asked ahead: its answer is kept until it is used, so that no act reads bytes twice, and a message
 //! that finds no memory on its way isn't lost.
-ghost use Rattle.std.specs.Prelude.{◌≡◌, ◌+◌, ◌*◌, ◌≤◌, [], length, true, false, IsOk, OnOk, OnErr, IfSome, is_some};
-ghost use Rattle.hx_framing.specs.Progress.{Progress, fed, finished, moved};
+ghost use Rattle.std.specs.Prelude.{◌≡◌, ◌+◌, ◌≤◌, [], true, OnOk, OnErr, IfSome, is_some};
+ghost use Rattle.hx_framing.specs.Progress.{Progress, moved};
 ghost use Rattle.hx_framing.specs.declared.messages.Next.{Next};
 ghost use Rattle.hx_framing.specs.declared.messages.Next.TheVariants as next;
-ghost use Rattle.proxy_engine.specs.Lookahead.{Shows, is_due, known, unsettled};
+ghost use Rattle.proxy_engine.specs.Lookahead.{Shows, asked_again, is_due, known, unsettled};
 ghost use Rattle.hx_framing.specs.declared.messages.Request.{Request};
 ghost use Rattle.hx_framing.specs.RequestStream.{StreamSpells};
 ghost use Rattle.proxy_engine.specs.Peeked.{Represents, RequestRepresents, load};
@@ -15,9 +15,10 @@ use crate::endpoints::readers::Reader;
 use hx_framing::{Next, RequestReader};
 use std::alloc::{AllocError, Global};
 
-/// A reader whose next answer is kept until it is used.
+/// A reader whose next answer is kept until it is used. What comes of its stream goes to `inner`, and then it is asked
+/// again.
 pub struct Peeked<R: Reader> {
-    inner: R,
+    pub(crate) inner: R,
     ahead: Lookahead<R::Message>,
 }
 
@@ -42,40 +43,16 @@ impl<R: Reader> Peeked<R> {
         }
     }
 
-    /// Makes room, so that one `feed` of at most n bytes finds its memory. An `Err` changes nothing.
-    pub fn reserve(&mut self, n: usize) -> Result<(), AllocError>
-        ensures ok { OnOk result (n ≤ R.spare self.new.inner) }
-        ensures represents { (p : Progress R.Message) → Represents R.RepresentsStream R.Answers self.old p
-            → Represents R.RepresentsStream R.Answers self.new p }
-        ensures ahead { self.new.ahead ≡ self.old.ahead }
-        ensures load { load R.weight self.new ≡ load R.weight self.old }
-        ensures err { OnErr result (self.new ≡ self.old) }
+    /// More of the stream has come, or its end: where nothing was due yet, something may be now.
+    pub(crate) fn ask_again(&mut self)
+        ensures inner { self.new.inner ≡ self.old.inner }
+        ensures ahead { self.new.ahead ≡ asked_again self.old.ahead }
     {
-        self.inner.reserve(n)
-    }
-
-    /// Takes the next piece of the stream, before `finish`. An `Err` changes nothing.
-    pub fn feed(&mut self, piece: &[u8]) -> Result<(), AllocError>
-        ensures represents { OnOk result
-            ((p : Progress R.Message) → Represents R.RepresentsStream R.Answers self.old p → p.ended
-            ≡ false → Represents R.RepresentsStream R.Answers self.new (fed p piece.now)) }
-        ensures load { load R.weight self.new ≤ load R.weight self.old + 2 * length piece.now }
-        ensures reserved { length piece.now ≤ R.spare self.old.inner → IsOk result }
-        ensures err { OnErr result (self.new ≡ self.old) }
-    {
-        self.inner.feed(piece)?;
-        self.ahead.ask_again();
-        Ok(())
-    }
-
-    /// The stream has ended. No memory is taken.
-    pub fn finish(&mut self)
-        ensures represents { (p : Progress R.Message) → Represents R.RepresentsStream R.Answers self.old p
-            → Represents R.RepresentsStream R.Answers self.new (finished p) }
-        ensures load { load R.weight self.new ≤ load R.weight self.old + R.end_weight }
-    {
-        self.inner.finish();
-        self.ahead.ask_again();
+        match self.ahead {
+            Lookahead::Unknown => {}
+            Lookahead::Quiet => self.ahead = Lookahead::Unknown,
+            Lookahead::Due(_) => {}
+        }
     }
 
     /// Sees what is due next, and keeps it. Whatever it answers, it stands for the same streams.

@@ -1,90 +1,53 @@
 //! The first act that is due: an exchange is abandoned, else one is finished, else a request that waited is woken, else
 //! a connection is served.
-ghost use Rattle.std.specs.Prelude.{◌≡◌, ◌<◌, ◌≤◌, None, Some, Err, IfOk, IfErr, OnErr};
+ghost use Rattle.std.specs.Prelude.{◌≡◌, ◌<◌, ◌≤◌, Err, IfOk, IfErr, OnErr};
 ghost use Rattle.hx_fields.specs.declared.limits.TheConstants.{END_OF_TIME};
-ghost use Rattle.proxy_engine.specs.EngineModel.{EngineModel, no_connection, no_link};
-ghost use Rattle.proxy_engine.specs.Due.{IsFirst, Lost, FinishDue, next_ready};
-ghost use Rattle.proxy_engine.specs.State.{Represents, NoneLost, load_at, Did, Failed, Lessens};
+ghost use Rattle.proxy_engine.specs.EngineModel.{EngineModel};
+ghost use Rattle.proxy_engine.specs.State.{Represents, load_at, Did, Failed, Lessens};
 ghost use Rattle.proxy_engine.specs.Exhausted.{ReportsExhausted};
+ghost use Rattle.proxy_engine.specs.DueActs.{IsFound};
 
+use crate::endpoints::numbers::connection_place;
 use crate::engine::Engine;
 use crate::work::{EngineFault, Work};
 use hx_store::Shelf;
-use std::alloc::Global;
+use std::alloc::{AllocError, Global};
+
+/// The first act that is due, or that none is. Places are those of connections, or of the link that is finished.
+#[derive(Clone, Copy)]
+pub(crate) enum DueAct {
+    /// The client at a place is gone, and its exchange is open: on this link, if its request went forward.
+    Abandon(u64, Option<u64>),
+    /// An answer or a failure stands on the link at a place.
+    Finish(u64),
+    /// The request of the client at a place waited, and may be judged anew.
+    Wake(u64),
+    /// The stream of the client at a place asks for something.
+    Serve(u64),
+    Nothing,
+}
 
 impl<S: Shelf> Engine<S> {
-    /// Serves the first connection on which something is due, where nothing else is.
-    fn serve_first(&mut self, alloc: Global, now: u64) -> Result<Work, EngineFault>
-        requires early { now < END_OF_TIME }
-        ensures ok { IfOk result (λ work. (s : EngineModel) → IsFirst Lost no_connection s.connections None
-            → IsFirst FinishDue no_link s.links None
-            → next_ready s.core ≡ None → Represents self.old s → Did s now work self.new) }
-        ensures less { IfOk result (λ work. Lessens self.old work self.new) }
-        ensures fault { IfErr result (λ fault. (s : EngineModel) → IsFirst Lost no_connection s.connections None
-            → IsFirst FinishDue no_link s.links None
-            → next_ready s.core ≡ None → Represents self.old s → Failed s fault) }
-        ensures unchanged { OnErr result ((s : EngineModel) → Represents self.old s → Represents self.new s) }
-        ensures no_more { OnErr result (load_at self.new ≤ load_at self.old) }
+    /// The first act that is due, in the order of the variants. What the looks find is kept.
+    fn first_due_act(&mut self, alloc: Global) -> Result<DueAct, AllocError>
+        ensures found { IfOk result (λ act. IsFound self.old self.new act) }
+        ensures exhausted { OnErr result ((s : EngineModel) → Represents self.old s → ReportsExhausted s self.new) }
+        ensures represents { (s : EngineModel) → Represents self.old s → Represents self.new s }
+        ensures load { load_at self.new ≤ load_at self.old }
     {
-        match self.ends.connections.find_due(alloc) {
-            Ok(Some(i)) => match self.serve(alloc, now, i) {
-                Ok(effects) => Ok(Work::Did(effects)),
-                Err(fault) => Err(fault),
-            },
-            Ok(None) => Ok(Work::Idle),
-            Err(_) => Err(EngineFault::OutOfMemory),
+        if let Some((place, link)) = self.ends.connections.find_lost() {
+            return Ok(DueAct::Abandon(place, link));
         }
-    }
-
-    /// Wakes the first request to arrive of those that waited and may be woken, where no client with an exchange is
-    /// gone.
-    fn wake_first(&mut self, alloc: Global, now: u64) -> Result<Work, EngineFault>
-        requires early { now < END_OF_TIME }
-        requires here { NoneLost self.old.connections }
-        ensures ok { IfOk result (λ work. (s : EngineModel) → IsFirst Lost no_connection s.connections None
-            → IsFirst FinishDue no_link s.links None
-            → Represents self.old s → Did s now work self.new) }
-        ensures less { IfOk result (λ work. Lessens self.old work self.new) }
-        ensures fault { IfErr result (λ fault. (s : EngineModel) → IsFirst Lost no_connection s.connections None
-            → IsFirst FinishDue no_link s.links None
-            → Represents self.old s → Failed s fault) }
-        ensures exhausted { result ≡ Err EngineFault.OutOfMemory → (s : EngineModel)
-            → IsFirst Lost no_connection s.connections None → IsFirst FinishDue no_link s.links None
-            → Represents self.old s → ReportsExhausted s self.new }
-        ensures unchanged { OnErr result ((s : EngineModel) → Represents self.old s → Represents self.new s) }
-        ensures no_more { OnErr result (load_at self.new ≤ load_at self.old) }
-    {
-        match self.core.first_ready() {
-            Some(id) => match self.wake(alloc, now, id) {
-                Ok(effects) => Ok(Work::Did(effects)),
-                Err(fault) => Err(fault),
-            },
-            None => self.serve_first(alloc, now),
+        if let Some(place) = self.ends.links.find_finished(alloc)? {
+            return Ok(DueAct::Finish(place));
         }
-    }
-
-    /// Finishes the first exchange whose link has an answer or a failure, where no client with an exchange is gone.
-    fn finish_first(&mut self, alloc: Global, now: u64) -> Result<Work, EngineFault>
-        requires early { now < END_OF_TIME }
-        requires here { NoneLost self.old.connections }
-        ensures ok { IfOk result (λ work. (s : EngineModel) → IsFirst Lost no_connection s.connections None
-            → Represents self.old s → Did s now work self.new) }
-        ensures less { IfOk result (λ work. Lessens self.old work self.new) }
-        ensures fault { IfErr result (λ fault. (s : EngineModel) → IsFirst Lost no_connection s.connections None
-            → Represents self.old s → Failed s fault) }
-        ensures exhausted { result ≡ Err EngineFault.OutOfMemory → (s : EngineModel)
-            → IsFirst Lost no_connection s.connections None
-            → Represents self.old s → ReportsExhausted s self.new }
-        ensures unchanged { OnErr result ((s : EngineModel) → Represents self.old s → Represents self.new s) }
-        ensures no_more { OnErr result (load_at self.new ≤ load_at self.old) }
-    {
-        match self.ends.links.find_finished(alloc) {
-            Ok(Some(j)) => match self.finish(alloc, now, j) {
-                Ok(effects) => Ok(Work::Did(effects)),
-                Err(fault) => Err(fault),
-            },
-            Ok(None) => self.wake_first(alloc, now),
-            Err(_) => Err(EngineFault::OutOfMemory),
+        if let Some(id) = self.core.first_ready() {
+            prove!(id > 0);
+            return Ok(DueAct::Wake(connection_place(id)));
+        }
+        match self.ends.connections.find_due(alloc)? {
+            Some(place) => Ok(DueAct::Serve(place)),
+            None => Ok(DueAct::Nothing),
         }
     }
 
@@ -102,12 +65,28 @@ impl<S: Shelf> Engine<S> {
         ensures unchanged { OnErr result ((s : EngineModel) → Represents self.old s → Represents self.new s) }
         ensures no_more { OnErr result (load_at self.new ≤ load_at self.old) }
     {
-        match self.ends.connections.find_lost() {
-            Some((i, link)) => match self.abandon(alloc, i, link) {
+        let act = match self.first_due_act(alloc) {
+            Ok(act) => act,
+            Err(_) => return Err(EngineFault::OutOfMemory),
+        };
+        match act {
+            DueAct::Abandon(place, link) => match self.abandon(alloc, place, link) {
                 Ok(effects) => Ok(Work::Did(effects)),
                 Err(_) => Err(EngineFault::OutOfMemory),
             },
-            None => self.finish_first(alloc, now),
+            DueAct::Finish(place) => match self.finish(alloc, now, place) {
+                Ok(effects) => Ok(Work::Did(effects)),
+                Err(fault) => Err(fault),
+            },
+            DueAct::Wake(place) => match self.wake(alloc, now, place) {
+                Ok(effects) => Ok(Work::Did(effects)),
+                Err(fault) => Err(fault),
+            },
+            DueAct::Serve(place) => match self.serve(alloc, now, place) {
+                Ok(effects) => Ok(Work::Did(effects)),
+                Err(fault) => Err(fault),
+            },
+            DueAct::Nothing => Ok(Work::Idle),
         }
     }
 }

@@ -159,9 +159,8 @@ impl<S: Shelf> Engine<S> {
         ensures err { OnErr result (self.new ≡ self.old) }
     {
         let effects = room(alloc)?;
-        let count = self.ends.connections.len();
-        prove!(i < count);
-        match self.core.abandon(i + 1) {
+        let id = self.ends.connections.number_at(i);
+        match self.core.abandon(id) {
             Ok(_) => {}
             Err(_) => unreachable!(),
         }
@@ -179,9 +178,8 @@ impl<S: Shelf> Engine<S> {
         ensures err { OnErr result (self.new ≡ self.old) }
     {
         let mut effects = room(alloc)?;
-        let count = self.ends.connections.len();
-        prove!(i < count);
-        match self.core.abandon(i + 1) {
+        let id = self.ends.connections.number_at(i);
+        match self.core.abandon(id) {
             Ok(_) => {}
             Err(_) => unreachable!(),
         }
@@ -207,11 +205,10 @@ impl<S: Shelf> Engine<S> {
         let mut effects = room(alloc)?;
         self.ends.links.reserve_one(alloc)?;
         let i = self.ends.links.at(j).connection;
-        let count = self.ends.connections.len();
-        prove!(i < count);
+        let id = self.ends.connections.number_at(i);
         let address = replace(&mut self.ends.address, Vec::new(alloc));
-        let mut upstream = upstream_again(&self.core, address, i + 1)?;
-        let outcome = end(self.ends.links.at(j), &mut self.core, alloc, now, i + 1)?;
+        let mut upstream = upstream_again(&self.core, address, id)?;
+        let outcome = end(self.ends.links.at(j), &mut self.core, alloc, now, id)?;
         upstream.set_address(self.core.config(), &outcome);
         free(&mut self.ends.connections, &mut self.ends.links, j, i);
         put(&mut effects, Effect::Drop(self.ends.number_at(j)));

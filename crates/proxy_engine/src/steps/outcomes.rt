@@ -4,6 +4,7 @@ ghost use Rattle.std.specs.Prelude.{true, false, is_some, Option, IfOk, OnOk, No
 ghost use Rattle.std.specs.Prelude.{slice_index_or, slice_set};
 ghost use Rattle.proxy_core.specs.Replies.{is_head};
 ghost use Rattle.proxy_core.specs.State.{State as CoreState};
+ghost use Rattle.proxy_engine.specs.Numbers.{link_number};
 ghost use Rattle.proxy_engine.specs.EngineModel.{EngineModel, ConnectionModel, with_connection};
 ghost use Rattle.proxy_engine.specs.Acts.{closing, doing, came_at, came, HasRoomFor, effects_on, after_on, freed};
 ghost use Rattle.proxy_engine.specs.Acts.{with_opened};
@@ -20,6 +21,7 @@ use crate::endpoints::connections::Connections;
 use crate::endpoints::ends::Link;
 use crate::endpoints::links::Links;
 use crate::endpoints::marks;
+use crate::endpoints::numbers::link_number;
 use crate::endpoints::open_ends::Ends;
 use crate::endpoints::peeked::Peeked;
 use hx_allow::Config;
@@ -81,12 +83,11 @@ pub(crate) fn send_reply(
     ensures less { close ≡ true
         → sum_by connection_load connections.new.items < sum_by connection_load connections.old.items }
 {
-    let count = connections.len();
-    prove!(i < count);
+    let number = connections.number_at(i);
     marks::close_at(connections, i, close);
-    put(effects, Effect::Client(i + 1, bytes));
+    put(effects, Effect::Client(number, bytes));
     if close {
-        put(effects, Effect::Close(i + 1));
+        put(effects, Effect::Close(number));
     }
 }
 
@@ -224,9 +225,10 @@ pub(crate) fn free_lost(connections: &mut Connections, links: &mut Links, j: u64
 impl Ends {
     /// The number of the link at a place.
     pub(crate) fn number_at(&self, place: u64) -> u64
-        ensures { self.now.first_link + place < 2 ^ 64 → result ≡ self.now.first_link + place }
+        ensures { link_number self.now.first_link place < 2 ^ 64
+            → result ≡ link_number self.now.first_link place }
     {
-        self.first_link.wrapping_add(place)
+        link_number(self.first_link, place)
     }
 
     /// Whether no link number is left.

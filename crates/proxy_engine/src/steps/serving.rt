@@ -51,11 +51,10 @@ fn send_continue(
     ensures err { OnErr result (connections.new ≡ connections.old) }
 {
     let mut effects = room(alloc)?;
-    let count = connections.len();
-    prove!(i < count);
+    let number = connections.number_at(i);
     let bytes = Bytes::copy_of(alloc, b"HTTP/1.1 100 Continue\r\n\r\n")?;
     marks::pass_at(connections, i);
-    put(&mut effects, Effect::Client(i + 1, bytes));
+    put(&mut effects, Effect::Client(number, bytes));
     Ok(effects)
 }
 
@@ -106,10 +105,9 @@ fn shut(connections: &mut Connections, alloc: Global, i: u64) -> Result<Vec<Effe
     ensures err { OnErr result (connections.new ≡ connections.old) }
 {
     let mut effects = room(alloc)?;
-    let count = connections.len();
-    prove!(i < count);
+    let number = connections.number_at(i);
     marks::close_at(connections, i, true);
-    put(&mut effects, Effect::Close(i + 1));
+    put(&mut effects, Effect::Close(number));
     Ok(effects)
 }
 
@@ -138,9 +136,8 @@ impl<S: Shelf> Engine<S> {
         self.ends.links.reserve_one(alloc)?;
         let address = replace(&mut self.ends.address, Vec::new(alloc));
         let mut upstream = Upstream::new(address, self.core.config(), asked)?;
-        let count = self.ends.connections.len();
-        prove!(i < count);
-        let outcome = match self.core.arrive(alloc, now, i + 1, asked) {
+        let id = self.ends.connections.number_at(i);
+        let outcome = match self.core.arrive(alloc, now, id, asked) {
             Ok(outcome) => outcome,
             Err(fault) => return Err(lacks_memory(fault)),
         };

@@ -1,7 +1,8 @@
 //! A request that waited for the answer to another is judged anew.
-ghost use Rattle.std.specs.Prelude.{◌≡◌, ℕ, ◌+◌, ◌<◌, ◌^◌, length, Some, IfOk, IfErr, OnOk, OnErr};
+ghost use Rattle.std.specs.Prelude.{◌≡◌, ◌+◌, ◌<◌, ◌^◌, length, Some, IfOk, IfErr, OnOk, OnErr};
 ghost use Rattle.hx_fields.specs.declared.limits.TheConstants.{END_OF_TIME};
 ghost use Rattle.proxy_core.specs.Waiting.{IsReady};
+ghost use Rattle.proxy_engine.specs.Numbers.{connection_number};
 ghost use Rattle.proxy_engine.specs.EngineModel.{EngineModel};
 ghost use Rattle.proxy_engine.specs.Due.{Wakes, IsDueFirst};
 ghost use Rattle.proxy_engine.specs.State.{Represents, NoneLost, load_at, Done, Failed};
@@ -20,7 +21,7 @@ impl<S: Shelf> Engine<S> {
     /// The request of the connection at a place is judged anew, where a link number is left for it. All that can fail
     /// comes before the core's step, or is that step.
     fn wake_at(&mut self, alloc: Global, now: u64, i: u64) -> Result<Vec<Effect>, AllocError>
-        requires ready { IsReady (i + 1) self.old.core.exchanges }
+        requires ready { IsReady (connection_number i) self.old.core.exchanges }
         requires here { NoneLost self.old.connections }
         requires left { self.old.first + length self.old.links < 2 ^ 64 }
         requires early { now < END_OF_TIME }
@@ -31,11 +32,10 @@ impl<S: Shelf> Engine<S> {
     {
         let mut effects = room(alloc)?;
         self.ends.links.reserve_one(alloc)?;
-        let count = self.ends.connections.len();
-        prove!(i < count);
+        let id = self.ends.connections.number_at(i);
         let address = replace(&mut self.ends.address, Vec::new(alloc));
-        let mut upstream = upstream_again(&self.core, address, i + 1)?;
-        let outcome = match self.core.wake(alloc, now, i + 1) {
+        let mut upstream = upstream_again(&self.core, address, id)?;
+        let outcome = match self.core.wake(alloc, now, id) {
             Ok(outcome) => outcome,
             Err(fault) => return Err(lacks_memory(fault)),
         };
@@ -46,30 +46,29 @@ impl<S: Shelf> Engine<S> {
         Ok(effects)
     }
 
-    /// The request of an id is judged anew, unless no link number is left for it. That is told before any memory is
-    /// asked for.
+    /// The request of the connection at a place is judged anew, unless no link number is left for it. That is told
+    /// before any memory is asked for.
     pub(crate) fn wake(
         &mut self,
         alloc: Global,
         now: u64,
-        id: u64,
+        i: u64,
     ) -> Result<Vec<Effect>, EngineFault>
-        requires ready { IsReady id self.old.core.exchanges }
+        requires ready { IsReady (connection_number i) self.old.core.exchanges }
         requires here { NoneLost self.old.connections }
         requires early { now < END_OF_TIME }
-        ensures ok { IfOk result (λ effects. (s : EngineModel) → (i : ℕ) → id ≡ i + 1 → Represents self.old s
+        ensures ok { IfOk result (λ effects. (s : EngineModel) → Represents self.old s
             → Done s now (Wakes i) effects.items self.new) }
         ensures less { OnOk result (load_at self.new < load_at self.old) }
         ensures exhausted { result ≡ Err EngineFault.OutOfMemory → self.old.first + length self.old.links < 2 ^ 64 }
-        ensures fault { IfErr result (λ fault. (s : EngineModel) → (i : ℕ) → id ≡ i + 1 → IsDueFirst s (Some (Wakes i))
+        ensures fault { IfErr result (λ fault. (s : EngineModel) → IsDueFirst s (Some (Wakes i))
             → Represents self.old s → Failed s fault) }
         ensures err { OnErr result (self.new ≡ self.old) }
     {
         if self.ends.is_exhausted() {
             return Err(EngineFault::Spent);
         }
-        prove!(id > 0);
-        match self.wake_at(alloc, now, id - 1) {
+        match self.wake_at(alloc, now, i) {
             Ok(effects) => Ok(effects),
             Err(_) => Err(EngineFault::OutOfMemory),
         }

@@ -19,11 +19,11 @@ returns-clause-ok g c = rw (← c.self.view_is) (
     let numbers : s.first + length s.links ≤ 2 ^ 64 = h.numbers in
     let within = within_links c.self.inside.ends.connections.items c.self.inside.ends.links.items c.self.inside.core.exchanges c.args.i c.args.l (rw (← c.self.view_is) at c.requires.linked) c.self.invariant in
     let number : c.number_at.result ≡ c.self.inside.ends.first_link + c.args.l = c.number_at.ensures (omega (arith, links, within)) in
-    abandoned_done s c.free_lost.new.connections.items c.free_lost.new.links.items c.self.inside.core c.abandon.new.self c.self.inside.ends.first_link now c.args.i c.args.l c.in-Ok.field-0 c.put.new.effects.items c.in-Ok.ensures.ok
+    abandoned_done s c.free_lost.new.connections.items c.free_lost.new.links.items c.self.inside.core c.abandon.new.self c.self.inside.ends.first_link now c.args.i c.args.l c.in-Ok.field-0 c.put.new.effects.items (rw c.number_at-id.ensures at c.in-Ok.ensures.ok)
     (emitted_one c.in_ok-effects.effects.items c.put.new.effects.items _ c.put.ensures.items c.in_ok-effects.ensures.items ∙ ap (λ (n : ℕ). Drop n ∷ []) number) first_is h.core
     (c.free_lost.ensures.represents s c.self.inside.core c.self.inside.ends.first_link h)
     )
 
 pub invariant_of-self : goal.invariant_of-self
 invariant_of-self g c = paired_ended c.self.inside.ends.connections.items c.free_lost.new.connections.items c.self.inside.ends.links.items c.free_lost.new.links.items c.self.inside.core.exchanges c.abandon.new.self.exchanges c.args.i c.args.l (rw (← c.self.view_is) at c.requires.linked) c.free_lost.ensures.activities c.free_lost.ensures.owners
-    None (ap (λ (k : CoreState). k.exchanges) c.in-Ok.ensures.ok.leaves) c.self.invariant
+    None (ap (λ (k : CoreState). k.exchanges) (rw c.number_at-id.ensures at c.in-Ok.ensures.ok).leaves) c.self.invariant

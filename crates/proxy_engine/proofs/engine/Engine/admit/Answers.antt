@@ -16,9 +16,8 @@ use Rattle.proxy_engine.proofs.Ending.{two_more}
 use Rattle.proxy_engine.proofs.Stepping.{arrived_done}
 use Rattle.proxy_engine.proofs.engine.Engine.admit.Goals as goal
 
-pub prove-unreachable-requires : goal.prove-unreachable-requires
-prove-unreachable-requires g c = let within = inside c.self.inside.ends.connections.items c.args.i (free_there _ (action_free _ (rw (← c.self.view_is) at c.requires.due))) in
-    absurd (omega (arith, within, c.if-prove.true, c.len-count.ensures))
+pub number_at-id-requires : goal.number_at-id-requires
+number_at-id-requires g c = inside c.self.inside.ends.connections.items c.args.i (free_there _ (action_free _ (rw (← c.self.view_is) at c.requires.due)))
 
 pub returns-clause-less : goal.returns-clause-less
 returns-clause-less g c = rw (← c.self.view_is) (
@@ -35,11 +34,11 @@ returns-clause-ok g c = rw (← c.self.view_is) (
     let core = c.self.inside.core in
     let upstream = c.set_address.new.self in
     let led : came_at upstream.address.items c.in-Ok.outcome ≡ came core.table c.in-Ok.outcome =
-    c.set_address.ensures.came ∙ ap (λ (t : Table). came t c.in-Ok.outcome) (c.config-2.ensures ∙ ap (λ (k : CoreState). k.table) c.in-Ok.ensures.ok.leaves) in
+    c.set_address.ensures.came ∙ ap (λ (t : Table). came t c.in-Ok.outcome) (c.config-2.ensures ∙ ap (λ (k : CoreState). k.table) (rw c.number_at-id.ensures at c.in-Ok.ensures.ok).leaves) in
     let here = subst (λ (ls : List (Option Link)). Represents (state c.self.inside.ends.connections.items ls core c.self.inside.ends.first_link) s) (sym same) h in
     subst (λ (n : ℕ). Done s c.args.now (Serves c.args.i (Message r)) c.carry_out.new.effects.items (state c.carry_out.new.self.connections.items c.carry_out.new.self.links.items c.arrive.new.self n)) (sym c.carry_out.ensures.first)
     (arrived_done s c.pass_at.new.connections.items c.carry_out.new.self.connections.items ks c.carry_out.new.self.links.items core c.arrive.new.self c.self.inside.ends.first_link c.args.now c.args.i upstream.max_body r c.args.asked.now c.in-Ok.outcome
-    upstream.address.items upstream.to_head c.carry_out.new.effects.items asked c.in-Ok.ensures.ok (omega (arith, (rw (← c.self.view_is) at c.requires.left), ap length same))
+    upstream.address.items upstream.to_head c.carry_out.new.effects.items asked (rw c.number_at-id.ensures at c.in-Ok.ensures.ok) (omega (arith, (rw (← c.self.view_is) at c.requires.left), ap length same))
     led
     (c.set_address.ensures.max_body ∙ c.in_ok-upstream.ensures.max_body ∙ ap (λ (t : Table). t.max_body) c.config.ensures) (c.set_address.ensures.to_head ∙ c.in_ok-upstream.ensures.to_head)
     (c.carry_out.ensures.effects ∙ ap (λ (b : List Effect). b ++ effects_on c.args.i (c.self.inside.ends.first_link + length ks) (came_at upstream.address.items c.in-Ok.outcome)) c.in_ok-effects.ensures.items)
@@ -50,7 +49,7 @@ returns-clause-ok g c = rw (← c.self.view_is) (
 pub lacks_memory-requires : goal.lacks_memory-requires
 lacks_memory-requires g c = let exchanges = c.self.inside.core.exchanges in
     let free = not_open c.self.inside.ends.connections.items c.self.inside.ends.links.items exchanges c.args.i (action_free _ (rw (← c.self.view_is) at c.requires.due)) c.self.invariant in
-    arrival_refused exchanges c.args.now (c.args.i + 1) c.args.asked.now c.in-Err.fault free.1 c.requires.early c.in-Err.ensures.err
+    arrival_refused exchanges c.args.now (c.args.i + 1) c.args.asked.now c.in-Err.fault free.1 c.requires.early (rw c.number_at-id.ensures at c.in-Err.ensures.err)
 
 pub invariant_of-self-2 : goal.invariant_of-self-2
 invariant_of-self-2 g c = let cs = c.self.inside.ends.connections.items in
@@ -58,7 +57,7 @@ invariant_of-self-2 g c = let cs = c.self.inside.ends.connections.items in
     let core = c.self.inside.core in
     let idle = action_free _ (rw (← c.self.view_is) at c.requires.due) in
     let free = not_open cs c.self.inside.ends.links.items core.exchanges i idle c.self.invariant in
-    subst (λ (xs : List Exchange). Paired (activities_of c.carry_out.new.self.connections.items) (owners_of c.carry_out.new.self.links.items) xs) (sym (ap (λ (k : CoreState). k.exchanges) c.in-Ok.ensures.ok.leaves))
+    subst (λ (xs : List Exchange). Paired (activities_of c.carry_out.new.self.connections.items) (owners_of c.carry_out.new.self.links.items) xs) (sym (ap (λ (k : CoreState). k.exchanges) (rw c.number_at-id.ensures at c.in-Ok.ensures.ok).leaves))
     (paired_arrived core.table cs c.pass_at.new.connections.items c.carry_out.new.self.connections.items c.reserve_one.new.self.items c.carry_out.new.self.links.items core.entries core.exchanges c.args.now i c.args.asked.now c.in-Ok.outcome
     (inside cs i (free_there _ idle)) c.pass_at.ensures.activities free.0 c.carry_out.ensures.activities c.carry_out.ensures.owners
     (subst (λ (ls : List (Option Link)). Paired (activities_of cs) (owners_of ls) core.exchanges) (sym c.reserve_one.ensures.items) c.self.invariant))

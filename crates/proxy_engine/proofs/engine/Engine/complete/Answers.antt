@@ -20,12 +20,11 @@ use Rattle.proxy_engine.proofs.engine.Engine.complete.Goals as goal
 pub at-requires : goal.at-requires
 at-requires g c = ap (λ (ls : List (Option Link)). is_some (get_or ls c.args.j None)) c.reserve_one.ensures.items ∙ finish_there _ (rw (← c.self.view_is) at c.requires.due)
 
-pub prove-unreachable-requires : goal.prove-unreachable-requires
-prove-unreachable-requires g c = let x = c.at.result.now in
+pub number_at-id-requires : goal.number_at-id-requires
+number_at-id-requires g c = let x = c.at.result.now in
     let there = subst (λ (ls : List (Option Link)). get_or ls c.args.j None ≡ Some x) c.reserve_one.ensures.items c.at.ensures in
     let link = owned_link c.self.inside.ends.connections.items c.self.inside.ends.links.items c.self.inside.core.exchanges c.args.j x there c.self.invariant in
-    let within = within_connections c.self.inside.ends.connections.items x.connection c.args.j link in
-    absurd (omega (arith, within, c.if-prove.true, c.len-count.ensures))
+    within_connections c.self.inside.ends.connections.items x.connection c.args.j link
 
 pub upstream_again-requires : goal.upstream_again-requires
 upstream_again-requires g c = let cs = c.self.inside.ends.connections.items in
@@ -33,7 +32,7 @@ upstream_again-requires g c = let cs = c.self.inside.ends.connections.items in
     let xs = c.self.inside.core.exchanges in
     let x = c.at.result.now in
     let there = subst (λ (ls : List (Option Link)). get_or ls c.args.j None ≡ Some x) c.reserve_one.ensures.items c.at.ensures in
-    is_open cs ks xs x.connection c.args.j (owned_link cs ks xs c.args.j x there c.self.invariant) c.self.invariant
+    rw c.number_at-id.ensures (is_open cs ks xs x.connection c.args.j (owned_link cs ks xs c.args.j x there c.self.invariant) c.self.invariant)
 
 pub at-requires-2 : goal.at-requires-2
 at-requires-2 g c = ap (λ (ls : List (Option Link)). is_some (get_or ls c.args.j None)) c.reserve_one.ensures.items ∙ finish_there _ (rw (← c.self.view_is) at c.requires.due)
@@ -48,7 +47,7 @@ end-requires-clause-open g c = let cs = c.self.inside.ends.connections.items in
     let xs = c.self.inside.core.exchanges in
     let x = c.at.result.now in
     let there = subst (λ (ls : List (Option Link)). get_or ls c.args.j None ≡ Some x) c.reserve_one.ensures.items c.at.ensures in
-    is_out cs ks xs x.connection c.args.j (owned_link cs ks xs c.args.j x there c.self.invariant) c.self.invariant
+    rw c.number_at-id.ensures (is_out cs ks xs x.connection c.args.j (owned_link cs ks xs c.args.j x there c.self.invariant) c.self.invariant)
 
 pub free-requires-clause-link : goal.free-requires-clause-link
 free-requires-clause-link g c = ap (λ (ls : List (Option Link)). is_some (get_or ls c.args.j None)) c.reserve_one.ensures.items ∙ finish_there _ (rw (← c.self.view_is) at c.requires.due)
@@ -74,7 +73,7 @@ carry_out-requires-clause-left g c = λ goes.
     let there = subst (λ (ls : List (Option Link)). get_or ls j None ≡ Some x) same c.at.ensures in
     let here = subst (λ (ls : List (Option Link)). get_or ls j None ≡ Some c.at-2.result.now) same c.at-2.ensures in
     let link = owned_link cs ks core.exchanges j x there c.self.invariant in
-    let ended = c.in_ok-outcome.ensures.ok in
+    let ended = (rw c.number_at-id.ensures at c.in_ok-outcome.ensures.ok) in
     let may = goes_given core c.end.new.core c.args.now (x.connection + 1) ended.0 c.in_ok-outcome.outcome (is_open cs ks core.exchanges x.connection j link c.self.invariant) ended.2 goes in
     let few = (rw (← c.self.view_is) at c.requires.left) ended.0 (ap finish_at here ∙ ended.1) may in
     omega (arith, few, c.free.ensures.links, ap length same)
@@ -90,12 +89,12 @@ invariant_of-self-2 g c = let cs = c.self.inside.ends.connections.items in
     let is_there = is_open cs ks core.exchanges x.connection c.args.j link c.self.invariant in
     let owners : owners_of c.free.new.links.items ≡ set (owners_of ks) c.args.j None = c.free.ensures.owners ∙ ap (λ (ls : List (Option Link)). set (owners_of ls) c.args.j None) same in
     paired_finished cs c.free.new.connections.items c.carry_out.new.self.connections.items ks c.free.new.links.items c.carry_out.new.self.links.items core.exchanges c.end.new.core.exchanges x.connection c.args.j c.in_ok-outcome.outcome link c.free.ensures.activities owners
-    c.carry_out.ensures.activities c.carry_out.ensures.owners is_there (remains core c.end.new.core c.args.now (x.connection + 1) c.in_ok-outcome.ensures.ok.0 c.in_ok-outcome.outcome is_there c.in_ok-outcome.ensures.ok.2) c.self.invariant
+    c.carry_out.ensures.activities c.carry_out.ensures.owners is_there (remains core c.end.new.core c.args.now (x.connection + 1) (rw c.number_at-id.ensures at c.in_ok-outcome.ensures.ok).0 c.in_ok-outcome.outcome is_there (rw c.number_at-id.ensures at c.in_ok-outcome.ensures.ok).2) c.self.invariant
 
 pub returns-clause-less : goal.returns-clause-less
 returns-clause-less g c = rw (← c.self.view_is) (
     let rooms = c.reserve_one.new.self.items in
-    let ended = c.in_ok-outcome.ensures.ok in
+    let ended = (rw c.number_at-id.ensures at c.in_ok-outcome.ensures.ok) in
     let counts : link_load (get_or rooms c.args.j None) ≡ 2 = link_counts (get_or rooms c.args.j None) ended.0 (ap finish_at c.at-2.ensures ∙ ended.1) in
     let cs = c.self.inside.ends.connections.items in
     let ks = c.self.inside.ends.links.items in
@@ -119,7 +118,7 @@ returns-clause-ok g c = rw (← c.self.view_is) (
     let items = c.reserve_one.ensures.items in
     let there = subst (λ (ls : List (Option Link)). get_or ls j None ≡ Some x) items c.at.ensures in
     let here = subst (λ (ls : List (Option Link)). get_or ls j None ≡ Some c.at-2.result.now) items c.at-2.ensures in
-    let ended = c.in_ok-outcome.ensures.ok in
+    let ended = (rw c.number_at-id.ensures at c.in_ok-outcome.ensures.ok) in
     let due = ap finish_at here ∙ ended.1 in
     let same : f ≡ ended.0 = one_finish (get_or ks j None) ended.0 f due shown in
     let within = inside ks j (finish_there (get_or ks j None) (rw (← c.self.view_is) at c.requires.due)) in
@@ -141,7 +140,7 @@ returns-clause-ok g c = rw (← c.self.view_is) (
     (subst (λ (x : Finish). Done s c.args.now (Finishes j x) c.carry_out.new.effects.items (state c.carry_out.new.self.connections.items c.carry_out.new.self.links.items c.end.new.core c.self.inside.ends.first_link)) (sym same)
     (finished_done s c.free.new.connections.items c.carry_out.new.self.connections.items c.free.new.links.items c.carry_out.new.self.links.items core c.end.new.core c.self.inside.ends.first_link c.args.now i j upstream.max_body ended.0 c.in_ok-outcome.outcome
     upstream.address.items upstream.to_head c.carry_out.new.effects.items is_there (λ t. let few = (rw (← c.self.view_is) at c.requires.left) ended.0 due t in omega (arith, few, links)) ended.2 led (c.set_address.ensures.max_body ∙ c.in_ok-upstream.ensures.max_body)
-    (c.set_address.ensures.to_head ∙ c.in_ok-upstream.ensures.to_head) (omega (arith, fresh, sizes, links, first_is))
+    (c.set_address.ensures.to_head ∙ (rw c.number_at-id.ensures at c.in_ok-upstream.ensures.to_head)) (omega (arith, fresh, sizes, links, first_is))
     (c.carry_out.ensures.effects ∙ ap (λ (b : List Effect). b ++ effects_on i (c.self.inside.ends.first_link + length c.free.new.links.items) (came_at upstream.address.items c.in_ok-outcome.outcome)) emitted)
     first_is h.core owner.connection free (λ t k most represents. subst (λ (n : ℕ). Represents (state c.carry_out.new.self.connections.items c.carry_out.new.self.links.items k n) (after_on i upstream.to_head (came_at upstream.address.items c.in_ok-outcome.outcome) t)) c.carry_out.ensures.first (c.carry_out.ensures.represents t k most represents))))
     )

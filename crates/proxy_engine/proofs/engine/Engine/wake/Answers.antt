@@ -7,9 +7,9 @@ use Rattle.proxy_engine.proofs.engine.Engine.wake.Goals as goal
 
 pub returns-then-is_exhausted-clause-fault : goal.returns-then-is_exhausted-clause-fault
 returns-then-is_exhausted-clause-fault g c = rw (← c.self.view_is) (
-    λ s i is due h.
+    λ s due h.
     let links = both_length LinkRepresents c.self.inside.ends.links.items s.links h.links in
     let first_is : c.self.inside.ends.first_link ≡ s.first = h.first in
     let many = leb-true (2 ^ 64) (c.self.inside.ends.first_link + length c.self.inside.ends.links.items) (sym c.is_exhausted.ensures ∙ c.if-is_exhausted.true) in
-    (Wakes i, due, tt, omega (arith, many, links))
+    (Wakes c.args.i, due, tt, omega (arith, many, links))
     )

@@ -9,15 +9,13 @@ use Rattle.proxy_engine.proofs.Changes.{free_there, action_free}
 use Rattle.proxy_engine.proofs.Acting.{emitted_one}
 use Rattle.proxy_engine.proofs.steps.serving.send_continue.Goals as goal
 
-pub prove-unreachable-requires : goal.prove-unreachable-requires
-prove-unreachable-requires c =
-    let within = inside c.args.connections.now.items c.args.i (free_there _ (action_free _ c.requires)) in
-    absurd (omega (arith, within, c.if-prove.true, c.len-count.ensures))
+pub number_at-number-requires : goal.number_at-number-requires
+number_at-number-requires c = inside c.args.connections.now.items c.args.i (free_there _ (action_free _ c.requires))
 
 pub returns-clause-ok : goal.returns-clause-ok
 returns-clause-ok c = λ s links core first now due h. record {
   after = with_connection s c.args.i (passing NeedsContinue);
-  does = (emitted_one c.in_ok-effects.effects.items c.put.new.effects.items _ c.put.ensures.items c.in_ok-effects.ensures.items ∙ ap (λ (b : List ℕ). Client (c.args.i + 1) b ∷ []) c.in_ok-bytes.ensures, refl);
+  does = (emitted_one c.in_ok-effects.effects.items c.put.new.effects.items _ (rw c.number_at-number.ensures at c.put.ensures.items) c.in_ok-effects.ensures.items ∙ ap (λ (b : List ℕ). Client (c.args.i + 1) b ∷ []) c.in_ok-bytes.ensures, refl);
   represents = c.pass_at.ensures.represents s NeedsContinue links core first due h;
 }
 

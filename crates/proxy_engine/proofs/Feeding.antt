@@ -1,0 +1,131 @@
+-- What comes for an end: room for bytes, bytes, and the end of its stream.
+use Rattle.std.proofs.Common.{◌≡◌, ℕ, ◌||◌, List, refl, sym, ap, ◌∙◌, subst, arith, Bool, true, false, cond, is_some}
+use Rattle.std.proofs.Math.Nat.{le_refl}
+use Rattle.hx_framing.specs.declared.messages.Request.{Request}
+use Rattle.hx_framing.specs.declared.messages.Response.{Response}
+use Rattle.hx_framing.specs.Progress.{Progress, fed, finished}
+use Rattle.hx_framing.specs.RequestState.{State as RequestState, RepresentsStream as RequestRepresentsStream, weight}
+use Rattle.hx_framing.specs.RequestStream.{Answers as RequestAnswers}
+use Rattle.hx_framing.specs.ResponseState.{State as ResponseState, RepresentsStream as ResponseRepresentsStream}
+use Rattle.hx_framing.specs.ResponseStream.{Answers as ResponseAnswers}
+use Rattle.hx_framing.proofs.RequestStreams.{due_fed as request_due_fed, due_finished as request_due_finished}
+use Rattle.hx_framing.proofs.ResponseStreams.{due_fed as response_due_fed, due_finished as response_due_finished}
+use Rattle.proxy_engine.specs.declared.endpoints.lookahead.Lookahead.{Lookahead}
+use Rattle.proxy_engine.specs.declared.endpoints.peeked.Peeked.{Peeked}
+use Rattle.proxy_engine.specs.declared.endpoints.ends.Connection.{Connection}
+use Rattle.proxy_engine.specs.declared.endpoints.ends.Link.{Link}
+use Rattle.proxy_engine.specs.Lookahead.{asked_again}
+use Rattle.proxy_engine.specs.EngineModel.{ConnectionModel, LinkModel, sent, ended, heard_by, shut}
+use Rattle.proxy_engine.specs.State.{ConnHolds, LinkHolds}
+use Rattle.proxy_engine.specs.Held.{GrowsConnection, GrowsLink}
+use Rattle.proxy_engine.proofs.Peeking.{kept_ahead, fed_ahead, finished_ahead, request_spare_represents, spare_represents}
+
+peeked_is : {S M : Type 0} (w : Peeked S M) (r : S) (l : Lookahead M) → w.inner ≡ r → w.ahead ≡ l → w ≡ record { inner = r; ahead = l }
+peeked_is {S} {M} w r l same again = ap {B = Peeked S M} (λ (s : S). record { inner = s; ahead = w.ahead }) same ∙ ap {B = Peeked S M} (λ (k : Lookahead M). record { inner = r; ahead = k }) again
+
+-- ---- room
+
+pub connection_grows : (x : Connection) (r : RequestState) → r ≡ record x.reader.inner { spare = r.spare } → GrowsConnection x (record x { reader = record { inner = r; ahead = x.reader.ahead } })
+connection_grows x r same =
+    let as_much : weight r ≡ weight x.reader.inner = ap weight same in
+    record {
+      alike = record {
+        represents = λ c h. record {
+          reader = kept_ahead RequestRepresentsStream RequestAnswers x.reader.inner r x.reader.ahead c.progress (λ q k. request_spare_represents x.reader.inner r q same k) h.reader;
+          ended = h.ended;
+          gone = h.gone;
+          activity = h.activity;
+          still = h.still;
+          used = h.used;
+        };
+        gone = refl;
+        activity = refl;
+        load = omega (arith, as_much);
+      };
+      ahead = refl;
+    }
+
+pub link_grows : (x : Link) (r : ResponseState) → r ≡ record x.reader.inner { spare = r.spare } → GrowsLink x (record x { reader = record { inner = r; ahead = x.reader.ahead } })
+link_grows x r same = record {
+  alike = record {
+    represents = λ k h. record {
+      reader = kept_ahead ResponseRepresentsStream ResponseAnswers x.reader.inner r x.reader.ahead k.progress (λ q g. spare_represents x.reader.inner r q same g) h.reader;
+      ended = h.ended;
+      failed = h.failed;
+      still = h.still;
+      connection = h.connection;
+    };
+    connection = refl;
+    load = le_refl _;
+  };
+  ahead = refl;
+  failed = refl;
+}
+
+-- ---- bytes
+
+connection_read : (x : Connection) (c : ConnectionModel) → x.gone ≡ false → x.ended ≡ false → ConnHolds x c → c.gone || (c.closed || c.progress.ended) ≡ false
+connection_read x c here still h =
+    ap (λ (b : Bool). b || (c.closed || c.progress.ended)) (sym h.gone ∙ here) ∙ (ap (λ (b : Bool). b || c.progress.ended) h.still ∙ (sym h.ended ∙ still))
+
+pub connection_fed : (x : Connection) (w : Peeked RequestState Request) (r : RequestState) (bytes : List ℕ) → x.gone ≡ false → x.ended ≡ false → w.inner ≡ r → w.ahead ≡ asked_again x.reader.ahead
+    → ((p : Progress Request) → RequestRepresentsStream x.reader.inner p → p.ended ≡ false → RequestRepresentsStream r (fed p bytes)) → (c : ConnectionModel) → ConnHolds x c → ConnHolds (record x { reader = w }) (sent bytes c)
+connection_fed x w r bytes here still same again feed c h =
+    subst (λ (b : Bool). ConnHolds (record x { reader = w }) (cond b c (record c { progress = fed c.progress bytes }))) (sym (connection_read x c here still h))
+    (subst (λ (v : Peeked RequestState Request). ConnHolds (record x { reader = v }) (record c { progress = fed c.progress bytes })) (sym (peeked_is w r (asked_again x.reader.ahead) same again))
+    (record {
+      reader = fed_ahead RequestRepresentsStream RequestAnswers x.reader.inner r x.reader.ahead c.progress bytes feed (λ q a. request_due_fed q a bytes) (sym h.ended ∙ still) h.reader;
+      ended = h.ended;
+      gone = h.gone;
+      activity = h.activity;
+      still = h.still;
+      used = h.used;
+    }))
+
+link_read : (x : Link) (k : LinkModel) → is_some x.failed ≡ false → x.ended ≡ false → LinkHolds x k → k.dropped || (is_some k.failed || k.progress.ended) ≡ false
+link_read x k here still h =
+    ap (λ (b : Bool). b || (is_some k.failed || k.progress.ended)) h.still ∙ (ap (λ (b : Bool). b || k.progress.ended) (ap is_some (sym h.failed) ∙ here) ∙ (sym h.ended ∙ still))
+
+pub link_fed : (x : Link) (w : Peeked ResponseState Response) (r : ResponseState) (bytes : List ℕ) → is_some x.failed ≡ false → x.ended ≡ false → w.inner ≡ r → w.ahead ≡ asked_again x.reader.ahead
+    → ((p : Progress Response) → ResponseRepresentsStream x.reader.inner p → p.ended ≡ false → ResponseRepresentsStream r (fed p bytes)) → (k : LinkModel) → LinkHolds x k → LinkHolds (record x { reader = w }) (heard_by bytes k)
+link_fed x w r bytes here still same again feed k h =
+    subst (λ (b : Bool). LinkHolds (record x { reader = w }) (cond b k (record k { progress = fed k.progress bytes }))) (sym (link_read x k here still h))
+    (subst (λ (v : Peeked ResponseState Response). LinkHolds (record x { reader = v }) (record k { progress = fed k.progress bytes })) (sym (peeked_is w r (asked_again x.reader.ahead) same again))
+    (record {
+      reader = fed_ahead ResponseRepresentsStream ResponseAnswers x.reader.inner r x.reader.ahead k.progress bytes feed (λ q a. response_due_fed q a bytes) (sym h.ended ∙ still) h.reader;
+      ended = h.ended;
+      failed = h.failed;
+      still = h.still;
+      connection = h.connection;
+    }))
+
+-- ---- the end
+
+pub connection_finished : (x : Connection) (w : Peeked RequestState Request) (r : RequestState) → x.gone ≡ false → w.inner ≡ r → w.ahead ≡ asked_again x.reader.ahead
+    → ((p : Progress Request) → RequestRepresentsStream x.reader.inner p → RequestRepresentsStream r (finished p)) → (c : ConnectionModel) → ConnHolds x c → ConnHolds (record x { reader = w; ended = true }) (ended c)
+connection_finished x w r here same again finish c h =
+    let open_now : c.gone || c.closed ≡ false = ap (λ (b : Bool). b || c.closed) (sym h.gone ∙ here) ∙ h.still in
+    subst (λ (b : Bool). ConnHolds (record x { reader = w; ended = true }) (cond b c (record c { progress = finished c.progress }))) (sym open_now)
+    (subst (λ (v : Peeked RequestState Request). ConnHolds (record x { reader = v; ended = true }) (record c { progress = finished c.progress })) (sym (peeked_is w r (asked_again x.reader.ahead) same again))
+    (record {
+      reader = finished_ahead RequestRepresentsStream RequestAnswers x.reader.inner r x.reader.ahead c.progress finish request_due_finished h.reader;
+      ended = refl;
+      gone = h.gone;
+      activity = h.activity;
+      still = h.still;
+      used = h.used;
+    }))
+
+pub link_finished : (x : Link) (w : Peeked ResponseState Response) (r : ResponseState) → is_some x.failed ≡ false → w.inner ≡ r → w.ahead ≡ asked_again x.reader.ahead
+    → ((p : Progress Response) → ResponseRepresentsStream x.reader.inner p → ResponseRepresentsStream r (finished p)) → (k : LinkModel) → LinkHolds x k → LinkHolds (record x { reader = w; ended = true }) (shut k)
+link_finished x w r here same again finish k h =
+    let open_now : k.dropped || is_some k.failed ≡ false = ap (λ (b : Bool). b || is_some k.failed) h.still ∙ (ap is_some (sym h.failed) ∙ here) in
+    subst (λ (b : Bool). LinkHolds (record x { reader = w; ended = true }) (cond b k (record k { progress = finished k.progress }))) (sym open_now)
+    (subst (λ (v : Peeked ResponseState Response). LinkHolds (record x { reader = v; ended = true }) (record k { progress = finished k.progress })) (sym (peeked_is w r (asked_again x.reader.ahead) same again))
+    (record {
+      reader = finished_ahead ResponseRepresentsStream ResponseAnswers x.reader.inner r x.reader.ahead k.progress finish response_due_finished h.reader;
+      ended = refl;
+      failed = h.failed;
+      still = h.still;
+      connection = h.connection;
+    }))

@@ -1,0 +1,6 @@
+use Rattle.proxy_engine.proofs.Feeding.{connection_fed}
+use Rattle.proxy_engine.proofs.takes.send.Goals as goal
+
+pub returns-clause-represents : goal.returns-clause-represents
+returns-clause-represents c =
+    connection_fed c.args.connection.now c.ask_again.new.self c.feed.new.self c.args.bytes.now c.if-connection.false c.if-connection-2.false c.ask_again.ensures.inner c.ask_again.ensures.ahead c.in_ok-feed.ensures.represents
