@@ -10,13 +10,14 @@ use Rattle.hx_framing.specs.Contents.{body_from}
 use Rattle.hx_framing.specs.declared.messages.Request.{Request}
 use Rattle.hx_framing.specs.declared.fault.FrameFault.{FrameFault}
 use Rattle.hx_framing.specs.declared.messages.Next.{Next}
-use Rattle.hx_framing.specs.Reading.{Reading, Incomplete, Continue, Over, Spelled, Faulty, with_body, IsSettled, extended}
+use Rattle.hx_framing.specs.Reading.{Reading, Spelled, Faulty, with_body, IsSettled, extended}
 use Rattle.hx_framing.specs.RequestReading.{request_of, Reads}
 use Rattle.hx_framing.specs.RequestHeadProgress.{Resumes}
 use Rattle.hx_framing.specs.RequestStream.{SpellsRequest, StreamSpells, Answers}
 use Rattle.hx_framing.specs.Progress.{Progress, next_of, fed, finished, IsDue}
 use Rattle.hx_framing.specs.RequestState.{State, RepresentsStream, Keeps}
 use Rattle.hx_framing.proofs.RequestOnce.{read_once_lem}
+use Rattle.hx_framing.proofs.StreamLemmas.{same_fault, next_extended, due_settled}
 use Rattle.hx_framing.proofs.RequestLemmas.{reads_message, reads_append, reads_ended, reads_over}
 
 pub spells_append : (max : ℕ) (stream : List ℕ) (ms : List Request) (rest w : List ℕ)
@@ -33,40 +34,26 @@ pub spells_push : (max : ℕ) (stream : List ℕ) (ms : List Request) (m : Reque
 spells_push max stream [] m mid rest s x = (rest, subst (λ (b : List ℕ). SpellsRequest max b m rest) s x, refl)
 spells_push max stream (n ∷ ms) m mid rest s x = (s.0, s.1, spells_push max s.0 ms m mid rest s.2 x)
 
-same_fault : (f g : FrameFault) → ◌≡◌ {A = Reading Request} (Faulty f) (Faulty g) → f ≡ g
-same_fault f g e = cc
-
 pub one_fault_lem : (max : ℕ) (t : Bool) (bytes more : List ℕ) (f g : FrameFault) → Reads max false t bytes (Faulty f)
     → Reads max false t (bytes ++ more) (Faulty g) → f ≡ g
 one_fault_lem max t bytes more f g x y = same_fault f g (read_once_lem max false t (bytes ++ more) (Faulty f) (Faulty g) (reads_append max t bytes more (Faulty f) tt x) y)
 
 -- ---- what is due stays due
 
-next_extended : (r : Reading Request) (w : List ℕ) → next_of (extended r w) ≡ next_of r
-next_extended Incomplete w = refl
-next_extended Continue w = refl
-next_extended Over w = refl
-next_extended (Spelled m rest) w = refl
-next_extended (Faulty f) w = refl
-
 -- before the stream's end no end is read
-due_settled : (max : ℕ) (t : Bool) (u : List ℕ) (r : Reading Request) → IsDue (next_of r) → Reads max false t u r → IsSettled r
-due_settled max t u Incomplete due x = due
-due_settled max t u Continue due x = tt
-due_settled max t u Over due x = absurd (reads_over max t u x)
-due_settled max t u (Spelled m rest) due x = tt
-due_settled max t u (Faulty f) due x = tt
+reads_settled : (max : ℕ) (t : Bool) (u : List ℕ) (r : Reading Request) → IsDue (next_of r) → Reads max false t u r → IsSettled r
+reads_settled max t u r due x = due_settled r due (λ over. reads_over max t u (subst (λ (r : Reading Request). Reads max false t u r) over x))
 
 due_ended : (max : ℕ) (e t : Bool) (u : List ℕ) (r : Reading Request) → IsDue (next_of r) → Reads max e t u r → Reads max true t u r
 due_ended max true t u r due x = x
-due_ended max false t u r due x = reads_ended max false t u r (due_settled max t u r due x) x
+due_ended max false t u r due x = reads_ended max false t u r (reads_settled max t u r due x) x
 
 -- what is due stays due, whatever comes behind it
 pub due_fed : (p : Progress Request) (a : Next Request) (w : List ℕ) → p.ended ≡ false → IsDue a → Answers p a → Answers (fed p w) a
 due_fed p a w open_still due x =
     let now : Reads p.max_body false p.continue_sent x.rest x.reading
     = subst (λ (e : Bool). Reads p.max_body e p.continue_sent x.rest x.reading) open_still x.reads in
-    let settled : IsSettled x.reading = due_settled p.max_body p.continue_sent x.rest x.reading (subst IsDue x.answer_is due) now in
+    let settled : IsSettled x.reading = reads_settled p.max_body p.continue_sent x.rest x.reading (subst IsDue x.answer_is due) now in
     record {
       rest = x.rest ++ w;
       reading = extended x.reading w;

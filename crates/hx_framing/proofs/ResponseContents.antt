@@ -1,5 +1,5 @@
 -- What a response reader reads in a content and before a head, as its functions have it.
-use Rattle.std.proofs.Common.{◌≡◌, ℕ, Bool, false, List, [], ◌++◌, drop, refl, sym, ap, ◌∙◌, subst, Option}
+use Rattle.std.proofs.Common.{◌≡◌, ℕ, Bool, false, List, [], ◌++◌, drop, refl, sym, ap, subst, Option}
 use Rattle.hx_framing.specs.declared.heads.status_head.StatusHead.{StatusHead}
 use Rattle.hx_framing.specs.declared.messages.Response.{Response}
 use Rattle.hx_framing.specs.declared.fault.FrameFault.{FrameFault}
@@ -7,17 +7,20 @@ use Rattle.hx_framing.specs.declared.contents.content.Content.{Content}
 use Rattle.hx_framing.specs.declared.contents.content.ContentProgress.{ContentProgress}
 use Rattle.hx_framing.specs.declared.contents.content.ContentProgress.TheVariants as content_progress
 use Rattle.hx_framing.specs.declared.readers.progress.HeadProgress.{HeadProgress}
+use Rattle.hx_framing.specs.declared.readers.progress.HeadProgress.TheVariants as head_progress
 use Rattle.hx_framing.specs.declared.readers.response_reader.ResponsePhase.TheVariants as phase
 use Rattle.hx_framing.specs.Body.{Body, Short, Whole}
 use Rattle.hx_framing.specs.Contents.{body_from, Advances}
 use Rattle.hx_framing.specs.ContentReading.{ReadsOn}
 use Rattle.hx_framing.specs.Reading.{Reading, Incomplete, Spelled, Faulty, cut_off, with_body}
-use Rattle.hx_framing.specs.Progress.{Progress}
+use Rattle.hx_framing.specs.Progress.{Progress, next_of}
 use Rattle.hx_framing.specs.ResponseReading.{response_of, Reads}
 use Rattle.hx_framing.specs.ResponseHeadProgress.{Resumes, IsHeadProgress}
 use Rattle.hx_framing.specs.ResponseState.{State, RepresentsStream}
+use Rattle.hx_framing.specs.ResponseStream.{Answers}
+use Rattle.hx_framing.proofs.StreamLemmas.{answer_of}
 use Rattle.hx_framing.proofs.ContentReadings.{body_faulty}
-use Rattle.hx_framing.proofs.ResponseStreams.{inside, content_reads, Same, represents_going}
+use Rattle.hx_framing.proofs.ResponseStreams.{answers_by, before, kept_reads, inside, content_reads, Same, represents_going}
 
 -- a reader in this content
 abbrev pub in_content : State → StatusHead → Content → State
@@ -65,12 +68,23 @@ represents_later b t p head content new n same going left k represents =
     (subst (λ (body : Body). Reads p.max_body p.to_head ended (p.stream ++ more) (with_body ended (response_of p.to_head head) body)) (k.2 more ended) (here.resumes more ended)) in
     represents_going (in_content b head content) t p head new same here.none going later represents
 
--- what is found in the unread bytes
-pub progress_of : (b : State) (max : ℕ) (h e : Bool) (slice unread : List ℕ) (f g : HeadProgress StatusHead Response) → max ≡ b.max_body → h ≡ b.to_head → e ≡ b.ended
-    → slice ≡ unread → unread ≡ b.unread → f ≡ g → IsHeadProgress max h e slice f → IsHeadProgress b.max_body b.to_head b.ended b.unread g
-progress_of b max h e slice unread f g same head ends read kept is x =
-    subst (λ (m : ℕ). IsHeadProgress m b.to_head b.ended b.unread g) same
-    (subst (λ (h : Bool). IsHeadProgress max h b.ended b.unread g) head
-    (subst (λ (e : Bool). IsHeadProgress max h e b.unread g) ends
-    (subst (λ (u : List ℕ). IsHeadProgress max h e u g) (read ∙ kept)
-    (subst (λ (f : HeadProgress StatusHead Response). IsHeadProgress max h e slice f) is x))))
+-- what was found before a head, by its case
+pub progress_of : (s : State) (f g : HeadProgress StatusHead Response) → f ≡ g → IsHeadProgress s.max_body s.to_head s.ended s.unread f
+    → IsHeadProgress s.max_body s.to_head s.ended s.unread g
+progress_of s f g is found = subst (λ (f : HeadProgress StatusHead Response). IsHeadProgress s.max_body s.to_head s.ended s.unread f) is found
+
+-- it is what is answered
+pub found_answers : (s : State) (p : Progress Response) (f g : HeadProgress StatusHead Response) → f ≡ g → s.phase ≡ phase.BeforeHead
+    → IsHeadProgress s.max_body s.to_head s.ended s.unread f → RepresentsStream s p → Answers p (answer_of g)
+found_answers s p f g is waiting found represents = by_case g (progress_of s f g is found)
+  where
+    by_reading : (r : Reading Response) → Reads s.max_body s.to_head s.ended s.unread r → Answers p (next_of r)
+    by_reading r reads = answers_by p s r (before s p waiting represents).none represents (kept_reads s p r waiting represents reads)
+
+    by_case : (g : HeadProgress StatusHead Response) → IsHeadProgress s.max_body s.to_head s.ended s.unread g → Answers p (answer_of g)
+    by_case (head_progress.Incomplete n) k = by_reading Incomplete k.1
+    by_case (head_progress.NeedsContinue head content n) k = absurd k
+    by_case (head_progress.InContent head content n) k = by_reading Incomplete k.1
+    by_case (head_progress.Message m n) k = by_reading (Spelled m (drop n s.unread)) k.1
+    by_case (head_progress.Faulty f) k = by_reading (Faulty f) k.1
+    by_case head_progress.Ended k = absurd k

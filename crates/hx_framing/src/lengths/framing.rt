@@ -2,7 +2,8 @@
 //! in `specs/Lengths.antt`.
 ghost use Rattle.std.specs.Prelude.{◌≡◌, ◌&&◌, IfOk};
 ghost use Rattle.hx_framing.specs.Lengths.{announced_or, is_chunked, ends_in_chunks, is_only_chunked};
-ghost use Rattle.hx_framing.specs.Lengths.{framing_of_codings, has_both, uncoded, has_endless_coding, framing_of_lengths};
+ghost use Rattle.hx_framing.specs.Lengths.{framing_of_codings, has_both, uncoded, has_endless_coding};
+ghost use Rattle.hx_framing.specs.Lengths.{framing_of_lengths};
 ghost use Rattle.hx_framing.specs.Lengths.{framing_of_request, expectation, has_content, request_body_of, is_interim};
 ghost use Rattle.hx_framing.specs.Lengths.{is_without_content, framing_of_final, with_status, framing_of_response};
 ghost use Rattle.hx_framing.specs.Lengths.{announced_of, without_lengths};
