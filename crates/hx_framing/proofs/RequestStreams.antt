@@ -1,6 +1,5 @@
 -- Streams of requests: bytes that come later, one more request, and what a reader stands for.
-use Rattle.std.proofs.Common.{◌≡◌, ℕ, Bool, true, false, List, [], ◌∷◌, ◌++◌, refl, sym, ap, subst, ◌∙◌, append_assoc, Result, Ok, Err, OnOk}
-use Rattle.std.proofs.lemmas.List.{append-nil}
+use Rattle.std.proofs.Common.{◌≡◌, ℕ, Bool, true, false, List, [], ◌∷◌, ◌++◌, refl, sym, ap, subst, ◌∙◌, Result, Ok, Err, OnOk}
 use Rattle.hx_framing.specs.declared.heads.request_head.Head.{Head}
 use Rattle.hx_framing.specs.declared.contents.content.Content.{Content}
 use Rattle.hx_framing.specs.declared.readers.request_reader.RequestPhase.{RequestPhase}
@@ -17,6 +16,7 @@ use Rattle.hx_framing.specs.RequestStream.{SpellsRequest, StreamSpells, Answers}
 use Rattle.hx_framing.specs.Progress.{Progress, next_of, fed, finished, IsDue}
 use Rattle.hx_framing.specs.RequestState.{State, RepresentsStream, Keeps}
 use Rattle.hx_framing.proofs.RequestOnce.{read_once_lem}
+use Rattle.hx_framing.proofs.ContentReadings.{resumes_now, resumes_fed}
 use Rattle.hx_framing.proofs.StreamLemmas.{same_fault, next_extended, due_settled}
 use Rattle.hx_framing.proofs.RequestLemmas.{reads_message, reads_append, reads_ended, reads_over}
 
@@ -109,10 +109,9 @@ inside s p head content waiting represents = subst (λ (f : RequestPhase). Keeps
 pub content_reads : (s : State) (p : Progress Request) (head : Head) (content : Content) (body : Body) → s.phase ≡ phase.InContent head content → (represents : RepresentsStream s p)
     → body_from content false s.unread ≡ body → Reads p.max_body p.ended p.continue_sent represents.rest (with_body s.ended (request_of head) body)
 content_reads s p head content body waiting represents is =
-    let here : Reads p.max_body p.ended p.continue_sent (represents.rest ++ []) (with_body p.ended (request_of head) (body_from content false (s.unread ++ []))) = inside s p head content waiting represents [] p.ended in
     subst (λ (e : Bool). Reads p.max_body p.ended p.continue_sent represents.rest (with_body e (request_of head) body)) (sym represents.ended)
-    (subst (λ (b : Body). Reads p.max_body p.ended p.continue_sent represents.rest (with_body p.ended (request_of head) b)) (ap (body_from content false) (append-nil s.unread) ∙ is)
-    (subst (λ (u : List ℕ). Reads p.max_body p.ended p.continue_sent u (with_body p.ended (request_of head) (body_from content false (s.unread ++ [])))) (append-nil represents.rest) here))
+    (subst (λ (b : Body). Reads p.max_body p.ended p.continue_sent represents.rest (with_body p.ended (request_of head) b)) is
+    (resumes_now (λ (e : Bool). Reads p.max_body e p.continue_sent) (request_of head) (λ (e : Bool). false) content represents.rest s.unread (inside s p head content waiting represents) p.ended))
 
 -- ---- what the reader is left with
 
@@ -144,12 +143,6 @@ represents_given s t p m max e waiting represents reads = record {
 
 -- ---- a piece has come
 
-resumes_fed : (max : ℕ) (t : Bool) (head : Head) (content : Content) (rest unread w : List ℕ) → Resumes max t head content rest unread
-    → Resumes max t head content (rest ++ w) (unread ++ w)
-resumes_fed max t head content rest unread w on = λ more ended.
-    subst (λ (u : List ℕ). Reads max ended t u (with_body ended (request_of head) (body_from content false ((unread ++ w) ++ more)))) (sym (append_assoc rest w more))
-    (subst (λ (u : List ℕ). Reads max ended t (rest ++ (w ++ more)) (with_body ended (request_of head) (body_from content false u))) (sym (append_assoc unread w more)) (on (w ++ more) ended))
-
 faulty_fed : (p : Progress Request) (rest w : List ℕ) (f : FrameFault) → p.ended ≡ false → Reads p.max_body p.ended p.continue_sent rest (Faulty f)
     → Reads p.max_body p.ended p.continue_sent (rest ++ w) (Faulty f)
 faulty_fed p rest w f open_still k =
@@ -170,7 +163,7 @@ represents_fed s t p piece max e same longer open_still represents = record {
     by_phase phase.BeforeHead k = (longer ∙ ap (λ u. u ++ piece) k.0, k.1)
     by_phase (phase.InContent head content) k =
         subst (λ (u : List ℕ). Resumes p.max_body p.continue_sent head content (represents.rest ++ piece) u) (sym longer)
-        (resumes_fed p.max_body p.continue_sent head content represents.rest s.unread piece k)
+        (resumes_fed (λ (e : Bool). Reads p.max_body e p.continue_sent) (request_of head) (λ (e : Bool). false) content represents.rest s.unread piece k)
     by_phase (phase.Faulty f) k = faulty_fed p represents.rest piece f open_still k
 
 -- after a fault what comes doesn't count

@@ -1,6 +1,5 @@
 -- Streams of one response: bytes that come later, and what a reader stands for.
-use Rattle.std.proofs.Common.{◌≡◌, ℕ, Bool, true, false, List, [], ◌∷◌, ◌++◌, drop, refl, sym, ap, subst, ◌∙◌, append_assoc, Result, Ok, Err, OnOk}
-use Rattle.std.proofs.lemmas.List.{append-nil}
+use Rattle.std.proofs.Common.{◌≡◌, ℕ, Bool, true, false, List, [], ◌∷◌, ◌++◌, drop, refl, sym, ap, subst, ◌∙◌, Result, Ok, Err, OnOk}
 use Rattle.hx_framing.specs.declared.heads.status_head.StatusHead.{StatusHead}
 use Rattle.hx_framing.specs.declared.messages.Response.{Response}
 use Rattle.hx_framing.specs.declared.fault.FrameFault.{FrameFault}
@@ -18,6 +17,7 @@ use Rattle.hx_framing.specs.ResponseStream.{IsGiven, AnswersBy, Answers}
 use Rattle.hx_framing.specs.Progress.{Progress, next_of, fed, finished, IsDue}
 use Rattle.hx_framing.specs.ResponseState.{State, RepresentsStream, KeepsBy}
 use Rattle.hx_framing.proofs.ResponseOnce.{read_once_lem}
+use Rattle.hx_framing.proofs.ContentReadings.{resumes_now, resumes_fed}
 use Rattle.hx_framing.proofs.StreamLemmas.{same_fault, next_extended, due_settled}
 use Rattle.hx_framing.proofs.ResponseLemmas.{reads_over, reads_ended, reads_append, reads_behind, passes_append, passes_behind}
 
@@ -115,12 +115,11 @@ inside s p head content going represents = inside_by s p head content p.given (s
 pub content_reads : (s : State) (p : Progress Response) (head : StatusHead) (content : Content) (body : Body) → s.phase ≡ phase.InContent head content → RepresentsStream s p
     → body_from content s.ended s.unread ≡ body → Reads p.max_body p.to_head p.ended p.stream (with_body s.ended (response_of s.to_head head) body)
 content_reads s p head content body going represents is =
-    let here : Reads p.max_body p.to_head p.ended (p.stream ++ []) (with_body p.ended (response_of p.to_head head) (body_from content p.ended (s.unread ++ []))) = (inside s p head content going represents).resumes [] p.ended in
     subst (λ (h : Bool). Reads p.max_body p.to_head p.ended p.stream (with_body s.ended (response_of h head) body)) (sym represents.to_head)
     (subst (λ (e : Bool). Reads p.max_body p.to_head p.ended p.stream (with_body e (response_of p.to_head head) body)) (sym represents.ended)
     (subst (λ (b : Body). Reads p.max_body p.to_head p.ended p.stream (with_body p.ended (response_of p.to_head head) b))
-    (ap (body_from content p.ended) (append-nil s.unread) ∙ ap (λ (e : Bool). body_from content e s.unread) (sym represents.ended) ∙ is)
-    (subst (λ (u : List ℕ). Reads p.max_body p.to_head p.ended u (with_body p.ended (response_of p.to_head head) (body_from content p.ended (s.unread ++ [])))) (append-nil p.stream) here)))
+    (ap (λ (e : Bool). body_from content e s.unread) (sym represents.ended) ∙ is)
+    (resumes_now (λ (e : Bool). Reads p.max_body p.to_head e) (response_of p.to_head head) (λ (e : Bool). e) content p.stream s.unread (inside s p head content going represents).resumes p.ended)))
 
 -- behind the message comes the end
 pub answers_end : (s : State) (p : Progress Response) → s.phase ≡ phase.Given → RepresentsStream s p → Answers p End
@@ -221,12 +220,6 @@ represents_fault s t p f same none faulty reads represents =
 
 -- ---- a piece has come, and the stream has ended
 
-resumes_fed : (max : ℕ) (h : Bool) (head : StatusHead) (content : Content) (bytes unread w : List ℕ) → Resumes max h head content bytes unread
-    → Resumes max h head content (bytes ++ w) (unread ++ w)
-resumes_fed max h head content bytes unread w on = λ more ended.
-    subst (λ (u : List ℕ). Reads max h ended u (with_body ended (response_of h head) (body_from content ended ((unread ++ w) ++ more)))) (sym (append_assoc bytes w more))
-    (subst (λ (u : List ℕ). Reads max h ended (bytes ++ (w ++ more)) (with_body ended (response_of h head) (body_from content ended u))) (sym (append_assoc unread w more)) (on (w ++ more) ended))
-
 pub represents_fed : (s t : State) (p : Progress Response) (piece : List ℕ) → Same s t → t.phase ≡ s.phase → t.unread ≡ s.unread ++ piece → p.ended ≡ false
     → RepresentsStream s p → RepresentsStream t (fed p piece)
 represents_fed s t p piece same kept longer open_still represents = record {
@@ -242,7 +235,7 @@ represents_fed s t p piece same kept longer open_still represents = record {
     by_phase phase.BeforeHead (m ∷ more) k = k
     by_phase (phase.InContent head content) [] k =
         subst (λ (u : List ℕ). Resumes p.max_body p.to_head head content (p.stream ++ piece) u) (sym longer)
-        (resumes_fed p.max_body p.to_head head content p.stream s.unread piece k)
+        (resumes_fed (λ (e : Bool). Reads p.max_body p.to_head e) (response_of p.to_head head) (λ (e : Bool). e) content p.stream s.unread piece k)
     by_phase (phase.InContent head content) (m ∷ more) k = k
     by_phase phase.Given [] k = k
     by_phase phase.Given (m ∷ more) k = k

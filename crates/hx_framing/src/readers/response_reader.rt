@@ -173,7 +173,8 @@ impl ResponseReader {
 
     /// What stands at the front of the unread bytes.
     fn look(&mut self, alloc: Global) -> Result<HeadProgress<StatusHead, Response>, AllocError>
-        ensures progress { IfOk result (IsHeadProgress self.old.max_body self.old.to_head self.old.ended self.old.unread) }
+        ensures progress { IfOk result
+            (IsHeadProgress self.old.max_body self.old.to_head self.old.ended self.old.unread) }
         ensures memory_last { OnErr result (HasFinalHead self.old.unread) }
         ensures same { self.new ≡ self.old }
     {
