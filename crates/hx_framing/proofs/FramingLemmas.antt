@@ -1,15 +1,14 @@
 -- The judgement of a head's length fields, by which of them stand.
-use Rattle.std.proofs.Common.{◌≡◌, ℕ, ◌&&◌, ◌||◌, ◌==◌, not, Bool, true, false, cond, Option, Some, None, is_some, MatchOption, Result, Ok, Err, refl, ap, ◌∙◌, nat_lt, nat_le}
+use Rattle.std.proofs.Common.{◌≡◌, ℕ, ◌&&◌, ◌||◌, ◌==◌, not, Bool, true, false, cond, List, Option, Some, None, is_some, MatchOption, Result, Ok, Err, refl, ap, ◌∙◌, nat_lt, nat_le}
 use Rattle.std.proofs.lemmas.Bool.{leb-true, leb-false, le-ltb, lt-ltb}
+use Rattle.hx_fields.specs.declared.field_line.Field.{Field}
 use Rattle.hx_fields.specs.Lines.{has}
 use Rattle.hx_framing.specs.declared.fault.FrameFault.{FrameFault}
 use Rattle.hx_framing.specs.declared.fault.FrameFault.TheVariants as fault
 use Rattle.hx_framing.specs.declared.lengths.framing.Framing.{Framing}
 use Rattle.hx_framing.specs.declared.lengths.framing.Framing.TheVariants as framing
-use Rattle.hx_framing.specs.declared.heads.request_head.Head.{Head}
-use Rattle.hx_framing.specs.declared.heads.status_head.StatusHead.{StatusHead}
 use Rattle.hx_framing.specs.ContentLength.{content_length, length_shown, length_up_to}
-use Rattle.hx_framing.specs.Lengths.{transfer_encoding, codings, ends_in_chunks, is_only_chunked, announced, is_above, framing_or, uncoded, framing_of_only_coding, framing_of_codings, framing_of_request, framing_of_final}
+use Rattle.hx_framing.specs.Lengths.{transfer_encoding, codings, ends_in_chunks, is_only_chunked, announced, is_above, framing_or, uncoded, framing_of_codings, framing_of_lengths, has_endless_coding}
 use Rattle.hx_framing.proofs.LengthShown.{absent_shown}
 
 -- coded, stands: which of the fields stand; zero: it is HTTP/1.0; endless, only: what the codings are
@@ -58,28 +57,22 @@ module _ (max_body : ℕ) (neither : Framing) where
   by_codings false represents zero endless only shown none ends =
       ap (λ e. judged false represents zero e only shown) (ends refl) ∙ by_length represents zero only shown none
 
-  -- the codings of a request
-  by_request : (coded represents zero ends only : Bool) (shown : Option ℕ) → (represents ≡ false → shown ≡ None)
+  -- where the codings may have to tell the end of the content
+  by_lengths : (coded represents zero must_end ends only : Bool) (shown : Option ℕ) → (represents ≡ false → shown ≡ None)
       → MatchOption (judged_uncoded coded represents zero shown)
-      (judged coded represents zero (coded && not ends) only shown ≡ cond ends (cond only (Ok framing.Chunked) (Err fault.Coding)) (Err fault.Length))
-      (λ r. judged coded represents zero (coded && not ends) only shown ≡ r)
-  by_request true represents zero true only shown none = by_codings true represents zero false only shown none (λ e. refl)
-  by_request true represents zero false only shown none = by_codings true represents zero true only shown none (λ e. cc)
-  by_request false represents zero ends only shown none = by_codings false represents zero false only shown none (λ e. refl)
+      (judged coded represents zero (must_end && (coded && not ends)) only shown ≡ cond (must_end && not ends) (Err fault.Length) (cond only (Ok framing.Chunked) (Err fault.Coding)))
+      (λ r. judged coded represents zero (must_end && (coded && not ends)) only shown ≡ r)
+  by_lengths true represents zero must_end ends only shown none = by_codings true represents zero (must_end && not ends) only shown none (λ e. cc)
+  by_lengths false represents zero true ends only shown none = by_codings false represents zero false only shown none (λ e. refl)
+  by_lengths false represents zero false ends only shown none = by_codings false represents zero false only shown none (λ e. refl)
 
-pub request-uncoded : (max_body : ℕ) (head : Head)
-    → MatchOption (uncoded max_body head.minor framing.Nothing head.fields)
-    (framing_of_request max_body head ≡ framing_of_codings (codings head.fields)) (λ r. framing_of_request max_body head ≡ r)
-request-uncoded max_body head =
-    by_request max_body framing.Nothing (has head.fields transfer_encoding) (has head.fields content_length) (head.minor == 0)
-    (ends_in_chunks (codings head.fields)) (is_only_chunked (codings head.fields)) (length_shown head.fields) (absent_shown head.fields)
-
-pub final-uncoded : (max_body : ℕ) (head : StatusHead)
-    → MatchOption (uncoded max_body head.minor framing.UntilClose head.fields)
-    (framing_of_final max_body head ≡ framing_of_only_coding (codings head.fields)) (λ r. framing_of_final max_body head ≡ r)
-final-uncoded max_body head =
-    by_codings max_body framing.UntilClose (has head.fields transfer_encoding) (has head.fields content_length) (head.minor == 0)
-    false (is_only_chunked (codings head.fields)) (length_shown head.fields) (absent_shown head.fields) (λ e. refl)
+pub lengths-uncoded : (max_body minor : ℕ) (neither : Framing) (must_end : Bool) (fields : List Field)
+    → MatchOption (uncoded max_body minor neither fields)
+    (framing_of_lengths max_body minor neither (must_end && has_endless_coding fields) fields ≡ framing_of_codings must_end (codings fields))
+    (λ r. framing_of_lengths max_body minor neither (must_end && has_endless_coding fields) fields ≡ r)
+lengths-uncoded max_body minor neither must_end fields =
+    by_lengths max_body neither (has fields transfer_encoding) (has fields content_length) (minor == 0) must_end
+    (ends_in_chunks (codings fields)) (is_only_chunked (codings fields)) (length_shown fields) (absent_shown fields)
 
 -- what a call found without the codings, and where they count
 module _ (whole coded : Result Framing FrameFault) where

@@ -24,6 +24,7 @@ pub mod ChunkFaultSound
 pub mod ChunkFaultComplete
 pub mod BodyLemmas
 pub mod ContentReadings
+pub mod StreamLemmas
 pub mod RequestLemmas
 pub mod RequestProgressLemmas
 pub mod RequestOnce

@@ -1,6 +1,5 @@
 -- Streams of requests: bytes that come later, one more request, and what a reader stands for.
-use Rattle.std.proofs.Common.{◌≡◌, ℕ, Bool, true, false, List, [], ◌∷◌, ◌++◌, refl, sym, ap, subst, ◌∙◌, append_assoc, Result, Ok, Err, OnOk}
-use Rattle.std.proofs.lemmas.List.{append-nil}
+use Rattle.std.proofs.Common.{◌≡◌, ℕ, Bool, true, false, List, [], ◌∷◌, ◌++◌, refl, sym, ap, subst, ◌∙◌, Result, Ok, Err, OnOk}
 use Rattle.hx_framing.specs.declared.heads.request_head.Head.{Head}
 use Rattle.hx_framing.specs.declared.contents.content.Content.{Content}
 use Rattle.hx_framing.specs.declared.readers.request_reader.RequestPhase.{RequestPhase}
@@ -10,13 +9,15 @@ use Rattle.hx_framing.specs.Contents.{body_from}
 use Rattle.hx_framing.specs.declared.messages.Request.{Request}
 use Rattle.hx_framing.specs.declared.fault.FrameFault.{FrameFault}
 use Rattle.hx_framing.specs.declared.messages.Next.{Next}
-use Rattle.hx_framing.specs.Reading.{Reading, Incomplete, Continue, Over, Spelled, Faulty, with_body, IsSettled, extended}
+use Rattle.hx_framing.specs.Reading.{Reading, Spelled, Faulty, with_body, IsSettled, extended}
 use Rattle.hx_framing.specs.RequestReading.{request_of, Reads}
 use Rattle.hx_framing.specs.RequestHeadProgress.{Resumes}
 use Rattle.hx_framing.specs.RequestStream.{SpellsRequest, StreamSpells, Answers}
 use Rattle.hx_framing.specs.Progress.{Progress, next_of, fed, finished, IsDue}
 use Rattle.hx_framing.specs.RequestState.{State, RepresentsStream, Keeps}
 use Rattle.hx_framing.proofs.RequestOnce.{read_once_lem}
+use Rattle.hx_framing.proofs.ContentReadings.{resumes_now, resumes_fed}
+use Rattle.hx_framing.proofs.StreamLemmas.{same_fault, next_extended, due_settled}
 use Rattle.hx_framing.proofs.RequestLemmas.{reads_message, reads_append, reads_ended, reads_over}
 
 pub spells_append : (max : ℕ) (stream : List ℕ) (ms : List Request) (rest w : List ℕ)
@@ -33,40 +34,26 @@ pub spells_push : (max : ℕ) (stream : List ℕ) (ms : List Request) (m : Reque
 spells_push max stream [] m mid rest s x = (rest, subst (λ (b : List ℕ). SpellsRequest max b m rest) s x, refl)
 spells_push max stream (n ∷ ms) m mid rest s x = (s.0, s.1, spells_push max s.0 ms m mid rest s.2 x)
 
-same_fault : (f g : FrameFault) → ◌≡◌ {A = Reading Request} (Faulty f) (Faulty g) → f ≡ g
-same_fault f g e = cc
-
 pub one_fault_lem : (max : ℕ) (t : Bool) (bytes more : List ℕ) (f g : FrameFault) → Reads max false t bytes (Faulty f)
     → Reads max false t (bytes ++ more) (Faulty g) → f ≡ g
 one_fault_lem max t bytes more f g x y = same_fault f g (read_once_lem max false t (bytes ++ more) (Faulty f) (Faulty g) (reads_append max t bytes more (Faulty f) tt x) y)
 
 -- ---- what is due stays due
 
-next_extended : (r : Reading Request) (w : List ℕ) → next_of (extended r w) ≡ next_of r
-next_extended Incomplete w = refl
-next_extended Continue w = refl
-next_extended Over w = refl
-next_extended (Spelled m rest) w = refl
-next_extended (Faulty f) w = refl
-
 -- before the stream's end no end is read
-due_settled : (max : ℕ) (t : Bool) (u : List ℕ) (r : Reading Request) → IsDue (next_of r) → Reads max false t u r → IsSettled r
-due_settled max t u Incomplete due x = due
-due_settled max t u Continue due x = tt
-due_settled max t u Over due x = absurd (reads_over max t u x)
-due_settled max t u (Spelled m rest) due x = tt
-due_settled max t u (Faulty f) due x = tt
+reads_settled : (max : ℕ) (t : Bool) (u : List ℕ) (r : Reading Request) → IsDue (next_of r) → Reads max false t u r → IsSettled r
+reads_settled max t u r due x = due_settled r due (λ over. reads_over max t u (subst (λ (r : Reading Request). Reads max false t u r) over x))
 
 due_ended : (max : ℕ) (e t : Bool) (u : List ℕ) (r : Reading Request) → IsDue (next_of r) → Reads max e t u r → Reads max true t u r
 due_ended max true t u r due x = x
-due_ended max false t u r due x = reads_ended max false t u r (due_settled max t u r due x) x
+due_ended max false t u r due x = reads_ended max false t u r (reads_settled max t u r due x) x
 
 -- what is due stays due, whatever comes behind it
 pub due_fed : (p : Progress Request) (a : Next Request) (w : List ℕ) → p.ended ≡ false → IsDue a → Answers p a → Answers (fed p w) a
 due_fed p a w open_still due x =
     let now : Reads p.max_body false p.continue_sent x.rest x.reading
     = subst (λ (e : Bool). Reads p.max_body e p.continue_sent x.rest x.reading) open_still x.reads in
-    let settled : IsSettled x.reading = due_settled p.max_body p.continue_sent x.rest x.reading (subst IsDue x.answer_is due) now in
+    let settled : IsSettled x.reading = reads_settled p.max_body p.continue_sent x.rest x.reading (subst IsDue x.answer_is due) now in
     record {
       rest = x.rest ++ w;
       reading = extended x.reading w;
@@ -122,10 +109,9 @@ inside s p head content waiting represents = subst (λ (f : RequestPhase). Keeps
 pub content_reads : (s : State) (p : Progress Request) (head : Head) (content : Content) (body : Body) → s.phase ≡ phase.InContent head content → (represents : RepresentsStream s p)
     → body_from content false s.unread ≡ body → Reads p.max_body p.ended p.continue_sent represents.rest (with_body s.ended (request_of head) body)
 content_reads s p head content body waiting represents is =
-    let here : Reads p.max_body p.ended p.continue_sent (represents.rest ++ []) (with_body p.ended (request_of head) (body_from content false (s.unread ++ []))) = inside s p head content waiting represents [] p.ended in
     subst (λ (e : Bool). Reads p.max_body p.ended p.continue_sent represents.rest (with_body e (request_of head) body)) (sym represents.ended)
-    (subst (λ (b : Body). Reads p.max_body p.ended p.continue_sent represents.rest (with_body p.ended (request_of head) b)) (ap (body_from content false) (append-nil s.unread) ∙ is)
-    (subst (λ (u : List ℕ). Reads p.max_body p.ended p.continue_sent u (with_body p.ended (request_of head) (body_from content false (s.unread ++ [])))) (append-nil represents.rest) here))
+    (subst (λ (b : Body). Reads p.max_body p.ended p.continue_sent represents.rest (with_body p.ended (request_of head) b)) is
+    (resumes_now (λ (e : Bool). Reads p.max_body e p.continue_sent) (request_of head) (λ (e : Bool). false) content represents.rest s.unread (inside s p head content waiting represents) p.ended))
 
 -- ---- what the reader is left with
 
@@ -157,12 +143,6 @@ represents_given s t p m max e waiting represents reads = record {
 
 -- ---- a piece has come
 
-resumes_fed : (max : ℕ) (t : Bool) (head : Head) (content : Content) (rest unread w : List ℕ) → Resumes max t head content rest unread
-    → Resumes max t head content (rest ++ w) (unread ++ w)
-resumes_fed max t head content rest unread w on = λ more ended.
-    subst (λ (u : List ℕ). Reads max ended t u (with_body ended (request_of head) (body_from content false ((unread ++ w) ++ more)))) (sym (append_assoc rest w more))
-    (subst (λ (u : List ℕ). Reads max ended t (rest ++ (w ++ more)) (with_body ended (request_of head) (body_from content false u))) (sym (append_assoc unread w more)) (on (w ++ more) ended))
-
 faulty_fed : (p : Progress Request) (rest w : List ℕ) (f : FrameFault) → p.ended ≡ false → Reads p.max_body p.ended p.continue_sent rest (Faulty f)
     → Reads p.max_body p.ended p.continue_sent (rest ++ w) (Faulty f)
 faulty_fed p rest w f open_still k =
@@ -183,7 +163,7 @@ represents_fed s t p piece max e same longer open_still represents = record {
     by_phase phase.BeforeHead k = (longer ∙ ap (λ u. u ++ piece) k.0, k.1)
     by_phase (phase.InContent head content) k =
         subst (λ (u : List ℕ). Resumes p.max_body p.continue_sent head content (represents.rest ++ piece) u) (sym longer)
-        (resumes_fed p.max_body p.continue_sent head content represents.rest s.unread piece k)
+        (resumes_fed (λ (e : Bool). Reads p.max_body e p.continue_sent) (request_of head) (λ (e : Bool). false) content represents.rest s.unread piece k)
     by_phase (phase.Faulty f) k = faulty_fed p represents.rest piece f open_still k
 
 -- after a fault what comes doesn't count

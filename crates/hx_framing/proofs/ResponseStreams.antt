@@ -1,6 +1,5 @@
 -- Streams of one response: bytes that come later, and what a reader stands for.
-use Rattle.std.proofs.Common.{◌≡◌, ℕ, Bool, true, false, List, [], ◌∷◌, ◌++◌, drop, refl, sym, ap, subst, ◌∙◌, append_assoc, Result, Ok, Err, OnOk}
-use Rattle.std.proofs.lemmas.List.{append-nil}
+use Rattle.std.proofs.Common.{◌≡◌, ℕ, Bool, true, false, List, [], ◌∷◌, ◌++◌, drop, refl, sym, ap, subst, ◌∙◌, Result, Ok, Err, OnOk}
 use Rattle.hx_framing.specs.declared.heads.status_head.StatusHead.{StatusHead}
 use Rattle.hx_framing.specs.declared.messages.Response.{Response}
 use Rattle.hx_framing.specs.declared.fault.FrameFault.{FrameFault}
@@ -11,17 +10,16 @@ use Rattle.hx_framing.specs.declared.readers.response_reader.ResponsePhase.{Resp
 use Rattle.hx_framing.specs.declared.readers.response_reader.ResponsePhase.TheVariants as phase
 use Rattle.hx_framing.specs.Body.{Body}
 use Rattle.hx_framing.specs.Contents.{body_from}
-use Rattle.hx_framing.specs.Reading.{Reading, Incomplete, Continue, Over, Spelled, Faulty, with_body, IsSettled, extended}
+use Rattle.hx_framing.specs.Reading.{Reading, Spelled, Faulty, with_body, IsSettled, extended}
 use Rattle.hx_framing.specs.ResponseReading.{response_of, Passes, Reads}
 use Rattle.hx_framing.specs.ResponseHeadProgress.{Resumes}
 use Rattle.hx_framing.specs.ResponseStream.{IsGiven, AnswersBy, Answers}
 use Rattle.hx_framing.specs.Progress.{Progress, next_of, fed, finished, IsDue}
 use Rattle.hx_framing.specs.ResponseState.{State, RepresentsStream, KeepsBy}
 use Rattle.hx_framing.proofs.ResponseOnce.{read_once_lem}
+use Rattle.hx_framing.proofs.ContentReadings.{resumes_now, resumes_fed}
+use Rattle.hx_framing.proofs.StreamLemmas.{same_fault, next_extended, due_settled}
 use Rattle.hx_framing.proofs.ResponseLemmas.{reads_over, reads_ended, reads_append, reads_behind, passes_append, passes_behind}
-
-same_fault : (f g : FrameFault) → ◌≡◌ {A = Reading Response} (Faulty f) (Faulty g) → f ≡ g
-same_fault f g e = cc
 
 pub one_fault_lem : (max : ℕ) (h : Bool) (bytes more : List ℕ) (f g : FrameFault) → Reads max h false bytes (Faulty f)
     → Reads max h false (bytes ++ more) (Faulty g) → f ≡ g
@@ -29,19 +27,8 @@ one_fault_lem max h bytes more f g x y = same_fault f g (read_once_lem max h fal
 
 -- ---- what is due stays due
 
-next_extended : (r : Reading Response) (w : List ℕ) → next_of (extended r w) ≡ next_of r
-next_extended Incomplete w = refl
-next_extended Continue w = refl
-next_extended Over w = refl
-next_extended (Spelled m rest) w = refl
-next_extended (Faulty f) w = refl
-
-due_settled : (max : ℕ) (h e : Bool) (u : List ℕ) (r : Reading Response) → IsDue (next_of r) → Reads max h e u r → IsSettled r
-due_settled max h e u Incomplete due x = due
-due_settled max h e u Continue due x = tt
-due_settled max h e u Over due x = absurd (reads_over max h e u x)
-due_settled max h e u (Spelled m rest) due x = tt
-due_settled max h e u (Faulty f) due x = tt
+reads_settled : (max : ℕ) (h e : Bool) (u : List ℕ) (r : Reading Response) → IsDue (next_of r) → Reads max h e u r → IsSettled r
+reads_settled max h e u r due x = due_settled r due (λ over. reads_over max h e u (subst (λ (r : Reading Response). Reads max h e u r) over x))
 
 -- a reading of the stream so far is one of the longer stream
 reads_fed : (p : Progress Response) (r : Reading Response) (w : List ℕ) → p.ended ≡ false → IsSettled r
@@ -65,7 +52,7 @@ due_fed p a w open_still due x = record { spells = given_fed p w p.given open_st
   where
     by_given : (given : List Response) → AnswersBy p given a → AnswersBy (fed p w) given a
     by_given [] x =
-        let settled : IsSettled x.0 = due_settled p.max_body p.to_head p.ended p.stream x.0 (subst IsDue x.2 due) x.1 in
+        let settled : IsSettled x.0 = reads_settled p.max_body p.to_head p.ended p.stream x.0 (subst IsDue x.2 due) x.1 in
         (extended x.0 w, reads_fed p x.0 w open_still settled x.1, x.2 ∙ sym (next_extended x.0 w))
     by_given (m ∷ more) x = x
 
@@ -74,7 +61,7 @@ due_finished p a due x = record { spells = given_finished p p.given x.spells; by
   where
     by_given : (given : List Response) → AnswersBy p given a → AnswersBy (finished p) given a
     by_given [] x =
-        let settled : IsSettled x.0 = due_settled p.max_body p.to_head p.ended p.stream x.0 (subst IsDue x.2 due) x.1 in
+        let settled : IsSettled x.0 = reads_settled p.max_body p.to_head p.ended p.stream x.0 (subst IsDue x.2 due) x.1 in
         (x.0, reads_ended p.max_body p.to_head p.ended p.stream x.0 settled x.1, x.2)
     by_given (m ∷ more) x = x
 
@@ -128,12 +115,11 @@ inside s p head content going represents = inside_by s p head content p.given (s
 pub content_reads : (s : State) (p : Progress Response) (head : StatusHead) (content : Content) (body : Body) → s.phase ≡ phase.InContent head content → RepresentsStream s p
     → body_from content s.ended s.unread ≡ body → Reads p.max_body p.to_head p.ended p.stream (with_body s.ended (response_of s.to_head head) body)
 content_reads s p head content body going represents is =
-    let here : Reads p.max_body p.to_head p.ended (p.stream ++ []) (with_body p.ended (response_of p.to_head head) (body_from content p.ended (s.unread ++ []))) = (inside s p head content going represents).resumes [] p.ended in
     subst (λ (h : Bool). Reads p.max_body p.to_head p.ended p.stream (with_body s.ended (response_of h head) body)) (sym represents.to_head)
     (subst (λ (e : Bool). Reads p.max_body p.to_head p.ended p.stream (with_body e (response_of p.to_head head) body)) (sym represents.ended)
     (subst (λ (b : Body). Reads p.max_body p.to_head p.ended p.stream (with_body p.ended (response_of p.to_head head) b))
-    (ap (body_from content p.ended) (append-nil s.unread) ∙ ap (λ (e : Bool). body_from content e s.unread) (sym represents.ended) ∙ is)
-    (subst (λ (u : List ℕ). Reads p.max_body p.to_head p.ended u (with_body p.ended (response_of p.to_head head) (body_from content p.ended (s.unread ++ [])))) (append-nil p.stream) here)))
+    (ap (λ (e : Bool). body_from content e s.unread) (sym represents.ended) ∙ is)
+    (resumes_now (λ (e : Bool). Reads p.max_body p.to_head e) (response_of p.to_head head) (λ (e : Bool). e) content p.stream s.unread (inside s p head content going represents).resumes p.ended)))
 
 -- behind the message comes the end
 pub answers_end : (s : State) (p : Progress Response) → s.phase ≡ phase.Given → RepresentsStream s p → Answers p End
@@ -164,6 +150,14 @@ pub record Same (s t : State) : Type 0 where
   pub max_body : t.max_body ≡ s.max_body
   pub to_head : t.to_head ≡ s.to_head
   pub ended : t.ended ≡ s.ended
+
+-- v is s, and t is v but for where it is in its bytes
+pub same_stream : (s v t : State) → v ≡ s → t ≡ record v { unread = t.unread; spare = t.spare; phase = t.phase } → Same s t
+same_stream s v t is shape = record {
+  max_body = ap (λ (s : State). s.max_body) shape ∙ ap (λ (s : State). s.max_body) is;
+  to_head = ap (λ (s : State). s.to_head) shape ∙ ap (λ (s : State). s.to_head) is;
+  ended = ap (λ (s : State). s.ended) shape ∙ ap (λ (s : State). s.ended) is;
+}
 
 represents_on : (s t : State) (p : Progress Response) → Same s t → RepresentsStream s p → KeepsBy t p t.phase p.given → RepresentsStream t p
 represents_on s t p same represents keeps = record {
@@ -226,12 +220,6 @@ represents_fault s t p f same none faulty reads represents =
 
 -- ---- a piece has come, and the stream has ended
 
-resumes_fed : (max : ℕ) (h : Bool) (head : StatusHead) (content : Content) (bytes unread w : List ℕ) → Resumes max h head content bytes unread
-    → Resumes max h head content (bytes ++ w) (unread ++ w)
-resumes_fed max h head content bytes unread w on = λ more ended.
-    subst (λ (u : List ℕ). Reads max h ended u (with_body ended (response_of h head) (body_from content ended ((unread ++ w) ++ more)))) (sym (append_assoc bytes w more))
-    (subst (λ (u : List ℕ). Reads max h ended (bytes ++ (w ++ more)) (with_body ended (response_of h head) (body_from content ended u))) (sym (append_assoc unread w more)) (on (w ++ more) ended))
-
 pub represents_fed : (s t : State) (p : Progress Response) (piece : List ℕ) → Same s t → t.phase ≡ s.phase → t.unread ≡ s.unread ++ piece → p.ended ≡ false
     → RepresentsStream s p → RepresentsStream t (fed p piece)
 represents_fed s t p piece same kept longer open_still represents = record {
@@ -247,7 +235,7 @@ represents_fed s t p piece same kept longer open_still represents = record {
     by_phase phase.BeforeHead (m ∷ more) k = k
     by_phase (phase.InContent head content) [] k =
         subst (λ (u : List ℕ). Resumes p.max_body p.to_head head content (p.stream ++ piece) u) (sym longer)
-        (resumes_fed p.max_body p.to_head head content p.stream s.unread piece k)
+        (resumes_fed (λ (e : Bool). Reads p.max_body p.to_head e) (response_of p.to_head head) (λ (e : Bool). e) content p.stream s.unread piece k)
     by_phase (phase.InContent head content) (m ∷ more) k = k
     by_phase phase.Given [] k = k
     by_phase phase.Given (m ∷ more) k = k

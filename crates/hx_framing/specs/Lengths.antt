@@ -5,7 +5,7 @@
 -- framing_shown: what faultless length fields say
 -- framing_of_lengths, request_body_of, framing_of_response: how a head is judged
 -- announced_of, without_lengths: what a message keeps of its length fields
--- uncoded, framing_of_codings, framing_of_only_coding: the judgement in steps
+-- uncoded, framing_of_codings: the judgement in steps
 use Rattle.std.specs.Prelude.{ℕ, ◌-◌, ◌^◌, ◌&&◌, ◌||◌, Bool, true, false, cond, not, List, [], length, Option, Some}
 use Rattle.std.specs.Prelude.{None, is_some, Result, Ok, Err, nat_lt, nat_le, ◌==◌, codes, count_by, slice_index_or}
 use Rattle.std.specs.List.{list_all}
@@ -185,9 +185,8 @@ uncoded max_body minor neither fields =
     (cond (not (has fields transfer_encoding)) (Some (announced_or max_body neither fields))
     (cond (minor == 0) (Some (Err fault.Length)) None))
 
--- what codings say where they count
-abbrev pub framing_of_only_coding : List (List ℕ) → Result Framing FrameFault
-framing_of_only_coding names = cond (is_only_chunked names) (Ok framing.Chunked) (Err fault.Coding)
-
-abbrev pub framing_of_codings : List (List ℕ) → Result Framing FrameFault
-framing_of_codings names = cond (ends_in_chunks names) (framing_of_only_coding names) (Err fault.Length)
+-- what codings say where they count; must_end: they have to tell the end of the content
+abbrev pub framing_of_codings : Bool → List (List ℕ) → Result Framing FrameFault
+framing_of_codings must_end names =
+    cond (must_end && not (ends_in_chunks names)) (Err fault.Length)
+    (cond (is_only_chunked names) (Ok framing.Chunked) (Err fault.Coding))

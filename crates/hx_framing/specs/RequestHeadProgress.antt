@@ -1,25 +1,21 @@
 -- What is found at the front of a request stream, and how its content goes on.
-use Rattle.std.specs.Prelude.{◌≡◌, ℕ, ◌<◌, ◌≤◌, ◌++◌, Bool, true, false, List, length, take, drop, Some, Ok}
+use Rattle.std.specs.Prelude.{◌≡◌, ℕ, Bool, true, false, List, take, drop, Some, Ok}
 use Rattle.hx_framing.specs.declared.heads.request_head.Head.{Head}
 use Rattle.hx_framing.specs.declared.messages.Request.{Request}
 use Rattle.hx_framing.specs.declared.contents.content.Content.{Content}
 use Rattle.hx_framing.specs.declared.readers.progress.HeadProgress.{HeadProgress}
 use Rattle.hx_framing.specs.declared.readers.progress.HeadProgress.TheVariants as head_progress
-use Rattle.hx_framing.specs.Contents.{body_from, IsOpen}
+use Rattle.hx_framing.specs.Contents.{IsOpen}
+use Rattle.hx_framing.specs.ContentReading.{IsBehind, ResumesAs}
 use Rattle.hx_framing.specs.Places.{head_length, most_head_bytes, IsOpenHead}
 use Rattle.hx_framing.specs.Head.{Judges}
-use Rattle.hx_framing.specs.Reading.{Incomplete, Continue, Over, Spelled, Faulty, with_body}
+use Rattle.hx_framing.specs.Reading.{Incomplete, Continue, Over, Spelled, Faulty}
 use Rattle.hx_framing.specs.RequestReading.{request_of, Reads}
 
 -- whatever comes, the bytes read as this head with what the unread ones make of its content
 abbrev pub Resumes : ℕ → Bool → Head → Content → List ℕ → List ℕ → Type 0
-Resumes max_body continue_sent head content bytes unread = (more : List ℕ) (ended : Bool)
-    → Reads max_body ended continue_sent (bytes ++ more)
-    (with_body ended (request_of head) (body_from content false (unread ++ more)))
-
--- an index behind at least one of the bytes, and within them
-abbrev pub IsBehind : List ℕ → ℕ → Type 0
-IsBehind bytes n = (0 < n) × (n ≤ length bytes)
+Resumes max_body continue_sent head content bytes unread = ResumesAs {M = Request}
+    (λ ended. Reads max_body ended continue_sent) (request_of head) (λ ended. false) content bytes unread
 
 -- it is what the bytes read as, before a continue was given
 abbrev pub IsHeadProgress : ℕ → Bool → List ℕ → HeadProgress Head Request → Type 0

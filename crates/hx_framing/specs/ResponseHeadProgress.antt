@@ -1,5 +1,5 @@
 -- What is found at the front of a response stream, and how its content goes on.
-use Rattle.std.specs.Prelude.{◌≡◌, ℕ, ◌+◌, ◌<◌, ◌≤◌, ◌++◌, Bool, false, cond, List, length, take, drop, Some, None, Ok}
+use Rattle.std.specs.Prelude.{◌≡◌, ℕ, ◌+◌, ◌<◌, ◌≤◌, Bool, false, cond, List, length, take, drop, Some, None, Ok}
 use Rattle.std.specs.Prelude.{Err}
 use Rattle.hx_framing.specs.declared.heads.status_head.StatusHead.{StatusHead}
 use Rattle.hx_framing.specs.declared.messages.Response.{Response}
@@ -11,19 +11,15 @@ use Rattle.hx_framing.specs.declared.readers.response_reading.FinalHead.TheVaria
 use Rattle.hx_framing.specs.Places.{head_length, most_head_bytes, IsOpenHead}
 use Rattle.hx_framing.specs.StatusHead.{Judges}
 use Rattle.hx_framing.specs.Lengths.{is_interim}
-use Rattle.hx_framing.specs.Contents.{body_from, IsOpen}
-use Rattle.hx_framing.specs.Reading.{Incomplete, Spelled, Faulty, with_body}
+use Rattle.hx_framing.specs.Contents.{IsOpen}
+use Rattle.hx_framing.specs.ContentReading.{IsBehind, ResumesAs}
+use Rattle.hx_framing.specs.Reading.{Incomplete, Spelled, Faulty}
 use Rattle.hx_framing.specs.ResponseReading.{response_of, Passes, Reads}
 
 -- whatever comes, the bytes read as this head with what the unread ones make of its content
 abbrev pub Resumes : ℕ → Bool → StatusHead → Content → List ℕ → List ℕ → Type 0
-Resumes max_body to_head head content bytes unread = (more : List ℕ) (ended : Bool)
-    → Reads max_body to_head ended (bytes ++ more)
-    (with_body ended (response_of to_head head) (body_from content ended (unread ++ more)))
-
--- an index behind at least one of the bytes, and within them
-abbrev pub IsBehind : List ℕ → ℕ → Type 0
-IsBehind bytes n = (0 < n) × (n ≤ length bytes)
+Resumes max_body to_head head content bytes unread = ResumesAs {M = Response}
+    (λ ended. Reads max_body to_head ended) (response_of to_head head) (λ ended. ended) content bytes unread
 
 -- what stands behind the interim responses in front; a head ends behind some bytes and within them
 abbrev pub IsFinalHead : List ℕ → FinalHead → Type 0

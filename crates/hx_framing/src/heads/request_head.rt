@@ -1,23 +1,22 @@
 //! Heads of requests (RFC 9112, sections 2 to 5). The definitions are in `specs/Head.antt`.
-ghost use Rattle.std.specs.Prelude.{◌≡◌, ◌≤◌, ◌<◌, [], length, IfOk, IfSome, IfNone, OnErr, Ok};
+ghost use Rattle.std.specs.Prelude.{◌≡◌, ◌<◌, [], length, IfOk, Ok};
 ghost use Rattle.http_header.specs.Token.{IsToken};
 ghost use Rattle.httparse.specs.Grammar.{RequestHead, ReadsRequest};
 ghost use Rattle.httparse.specs.Spans.{IsRequestAt, IsRequestWithin, span_bytes};
-ghost use Rattle.hx_framing.specs.Head.{IsHead, Judges, head_at, head_fault};
+ghost use Rattle.hx_framing.specs.Head.{IsHead, head_at, head_fault};
 ghost use Rattle.hx_framing.specs.declared.heads.request_head.Head.{Head};
-ghost use Rattle.hx_framing.specs.Places.{most_field_lines};
 ghost use Rattle.hx_framing.specs.RequestReading.{request_of};
 
 use crate::fault::FrameFault;
+use crate::heads::judging::HeadSpans;
 use crate::heads::lines::{fields_at, part_at};
 use crate::heads::version::request_has_other_version;
 use crate::lengths::framing::without_lengths;
-use crate::limits::{FEW_FIELD_LINES, MOST_FIELD_LINES, SHORT_HEAD_BYTES};
 use crate::messages::Request;
 use http::Method;
 use http::method::MethodError;
 use httparse::Status;
-use httparse::spans::{EMPTY_HEADER_SPAN, HeaderSpan, RequestSpans, parse_request};
+use httparse::spans::{HeaderSpan, RequestSpans, parse_request};
 use hx_fields::{Bytes, Fields};
 use std::alloc::{AllocError, Global};
 
@@ -59,28 +58,6 @@ impl Head {
             fields: without_lengths(fields),
             content,
         }
-    }
-}
-
-/// Where the parts of a head are, if just these bytes are one that has no more lines than there is room for.
-fn find_head(bytes: &[u8], spans: &mut [HeaderSpan]) -> Option<RequestSpans>
-    requires { length spans.old ≤ most_field_lines }
-    ensures within { IfSome result (IsRequestWithin bytes.now spans.new) }
-    ensures found { IfSome result (λ r. (h : RequestHead) × IsHead bytes.now h
-        × IsRequestAt bytes.now spans.new r h) }
-    ensures none { IfNone result ((h : RequestHead) → ReadsRequest bytes.now h []
-        → length spans.old < length h.fields) }
-{
-    match parse_request(bytes, spans) {
-        Ok(Status::Complete(found)) => {
-            if found.len == bytes.len() {
-                Some(found)
-            } else {
-                None
-            }
-        }
-        Ok(Status::Partial) => None,
-        Err(_) => None,
     }
 }
 
@@ -127,32 +104,37 @@ fn head_fault(bytes: &[u8]) -> FrameFault
     }
 }
 
-/// Judges the bytes of a whole head. Only a head is copied, so out of memory hides no fault of other bytes.
-pub(crate) fn judge_head(
-    alloc: Global,
-    bytes: &[u8],
-) -> Result<Result<Head, FrameFault>, AllocError>
-    ensures judged { IfOk result (λ judged. Judges bytes.now judged) }
-    ensures memory_last { OnErr result ((head : Head) × Judges bytes.now (Ok head)) }
-{
-    if bytes.len() > SHORT_HEAD_BYTES {
-        return judge_long_head(alloc, bytes);
-    }
-    let mut spans = [EMPTY_HEADER_SPAN; FEW_FIELD_LINES];
-    match find_head(bytes, &mut spans) {
-        Some(found) => Ok(Ok(copy_head(alloc, bytes, &spans, found)?)),
-        None => judge_long_head(alloc, bytes),
-    }
-}
+impl HeadSpans for RequestSpans {
+    ghost use Rattle.hx_framing.specs.Head.{Judges as RequestJudges};
 
-/// The same with room for all the lines that a head may have. It stands apart, since its room is cleared at each call.
-fn judge_long_head(alloc: Global, bytes: &[u8]) -> Result<Result<Head, FrameFault>, AllocError>
-    ensures judged { IfOk result (λ judged. Judges bytes.now judged) }
-    ensures memory_last { OnErr result ((head : Head) × Judges bytes.now (Ok head)) }
-{
-    let mut spans = [EMPTY_HEADER_SPAN; MOST_FIELD_LINES];
-    match find_head(bytes, &mut spans) {
-        Some(found) => Ok(Ok(copy_head(alloc, bytes, &spans, found)?)),
-        None => Ok(Err(head_fault(bytes))),
+    type Judged = Result<Head, FrameFault>;
+
+    ghost Covers = { λ found bytes spans. IsRequestWithin bytes spans found
+        × ((h : RequestHead) × IsHead bytes h × IsRequestAt bytes spans found h) };
+
+    ghost Exceeds = { λ bytes most. (h : RequestHead) → ReadsRequest bytes h [] → most < length h.fields };
+
+    ghost Judges = { RequestJudges };
+
+    ghost HasHead = { λ bytes. (head : Head) × RequestJudges bytes (Ok head) };
+
+    fn find(bytes: &[u8], spans: &mut [HeaderSpan]) -> Option<RequestSpans> {
+        match parse_request(bytes, spans) {
+            Ok(Status::Complete(found)) if found.len == bytes.len() => Some(found),
+            _ => None,
+        }
+    }
+
+    fn judge(
+        self,
+        alloc: Global,
+        bytes: &[u8],
+        spans: &[HeaderSpan],
+    ) -> Result<Result<Head, FrameFault>, AllocError> {
+        Ok(Ok(copy_head(alloc, bytes, spans, self)?))
+    }
+
+    fn refuse(bytes: &[u8]) -> Result<Head, FrameFault> {
+        Err(head_fault(bytes))
     }
 }

@@ -1,19 +1,18 @@
 //! Heads of responses (RFC 9112, sections 2, 4 and 5). The definitions are in `specs/StatusHead.antt`.
-ghost use Rattle.std.specs.Prelude.{◌≡◌, ◌≤◌, ◌<◌, [], length, IfOk, IfSome, IfNone, OnErr};
+ghost use Rattle.std.specs.Prelude.{◌≡◌, ◌<◌, [], length, IfOk};
 ghost use Rattle.httparse.specs.Grammar.{ReadsResponse, ResponseHead};
 ghost use Rattle.httparse.specs.Spans.{IsResponseAt, IsResponseWithin};
 ghost use Rattle.hx_framing.specs.declared.heads.status_head.StatusHead.{StatusHead};
 ghost use Rattle.hx_framing.specs.declared.heads.status_head.Judged.TheVariants as judged;
-ghost use Rattle.hx_framing.specs.Places.{most_field_lines};
-ghost use Rattle.hx_framing.specs.StatusHead.{IsStatusHead, JudgesAs, status_head_at, status_head_fault};
+ghost use Rattle.hx_framing.specs.StatusHead.{IsStatusHead, status_head_at, status_head_fault};
 
 use crate::fault::FrameFault;
+use crate::heads::judging::HeadSpans;
 use crate::heads::lines::fields_at;
 use crate::heads::version::response_has_other_version;
 use crate::lengths::framing::is_interim;
-use crate::limits::{FEW_FIELD_LINES, MOST_FIELD_LINES, SHORT_HEAD_BYTES};
 use httparse::Status;
-use httparse::spans::{EMPTY_HEADER_SPAN, HeaderSpan, ResponseSpans, parse_response};
+use httparse::spans::{HeaderSpan, ResponseSpans, parse_response};
 use hx_fields::{Bytes, Fields};
 use std::alloc::{AllocError, Global};
 
@@ -32,28 +31,6 @@ pub(crate) enum Judged {
     Interim,
     Final(StatusHead),
     Faulty(FrameFault),
-}
-
-/// Where the parts of a head are, if just these bytes are one that has no more lines than there is room for.
-fn find_head(bytes: &[u8], spans: &mut [HeaderSpan]) -> Option<ResponseSpans>
-    requires { length spans.old ≤ most_field_lines }
-    ensures within { IfSome result (IsResponseWithin bytes.now spans.new) }
-    ensures found { IfSome result (λ r. (h : ResponseHead) × IsStatusHead bytes.now h
-        × IsResponseAt bytes.now spans.new r h) }
-    ensures none { IfNone result ((h : ResponseHead) → ReadsResponse bytes.now h []
-        → length spans.old < length h.fields) }
-{
-    match parse_response(bytes, spans) {
-        Ok(Status::Complete(found)) => {
-            if found.len == bytes.len() {
-                Some(found)
-            } else {
-                None
-            }
-        }
-        Ok(Status::Partial) => None,
-        Err(_) => None,
-    }
 }
 
 /// The head whose parts the spans cover. It keeps one copy of the bytes, which its parts share.
@@ -85,48 +62,41 @@ fn status_head_fault(bytes: &[u8]) -> FrameFault
     }
 }
 
-/// How a head is judged whose parts the spans cover.
-fn judge_found(
-    alloc: Global,
-    bytes: &[u8],
-    spans: &[HeaderSpan],
-    found: ResponseSpans,
-) -> Result<Judged, AllocError>
-    requires within { IsResponseWithin bytes.now spans.now found }
-    requires head { (h : ResponseHead) × IsStatusHead bytes.now h × IsResponseAt bytes.now spans.now found h }
-    ensures judged { IfOk result (JudgesAs bytes.now) }
-    ensures memory_last { OnErr result ((head : StatusHead) × JudgesAs bytes.now (judged.Final head)) }
-{
-    if is_interim(found.code) {
-        return Ok(Judged::Interim);
-    }
-    Ok(Judged::Final(copy_head(alloc, bytes, spans, found)?))
-}
+impl HeadSpans for ResponseSpans {
+    ghost use Rattle.hx_framing.specs.StatusHead.{JudgesAs};
 
-/// Judges the bytes of a whole head. Only that of a final response is copied, so out of memory hides no fault of
-/// other bytes.
-pub(crate) fn judge_head(alloc: Global, bytes: &[u8]) -> Result<Judged, AllocError>
-    ensures judged { IfOk result (JudgesAs bytes.now) }
-    ensures memory_last { OnErr result ((head : StatusHead) × JudgesAs bytes.now (judged.Final head)) }
-{
-    if bytes.len() > SHORT_HEAD_BYTES {
-        return judge_long_head(alloc, bytes);
-    }
-    let mut spans = [EMPTY_HEADER_SPAN; FEW_FIELD_LINES];
-    match find_head(bytes, &mut spans) {
-        Some(found) => judge_found(alloc, bytes, &spans, found),
-        None => judge_long_head(alloc, bytes),
-    }
-}
+    type Judged = Judged;
 
-/// The same with room for all the lines that a head may have. It stands apart, since its room is cleared at each call.
-fn judge_long_head(alloc: Global, bytes: &[u8]) -> Result<Judged, AllocError>
-    ensures judged { IfOk result (JudgesAs bytes.now) }
-    ensures memory_last { OnErr result ((head : StatusHead) × JudgesAs bytes.now (judged.Final head)) }
-{
-    let mut spans = [EMPTY_HEADER_SPAN; MOST_FIELD_LINES];
-    match find_head(bytes, &mut spans) {
-        Some(found) => judge_found(alloc, bytes, &spans, found),
-        None => Ok(Judged::Faulty(status_head_fault(bytes))),
+    ghost Covers = { λ found bytes spans. IsResponseWithin bytes spans found
+        × ((h : ResponseHead) × IsStatusHead bytes h × IsResponseAt bytes spans found h) };
+
+    ghost Exceeds = { λ bytes most. (h : ResponseHead) → ReadsResponse bytes h [] → most < length h.fields };
+
+    ghost Judges = { JudgesAs };
+
+    ghost HasHead = { λ bytes. (head : StatusHead) × JudgesAs bytes (judged.Final head) };
+
+    fn find(bytes: &[u8], spans: &mut [HeaderSpan]) -> Option<ResponseSpans> {
+        match parse_response(bytes, spans) {
+            Ok(Status::Complete(found)) if found.len == bytes.len() => Some(found),
+            _ => None,
+        }
+    }
+
+    /// Only the head of a final response is copied.
+    fn judge(
+        self,
+        alloc: Global,
+        bytes: &[u8],
+        spans: &[HeaderSpan],
+    ) -> Result<Judged, AllocError> {
+        if is_interim(self.code) {
+            return Ok(Judged::Interim);
+        }
+        Ok(Judged::Final(copy_head(alloc, bytes, spans, self)?))
+    }
+
+    fn refuse(bytes: &[u8]) -> Judged {
+        Judged::Faulty(status_head_fault(bytes))
     }
 }

@@ -1,8 +1,9 @@
 //! How long the content behind a head is, by its fields (RFC 9112, section 6). The definitions are
 //! in `specs/Lengths.antt`.
-ghost use Rattle.std.specs.Prelude.{◌≡◌, IfOk};
+ghost use Rattle.std.specs.Prelude.{◌≡◌, ◌&&◌, IfOk};
 ghost use Rattle.hx_framing.specs.Lengths.{announced_or, is_chunked, ends_in_chunks, is_only_chunked};
-ghost use Rattle.hx_framing.specs.Lengths.{framing_of_only_coding, framing_of_codings, has_both, uncoded};
+ghost use Rattle.hx_framing.specs.Lengths.{framing_of_codings, has_both, uncoded, has_endless_coding};
+ghost use Rattle.hx_framing.specs.Lengths.{framing_of_lengths};
 ghost use Rattle.hx_framing.specs.Lengths.{framing_of_request, expectation, has_content, request_body_of, is_interim};
 ghost use Rattle.hx_framing.specs.Lengths.{is_without_content, framing_of_final, with_status, framing_of_response};
 ghost use Rattle.hx_framing.specs.Lengths.{announced_of, without_lengths};
@@ -74,25 +75,16 @@ fn is_only_chunked(codings: &[Bytes]) -> bool
     }
 }
 
-/// What the codings of a response say.
-fn framing_of_only_coding(codings: &[Bytes]) -> Result<Framing, FrameFault>
-    ensures { result ≡ framing_of_only_coding codings.now }
+/// What the codings say. With `must_end` they have to tell the end of the content.
+fn framing_of_codings(must_end: bool, codings: &[Bytes]) -> Result<Framing, FrameFault>
+    ensures { result ≡ framing_of_codings must_end codings.now }
 {
-    if is_only_chunked(codings) {
+    if must_end && !ends_in_chunks(codings) {
+        Err(FrameFault::Length)
+    } else if is_only_chunked(codings) {
         Ok(Framing::Chunked)
     } else {
         Err(FrameFault::Coding)
-    }
-}
-
-/// What the codings of a request say.
-fn framing_of_codings(codings: &[Bytes]) -> Result<Framing, FrameFault>
-    ensures { result ≡ framing_of_codings codings.now }
-{
-    if ends_in_chunks(codings) {
-        framing_of_only_coding(codings)
-    } else {
-        Err(FrameFault::Length)
     }
 }
 
@@ -122,6 +114,28 @@ fn uncoded(
     }
 }
 
+/// What the length fields of a head say; `neither` where none stands. With `must_end` codings have to tell the end of
+/// the content.
+fn framing_of_lengths(
+    alloc: Global,
+    max_body: u64,
+    minor: u8,
+    neither: Framing,
+    must_end: bool,
+    fields: &Fields,
+) -> Result<Result<Framing, FrameFault>, AllocError>
+    ensures { IfOk result
+        (λ r. r ≡ framing_of_lengths max_body minor neither (must_end && has_endless_coding fields.now) fields.now) }
+{
+    match uncoded(max_body, minor, neither, fields) {
+        Some(judged) => Ok(judged),
+        None => {
+            let codings = fields.members(alloc, b"transfer-encoding")?;
+            Ok(framing_of_codings(must_end, codings.as_slice()))
+        }
+    }
+}
+
 /// What the length fields of a request say.
 fn framing_of_request(
     alloc: Global,
@@ -130,13 +144,14 @@ fn framing_of_request(
 ) -> Result<Result<Framing, FrameFault>, AllocError>
     ensures { IfOk result (λ r. r ≡ framing_of_request max_body head.now) }
 {
-    match uncoded(max_body, head.minor, Framing::Nothing, &head.fields) {
-        Some(judged) => Ok(judged),
-        None => {
-            let codings = head.fields.members(alloc, b"transfer-encoding")?;
-            Ok(framing_of_codings(codings.as_slice()))
-        }
-    }
+    framing_of_lengths(
+        alloc,
+        max_body,
+        head.minor,
+        Framing::Nothing,
+        true,
+        &head.fields,
+    )
 }
 
 /// What is expected of a server.
@@ -211,13 +226,14 @@ fn framing_of_final(
 ) -> Result<Result<Framing, FrameFault>, AllocError>
     ensures { IfOk result (λ r. r ≡ framing_of_final max_body head.now) }
 {
-    match uncoded(max_body, head.minor, Framing::UntilClose, &head.fields) {
-        Some(judged) => Ok(judged),
-        None => {
-            let codings = head.fields.members(alloc, b"transfer-encoding")?;
-            Ok(framing_of_only_coding(codings.as_slice()))
-        }
-    }
+    framing_of_lengths(
+        alloc,
+        max_body,
+        head.minor,
+        Framing::UntilClose,
+        false,
+        &head.fields,
+    )
 }
 
 /// What was judged, where a response may have this status.

@@ -70,6 +70,7 @@ impl Debug for RequestReader {
 impl RequestReader {
     ghost use Rattle.hx_framing.specs.declared.readers.request_reader.RequestPhase.TheVariants as phase;
     ghost use Rattle.hx_framing.specs.declared.fault.FrameFault.{FrameFault};
+    ghost use Rattle.hx_framing.specs.RequestHeadProgress.{IsHeadProgress, HasHead};
     ghost use Rattle.hx_framing.specs.RequestState.{RepresentsStream, weight, kept, IsUnfinished};
 
     /// A reader of an empty stream. Contents have at most `max_body` bytes.
@@ -169,6 +170,21 @@ impl RequestReader {
         }
     }
 
+    /// What stands at the front of the unread bytes, before a continue was given.
+    fn look(&mut self, alloc: Global) -> Result<HeadProgress<Head, Request>, AllocError>
+        ensures progress { IfOk result (IsHeadProgress self.old.max_body self.old.ended self.old.unread) }
+        ensures memory_last { OnErr result (HasHead self.old.unread) }
+        ensures same { self.new ≡ self.old }
+    {
+        let head_length = self.unread.head_length();
+        let rest = Rest {
+            max_body: self.max_body,
+            ended: self.ended,
+            bytes: self.unread.as_slice(),
+        };
+        read_request(alloc, &rest, head_length)
+    }
+
     /// What is due before a head.
     fn read_head(&mut self, alloc: Global) -> Result<Next<Request>, AllocError>
         requires { self.old.phase ≡ phase.BeforeHead }
@@ -182,13 +198,7 @@ impl RequestReader {
         ensures memory_last { OnErr result ((p : Progress Request) → RepresentsStream self.old p → NeedsMemory p) }
         ensures err { OnErr result (self.new ≡ self.old) }
     {
-        let head_length = self.unread.head_length();
-        let rest = Rest {
-            max_body: self.max_body,
-            ended: self.ended,
-            bytes: self.unread.as_slice(),
-        };
-        match read_request(alloc, &rest, head_length)? {
+        match self.look(alloc)? {
             HeadProgress::Incomplete(_) => Ok(Next::More),
             HeadProgress::Ended => Ok(Next::End),
             HeadProgress::Faulty(fault) => {

@@ -9,12 +9,14 @@ ghost use Rattle.hx_framing.specs.RequestHeadProgress.{IsHeadProgress, HasHead};
 use crate::contents::content::{Content, ContentProgress};
 use crate::fault::FrameFault;
 use crate::heads::head_end::empty_lines_length;
-use crate::heads::request_head::{Head, judge_head};
+use crate::heads::judging::judge_head;
+use crate::heads::request_head::Head;
 use crate::lengths::framing::{RequestBody, request_body_of};
 use crate::limits::MOST_HEAD_BYTES;
 use crate::messages::Request;
 use crate::readers::progress::{HeadProgress, Rest};
 use crate::slices::rest_from;
+use httparse::spans::RequestSpans;
 use std::alloc::{AllocError, Global};
 
 /// Where no head ends within the limit.
@@ -77,7 +79,7 @@ pub(crate) fn read_request(
         return Ok(without_head(rest));
     };
     let (front, _) = rest.bytes.split_at(at);
-    match judge_head(alloc, front)? {
+    match judge_head::<RequestSpans>(alloc, front)? {
         Err(fault) => Ok(HeadProgress::Faulty(fault)),
         Ok(head) => match request_body_of(alloc, rest.max_body, &head)? {
             Err(fault) => Ok(HeadProgress::Faulty(fault)),

@@ -74,6 +74,7 @@ impl Debug for ResponseReader {
 impl ResponseReader {
     ghost use Rattle.hx_framing.specs.declared.readers.response_reader.ResponsePhase.TheVariants as phase;
     ghost use Rattle.hx_framing.specs.declared.fault.FrameFault.{FrameFault};
+    ghost use Rattle.hx_framing.specs.ResponseHeadProgress.{IsHeadProgress, HasFinalHead};
     ghost use Rattle.hx_framing.specs.ResponseState.{RepresentsStream, weight, kept, IsUnfinished};
 
     /// A reader of an empty stream. A content has at most `max_body` bytes; `to_head` says that it
@@ -170,6 +171,22 @@ impl ResponseReader {
         self.unread.len()
     }
 
+    /// What stands at the front of the unread bytes.
+    fn look(&mut self, alloc: Global) -> Result<HeadProgress<StatusHead, Response>, AllocError>
+        ensures progress { IfOk result
+            (IsHeadProgress self.old.max_body self.old.to_head self.old.ended self.old.unread) }
+        ensures memory_last { OnErr result (HasFinalHead self.old.unread) }
+        ensures same { self.new ≡ self.old }
+    {
+        let head_length = self.unread.head_length();
+        let rest = Rest {
+            max_body: self.max_body,
+            ended: self.ended,
+            bytes: self.unread.as_slice(),
+        };
+        read_response(alloc, &rest, self.to_head, head_length)
+    }
+
     /// What is due before the head of the final response.
     fn read_head(&mut self, alloc: Global) -> Result<Next<Response>, AllocError>
         requires { self.old.phase ≡ phase.BeforeHead }
@@ -184,13 +201,7 @@ impl ResponseReader {
         ensures memory_last { OnErr result ((p : Progress Response) → RepresentsStream self.old p → NeedsMemory p) }
         ensures err { OnErr result (self.new ≡ self.old) }
     {
-        let head_length = self.unread.head_length();
-        let rest = Rest {
-            max_body: self.max_body,
-            ended: self.ended,
-            bytes: self.unread.as_slice(),
-        };
-        match read_response(alloc, &rest, self.to_head, head_length)? {
+        match self.look(alloc)? {
             HeadProgress::Incomplete(n) => {
                 self.unread.take_front(n);
                 Ok(Next::More)

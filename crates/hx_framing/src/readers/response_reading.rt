@@ -10,12 +10,14 @@ ghost use Rattle.hx_framing.specs.ResponseHeadProgress.{IsHeadProgress, IsFinalH
 use crate::contents::content::{Content, ContentProgress};
 use crate::fault::FrameFault;
 use crate::heads::head_end::head_within;
-use crate::heads::status_head::{Judged, StatusHead, judge_head};
+use crate::heads::judging::judge_head;
+use crate::heads::status_head::{Judged, StatusHead};
 use crate::lengths::framing::{Framing, announced_of, framing_of_response, without_lengths};
 use crate::limits::MOST_HEAD_BYTES;
 use crate::messages::Response;
 use crate::readers::progress::{HeadProgress, Rest};
 use crate::slices::rest_from;
+use httparse::spans::ResponseSpans;
 use hx_fields::Bytes;
 use std::alloc::{AllocError, Global};
 
@@ -80,7 +82,7 @@ fn skip_interim(
             return Ok(FinalHead::Incomplete(at));
         };
         let (head, _) = rest.split_at(n);
-        match judge_head(alloc, head)? {
+        match judge_head::<ResponseSpans>(alloc, head)? {
             Judged::Interim => {
                 at += n;
                 next = head_within(rest_from(bytes, at), MOST_HEAD_BYTES);

@@ -1,16 +1,16 @@
-use Rattle.std.proofs.Common.{sym, ap, ◌∙◌}
+use Rattle.std.proofs.Common.{refl, sym, ap, ◌∙◌}
 use Rattle.hx_framing.specs.ResponseState.{State}
-use Rattle.hx_framing.proofs.ResponseStreams.{represents_fed_by, represents_fed_given, represents_fed_faulty}
+use Rattle.hx_framing.proofs.ResponseStreams.{same_stream, represents_fed_by, represents_fed_given, represents_fed_faulty}
 use Rattle.hx_framing.proofs.readers.response_reader.ResponseReader.feed.Goals as goal
 
 pub returns-in-BeforeHead-clause-represents : goal.returns-in-BeforeHead-clause-represents
 returns-in-BeforeHead-clause-represents c =
-    represents_fed_by c.args.self.now _ c.args.piece.now (record { max_body = ap (λ (s : State). s.max_body) c.self.view_is; to_head = ap (λ (s : State). s.to_head) c.self.view_is; ended = ap (λ (s : State). s.ended) c.self.view_is }) (ap (λ (s : State). s.phase) c.self.view_is)
+    represents_fed_by c.args.self.now _ c.args.piece.now (same_stream _ _ _ c.self.view_is refl) (ap (λ (s : State). s.phase) c.self.view_is)
     (ap (λ (s : State). s.unread) c.self.view_is) c.extend.result c.extend.ensures.ok
 
 pub returns-in-InContent-clause-represents : goal.returns-in-InContent-clause-represents
 returns-in-InContent-clause-represents c =
-    represents_fed_by c.args.self.now _ c.args.piece.now (record { max_body = ap (λ (s : State). s.max_body) c.self.view_is; to_head = ap (λ (s : State). s.to_head) c.self.view_is; ended = ap (λ (s : State). s.ended) c.self.view_is }) (ap (λ (s : State). s.phase) c.self.view_is)
+    represents_fed_by c.args.self.now _ c.args.piece.now (same_stream _ _ _ c.self.view_is refl) (ap (λ (s : State). s.phase) c.self.view_is)
     (ap (λ (s : State). s.unread) c.self.view_is) c.extend-in-InContent.result c.extend-in-InContent.ensures.ok
 
 pub returns-in-Given-clause-represents : goal.returns-in-Given-clause-represents

@@ -4,20 +4,20 @@ use Rattle.hx_framing.specs.declared.heads.request_head.Head.{Head}
 use Rattle.hx_framing.specs.Head.{Judges, head_of}
 use Rattle.hx_framing.proofs.MemoryLemmas.{on_err}
 use Rattle.hx_framing.proofs.HeadLemmas.{head_at-is, is_token-same}
-use Rattle.hx_framing.proofs.heads.request_head.judge_long_head.Goals as goal
+use Rattle.hx_framing.proofs.heads.request_head.RequestSpansHeadSpans.judge.Goals as goal
 
 pub copy_head-requires-clause-method : goal.copy_head-requires-clause-method
 copy_head-requires-clause-method c =
-    let found = c.in-Some.ensures.found in
+    let found = c.requires.1 in
     subst (λ (name : List ℕ). IsToken name) (sym found.2.method) (is_token-same found.0.method found.1.0.0.method)
 
-pub returns-in_ok-copy_head-in-Some-clause-judged : goal.returns-in_ok-copy_head-in-Some-clause-judged
-returns-in_ok-copy_head-in-Some-clause-judged c =
-    let found = c.in-Some.ensures.found in
-    (found.0, found.1, c.in_ok-copy_head-in-Some.ensures ∙ head_at-is _ _ _ _ found.2)
+pub returns-clause-judged : goal.returns-clause-judged
+returns-clause-judged c =
+    let found = c.requires.1 in
+    (found.0, found.1, c.in_ok-copy_head.ensures ∙ head_at-is _ _ _ _ found.2)
 
-pub returns-in_err-copy_head-in-Some-clause-memory_last : goal.returns-in_err-copy_head-in-Some-clause-memory_last
-returns-in_err-copy_head-in-Some-clause-memory_last c =
-    let found = c.in-Some.ensures.found in
+pub returns-in_err-copy_head-clause-memory_last : goal.returns-in_err-copy_head-clause-memory_last
+returns-in_err-copy_head-clause-memory_last c =
+    let found = c.requires.1 in
     let has : (head : Head) × Judges c.args.bytes.now (Ok head) = (head_of found.0, (found.0, found.1, refl)) in
     on_err _ has

@@ -1,0 +1,37 @@
+-- What streams of requests and of responses have in common.
+use Rattle.std.proofs.Common.{◌≡◌, ℕ, List, refl}
+use Rattle.hx_framing.specs.declared.fault.FrameFault.{FrameFault}
+use Rattle.hx_framing.specs.declared.messages.Next.{Next}
+use Rattle.hx_framing.specs.declared.messages.Next.TheVariants as next
+use Rattle.hx_framing.specs.declared.readers.progress.HeadProgress.{HeadProgress}
+use Rattle.hx_framing.specs.declared.readers.progress.HeadProgress.TheVariants as head_progress
+use Rattle.hx_framing.specs.Progress.{next_of, IsDue}
+use Rattle.hx_framing.specs.Reading.{Reading, Incomplete, Continue, Over, Spelled, Faulty, IsSettled, extended}
+
+pub same_fault : {M : Type 0} (f g : FrameFault) → ◌≡◌ {A = Reading M} (Faulty f) (Faulty g) → f ≡ g
+same_fault f g e = cc
+
+-- what is answered where that is found before a head
+abbrev pub answer_of : {H M : Type 0} → HeadProgress H M → Next M
+answer_of (head_progress.Incomplete n) = next.More
+answer_of (head_progress.NeedsContinue head content n) = next.NeedsContinue
+answer_of (head_progress.InContent head content n) = next.More
+answer_of (head_progress.Message m n) = next.Message m
+answer_of (head_progress.Faulty f) = next.Refused f
+answer_of head_progress.Ended = next.End
+
+-- more bytes behind a reading change no answer
+pub next_extended : {M : Type 0} (r : Reading M) (w : List ℕ) → next_of (extended r w) ≡ next_of r
+next_extended Incomplete w = refl
+next_extended Continue w = refl
+next_extended Over w = refl
+next_extended (Spelled m rest) w = refl
+next_extended (Faulty f) w = refl
+
+-- what is due is settled, but for the end
+pub due_settled : {M : Type 0} (r : Reading M) → IsDue (next_of r) → (◌≡◌ {A = Reading M} r Over → ⊥) → IsSettled r
+due_settled Incomplete due goes_on = due
+due_settled Continue due goes_on = tt
+due_settled Over due goes_on = absurd (goes_on refl)
+due_settled (Spelled m rest) due goes_on = tt
+due_settled (Faulty f) due goes_on = tt

@@ -1,0 +1,17 @@
+use Rattle.std.proofs.Common.{ℕ, List, ap, ◌∙◌, subst, IfOk, OnErr}
+use Rattle.hx_framing.specs.Queue.{Queue}
+use Rattle.hx_framing.specs.RequestHeadProgress.{IsHeadProgress, HasHead}
+use Rattle.hx_framing.specs.RequestState.{State}
+use Rattle.hx_framing.proofs.readers.request_reader.RequestReader.look.Goals as goal
+
+pub returns-clause-progress : goal.returns-clause-progress
+returns-clause-progress c =
+    subst (λ (s : State). IfOk c.read_request.result (IsHeadProgress s.max_body s.ended s.unread)) c.self.view_is
+    (subst (λ (u : List ℕ). IfOk c.read_request.result (IsHeadProgress c.self.inside.max_body c.self.inside.ended u))
+    (c.as_slice.ensures ∙ ap (λ (q : Queue). q.items) c.head_length-head_length.ensures.same) c.read_request.ensures.progress)
+
+pub returns-clause-memory_last : goal.returns-clause-memory_last
+returns-clause-memory_last c =
+    subst (λ (u : List ℕ). OnErr c.read_request.result (HasHead u))
+    (c.as_slice.ensures ∙ ap (λ (q : Queue). q.items) c.head_length-head_length.ensures.same ∙ ap (λ (s : State). s.unread) c.self.view_is)
+    c.read_request.ensures.memory_last
