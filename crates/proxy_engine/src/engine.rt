@@ -94,8 +94,8 @@ impl<S: Shelf> Engine<S> {
                 let max_body = self.core.config().max_body();
                 takes::accept(&mut self.ends.connections, alloc, max_body, n)
             }
-            Happening::Client(n, bytes) => takes::client(&mut self.ends.connections, n, bytes),
-            Happening::Link(l, bytes) => takes::answer(
+            Happening::Client(n, bytes) => takes::take_client_bytes(&mut self.ends.connections, n, bytes),
+            Happening::Link(l, bytes) => takes::take_link_bytes(
                 &mut self.ends.links,
                 self.ends.first_link,
                 l,

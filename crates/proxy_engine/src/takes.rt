@@ -50,7 +50,7 @@ fn find_link(links: &Links, first: u64, l: u64) -> Option<u64>
     }
 }
 
-fn send(connection: &mut Connection, bytes: &[u8]) -> Result<(), AllocError>
+fn feed_connection(connection: &mut Connection, bytes: &[u8]) -> Result<(), AllocError>
     ensures represents { OnOk result ((s : ConnectionModel) → ConnectionRepresents (Some connection.old) s
         → ConnectionRepresents (Some connection.new) (sent bytes.now s)) }
     ensures err { OnErr result (connection.new ≡ connection.old) }
@@ -163,7 +163,7 @@ pub(crate) fn accept(
     }
 }
 
-pub(crate) fn client(connections: &mut Connections, n: u64, bytes: &[u8]) -> Result<(), EngineFault>
+pub(crate) fn take_client_bytes(connections: &mut Connections, n: u64, bytes: &[u8]) -> Result<(), EngineFault>
     ensures ok { OnOk result ((s : EngineModel) → (links : List (Option Link)) → (core : CoreState) → (first : ℕ)
         → Represents (state connections.old.items links core first) s
         → Takes s (Sends n bytes.now) (state connections.new.items links core first)) }
@@ -184,7 +184,7 @@ pub(crate) fn client(connections: &mut Connections, n: u64, bytes: &[u8]) -> Res
     let Some(connection) = connections.at_mut(i) else {
         return Ok(());
     };
-    match send(connection, bytes) {
+    match feed_connection(connection, bytes) {
         Ok(()) => Ok(()),
         Err(_) => Err(EngineFault::OutOfMemory),
     }
@@ -230,7 +230,7 @@ pub(crate) fn disconnect_client(connections: &mut Connections, n: u64) -> Result
     Ok(())
 }
 
-pub(crate) fn answer(links: &mut Links, first: u64, l: u64, bytes: &[u8]) -> Result<(), EngineFault>
+pub(crate) fn take_link_bytes(links: &mut Links, first: u64, l: u64, bytes: &[u8]) -> Result<(), EngineFault>
     ensures ok { OnOk result ((s : EngineModel) → (connections : List (Option Connection)) → (core : CoreState)
         → Represents (state connections links.old.items core first) s
         → Takes s (Hears l bytes.now) (state connections links.new.items core first)) }

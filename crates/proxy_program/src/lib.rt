@@ -1,4 +1,5 @@
-//! The program's logic: its command line, and what each of its three forms does.
+//! The program's logic: its command line, and what each of its three forms does. No request is decided here:
+//! `proxy_server` serves, `proxy_replay` replays, and `hx_allow` reads the table.
 //!
 //! One line on standard error names a fault, and the exit status tells its kind.
 #![tactic(auto)]

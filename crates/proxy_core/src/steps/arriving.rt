@@ -86,7 +86,7 @@ impl<S: Shelf> Core<S> {
             Some(fault) => return Err(fault),
         }
         match self.config.judge(&asked.method, &asked.target) {
-            Verdict::Allowed(line) => match self.allow(alloc, now, id, asked, line) {
+            Verdict::Allowed(line) => match self.serve_allowed(alloc, now, id, asked, line) {
                 Ok(outcome) => Ok(outcome),
                 Err(_) => Err(CoreFault::OutOfMemory),
             },
@@ -96,7 +96,7 @@ impl<S: Shelf> Core<S> {
     }
 
     /// A request that the table allows.
-    fn allow(
+    fn serve_allowed(
         &mut self,
         alloc: Global,
         now: u64,

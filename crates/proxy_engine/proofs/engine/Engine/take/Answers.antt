@@ -19,9 +19,9 @@ returns-in-Accept-clause-ok g c = on_ok c.accept.result _ _
     c.accept.ensures.ok
 
 pub returns-in-Client-clause-ok : goal.returns-in-Client-clause-ok
-returns-in-Client-clause-ok g c = on_ok c.client.result _ _
-    (λ k s h. subst (λ (x : Happening). Takes s (said x) (state c.client.new.connections.items c.self.inside.ends.links.items c.self.inside.core c.self.inside.ends.first_link)) (sym c.in-Client.is) (k s c.self.inside.ends.links.items c.self.inside.core c.self.inside.ends.first_link (subst (λ (e : State). Represents e s) (sym c.self.view_is) h)))
-    c.client.ensures.ok
+returns-in-Client-clause-ok g c = on_ok c.take_client_bytes.result _ _
+    (λ k s h. subst (λ (x : Happening). Takes s (said x) (state c.take_client_bytes.new.connections.items c.self.inside.ends.links.items c.self.inside.core c.self.inside.ends.first_link)) (sym c.in-Client.is) (k s c.self.inside.ends.links.items c.self.inside.core c.self.inside.ends.first_link (subst (λ (e : State). Represents e s) (sym c.self.view_is) h)))
+    c.take_client_bytes.ensures.ok
 
 pub returns-in-End-clause-ok : goal.returns-in-End-clause-ok
 returns-in-End-clause-ok g c = on_ok c.finish_client.result _ _
@@ -34,9 +34,9 @@ returns-in-Gone-clause-ok g c = on_ok c.disconnect_client.result _ _
     c.disconnect_client.ensures.ok
 
 pub returns-in-Link-clause-ok : goal.returns-in-Link-clause-ok
-returns-in-Link-clause-ok g c = on_ok c.answer.result _ _
-    (λ k s h. subst (λ (x : Happening). Takes s (said x) (state c.self.inside.ends.connections.items c.answer.new.links.items c.self.inside.core c.self.inside.ends.first_link)) (sym c.in-Link.is) (k s c.self.inside.ends.connections.items c.self.inside.core (subst (λ (e : State). Represents e s) (sym c.self.view_is) h)))
-    c.answer.ensures.ok
+returns-in-Link-clause-ok g c = on_ok c.take_link_bytes.result _ _
+    (λ k s h. subst (λ (x : Happening). Takes s (said x) (state c.self.inside.ends.connections.items c.take_link_bytes.new.links.items c.self.inside.core c.self.inside.ends.first_link)) (sym c.in-Link.is) (k s c.self.inside.ends.connections.items c.self.inside.core (subst (λ (e : State). Represents e s) (sym c.self.view_is) h)))
+    c.take_link_bytes.ensures.ok
 
 pub returns-in-Shut-clause-ok : goal.returns-in-Shut-clause-ok
 returns-in-Shut-clause-ok g c = on_ok c.shut_link.result _ _
@@ -49,29 +49,29 @@ returns-in-Fail-clause-ok g c = on_ok c.break_link.result _ _
     c.break_link.ensures.ok
 
 pub returns-in-Client-clause-kept : goal.returns-in-Client-clause-kept
-returns-in-Client-clause-kept g c = λ e s h. subst (λ (x : Happening). keeps s (said x) ≡ true) (sym c.in-Client.is) (c.client.ensures.kept e s c.self.inside.ends.links.items c.self.inside.core c.self.inside.ends.first_link (subst (λ (e : State). Represents e s) (sym c.self.view_is) h))
+returns-in-Client-clause-kept g c = λ e s h. subst (λ (x : Happening). keeps s (said x) ≡ true) (sym c.in-Client.is) (c.take_client_bytes.ensures.kept e s c.self.inside.ends.links.items c.self.inside.core c.self.inside.ends.first_link (subst (λ (e : State). Represents e s) (sym c.self.view_is) h))
 
 pub returns-in-Link-clause-kept : goal.returns-in-Link-clause-kept
-returns-in-Link-clause-kept g c = λ e s h. subst (λ (x : Happening). keeps s (said x) ≡ true) (sym c.in-Link.is) (c.answer.ensures.kept e s c.self.inside.ends.connections.items c.self.inside.core (subst (λ (e : State). Represents e s) (sym c.self.view_is) h))
+returns-in-Link-clause-kept g c = λ e s h. subst (λ (x : Happening). keeps s (said x) ≡ true) (sym c.in-Link.is) (c.take_link_bytes.ensures.kept e s c.self.inside.ends.connections.items c.self.inside.core (subst (λ (e : State). Represents e s) (sym c.self.view_is) h))
 
 pub invariant_of-self : goal.invariant_of-self
 invariant_of-self g c = paired_accepted c.accept.result c.self.inside.ends.connections.items c.accept.new.connections.items (owners_of c.self.inside.ends.links.items) c.self.inside.core.exchanges c.accept.ensures.activities (stays_err c.accept.result _ _ (λ same. ap (λ (v : EndList Connection). v.items) same) c.accept.ensures.err) c.self.invariant
 
 pub returns-in-Client-clause-fault : goal.returns-in-Client-clause-fault
-returns-in-Client-clause-fault g c = on_err c.client.result _ _
+returns-in-Client-clause-fault g c = on_err c.take_client_bytes.result _ _
     (λ e k s h. subst (λ (x : Happening). TakeFault s (said x) e) (sym c.in-Client.is) (k s c.self.inside.ends.links.items c.self.inside.core c.self.inside.ends.first_link (subst (λ (e : State). Represents e s) (sym c.self.view_is) h)))
-    c.client.ensures.fault
+    c.take_client_bytes.ensures.fault
 
 pub returns-in-Link-clause-fault : goal.returns-in-Link-clause-fault
-returns-in-Link-clause-fault g c = on_err c.answer.result _ _
+returns-in-Link-clause-fault g c = on_err c.take_link_bytes.result _ _
     (λ e k s h. subst (λ (x : Happening). TakeFault s (said x) e) (sym c.in-Link.is) (k s c.self.inside.ends.connections.items c.self.inside.core (subst (λ (e : State). Represents e s) (sym c.self.view_is) h)))
-    c.answer.ensures.fault
+    c.take_link_bytes.ensures.fault
 
 pub returns-in-Accept-clause-reserved : goal.returns-in-Accept-clause-reserved
 returns-in-Accept-clause-reserved g c = λ found. c.accept.ensures.reserved (found_in _ _ _ _ c.in-Accept.is c.self.view_is found)
 
 pub returns-in-Client-clause-reserved : goal.returns-in-Client-clause-reserved
-returns-in-Client-clause-reserved g c = λ found. c.client.ensures.reserved (found_in _ _ _ _ c.in-Client.is c.self.view_is found)
+returns-in-Client-clause-reserved g c = λ found. c.take_client_bytes.ensures.reserved (found_in _ _ _ _ c.in-Client.is c.self.view_is found)
 
 pub returns-in-Link-clause-reserved : goal.returns-in-Link-clause-reserved
-returns-in-Link-clause-reserved g c = λ found. c.answer.ensures.reserved (found_in _ _ _ _ c.in-Link.is c.self.view_is found)
+returns-in-Link-clause-reserved g c = λ found. c.take_link_bytes.ensures.reserved (found_in _ _ _ _ c.in-Link.is c.self.view_is found)

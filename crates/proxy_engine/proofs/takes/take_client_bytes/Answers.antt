@@ -6,7 +6,7 @@ use Rattle.proxy_engine.specs.State.{ConnectionRepresents}
 use Rattle.proxy_engine.specs.declared.endpoints.ends.Connection.{Connection}
 use Rattle.proxy_engine.proofs.Searching.{map_kept}
 use Rattle.proxy_engine.proofs.Taking.{connection_free, connection_refused, connection_full, connection_taken, connection_over, connection_keeps, sent_over}
-use Rattle.proxy_engine.proofs.takes.client.Goals as goal
+use Rattle.proxy_engine.proofs.takes.take_client_bytes.Goals as goal
 
 pub returns-in_default-clause-fault : goal.returns-in_default-clause-fault
 returns-in_default-clause-fault c = λ s links core first h. connection_refused c.args.connections.now.items links core first s c.args.n c.in_default.ensures h
@@ -20,7 +20,7 @@ returns-in_default-at_mut-clause-ok c = λ s links core first h. record {
 pub returns-in-Ok-clause-ok : goal.returns-in-Ok-clause-ok
 returns-in-Ok-clause-ok c = λ s links core first h. record {
   free = connection_free c.args.connections.now.items links core first s c.args.n true c.in-Some.ensures.0 h;
-  represents = connection_taken (sent c.args.bytes.now) c.args.connections.now.items links core first s c.args.n c.in-Some.i (Some c.send.new.connection) c.in-Some.ensures.1 c.in-Some.ensures.2
+  represents = connection_taken (sent c.args.bytes.now) c.args.connections.now.items links core first s c.args.n c.in-Some.i (Some c.feed_connection.new.connection) c.in-Some.ensures.1 c.in-Some.ensures.2
       (λ k q. c.in-Ok.ensures.represents k (subst (λ (o : Option Connection). ConnectionRepresents o k) (sym c.in-Some-at_mut.ensures.value) q)) h;
 }
 
@@ -28,7 +28,7 @@ pub returns-in-Err-clause-fault : goal.returns-in-Err-clause-fault
 returns-in-Err-clause-fault c = λ s links core first h. connection_full c.args.connections.now.items links core first s c.args.n c.in-Some.ensures.0 h
 
 pub returns-in-Ok-clause-activities : goal.returns-in-Ok-clause-activities
-returns-in-Ok-clause-activities c = map_kept activity_of c.args.connections.now.items c.in-Some.i None (Some c.send.new.connection) (c.send.ensures.activity ∙ ap activity_of c.in-Some-at_mut.ensures.value)
+returns-in-Ok-clause-activities c = map_kept activity_of c.args.connections.now.items c.in-Some.i None (Some c.feed_connection.new.connection) (c.feed_connection.ensures.activity ∙ ap activity_of c.in-Some-at_mut.ensures.value)
 
 pub returns-in-Err-clause-kept : goal.returns-in-Err-clause-kept
 returns-in-Err-clause-kept c = λ e s links core first h. connection_keeps c.args.connections.now.items links core first s c.args.n c.in-Some.i c.in-Some-at_mut.connection.now c.in-Some.ensures.1 c.in-Some.ensures.2 c.in-Some-at_mut.ensures.value c.in-Err.ensures.kept h

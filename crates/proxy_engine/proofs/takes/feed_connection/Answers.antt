@@ -1,5 +1,5 @@
 use Rattle.proxy_engine.proofs.Feeding.{connection_fed}
-use Rattle.proxy_engine.proofs.takes.send.Goals as goal
+use Rattle.proxy_engine.proofs.takes.feed_connection.Goals as goal
 
 pub returns-clause-represents : goal.returns-clause-represents
 returns-clause-represents c =

@@ -6,7 +6,7 @@ use Rattle.proxy_engine.specs.State.{LinkRepresents}
 use Rattle.proxy_engine.specs.declared.endpoints.ends.Link.{Link}
 use Rattle.proxy_engine.proofs.Searching.{map_kept}
 use Rattle.proxy_engine.proofs.Taking.{link_free, link_refused, link_full, link_taken, link_over, link_keeps, heard_over}
-use Rattle.proxy_engine.proofs.takes.answer.Goals as goal
+use Rattle.proxy_engine.proofs.takes.take_link_bytes.Goals as goal
 
 pub returns-in_default-clause-fault : goal.returns-in_default-clause-fault
 returns-in_default-clause-fault c = λ s connections core h. link_refused connections c.args.links.now.items core c.args.first s c.args.l c.in_default.ensures h

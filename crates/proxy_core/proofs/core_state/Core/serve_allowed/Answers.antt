@@ -12,7 +12,7 @@ use Rattle.proxy_core.specs.Outcomes.{sent_on}
 use Rattle.proxy_core.specs.State.{State, placed}
 use Rattle.proxy_core.proofs.Held.{NoneFrom-promoted}
 use Rattle.proxy_core.proofs.Openings.{both, opens_by}
-use Rattle.proxy_core.proofs.core_state.Core.allow.Goals as goal
+use Rattle.proxy_core.proofs.core_state.Core.serve_allowed.Goals as goal
 
 pub invariant_of-self : goal.invariant_of-self
 invariant_of-self g c = NoneFrom-promoted c.self.inside.next _ _ _ c.promote.ensures.entries c.self.invariant
