@@ -54,31 +54,31 @@ class Words:
     def reuse(self, name):
         """A reuse rule, by its name."""
         rows = self.documents.row(lambda it: it["Rule"] == name, "Rule", "Stands where", "fwd", "detail")
-        reason, detail = (self.sources.texts(it, "ReuseRule")[name] for it in ("reason_of", "detail_of"))
-        number = self.sources.numbers("number_of", "ReuseRule")[name]
+        reason, detail = (self.sources.texts(it, "ReuseRule")[name] for it in ("reuse_rule_reason", "reuse_rule_detail"))
+        number = self.sources.numbers("reuse_rule_number", "ReuseRule")[name]
         title = f"fwd={reason}{f';detail={detail}' if detail else ''}: rule {number} of reuse, {name}"
         return Entry(
             f"reuse-{number}",
             title,
-            self.parts(rows, self.sources.definition("ReuseRule", name, ["against", "applies"])),
+            self.parts(rows, self.sources.definition("ReuseRule", name, ["rule_condition", "reuse_rule_applies"])),
         )
 
     def storing(self, name):
         rows = self.documents.row(lambda it: it["Rule"] == name, "Rule", "Stands where", "RFC", without=["fwd", "Word"])
-        number = self.sources.numbers("number_of", "StoreRule")[name]
+        number = self.sources.numbers("storing_rule_number", "StoreRule")[name]
         return Entry(
             f"storing-{number}",
             f"rule {number} of storing, {name}",
-            self.parts(rows, self.sources.definition("StoreRule", name, ["applies"])),
+            self.parts(rows, self.sources.definition("StoreRule", name, ["storing_rule_applies"])),
         )
 
     def error(self, name):
         rows = self.documents.row(lambda it: it["Rule"] == name, "Rule", "Stands where", "Word", "RFC")
         number, word = (
-            self.sources.numbers("error_number_of", "ErrorRule")[name],
-            self.sources.texts("error_word_of", "ErrorRule")[name],
+            self.sources.numbers("error_rule_number", "ErrorRule")[name],
+            self.sources.texts("error_rule_word", "ErrorRule")[name],
         )
-        defined = self.sources.definition("ErrorRule", name, ["against_on_error"])
+        defined = self.sources.definition("ErrorRule", name, ["error_rule_condition"])
         return Entry(
             f"error-{number}", f"stale-if-error={word}: rule {number} after an error, {name}", self.parts(rows, defined)
         )
@@ -96,7 +96,7 @@ class Words:
     def target(self, name):
         rows = self.documents.row(lambda it: it["Fault"] == name, "Fault", "Stands where", "RFC", "Answer")
         word = self.sources.texts("target_word", "TargetFault")[name]
-        defined = self.sources.definition("TargetFault", name, ["applies"])
+        defined = self.sources.definition("TargetFault", name, ["target_fault_applies"])
         return Entry(
             f"target-{word}",
             f"refused: {word}: fault {rows[1].get('No')} of targets, {name}",
@@ -119,8 +119,8 @@ class Words:
 
     def kind(self, name):
         """How an origin failed."""
-        word = self.sources.texts("kind_word", "FailKind")[name]
-        defined = self.sources.definition("FailKind", name, ["kind_word"])
+        word = self.sources.texts("fail_kind_word", "FailKind")[name]
+        defined = self.sources.definition("FailKind", name, ["fail_kind_word"])
         return self.of_table(f"origin-{word}", f"origin {word}: the origin failed", "KIND", word, defined)
 
     def cause(self, name):
@@ -130,13 +130,13 @@ class Words:
             lambda it: any(one.startswith(word) for one in codes_in(it["Refusal"])), "Status", "Refusal", "Why"
         )[1]
         more = [("status", refusal.get("Status")), ("why", refusal.get("Why"))]
-        defined = self.sources.definition("Cause", name, ["text_of"])
+        defined = self.sources.definition("Cause", name, ["refusal_text"])
         return self.of_table(f"refusal-{name.lower()}", word, "Refusal", word, defined, more)
 
     def detail(self, name):
         """What is said where a stored response was sent after all."""
-        word = self.sources.texts("word_of", "Detail")[name]
-        defined = self.sources.definition("Detail", name, ["word_of"])
+        word = self.sources.texts("detail_word", "Detail")[name]
+        defined = self.sources.definition("Detail", name, ["detail_word"])
         return self.of_table(
             f"detail-{word}", f"detail={word}", "Detail", word, defined, [("in a log", self.log_words(word))]
         )
@@ -159,7 +159,7 @@ class Words:
             ("where", row.get("Where")),
             ("standard", link_of(row.get("RFC", ""))),
         ]
-        defined = self.sources.files["how_text", "How"]
+        defined = self.sources.files["hit_or_forward_text", "How"]
         return Entry(f"parameter-{word}", word, [*parts, ("defined in", table and f"{defined}; {table.place()}")])
 
 

@@ -7,13 +7,13 @@ from explained.texts import Texts
 
 # The lists of rules: the type, its number, and how it is looked up.
 RULES = [
-    ("ReuseRule", "number_of", Words.reuse),
-    ("StoreRule", "number_of", Words.storing),
-    ("ErrorRule", "error_number_of", Words.error),
+    ("ReuseRule", "reuse_rule_number", Words.reuse),
+    ("StoreRule", "storing_rule_number", Words.storing),
+    ("ErrorRule", "error_rule_number", Words.error),
 ]
 # Lists of words. (Want of memory is told of no target: it is the program's own.)
 FAULTS = [("FrameFault", "frame_word", Words.message), ("TargetFault", "target_word", Words.target)]
-OTHERS = [("FailKind", "kind_word", Words.kind), ("Cause", "text_of", Words.cause), ("Detail", "word_of", Words.detail)]
+OTHERS = [("FailKind", "fail_kind_word", Words.kind), ("Cause", "refusal_text", Words.cause), ("Detail", "detail_word", Words.detail)]
 
 
 def lacking(entry, root, wanted=("in plain words", "standard", "defined in")):
@@ -43,12 +43,12 @@ def row_agrees(words, type, name, number):
     """Whether the row of a rule has the number and the words that the definitions have."""
     if type == "ReuseRule":
         _, row = words.documents.row(lambda it: it["Rule"] == name, "Rule", "Stands where", "fwd", "detail")
-        told = [words.sources.texts(it, type)[name] or "" for it in ("reason_of", "detail_of")]
+        told = [words.sources.texts(it, type)[name] or "" for it in ("reuse_rule_reason", "reuse_rule_detail")]
         return [row.get(it) for it in ("No", "fwd", "detail")] == [str(number), *told]
     if type == "ErrorRule":
         _, row = words.documents.row(lambda it: it["Rule"] == name, "Rule", "Stands where", "Word", "RFC")
-        return [row.get(it) for it in ("No", "Word")] == [str(number), words.sources.texts("error_word_of", type)[name]]
-    word = words.sources.texts("storing_word_of", type)[name]
+        return [row.get(it) for it in ("No", "Word")] == [str(number), words.sources.texts("error_rule_word", type)[name]]
+    word = words.sources.texts("storing_rule_word", type)[name]
     _, row = words.documents.row(lambda it: it["Rule"] == name, "Rule", "Stands where", "`not-stored-`", "RFC")
     return [row.get(it) for it in ("No", "`not-stored-`")] == [str(number), word]
 
@@ -71,8 +71,8 @@ def of_words(words, root):
 def of_texts(found):
     """Each text that the program can write names the rule that it is of, and nothing else of its kind."""
     sources = found.sources
-    for name, number in sources.numbers("number_of", "ReuseRule").items():
-        reason, detail = (sources.texts(it, "ReuseRule")[name] for it in ("reason_of", "detail_of"))
+    for name, number in sources.numbers("reuse_rule_number", "ReuseRule").items():
+        reason, detail = (sources.texts(it, "ReuseRule")[name] for it in ("reuse_rule_reason", "reuse_rule_detail"))
         rule = f"fwd={reason}" + (f";detail={detail}" if detail else "")
         for text in (
             f"Cache-Status: edge;{rule}",
@@ -82,14 +82,14 @@ def of_texts(found):
         ):
             keys = [it.key for it in found.of(text) if it.key.startswith("reuse-")]
             yield text, [] if keys == [f"reuse-{number}"] else [f"{text} is taken for {keys}"]
-    for name, number in sources.numbers("number_of", "StoreRule").items():
-        word = f"not-stored-{sources.texts('storing_word_of', 'StoreRule')[name]}"
+    for name, number in sources.numbers("storing_rule_number", "StoreRule").items():
+        word = f"not-stored-{sources.texts('storing_rule_word', 'StoreRule')[name]}"
         for text in (f"Cache-Status: edge;fwd=uri-miss;detail={word}", f"fwd=stale;detail={word}", word):
             keys = [it.key for it in found.of(text) if it.key.startswith("storing-")]
             yield text, [] if keys == [f"storing-{number}"] else [f"{text} is taken for {keys}"]
     lines = [
-        *sources.texts("config_line", "ConfigFault").values(),
-        *sources.texts("engine_line", "EngineFault").values(),
+        *sources.texts("config_fault_line", "ConfigFault").values(),
+        *sources.texts("engine_fault_line", "EngineFault").values(),
     ]
     lines += [*sources.texts("fault_line", "ReplayFault").values(), *sources.said()]
     for it in sorted({it.strip() for it in lines if it}):

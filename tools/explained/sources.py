@@ -54,7 +54,7 @@ class Sources:
     def parameters(self):
         """The parameters that a member of Cache-Status or a refusal can have, without what stands behind a `=`."""
         found = set()
-        for key in (("how_text", "How"), ("text_of", "Cause")):
+        for key in (("hit_or_forward_text", "How"), ("refusal_text", "Cause")):
             with open(f"{self.root}/{self.files[key]}", encoding="utf-8") as it:
                 found |= {one.strip(";=") for one in TEXT.findall(it.read()) if one.startswith(";")}
         return found

@@ -16,8 +16,8 @@ class Texts:
     def __init__(self, words):
         self.words, self.sources, self.documents = words, words.sources, words.documents
         self.by_text = {}
-        for name in self.sources.table("number_of", "ReuseRule"):
-            reason, detail = (self.sources.texts(it, "ReuseRule")[name] for it in ("reason_of", "detail_of"))
+        for name in self.sources.table("reuse_rule_number", "ReuseRule"):
+            reason, detail = (self.sources.texts(it, "ReuseRule")[name] for it in ("reuse_rule_reason", "reuse_rule_detail"))
             self.by_text[reason, detail] = name
 
     def of(self, text):
@@ -53,10 +53,10 @@ class Texts:
     def storing_rules(self, detail):
         """The storing rule that a detail names, by which an answer isn't stored."""
         word = (detail or "").removeprefix(NOT_STORED)
-        return self.named("storing_word_of", "StoreRule", word) if word != detail else []
+        return self.named("storing_rule_word", "StoreRule", word) if word != detail else []
 
     def own_details(self):
-        return self.sources.texts("word_of", "Detail")
+        return self.sources.texts("detail_word", "Detail")
 
     def of_rule(self, reason, detail):
         """The rule of a reason and a detail; where the detail stands in place of the rule's, each of that reason."""
@@ -76,7 +76,7 @@ class Texts:
         elif reason == "bypass":
             names = ["Operator" if detail == "operator" else "Bypass"]
         else:
-            names = [it for it in self.sources.table("number_of", "StoreRule") if it not in ("Operator", "Bypass")]
+            names = [it for it in self.sources.table("storing_rule_number", "StoreRule") if it not in ("Operator", "Bypass")]
         rules = [self.words.storing(it) for it in names]
         parts = [(it.title.partition(", ")[2], in_short(it)) for it in rules]
         if len(names) == 1:
@@ -96,13 +96,13 @@ class Texts:
             return self.of_fault(text.removeprefix("refused: "))
         if head == NAMES_OF_CAUSES["OnlyIfCached"] and "fwd" in more:
             return [self.words.cause("OnlyIfCached"), *self.of_rule(more["fwd"], more.get("detail"))]
-        kinds = {word: name for name, word in self.sources.texts("kind_word", "FailKind").items()}
+        kinds = {word: name for name, word in self.sources.texts("fail_kind_word", "FailKind").items()}
         kind = kinds.get(head.removeprefix("origin ")) if head.startswith("origin ") else None
         if not kind:
             return []
         entries = [self.words.kind(kind), *self.of_rule(more.get("fwd"), more.get("detail"))]
         return entries + [
-            self.words.error(it) for it in self.named("error_word_of", "ErrorRule", more.get("stale-if-error"))
+            self.words.error(it) for it in self.named("error_rule_word", "ErrorRule", more.get("stale-if-error"))
         ]
 
     def named(self, function, type, word):
@@ -141,7 +141,7 @@ class Texts:
 
     def sentence(self, text):
         """The sentence of a fault that a line names by its number."""
-        name = next((it for it in self.named("engine_line", "EngineFault", text)), None)
+        name = next((it for it in self.named("engine_fault_line", "EngineFault", text)), None)
         if name and ("fault_text", "EngineFault") in self.sources.equations:
             yield "in plain words", self.sources.texts("fault_text", "EngineFault")[name]
 
@@ -150,16 +150,16 @@ class Texts:
         entries = [self.words.reuse(it) for it in self.names_of_rules(word)]
         entries += [self.words.storing(it) for it in self.storing_rules(word.removeprefix("detail="))]
         entries += [
-            self.words.storing(it) for it in self.sources.table("number_of", "StoreRule") if it.lower() == word.lower()
+            self.words.storing(it) for it in self.sources.table("storing_rule_number", "StoreRule") if it.lower() == word.lower()
         ]
         for function, type, make in (
-            ("error_word_of", "ErrorRule", self.words.error),
-            ("kind_word", "FailKind", self.words.kind),
-            ("word_of", "Detail", self.words.detail),
+            ("error_rule_word", "ErrorRule", self.words.error),
+            ("fail_kind_word", "FailKind", self.words.kind),
+            ("detail_word", "Detail", self.words.detail),
         ):
             entries += [make(it) for it in self.named(function, type, word)]
         entries += self.of_fault(word) + [
-            self.words.error(it) for it in self.sources.table("error_number_of", "ErrorRule") if it == word
+            self.words.error(it) for it in self.sources.table("error_rule_number", "ErrorRule") if it == word
         ]
         entries += [self.words.message(it) for it in self.sources.table("frame_word", "FrameFault") if it == word]
         entries += [
@@ -191,11 +191,11 @@ class Texts:
         known = (
             {it for pair in self.by_text for it in pair if it}
             | set(self.by_text.values())
-            | set(self.sources.table("number_of", "StoreRule"))
+            | set(self.sources.table("storing_rule_number", "StoreRule"))
         )
         for function, type in (
-            ("error_word_of", "ErrorRule"),
-            ("kind_word", "FailKind"),
+            ("error_rule_word", "ErrorRule"),
+            ("fail_kind_word", "FailKind"),
             ("frame_word", "FrameFault"),
             ("target_word", "TargetFault"),
         ):

@@ -14,7 +14,7 @@ pub struct Case<'a> {
 }
 
 /// The label of a case, and its answer.
-fn labelled(head: Line<'_>) -> Result<(Line<'_>, &str), Fault> {
+fn label_and_answer(head: Line<'_>) -> Result<(Line<'_>, &str), Fault> {
     match head.text.split_once(" -> ") {
         Some((text, answer)) => {
             let number = head.number;
@@ -123,7 +123,7 @@ impl<'a> Player<'a> {
     }
 
     fn play(&mut self, alloc: Global, report: &mut String, block: &Block<'a>) -> Result<(), Fault> {
-        let (label, answer) = labelled(block.head)?;
+        let (label, answer) = label_and_answer(block.head)?;
         let input = block.body.as_slice();
         if input.is_empty() {
             let input = [label];

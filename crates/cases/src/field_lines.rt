@@ -1,11 +1,11 @@
 //! Field lines as HTTP writes them: `Name: value`.
 
-use crate::lines::{Fault, Line, spelled};
+use crate::lines::{Fault, Line, bytes_spelled};
 use hx_fields::Fields;
 use std::alloc::Global;
 
 /// The name and the value of a field line. A value may be empty: `Name:`.
-fn parts<'a>(line: Line<'a>) -> Result<(&'a str, &'a str), Fault> {
+fn name_and_value<'a>(line: Line<'a>) -> Result<(&'a str, &'a str), Fault> {
     match line.text.split_once(':') {
         Some((name, value)) => Ok((name, value.strip_prefix(' ').unwrap_or(value))),
         None => Err(line.fault("not a field line, `Name: value`")),
@@ -14,9 +14,9 @@ fn parts<'a>(line: Line<'a>) -> Result<(&'a str, &'a str), Fault> {
 
 /// Appends a field line.
 pub fn push_field(alloc: Global, fields: &mut Fields, line: Line<'_>) -> Result<(), Fault> {
-    let (name, value) = parts(line)?;
-    let name = spelled(alloc, line, name)?;
-    let value = spelled(alloc, line, value)?;
+    let (name, value) = name_and_value(line)?;
+    let name = bytes_spelled(alloc, line, name)?;
+    let value = bytes_spelled(alloc, line, value)?;
     Ok(fields.push(name.as_slice(), value.as_slice())?)
 }
 

@@ -121,7 +121,7 @@ pub fn push_spelled(bytes: &mut Vec<u8>, line: Line<'_>, text: &str) -> Result<(
 }
 
 /// The bytes that a text in this line spells.
-pub fn spelled(alloc: Global, line: Line<'_>, text: &str) -> Result<Vec<u8>, Fault> {
+pub fn bytes_spelled(alloc: Global, line: Line<'_>, text: &str) -> Result<Vec<u8>, Fault> {
     let mut bytes = Vec::new(alloc);
     push_spelled(&mut bytes, line, text)?;
     Ok(bytes)

@@ -138,6 +138,6 @@ pub fn write_fields(text: &mut String, fields: &Fields) -> Result<(), AllocError
 }
 
 /// Writes a word as an answer.
-pub fn word(text: &mut String, word: &str) -> Result<(), Fault> {
+pub fn write_word_answer(text: &mut String, word: &str) -> Result<(), Fault> {
     Ok(text.push_str(word)?)
 }

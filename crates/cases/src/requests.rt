@@ -2,7 +2,7 @@
 //!
 //! Where nothing else is said it is `/a` that is asked for, of the host `h`.
 
-use crate::lines::{Fault, Line, spelled};
+use crate::lines::{Fault, Line, bytes_spelled};
 use crate::parts::Part;
 use http::Method;
 use hx_fields::{Bytes, Fields};
@@ -63,7 +63,7 @@ fn content_of(
     content: Option<&str>,
 ) -> Result<Option<Bytes>, Fault> {
     match content {
-        Some(content) => Ok(Some(Bytes::from_vec(spelled(alloc, line, content)?))),
+        Some(content) => Ok(Some(Bytes::from_vec(bytes_spelled(alloc, line, content)?))),
         None => Ok(None),
     }
 }
@@ -85,7 +85,7 @@ fn request_of(
 ) -> Result<Request, Fault> {
     Ok(Request {
         method: method_of(alloc, line, said.method)?,
-        target: Bytes::from_vec(spelled(alloc, line, said.target)?),
+        target: Bytes::from_vec(bytes_spelled(alloc, line, said.target)?),
         minor: said.minor,
         fields: with_host(alloc, fields)?,
         content: content_of(alloc, line, said.content)?,

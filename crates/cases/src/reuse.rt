@@ -9,7 +9,7 @@
 //! name of the least rule against it, and which response that one is about.
 
 use crate::lines::{Fault, Line};
-use crate::parts::{Part, word};
+use crate::parts::{Part, write_word_answer};
 use crate::policies::policy_of;
 use crate::requests::asked_of;
 use hx_age::Times;
@@ -101,7 +101,7 @@ fn stored_of(alloc: Global, part: &Part<'_>, asked: &Fields) -> Result<Entry, Fa
     entry_of(alloc, line, stored.serial, &asked, fields, times)
 }
 
-fn put(shelf: &mut ListShelf, line: Line<'_>, entry: Entry) -> Result<(), Fault> {
+fn put_in_shelf(shelf: &mut ListShelf, line: Line<'_>, entry: Entry) -> Result<(), Fault> {
     if shelf.contains(entry.serial) {
         return Err(line.fault("a number that stands twice"));
     }
@@ -120,7 +120,11 @@ fn is_for(parts: &[Part<'_>], i: usize) -> bool {
 }
 
 /// The lines of the request that the response at a place answered.
-fn asked_behind(alloc: Global, parts: &[Part<'_>], i: usize) -> Result<Fields, AllocError> {
+fn request_behind_response(
+    alloc: Global,
+    parts: &[Part<'_>],
+    i: usize,
+) -> Result<Fields, AllocError> {
     match parts.get(i.saturating_add(1)) {
         Some(part) if part.head.text == "for" => part.fields.copy(alloc),
         _ => Ok(Fields::new(alloc)),
@@ -131,8 +135,8 @@ fn shelf_of(alloc: Global, parts: &[Part<'_>]) -> Result<ListShelf, Fault> {
     let mut shelf = ListShelf::new(alloc, MOST_STORED);
     for (i, part) in parts.iter().enumerate() {
         if part.head.text != "for" {
-            let asked = asked_behind(alloc, parts, i)?;
-            put(&mut shelf, part.head, stored_of(alloc, part, &asked)?)?;
+            let asked = request_behind_response(alloc, parts, i)?;
+            put_in_shelf(&mut shelf, part.head, stored_of(alloc, part, &asked)?)?;
         } else if i == 0 || is_for(parts, i.saturating_sub(1)) {
             return Err(part.head.fault("`for` without a stored response before it"));
         }
@@ -153,7 +157,7 @@ fn at_line(text: &str) -> Option<(u64, &str)> {
     Some((now.parse::<u64>().ok()?, request))
 }
 
-fn decided(
+fn decision_on(
     alloc: Global,
     shelf: &ListShelf,
     asked: &Asked,
@@ -186,7 +190,7 @@ fn write_decided(
     };
     let shelf = shelf_of(*text.allocator(), stored)?;
     let (now, asked) = asked_at(*text.allocator(), request)?;
-    let decision = decided(*text.allocator(), &shelf, &asked, now, policy)?;
+    let decision = decision_on(*text.allocator(), &shelf, &asked, now, policy)?;
     Ok(write_decision(text, decision)?)
 }
 
@@ -233,7 +237,7 @@ pub fn on_error(text: &mut String, label: Line<'_>, parts: &[Part<'_>]) -> Resul
         return Err(label.fault("not a stored response and a request"));
     };
     match on_error_at(*text.allocator(), stored, request, policy)? {
-        Ok(()) => word(text, "sent"),
+        Ok(()) => write_word_answer(text, "sent"),
         Err(rule) => Ok(write!(text, "{} {:?}", rule.number(), rule)?),
     }
 }

@@ -3,7 +3,7 @@
 use crate::words::push_shown_in_brackets;
 use case_text::{block_of, failure_word};
 use proxy_replay::{ReplayFault, replay};
-use proxy_script::{Front, Happening, Item, read_item};
+use proxy_script::{FrontItem, Happening, Item, read_item};
 use std::alloc::AllocError;
 
 /// Writes the words of what happens, without its bytes.
@@ -42,12 +42,12 @@ fn write_item(text: &mut String, item: Item<'_>) -> Result<(), AllocError> {
 /// Writes the item at the front of a script or of its rest, with its bytes in brackets, and what is behind it.
 pub fn write_front(text: &mut String, first: bool, script: &[u8]) -> Result<(), AllocError> {
     match read_item(first, script) {
-        Front::Found(item, rest) => {
+        FrontItem::Found(item, rest) => {
             write_item(text, item)?;
             write_behind(text, " then ", rest)
         }
-        Front::Cut => text.push_str("cut"),
-        Front::Wrong => text.push_str("wrong"),
+        FrontItem::Cut => text.push_str("cut"),
+        FrontItem::Wrong => text.push_str("wrong"),
     }
 }
 

@@ -8,7 +8,7 @@
 
 use crate::case_file::Case;
 use crate::field_lines::fields_of;
-use crate::lines::{Fault, Line, push_spelled, spelled};
+use crate::lines::{Fault, Line, bytes_spelled, push_spelled};
 use crate::requests::asked_of;
 use crate::tables::text_of;
 use crate::words::fail_kind;
@@ -159,7 +159,7 @@ fn response_of(
     Ok(Response {
         status,
         fields: fields_of(alloc, step.fields.as_slice())?,
-        content: Bytes::from_vec(spelled(alloc, step.happens, content)?),
+        content: Bytes::from_vec(bytes_spelled(alloc, step.happens, content)?),
         announced: None,
     })
 }
@@ -279,7 +279,11 @@ fn is_given(
 }
 
 /// Does a step, and tells whether it gives what it is to give. Else it is written what it gives.
-fn holds(text: &mut String, core: &mut Core<ListShelf>, step: &Step<'_>) -> Result<bool, Fault> {
+fn step_holds(
+    text: &mut String,
+    core: &mut Core<ListShelf>,
+    step: &Step<'_>,
+) -> Result<bool, Fault> {
     let given = outcome_of(*text.allocator(), core, step)?;
     let mut gives = String::new(*text.allocator());
     write_given(&mut gives, &given)?;
@@ -298,7 +302,7 @@ fn core_of(alloc: Global, front: &[Line<'_>], case: &Case<'_>) -> Result<Core<Li
 }
 
 /// Does the step that stands from one place to another.
-fn holds_at(
+fn step_holds_at(
     text: &mut String,
     core: &mut Core<ListShelf>,
     lines: &[Line<'_>],
@@ -306,7 +310,7 @@ fn holds_at(
     to: usize,
 ) -> Result<bool, Fault> {
     let step = step_of(*text.allocator(), lines, from, to)?;
-    holds(text, core, &step)
+    step_holds(text, core, &step)
 }
 
 /// Does the steps of a case, and writes their number or the first that gives something else.
@@ -320,7 +324,7 @@ pub fn steps(text: &mut String, front: &[Line<'_>], case: &Case<'_>) -> Result<(
         if from == end {
             break;
         }
-        if !holds_at(text, &mut core, lines, from, end)? {
+        if !step_holds_at(text, &mut core, lines, from, end)? {
             return Ok(());
         }
         count = count.saturating_add(1);

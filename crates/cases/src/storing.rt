@@ -3,7 +3,7 @@
 //! `stored` is answered, or the number and the name of the least rule against it.
 
 use crate::lines::{Fault, Line};
-use crate::parts::{Part, word};
+use crate::parts::{Part, write_word_answer};
 use crate::policies::policy_of;
 use crate::requests::asked_by;
 use hx_directives::Directives;
@@ -11,7 +11,7 @@ use hx_fields::Fields;
 use hx_hop::{Answered, Asked};
 use hx_policy::Policy;
 use hx_reuse::lifetime_under;
-use hx_storable::{Facts, StoreRule, first_rule_against};
+use hx_storable::{StoreRule, StoringFacts, first_rule_against};
 use hx_validate::has_validator;
 use hx_vary::{Nominated, Nomination};
 use std::alloc::{AllocError, Global};
@@ -35,8 +35,8 @@ fn is_star(alloc: Global, asked: &Asked, fields: &Fields) -> Result<bool, AllocE
 }
 
 /// What the lines of an answer say, and nothing else. Whether it has a lifetime is found behind the words of its line.
-fn facts_of(alloc: Global, asked: &Asked, fields: &Fields) -> Result<Facts, AllocError> {
-    Ok(Facts {
+fn facts_of(alloc: Global, asked: &Asked, fields: &Fields) -> Result<StoringFacts, AllocError> {
+    Ok(StoringFacts {
         policy: Policy::plain(true),
         vary_star: is_star(alloc, asked, fields)?,
         listed: false,
@@ -49,7 +49,7 @@ fn facts_of(alloc: Global, asked: &Asked, fields: &Fields) -> Result<Facts, Allo
 }
 
 /// What is known, with what a line says besides.
-fn with_part(mut facts: Facts, part: &Part<'_>) -> Result<Facts, Fault> {
+fn with_part(mut facts: StoringFacts, part: &Part<'_>) -> Result<StoringFacts, Fault> {
     if part.fields.len() > 0 {
         return Err(part.head.fault("field lines behind what is known besides"));
     }
@@ -101,7 +101,7 @@ pub fn storing(text: &mut String, label: Line<'_>, parts: &[Part<'_>]) -> Result
         return Err(label.fault("no request with an answer"));
     };
     match rule_of(*text.allocator(), request, answer, known)? {
-        None => word(text, "stored"),
+        None => write_word_answer(text, "stored"),
         Some(rule) => Ok(write!(text, "{} {:?}", rule as u8, rule)?),
     }
 }

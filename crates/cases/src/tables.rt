@@ -1,7 +1,7 @@
 //! The operator's tables: whether a text is one, with a part changed or as it is, and what it says of requests.
 
 use crate::case_file::Case;
-use crate::lines::{Fault, Line, push_spelled, spelled};
+use crate::lines::{Fault, Line, bytes_spelled, push_spelled};
 use crate::parts::{lines_of, only_line};
 use crate::policies::write_words;
 use crate::requests::method_of;
@@ -80,7 +80,7 @@ fn as_text<'a>(line: Line<'_>, bytes: &'a [u8]) -> Result<&'a str, Fault> {
     }
 }
 
-fn replaced(
+fn table_with_replaced(
     alloc: Global,
     line: Line<'_>,
     table: &str,
@@ -105,7 +105,7 @@ fn write_changed(
     let table = as_text(line, table)?;
     let part = as_text(line, part)?;
     let new = as_text(line, new)?;
-    let changed = replaced(*text.allocator(), line, table, part, new)?;
+    let changed = table_with_replaced(*text.allocator(), line, table, part, new)?;
     Ok(print_line(text, changed.as_bytes())?)
 }
 
@@ -115,8 +115,8 @@ pub fn changed_tables(text: &mut String, front: &[Line<'_>], case: &Case<'_>) ->
     let Some((part, new)) = line.text.split_once(" => ") else {
         return Err(line.fault("no ` => ` between a part and what takes its place"));
     };
-    let part = spelled(*text.allocator(), line, part)?;
-    let new = spelled(*text.allocator(), line, new)?;
+    let part = bytes_spelled(*text.allocator(), line, part)?;
+    let new = bytes_spelled(*text.allocator(), line, new)?;
     let table = text_of(*text.allocator(), front)?;
     write_changed(
         text,

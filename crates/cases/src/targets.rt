@@ -3,8 +3,8 @@
 //! A target is answered by its host, port, path with query, and path for the operator's table.
 
 use crate::case_file::Case;
-use crate::lines::{Fault, Line, spelled};
-use crate::parts::{only_line, word};
+use crate::lines::{Fault, Line, bytes_spelled};
+use crate::parts::{only_line, write_word_answer};
 use crate::words::target_word;
 use case_text::push_shown;
 use hx_fields::{Bytes, Fields};
@@ -15,13 +15,13 @@ use hx_target::{
 use std::alloc::{AllocError, Global};
 
 /// Reads the target of a line with its Host lines, behind a line of another field.
-fn read(alloc: Global, line: Line<'_>) -> Result<Result<Target, TargetFault>, Fault> {
+fn read_target_line(alloc: Global, line: Line<'_>) -> Result<Result<Target, TargetFault>, Fault> {
     let mut values = line.text.split(" | ");
-    let target = spelled(alloc, line, values.next().unwrap_or(""))?;
+    let target = bytes_spelled(alloc, line, values.next().unwrap_or(""))?;
     let mut fields = Fields::new(alloc);
     fields.push(b"Accept", b"*/*")?;
     for value in values {
-        fields.push(b"hOST", spelled(alloc, line, value)?.as_slice())?;
+        fields.push(b"hOST", bytes_spelled(alloc, line, value)?.as_slice())?;
     }
     Ok(read_target(alloc, &Bytes::from_vec(target), &fields))
 }
@@ -42,7 +42,7 @@ pub fn write_refused(text: &mut String, fault: TargetFault) -> Result<(), AllocE
 
 /// What is read of a target.
 pub fn targets(text: &mut String, front: &[Line<'_>], case: &Case<'_>) -> Result<(), Fault> {
-    match read(*text.allocator(), only_line(front, case)?)? {
+    match read_target_line(*text.allocator(), only_line(front, case)?)? {
         Ok(target) => Ok(write_target(text, &target)?),
         Err(fault) => Ok(write_refused(text, fault)?),
     }
@@ -50,14 +50,14 @@ pub fn targets(text: &mut String, front: &[Line<'_>], case: &Case<'_>) -> Result
 
 /// Whether a target is read.
 pub fn target_faults(text: &mut String, front: &[Line<'_>], case: &Case<'_>) -> Result<(), Fault> {
-    match read(*text.allocator(), only_line(front, case)?)? {
-        Ok(_) => word(text, "read"),
+    match read_target_line(*text.allocator(), only_line(front, case)?)? {
+        Ok(_) => write_word_answer(text, "read"),
         Err(fault) => Ok(write_refused(text, fault)?),
     }
 }
 
 /// What is told of a path's dot segments before its escapes are decoded and behind.
-fn dots_shown(before: bool, behind: bool) -> &'static str {
+fn dot_segments_answer(before: bool, behind: bool) -> &'static str {
     match (before, behind) {
         (true, true) => ", a dot segment",
         (false, false) => "",
@@ -74,13 +74,13 @@ fn write_path(text: &mut String, path: &[u8], found: &[u8]) -> Result<(), AllocE
     if has_bad_escape(path) {
         text.push_str(", a bad escape")?;
     }
-    text.push_str(dots_shown(names_a_dot_segment(path), has_dot_segment(found)))
+    text.push_str(dot_segments_answer(names_a_dot_segment(path), has_dot_segment(found)))
 }
 
 /// The path for the table, and what is wrong with it.
 pub fn paths(text: &mut String, front: &[Line<'_>], case: &Case<'_>) -> Result<(), Fault> {
     let line = only_line(front, case)?;
-    let path = spelled(*text.allocator(), line, line.text)?;
+    let path = bytes_spelled(*text.allocator(), line, line.text)?;
     let found = table_path(*text.allocator(), path.as_slice())?;
     Ok(write_path(text, path.as_slice(), found.as_slice())?)
 }

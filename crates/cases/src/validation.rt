@@ -1,7 +1,7 @@
 //! Validation: a stored response that came at 100, under `stored`, and what a 304 or a client's condition makes of it.
 
 use crate::lines::{Fault, Line};
-use crate::parts::{Part, word, write_fields};
+use crate::parts::{Part, write_fields, write_word_answer};
 use crate::requests::{asked_by, asked_of};
 use crate::reuse::entry_of;
 use crate::storing::answered_of;
@@ -56,7 +56,7 @@ pub fn conditions_of(alloc: Global, part: &Part<'_>) -> Result<Conditions, Fault
 }
 
 /// What a 304 to these conditions says of the stored response.
-fn shown(entry: &Entry, sent: &Conditions, answered: &Answered) -> &'static str {
+fn answers_or_not(entry: &Entry, sent: &Conditions, answered: &Answered) -> &'static str {
     if !has_validator(&entry.fields) {
         "no validator"
     } else if answers(entry, sent, answered) {
@@ -73,7 +73,7 @@ fn write_outcome(
     answer: &Part<'_>,
 ) -> Result<(), Fault> {
     let answered = answer_of(*text.allocator(), answer)?;
-    word(text, shown(entry, sent, &answered))
+    write_word_answer(text, answers_or_not(entry, sent, &answered))
 }
 
 /// Whether a 304 answers the stored response, to its own conditions or to those that are given.
@@ -124,7 +124,7 @@ pub fn client_conditions(
     let entry = stored_of(*text.allocator(), stored)?;
     let asked = asked_by(*text.allocator(), request)?;
     let is_304 = client_wants_304(&asked, &entry);
-    word(text, if is_304 { "304" } else { "200" })
+    write_word_answer(text, if is_304 { "304" } else { "200" })
 }
 
 /// The lines of the 304 that a client gets for the stored response.

@@ -1,8 +1,8 @@
 //! Single values. The front of a group says of what kind they are.
 
 use crate::case_file::Case;
-use crate::lines::{Fault, Line, spelled};
-use crate::parts::word;
+use crate::lines::{Fault, Line, bytes_spelled};
+use crate::parts::write_word_answer;
 use crate::requests::asked_of;
 use hx_directives::capped_seconds;
 use hx_fields::{Fields, is_token};
@@ -18,7 +18,7 @@ fn either<'a>(is_so: bool, yes: &'a str, no: &'a str) -> &'a str {
 fn number(text: &mut String, value: Option<u32>) -> Result<(), Fault> {
     match value {
         Some(value) => Ok(write!(text, "{value}")?),
-        None => word(text, "no number"),
+        None => write_word_answer(text, "no number"),
     }
 }
 
@@ -45,9 +45,9 @@ fn tags(text: &mut String, line: Line<'_>) -> Result<(), Fault> {
     let Some((one, other)) = line.text.split_once(" | ") else {
         return Err(line.fault("no two entity tags"));
     };
-    let one = spelled(*text.allocator(), line, one)?;
-    let other = spelled(*text.allocator(), line, other)?;
-    word(text, compared_both_ways(one.as_slice(), other.as_slice()))
+    let one = bytes_spelled(*text.allocator(), line, one)?;
+    let other = bytes_spelled(*text.allocator(), line, other)?;
+    write_word_answer(text, compared_both_ways(one.as_slice(), other.as_slice()))
 }
 
 /// Field lines with this value of Connection.
@@ -60,13 +60,13 @@ fn connection(alloc: Global, value: &[u8]) -> Result<Fields, AllocError> {
 
 fn naming(text: &mut String, value: &[u8]) -> Result<(), Fault> {
     let names = lists_cache_field(&connection(*text.allocator(), value)?);
-    word(text, either(names, "a cache field", "no cache field"))
+    write_word_answer(text, either(names, "a cache field", "no cache field"))
 }
 
 fn closing(text: &mut String, line: Line<'_>, request: &str, value: &[u8]) -> Result<(), Fault> {
     let fields = connection(*text.allocator(), value)?;
     let asked = asked_of(*text.allocator(), line, request, &fields)?;
-    word(text, either(asked.close, "closes", "stays open"))
+    write_word_answer(text, either(asked.close, "closes", "stays open"))
 }
 
 /// Writes what is told of a value of this kind, which a line spells.
@@ -77,8 +77,8 @@ fn write_value(
     value: &[u8],
 ) -> Result<(), Fault> {
     match kind.text {
-        "a token?" => word(text, either(is_token(value), "yes", "no")),
-        "a host?" => word(text, either(is_host(value), "yes", "no")),
+        "a token?" => write_word_answer(text, either(is_token(value), "yes", "no")),
+        "a host?" => write_word_answer(text, either(is_host(value), "yes", "no")),
         "seconds" => number(text, capped_seconds(value)),
         "a short number" => number(text, short_number(value)),
         "two entity tags" => tags(text, line),
@@ -97,6 +97,6 @@ pub fn values(text: &mut String, front: &[Line<'_>], case: &Case<'_>) -> Result<
                 .fault("neither one line of the front nor one of the case"),
         );
     };
-    let spelled = spelled(*text.allocator(), *line, line.text)?;
+    let spelled = bytes_spelled(*text.allocator(), *line, line.text)?;
     write_value(text, *kind, *line, spelled.as_slice())
 }

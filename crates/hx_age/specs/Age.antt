@@ -2,7 +2,7 @@
 -- Sums have no bound; `a - b` is 0 where b is greater, but in `ttl_of`.
 use Rattle.std.specs.Prelude.{ℕ, ◌+◌, ◌-◌, max, nat_lt, ℤ, pos, ◌-ℤ◌, Bool, List, codes, unwrap_or, option_map}
 use Rattle.std.specs.Prelude.{option_and_then, slice_get}
-use Rattle.hx_fields.specs.Lines.{members_of}
+use Rattle.hx_fields.specs.FieldLines.{members_of}
 use Rattle.hx_fields.specs.declared.field_line.Field.{Field}
 use Rattle.hx_directives.specs.Seconds.{capped, seconds_of}
 use Rattle.hx_age.specs.declared.moments.Times.{Times}
@@ -29,12 +29,12 @@ abbrev pub apparent_age : Times → ℕ
 apparent_age times = times.response_time - times.date
 
 -- corrected_age_value = age_value + response_delay; response_delay = response_time - request_time
-abbrev pub corrected_age : Times → ℕ
-corrected_age times = times.age_value + (times.response_time - times.request_time)
+abbrev pub corrected_age_value : Times → ℕ
+corrected_age_value times = times.age_value + (times.response_time - times.request_time)
 
 -- current_age = max(apparent_age, corrected_age_value) + resident_time; resident_time = now - response_time
 abbrev pub age_of : Times → ℕ → ℕ
-age_of times now = capped (max (apparent_age times) (corrected_age times) + (now - times.response_time))
+age_of times now = capped (max (apparent_age times) (corrected_age_value times) + (now - times.response_time))
 
 -- response_is_fresh = (freshness_lifetime > current_age)
 abbrev pub is_fresh_of : Lifetime → ℕ → Bool

@@ -5,21 +5,21 @@ use Rattle.hx_fields.specs.Examples.{line}
 use Rattle.hx_age.specs.declared.moments.Times.{Times}
 
 -- a message with one Cache-Control line
-abbrev pub controlled : List ℕ → List Field
-controlled value = line (codes "Cache-Control") value ∷ []
+abbrev pub fields_with_cache_control : List ℕ → List Field
+fields_with_cache_control value = line (codes "Cache-Control") value ∷ []
 
 -- a message of the beginning of 1970, with this Age
-abbrev pub aged : List ℕ → List Field
-aged value = line (codes "Date") (codes "Thu, 01 Jan 1970 00:00:00 GMT") ∷ line (codes "Age") value ∷ []
+abbrev pub fields_with_age : List ℕ → List Field
+fields_with_age value = line (codes "Date") (codes "Thu, 01 Jan 1970 00:00:00 GMT") ∷ line (codes "Age") value ∷ []
 
 -- a message of 1:41 after the beginning of 1970, with this Expires
-abbrev pub expiring : List ℕ → List Field
-expiring value = line (codes "Date") (codes "Thu, 01 Jan 1970 00:01:41 GMT") ∷ line (codes "Expires") value ∷ []
+abbrev pub fields_with_expires : List ℕ → List Field
+fields_with_expires value = line (codes "Date") (codes "Thu, 01 Jan 1970 00:01:41 GMT") ∷ line (codes "Expires") value ∷ []
 
-abbrev pub moments : ℕ → ℕ → ℕ → ℕ → Times
-moments date age_value request_time response_time =
+abbrev pub times_at : ℕ → ℕ → ℕ → ℕ → Times
+times_at date age_value request_time response_time =
     record { date = date; age_value = age_value; request_time = request_time; response_time = response_time }
 
 -- a message with two lines of Date, both of the beginning of 1970
-abbrev pub dated_twice : List Field
-dated_twice = line (codes "Date") (codes "Thu, 01 Jan 1970 00:00:01 GMT") ∷ line (codes "Date") (codes "Thu, 01 Jan 1970 00:00:01 GMT") ∷ []
+abbrev pub fields_with_two_dates : List Field
+fields_with_two_dates = line (codes "Date") (codes "Thu, 01 Jan 1970 00:00:01 GMT") ∷ line (codes "Date") (codes "Thu, 01 Jan 1970 00:00:01 GMT") ∷ []

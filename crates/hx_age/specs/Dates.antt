@@ -1,7 +1,7 @@
 -- The dates of a message, in whole seconds since 1970 (RFC 9110, section 5.6.7).
 use Rattle.std.specs.Prelude.{ℕ, List, [], ◌∷◌, codes, Option, None}
 use Rattle.httpdate.specs.Date.{parse_secs}
-use Rattle.hx_fields.specs.Lines.{values_of}
+use Rattle.hx_fields.specs.FieldLines.{values_of}
 use Rattle.hx_fields.specs.declared.field_line.Field.{Field}
 
 -- the moment of a name that has one line, where that line is a date

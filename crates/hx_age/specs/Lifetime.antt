@@ -1,11 +1,11 @@
 -- How long a response is fresh, and whether it says so (RFC 9111, section 4.2.1).
 -- own: no lifetime is guessed; a response that states none has 0 seconds, and isn't explicit.
 use Rattle.std.specs.Prelude.{ℕ, ◌-◌, if◌then◌else◌, true, false, List, codes, unwrap_or}
-use Rattle.hx_fields.specs.Lines.{has as has_line}
+use Rattle.hx_fields.specs.FieldLines.{has_field as has_line}
 use Rattle.hx_fields.specs.declared.field_line.Field.{Field}
 use Rattle.hx_directives.specs.Seconds.{capped}
 use Rattle.hx_directives.specs.Occurrences.{occurrences_of}
-use Rattle.hx_directives.specs.Answers.{has, seconds}
+use Rattle.hx_directives.specs.Answers.{directive_occurs, seconds_of_directive}
 use Rattle.hx_directives.specs.declared.names.Directive.TheVariants.{MaxAge, SMaxage}
 use Rattle.hx_directives.specs.declared.answers.Seconds.{Seconds}
 use Rattle.hx_directives.specs.declared.answers.Seconds.TheVariants.{Value}
@@ -17,8 +17,8 @@ abbrev pub stated_seconds : Seconds → ℕ
 stated_seconds (Value n) = n
 stated_seconds _ = 0
 
-abbrev pub explicit_of : ℕ → Lifetime
-explicit_of n = record { explicit = true; seconds = capped n }
+abbrev pub explicit_lifetime : ℕ → Lifetime
+explicit_lifetime n = record { explicit = true; seconds = capped n }
 
 -- Expires minus Date; an invalid Expires, as one that stands twice, is over at once (RFC 9111, section 5.3)
 abbrev pub until_expires : List Field → ℕ
@@ -28,7 +28,7 @@ until_expires fields = unwrap_or (expires_of fields) 0 - unwrap_or (date_of fiel
 abbrev pub lifetime_of : List Field → Lifetime
 lifetime_of fields =
     let found = occurrences_of fields in
-    if has found SMaxage then explicit_of (stated_seconds (seconds found SMaxage))
-    else if has found MaxAge then explicit_of (stated_seconds (seconds found MaxAge))
-    else if has_line fields (codes "Expires") then explicit_of (until_expires fields)
+    if directive_occurs found SMaxage then explicit_lifetime (stated_seconds (seconds_of_directive found SMaxage))
+    else if directive_occurs found MaxAge then explicit_lifetime (stated_seconds (seconds_of_directive found MaxAge))
+    else if has_line fields (codes "Expires") then explicit_lifetime (until_expires fields)
     else record { explicit = false; seconds = 0 }

@@ -2,7 +2,7 @@
 
 ghost use Rattle.std.specs.Prelude.{◌≡◌};
 ghost use Rattle.httpdate.specs.Date.{parse_secs};
-ghost use Rattle.hx_fields.specs.Lines.{values_of};
+ghost use Rattle.hx_fields.specs.FieldLines.{values_of};
 ghost use Rattle.hx_age.specs.Dates.{single_date};
 
 use httpdate::HttpDate;

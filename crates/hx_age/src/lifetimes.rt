@@ -3,7 +3,7 @@
 ghost use Rattle.std.specs.Prelude.{◌≡◌};
 ghost use Rattle.hx_directives.specs.Seconds.{capped};
 ghost use Rattle.hx_directives.specs.Occurrences.{occurrences_of};
-ghost use Rattle.hx_age.specs.Lifetime.{explicit_of, stated_seconds, until_expires, lifetime_of};
+ghost use Rattle.hx_age.specs.Lifetime.{explicit_lifetime, stated_seconds, until_expires, lifetime_of};
 
 use crate::dates::single_date;
 use hx_directives::{Directive, Directives, MOST_SECONDS, Seconds};
@@ -39,7 +39,7 @@ impl Lifetime {
     }
 
     fn explicit_of(seconds: u64) -> Lifetime
-        ensures { result ≡ explicit_of seconds }
+        ensures { result ≡ explicit_lifetime seconds }
     {
         Lifetime {
             explicit: true,

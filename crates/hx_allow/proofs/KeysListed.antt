@@ -6,12 +6,12 @@ use Rattle.std.specs.List.{All, list_all, list_any}
 use Rattle.std.proofs.lemmas.Bool.{and_parts}
 use Rattle.std.proofs.lemmas.List.Elements.{All-nil, All-cons}
 use Rattle.toml.specs.Data.{Members, get_member}
-use Rattle.hx_policy.specs.Words.{plain}
+use Rattle.hx_policy.specs.Policies.{plain}
 use Rattle.hx_allow.specs.LineTables.{is_good, first_bad_key}
-use Rattle.hx_allow.specs.LineWords.{says, policy_read}
+use Rattle.hx_allow.specs.LineWords.{key_has_text, policy_of_line_table}
 use Rattle.hx_allow.specs.Rows.{line_keys}
-use Rattle.hx_allow.specs.Versions.{HasNoWord}
-use Rattle.hx_allow.specs.declared.faults.LineWord.TheVariants.{Lifetime, StaleIfError, SetCookie, Errors, RequestDirectives, Wait, Explain}
+use Rattle.hx_allow.specs.Versions.{LineHasNoWord}
+use Rattle.hx_allow.specs.declared.config_faults.LineWord.TheVariants.{Lifetime, StaleIfError, SetCookie, Errors, RequestDirectives, Wait, Explain}
 use Rattle.hx_allow.specs.declared.rows.LineKey.{LineKey}
 use Rattle.hx_allow.specs.declared.rows.LineKey.TheVariants.{Host, Methods, Path, Origin, Cache, Word}
 use Rattle.hx_allow.proofs.LinesRead.{none_applies}
@@ -32,7 +32,7 @@ listed P all (Word Wait) = all 10 Host (omega arith)
 listed P all (Word Explain) = all 11 Host (omega arith)
 
 -- where no word of the third version stands, the policy is that of the versions before
-pub plain_policy : (ms : Members) → HasNoWord ms → policy_read ms ≡ plain (not (says (codes "cache") (codes "off") ms))
+pub plain_policy : (ms : Members) → LineHasNoWord ms → policy_of_line_table ms ≡ plain (not (key_has_text (codes "cache") (codes "off") ms))
 plain_policy ms none =
     let lifetime : get_member (codes "lifetime") ms ≡ None = none Lifetime in
     let stale_if_error : get_member (codes "stale-if-error") ms ≡ None = none StaleIfError in

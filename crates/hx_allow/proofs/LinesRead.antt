@@ -4,13 +4,13 @@ use Rattle.std.specs.Prelude.{Ok, unwrap_or, option_map}
 use Rattle.std.specs.List.{All}
 use Rattle.std.proofs.lemmas.List.Elements.{All-nil, All-cons}
 use Rattle.toml.specs.Data.{Items, no_items, item, Members, as_table}
-use Rattle.hx_allow.specs.Lines.{Line, Table}
-use Rattle.hx_allow.specs.LineTables.{line_fault, line_of, lines_fault, lines_of, or_later, item_fault, with_line}
-use Rattle.hx_allow.specs.Rows.{fault_at_top}
-use Rattle.hx_allow.specs.Tables.{first_bad_at_top, lines_at, version_of, table_fault, table_of, judge_table, fault_or_table}
+use Rattle.hx_allow.specs.TableLines.{Line, Table}
+use Rattle.hx_allow.specs.LineTables.{line_fault, line_read, lines_fault, lines_read, first_fault_or_later, fault_of_line_item, lines_with}
+use Rattle.hx_allow.specs.Rows.{fault_of_top_key}
+use Rattle.hx_allow.specs.Tables.{first_bad_at_top, lines_at, version_of, table_fault, table_read, judge_table, fault_or_table_read}
 use Rattle.hx_allow.specs.Values.{first_unknown}
-use Rattle.hx_allow.specs.declared.faults.ConfigFault.{ConfigFault}
-use Rattle.hx_allow.specs.declared.faults.ConfigFault.TheVariants.{UnknownKey}
+use Rattle.hx_allow.specs.declared.config_faults.ConfigFault.{ConfigFault}
+use Rattle.hx_allow.specs.declared.config_faults.ConfigFault.TheVariants.{UnknownKey}
 use Rattle.hx_allow.specs.declared.rows.TopKey.{TopKey}
 use Rattle.hx_allow.specs.declared.values.Scope.TheVariants.{Top}
 use Rattle.hx_allow.specs.declared.values.TableVersion.{TableVersion}
@@ -24,20 +24,20 @@ pub none_mapped : {A B : Type 0} (f : A → B) (o : Option A) → option_map f o
 none_mapped f None e = refl
 none_mapped f (Some x) e = cc
 
-or_later_none : (a b : Option ConfigFault) → or_later a b ≡ None → (a ≡ None) × (b ≡ None)
+or_later_none : (a b : Option ConfigFault) → first_fault_or_later a b ≡ None → (a ≡ None) × (b ≡ None)
 or_later_none None b e = (refl, e)
 or_later_none (Some fault) b e = cc
 
-module _ (P : Line → Type 0) (version : TableVersion) (line_is : (n : ℕ) (ms : Members) → line_fault version n ms ≡ None → P (line_of ms)) where
-  with_line_is : (n : ℕ) (o : Option Members) (lines : List Line) → item_fault version n o ≡ None → All P lines → All P (with_line o lines)
+module _ (P : Line → Type 0) (version : TableVersion) (line_is : (n : ℕ) (ms : Members) → line_fault version n ms ≡ None → P (line_read ms)) where
+  with_line_is : (n : ℕ) (o : Option Members) (lines : List Line) → fault_of_line_item version n o ≡ None → All P lines → All P (lines_with o lines)
   with_line_is n None lines none all = all
-  with_line_is n (Some ms) lines none all = All-cons P (line_of ms) lines (line_is n ms none) all
+  with_line_is n (Some ms) lines none all = All-cons P (line_read ms) lines (line_is n ms none) all
 
-  pub each_line : (n : ℕ) (ds : Items) → lines_fault version n ds ≡ None → All P (lines_of ds)
+  pub each_line : (n : ℕ) (ds : Items) → lines_fault version n ds ≡ None → All P (lines_read ds)
   each_line n no_items none = All-nil P
   each_line n (item d ds) none =
-      let parts = or_later_none (item_fault version n (as_table d)) (lines_fault version (n + 1) ds) none in
-      with_line_is n (as_table d) (lines_of ds) parts.0 (each_line (n + 1) ds parts.1)
+      let parts = or_later_none (fault_of_line_item version n (as_table d)) (lines_fault version (n + 1) ds) none in
+      with_line_is n (as_table d) (lines_read ds) parts.0 (each_line (n + 1) ds parts.1)
 
 no_line_fault : (t : Members) → table_fault t ≡ None → lines_fault (version_of t) 1 (unwrap_or (lines_at t) no_items) ≡ None
 unfolding table_fault
@@ -45,17 +45,17 @@ no_line_fault t none = by_keys (first_unknown Top t) refl (first_bad_at_top t) r
   where
     by_keys : (o : Option (List ℕ)) → first_unknown Top t ≡ o → (p : Option TopKey) → first_bad_at_top t ≡ p → lines_fault (version_of t) 1 (unwrap_or (lines_at t) no_items) ≡ None
     by_keys (Some key) e p f = let bad : table_fault t ≡ Some (UnknownKey key) = rw e refl in cc
-    by_keys None e (Some key) f = let bad : table_fault t ≡ Some (fault_at_top key) = rw e (rw f refl) in cc
+    by_keys None e (Some key) f = let bad : table_fault t ≡ Some (fault_of_top_key key) = rw e (rw f refl) in cc
     by_keys None e None f =
         let is : table_fault t ≡ lines_fault (version_of t) 1 (unwrap_or (lines_at t) no_items) = rw e (rw f refl) in
         sym is ∙ none
 
-module _ (P : Line → Type 0) (t : Members) (table : Table) (line_is : (n : ℕ) (ms : Members) → line_fault (version_of t) n ms ≡ None → P (line_of ms)) where
-  by_fault : (o : Option ConfigFault) → table_fault t ≡ o → Ok table ≡ fault_or_table o t → All P table.lines
-  unfolding table_of
+module _ (P : Line → Type 0) (t : Members) (table : Table) (line_is : (n : ℕ) (ms : Members) → line_fault (version_of t) n ms ≡ None → P (line_read ms)) where
+  by_fault : (o : Option ConfigFault) → table_fault t ≡ o → Ok table ≡ fault_or_table_read o t → All P table.lines
+  unfolding table_read
   by_fault (Some fault) is e = cc
   by_fault None is e =
-      let same : table_of t ≡ table = cc in
+      let same : table_read t ≡ table = cc in
       subst (λ (read : Table). All P read.lines) same (each_line P (version_of t) line_is 1 (unwrap_or (lines_at t) no_items) (no_line_fault t is))
 
   pub each_line_read : Ok table ≡ judge_table t → All P table.lines

@@ -6,9 +6,9 @@ use Rattle.std.specs.List.{list_any, position_from}
 use Rattle.std.proofs.lemmas.Bool.Decides.{nat_tests}
 use Rattle.std.proofs.lemmas.Slice.Eq.{bytes_eq-Decides}
 use Rattle.hx_target.specs.declared.targets.Target.{Target}
-use Rattle.hx_allow.specs.Lines.{Line}
-use Rattle.hx_allow.specs.Matching.{is_any_or_same, is_continued, is_never_allowed, line_number, matches_host, matches_line, matches_method, matches_path, numbered, verdict_of}
-use Rattle.hx_allow.specs.NeverReached.{taken_by, takes_host, takes_line, takes_methods, takes_path}
+use Rattle.hx_allow.specs.TableLines.{Line}
+use Rattle.hx_allow.specs.Matching.{is_star_or_same, path_continues, is_never_allowed, line_number, matches_host, matches_line, matches_method, matches_path, line_of_number, verdict_of}
+use Rattle.hx_allow.specs.NeverReached.{first_line_taking, takes_each_host_of, takes_each_request_of, takes_each_method_of, takes_each_path_of}
 use Rattle.hx_allow.proofs.Readings.{first_matching}
 
 same_bytes : (a b : List ℕ) → bytes_eq a b ≡ true → a ≡ b
@@ -32,7 +32,7 @@ or_right false b h = h
 
 -- ---- hosts and methods
 
-host_taken : (host later : Option (List ℕ)) (asked : List ℕ) → takes_host host later ≡ true → matches_host later asked ≡ true → matches_host host asked ≡ true
+host_taken : (host later : Option (List ℕ)) (asked : List ℕ) → takes_each_host_of host later ≡ true → matches_host later asked ≡ true → matches_host host asked ≡ true
 host_taken None later asked takes matches = refl
 host_taken (Some host) None asked takes matches = absurd cc
 host_taken (Some host) (Some later) asked takes matches =
@@ -40,36 +40,36 @@ host_taken (Some host) (Some later) asked takes matches =
     ap (λ h. bytes_eq h asked) same ∙ matches
 
 -- a text that takes another takes what that takes
-text_taken : (a b method : List ℕ) → is_any_or_same b a ≡ true → is_any_or_same method b ≡ true → is_any_or_same method a ≡ true
+text_taken : (a b method : List ℕ) → is_star_or_same b a ≡ true → is_star_or_same method b ≡ true → is_star_or_same method a ≡ true
 text_taken a b method first second = by_first (one_of (bytes_eq a (codes "*")) (bytes_eq a b) first)
   where
-    by_first : (bytes_eq a (codes "*") ≡ true) ⊎ (bytes_eq a b ≡ true) → is_any_or_same method a ≡ true
+    by_first : (bytes_eq a (codes "*") ≡ true) ⊎ (bytes_eq a b ≡ true) → is_star_or_same method a ≡ true
     by_first (inl any) = or_left (bytes_eq a (codes "*")) (bytes_eq a method) any
-    by_first (inr same) = let is : a ≡ b = same_bytes a b same in ap (is_any_or_same method) is ∙ second
+    by_first (inr same) = let is : a ≡ b = same_bytes a b same in ap (is_star_or_same method) is ∙ second
 
-any_taken : (methods : List (List ℕ)) (b method : List ℕ) → list_any (is_any_or_same b) methods ≡ true → is_any_or_same method b ≡ true → list_any (is_any_or_same method) methods ≡ true
+any_taken : (methods : List (List ℕ)) (b method : List ℕ) → list_any (is_star_or_same b) methods ≡ true → is_star_or_same method b ≡ true → list_any (is_star_or_same method) methods ≡ true
 any_taken [] b method any second = absurd cc
-any_taken (a ∷ methods) b method any second = by_first (λ later. any_taken methods b method later second) (one_of (is_any_or_same b a) (list_any (is_any_or_same b) methods) any)
+any_taken (a ∷ methods) b method any second = by_first (λ later. any_taken methods b method later second) (one_of (is_star_or_same b a) (list_any (is_star_or_same b) methods) any)
   where
-    by_first : (list_any (is_any_or_same b) methods ≡ true → list_any (is_any_or_same method) methods ≡ true) → (is_any_or_same b a ≡ true) ⊎ (list_any (is_any_or_same b) methods ≡ true)
-        → is_any_or_same method a || list_any (is_any_or_same method) methods ≡ true
-    by_first on (inl here) = or_left (is_any_or_same method a) (list_any (is_any_or_same method) methods) (text_taken a b method here second)
-    by_first on (inr later) = or_right (is_any_or_same method a) (list_any (is_any_or_same method) methods) (on later)
+    by_first : (list_any (is_star_or_same b) methods ≡ true → list_any (is_star_or_same method) methods ≡ true) → (is_star_or_same b a ≡ true) ⊎ (list_any (is_star_or_same b) methods ≡ true)
+        → is_star_or_same method a || list_any (is_star_or_same method) methods ≡ true
+    by_first on (inl here) = or_left (is_star_or_same method a) (list_any (is_star_or_same method) methods) (text_taken a b method here second)
+    by_first on (inr later) = or_right (is_star_or_same method a) (list_any (is_star_or_same method) methods) (on later)
 
-each_taken : (methods later : List (List ℕ)) (method : List ℕ) → takes_methods methods later ≡ true → list_any (is_any_or_same method) later ≡ true → list_any (is_any_or_same method) methods ≡ true
+each_taken : (methods later : List (List ℕ)) (method : List ℕ) → takes_each_method_of methods later ≡ true → list_any (is_star_or_same method) later ≡ true → list_any (is_star_or_same method) methods ≡ true
 each_taken methods [] method takes any = absurd cc
 each_taken methods (b ∷ later) method takes any =
-    let parts = and_parts (list_any (is_any_or_same b) methods) (takes_methods methods later) takes in
-    by_first parts.0 (each_taken methods later method parts.1) (one_of (is_any_or_same method b) (list_any (is_any_or_same method) later) any)
+    let parts = and_parts (list_any (is_star_or_same b) methods) (takes_each_method_of methods later) takes in
+    by_first parts.0 (each_taken methods later method parts.1) (one_of (is_star_or_same method b) (list_any (is_star_or_same method) later) any)
   where
-    by_first : list_any (is_any_or_same b) methods ≡ true → (list_any (is_any_or_same method) later ≡ true → list_any (is_any_or_same method) methods ≡ true)
-        → (is_any_or_same method b ≡ true) ⊎ (list_any (is_any_or_same method) later ≡ true) → list_any (is_any_or_same method) methods ≡ true
+    by_first : list_any (is_star_or_same b) methods ≡ true → (list_any (is_star_or_same method) later ≡ true → list_any (is_star_or_same method) methods ≡ true)
+        → (is_star_or_same method b ≡ true) ⊎ (list_any (is_star_or_same method) later ≡ true) → list_any (is_star_or_same method) methods ≡ true
     by_first here on (inl is) = any_taken methods b method here is
     by_first here on (inr more) = on more
 
-method_taken : (methods later : List (List ℕ)) (method : List ℕ) → takes_methods methods later ≡ true → matches_method later method ≡ true → matches_method methods method ≡ true
+method_taken : (methods later : List (List ℕ)) (method : List ℕ) → takes_each_method_of methods later ≡ true → matches_method later method ≡ true → matches_method methods method ≡ true
 method_taken methods later method takes matches =
-    let parts = and_parts (not (is_never_allowed method)) (list_any (is_any_or_same method) later) matches in
+    let parts = and_parts (not (is_never_allowed method)) (list_any (is_star_or_same method) later) matches in
     rw parts.0 (each_taken methods later method takes parts.1)
 
 -- ---- paths
@@ -86,7 +86,7 @@ index_take m (suc n) [] h = refl
 index_take zero (suc n) (x ∷ xs) h = refl
 index_take (suc m) (suc n) (x ∷ xs) h = index_take m n xs (omega (arith, h))
 
-continued_on : (a b asked : List ℕ) → is_continued a b ≡ true → is_continued b asked ≡ true → is_continued a asked ≡ true
+continued_on : (a b asked : List ℕ) → path_continues a b ≡ true → path_continues b asked ≡ true → path_continues a asked ≡ true
 continued_on a b asked first second =
     let one = and_parts (nat_lt (length a) (length b) && bytes_eq (take (length a) b) a) (slice_index b (length a) == 47) first in
     let one_more = and_parts (nat_lt (length a) (length b)) (bytes_eq (take (length a) b) a) one.0 in
@@ -100,14 +100,14 @@ continued_on a b asked first second =
     let slash : slice_index asked (length a) ≡ slice_index b (length a) = sym (index_take (length a) (length b) asked short) ∙ ap (λ l. slice_index l (length a)) begins in
     rw (length_is, start, one_more.1, slash) one.1
 
-path_taken : (path later asked : List ℕ) → takes_path path later ≡ true → matches_path later asked ≡ true → matches_path path asked ≡ true
-path_taken path later asked takes matches = by_first (one_of (bytes_eq path (codes "/") || bytes_eq path later) (not (bytes_eq later (codes "/")) && is_continued path later) takes)
+path_taken : (path later asked : List ℕ) → takes_each_path_of path later ≡ true → matches_path later asked ≡ true → matches_path path asked ≡ true
+path_taken path later asked takes matches = by_first (one_of (bytes_eq path (codes "/") || bytes_eq path later) (not (bytes_eq later (codes "/")) && path_continues path later) takes)
   where
     root : bytes_eq path (codes "/") ≡ true → matches_path path asked ≡ true
-    root is = or_left (bytes_eq path (codes "/") || bytes_eq path asked) (is_continued path asked) (or_left (bytes_eq path (codes "/")) (bytes_eq path asked) is)
+    root is = or_left (bytes_eq path (codes "/") || bytes_eq path asked) (path_continues path asked) (or_left (bytes_eq path (codes "/")) (bytes_eq path asked) is)
 
-    on : is_continued path asked ≡ true → matches_path path asked ≡ true
-    on is = or_right (bytes_eq path (codes "/") || bytes_eq path asked) (is_continued path asked) is
+    on : path_continues path asked ≡ true → matches_path path asked ≡ true
+    on is = or_right (bytes_eq path (codes "/") || bytes_eq path asked) (path_continues path asked) is
 
     alike : bytes_eq path later ≡ true → matches_path path asked ≡ true
     alike is = let same : path ≡ later = same_bytes path later is in ap (λ p. matches_path p asked) same ∙ matches
@@ -115,31 +115,31 @@ path_taken path later asked takes matches = by_first (one_of (bytes_eq path (cod
     no_root : bytes_eq later (codes "/") ≡ true → not (bytes_eq later (codes "/")) ≡ true → ⊥
     no_root is isnt = let bad : not true ≡ true = sym (ap not is) ∙ isnt in cc
 
-    beyond : not (bytes_eq later (codes "/")) ≡ true → is_continued path later ≡ true → (bytes_eq later (codes "/") || bytes_eq later asked ≡ true) ⊎ (is_continued later asked ≡ true) → matches_path path asked ≡ true
+    beyond : not (bytes_eq later (codes "/")) ≡ true → path_continues path later ≡ true → (bytes_eq later (codes "/") || bytes_eq later asked ≡ true) ⊎ (path_continues later asked ≡ true) → matches_path path asked ≡ true
     beyond isnt first (inl either) = by_either (one_of (bytes_eq later (codes "/")) (bytes_eq later asked) either)
       where
         by_either : (bytes_eq later (codes "/") ≡ true) ⊎ (bytes_eq later asked ≡ true) → matches_path path asked ≡ true
         by_either (inl is) = absurd (no_root is isnt)
-        by_either (inr is) = let same : later ≡ asked = same_bytes later asked is in on (ap (is_continued path) (sym same) ∙ first)
+        by_either (inr is) = let same : later ≡ asked = same_bytes later asked is in on (ap (path_continues path) (sym same) ∙ first)
     beyond isnt first (inr more) = on (continued_on path later asked first more)
 
-    by_first : (bytes_eq path (codes "/") || bytes_eq path later ≡ true) ⊎ (not (bytes_eq later (codes "/")) && is_continued path later ≡ true) → matches_path path asked ≡ true
+    by_first : (bytes_eq path (codes "/") || bytes_eq path later ≡ true) ⊎ (not (bytes_eq later (codes "/")) && path_continues path later ≡ true) → matches_path path asked ≡ true
     by_first (inl either) = by_either (one_of (bytes_eq path (codes "/")) (bytes_eq path later) either)
       where
         by_either : (bytes_eq path (codes "/") ≡ true) ⊎ (bytes_eq path later ≡ true) → matches_path path asked ≡ true
         by_either (inl is) = root is
         by_either (inr is) = alike is
     by_first (inr further) =
-        let parts = and_parts (not (bytes_eq later (codes "/"))) (is_continued path later) further in
-        beyond parts.0 parts.1 (one_of (bytes_eq later (codes "/") || bytes_eq later asked) (is_continued later asked) matches)
+        let parts = and_parts (not (bytes_eq later (codes "/"))) (path_continues path later) further in
+        beyond parts.0 parts.1 (one_of (bytes_eq later (codes "/") || bytes_eq later asked) (path_continues later asked) matches)
 
 -- ---- lines
 
-pub line_taken : (first later : Line) (method : List ℕ) (target : Target) → takes_line first later ≡ true → matches_line later method target ≡ true → matches_line first method target ≡ true
-unfolding takes_line matches_line
+pub line_taken : (first later : Line) (method : List ℕ) (target : Target) → takes_each_request_of first later ≡ true → matches_line later method target ≡ true → matches_line first method target ≡ true
+unfolding takes_each_request_of matches_line
 line_taken first later method target takes matches =
-    let t = and_parts (takes_host first.host later.host && takes_methods first.methods later.methods) (takes_path first.path later.path) takes in
-    let u = and_parts (takes_host first.host later.host) (takes_methods first.methods later.methods) t.0 in
+    let t = and_parts (takes_each_host_of first.host later.host && takes_each_method_of first.methods later.methods) (takes_each_path_of first.path later.path) takes in
+    let u = and_parts (takes_each_host_of first.host later.host) (takes_each_method_of first.methods later.methods) t.0 in
     let m = and_parts (matches_host later.host target.key.host && matches_method later.methods method) (matches_path later.path target.table_path) matches in
     let n = and_parts (matches_host later.host target.key.host) (matches_method later.methods method) m.0 in
     rw (host_taken first.host later.host target.key.host u.0 n.0, method_taken first.methods later.methods method u.1 n.1)
@@ -182,7 +182,7 @@ module _ (method : List ℕ) (target : Target) where
       by_match on false h = let n_is : c + suc e ≡ c + 1 + e = omega arith in on (h ∙ ap (λ n. Some n) n_is)
 
   -- none in front of it takes it
-  none_takes : (c d k n : ℕ) (lines : List Line) (later : Line) → decides later ≡ true → position_from decides c lines ≡ Some (c + d) → position_from (λ first. takes_line first later) k (take d lines) ≡ Some n → ⊥
+  none_takes : (c d k n : ℕ) (lines : List Line) (later : Line) → decides later ≡ true → position_from decides c lines ≡ Some (c + d) → position_from (λ first. takes_each_request_of first later) k (take d lines) ≡ Some n → ⊥
   none_takes c zero k n lines later matches found taken = never_some n taken
   none_takes c (suc e) k n [] later matches found taken = never_some n taken
   none_takes c (suc e) k n (x ∷ xs) later matches found taken = by_match (none_takes (c + 1) e (k + 1) n xs later matches) (decides x) refl found
@@ -190,19 +190,19 @@ module _ (method : List ℕ) (target : Target) where
       n_is : c + suc e ≡ c + 1 + e
       n_is = omega arith
 
-      by_taking : (position_from (λ first. takes_line first later) (k + 1) (take e xs) ≡ Some n → ⊥) → decides x ≡ false → (b : Bool) → takes_line x later ≡ b
-          → cond b (Some k) (position_from (λ first. takes_line first later) (k + 1) (take e xs)) ≡ Some n → ⊥
+      by_taking : (position_from (λ first. takes_each_request_of first later) (k + 1) (take e xs) ≡ Some n → ⊥) → decides x ≡ false → (b : Bool) → takes_each_request_of x later ≡ b
+          → cond b (Some k) (position_from (λ first. takes_each_request_of first later) (k + 1) (take e xs)) ≡ Some n → ⊥
       by_taking on is true t u =
           let bad : false ≡ true = sym is ∙ line_taken x later method target t matches in
           cc
       by_taking on is false t u = on u
 
-      by_match : (position_from decides (c + 1) xs ≡ Some (c + 1 + e) → position_from (λ first. takes_line first later) (k + 1) (take e xs) ≡ Some n → ⊥) → (b : Bool) → decides x ≡ b
+      by_match : (position_from decides (c + 1) xs ≡ Some (c + 1 + e) → position_from (λ first. takes_each_request_of first later) (k + 1) (take e xs) ≡ Some n → ⊥) → (b : Bool) → decides x ≡ b
           → cond b (Some c) (position_from decides (c + 1) xs) ≡ Some (c + suc e) → ⊥
       by_match on true is h = let bad : c ≡ c + suc e = same_some c (c + suc e) h in omega (arith, bad)
-      by_match on false is h = by_taking (on (h ∙ ap (λ m. Some m) n_is)) is (takes_line x later) refl taken
+      by_match on false is h = by_taking (on (h ∙ ap (λ m. Some m) n_is)) is (takes_each_request_of x later) refl taken
 
-numbered_next : (lines : List Line) (d : ℕ) → numbered lines (suc d) ≡ slice_get lines d
+numbered_next : (lines : List Line) (d : ℕ) → line_of_number lines (suc d) ≡ slice_get lines d
 numbered_next lines d =
     let e : suc d - 1 ≡ d = omega arith in
     let f : eqb (suc d) 0 ≡ false = grind (arith, nat_tests) in
@@ -210,16 +210,16 @@ numbered_next lines d =
 
 -- the first of so many lines that takes this one
 abbrev taking : List Line → ℕ → Option Line → Option ℕ
-taking lines m o = option_and_then (λ later. position_from (λ first. takes_line first later) 1 (take m lines)) o
+taking lines m o = option_and_then (λ later. position_from (λ first. takes_each_request_of first later) 1 (take m lines)) o
 
-pub never_decides : (lines : List Line) (method : List ℕ) (target : Target) (n k : ℕ) → taken_by lines n ≡ Some k → line_number (verdict_of lines method target) ≡ Some n → ⊥
+pub never_decides : (lines : List Line) (method : List ℕ) (target : Target) (n k : ℕ) → first_line_taking lines n ≡ Some k → line_number (verdict_of lines method target) ≡ Some n → ⊥
 never_decides lines method target zero k taken decided = absurd cc
 never_decides lines method target (suc d) k taken decided = by_line (slice_get lines d) refl here
   where
     here : taking lines d (slice_get lines d) ≡ Some k
     here =
         let e : suc d - 1 ≡ d = omega arith in
-        sym (ap (λ m. taking lines m (numbered lines (suc d))) e ∙ ap (taking lines d) (numbered_next lines d)) ∙ taken
+        sym (ap (λ m. taking lines m (line_of_number lines (suc d))) e ∙ ap (taking lines d) (numbered_next lines d)) ∙ taken
 
     found : position_from (λ line. matches_line line method target) 1 lines ≡ Some (1 + d)
     found = let n_is : suc d ≡ 1 + d = omega arith in sym (first_matching lines method target) ∙ decided ∙ ap (λ n. Some n) n_is

@@ -2,9 +2,9 @@
 use Rattle.std.proofs.Common.{◌≡◌, ◌≤◌, ◌-◌, ℕ, zero, suc, List, [], ◌∷◌, length, Option, None, false, cond, eqb, arith, ap, sym, ◌∙◌, subst}
 use Rattle.std.specs.Prelude.{max, fold, unwrap_or, slice_get}
 use Rattle.std.specs.Option.{option_and_then}
-use Rattle.hx_allow.specs.Lines.{Line}
+use Rattle.hx_allow.specs.TableLines.{Line}
 use Rattle.std.proofs.lemmas.Bool.Decides.{nat_tests}
-use Rattle.hx_allow.specs.Matching.{numbered, origin_of, longest_origin}
+use Rattle.hx_allow.specs.Matching.{line_of_number, origin_of, longest_origin}
 
 abbrev origin_length : Line → ℕ
 origin_length line = length (unwrap_or line.origin [])
@@ -25,7 +25,7 @@ each_below n i [] = omega arith
 each_below n zero (line ∷ lines) = omega (arith, at_least (max n (origin_length line)) lines)
 each_below n (suc i) (line ∷ lines) = each_below (max n (origin_length line)) i lines
 
-numbered-suc : (lines : List Line) (n : ℕ) → numbered lines (suc n) ≡ slice_get lines n
+numbered-suc : (lines : List Line) (n : ℕ) → line_of_number lines (suc n) ≡ slice_get lines n
 numbered-suc lines n =
     let other : eqb (suc n) 0 ≡ false = grind (arith, nat_tests) in
     let e : suc n - 1 ≡ n = omega arith in

@@ -4,16 +4,16 @@ use Rattle.std.specs.Prelude.{Result, is_some}
 use Rattle.std.specs.List.{position_from}
 use Rattle.toml.specs.Data.{Members}
 use Rattle.hx_target.specs.declared.targets.Target.{Target}
-use Rattle.hx_allow.specs.Lines.{Line, Table}
-use Rattle.hx_allow.specs.Matching.{matches_line, verdict_by, verdict_from, verdict_of, line_number}
-use Rattle.hx_allow.specs.Tables.{judge_table, ReadsAs}
+use Rattle.hx_allow.specs.TableLines.{Line, Table}
+use Rattle.hx_allow.specs.Matching.{matches_line, verdict_of_line, verdict_from, verdict_of, line_number}
+use Rattle.hx_allow.specs.Tables.{judge_table, BytesReadAs}
 use Rattle.hx_allow.specs.declared.verdicts.Verdict.TheVariants.{Allowed, DeniedBy}
-use Rattle.hx_allow.specs.declared.faults.ConfigFault.{ConfigFault}
+use Rattle.hx_allow.specs.declared.config_faults.ConfigFault.{ConfigFault}
 
 same_member : (t u : Members) → ◌≡◌ {A = Option Members} (Some t) (Some u) → t ≡ u
 same_member t u e = cc
 
-pub one_reading : (bytes : List ℕ) (r s : Result Table ConfigFault) → ReadsAs bytes r → ReadsAs bytes s → r ≡ s
+pub one_reading : (bytes : List ℕ) (r s : Result Table ConfigFault) → BytesReadAs bytes r → BytesReadAs bytes s → r ≡ s
 one_reading bytes r s (inl (t, is, h)) (inl (u, also, k)) = h ∙ (ap judge_table (same_member t u (sym is.2 ∙ also.2)) ∙ sym k)
 one_reading bytes r s (inl (t, is, h)) (inr (none, k)) = absurd (none t is)
 one_reading bytes r s (inr (none, h)) (inl (u, also, k)) = absurd (none u also)
@@ -26,7 +26,7 @@ number_by false k = refl
 pub first_from : (k : ℕ) (lines : List Line) (method : List ℕ) (target : Target) → line_number (verdict_from k lines method target) ≡ position_from (λ line. matches_line line method target) k lines
 first_from k [] method target = refl
 first_from k (line ∷ lines) method target =
-    elim (matches_line line method target) as (λ t. line_number (cond t (verdict_by k line) (verdict_from (k + 1) lines method target)) ≡ cond t (Some k) (position_from (λ line. matches_line line method target) (k + 1) lines))
+    elim (matches_line line method target) as (λ t. line_number (cond t (verdict_of_line k line) (verdict_from (k + 1) lines method target)) ≡ cond t (Some k) (position_from (λ line. matches_line line method target) (k + 1) lines))
     [ true ↦ number_by (is_some line.origin) k | false ↦ first_from (k + 1) lines method target ]
 
 pub first_matching : (lines : List Line) (method : List ℕ) (target : Target) → line_number (verdict_of lines method target) ≡ position_from (λ line. matches_line line method target) 1 lines

@@ -7,13 +7,13 @@ use Rattle.http_uri.specs.ByteClasses.{slash}
 use Rattle.toml.specs.Data.{Members}
 use Rattle.hx_target.specs.declared.targets.Target.{Target}
 use Rattle.hx_target.specs.Paths.{has_bad_escape, has_dot_segment, table_path_of}
-use Rattle.hx_allow.specs.Lines.{Line as PlainLine, Table}
-use Rattle.hx_allow.specs.Rows.{fault_of}
-use Rattle.hx_allow.specs.LineTables.{is_path_byte, ends_open, is_line_path, first_bad_key, line_fault, line_of}
-use Rattle.hx_allow.specs.Matching.{matches_host, matches_method, matches_path, matches_line, verdict_by, verdict_from, verdict_of}
-use Rattle.hx_allow.specs.Tables.{ReadsAs, version_of}
+use Rattle.hx_allow.specs.TableLines.{Line as PlainLine, Table}
+use Rattle.hx_allow.specs.Rows.{fault_of_line_key}
+use Rattle.hx_allow.specs.LineTables.{is_path_byte, does_not_end_with_slash, is_line_path, first_bad_key, line_fault, line_read}
+use Rattle.hx_allow.specs.Matching.{matches_host, matches_method, matches_path, matches_line, verdict_of_line, verdict_from, verdict_of}
+use Rattle.hx_allow.specs.Tables.{BytesReadAs, version_of}
 use Rattle.hx_allow.specs.Values.{first_unknown, text_at, is_some_and}
-use Rattle.hx_allow.specs.declared.faults.ConfigFault.TheVariants.{UnknownKey}
+use Rattle.hx_allow.specs.declared.config_faults.ConfigFault.TheVariants.{UnknownKey}
 use Rattle.hx_allow.specs.declared.rows.LineKey.TheVariants.{Path}
 use Rattle.hx_allow.specs.declared.values.Scope.TheVariants.{Line}
 use Rattle.hx_allow.specs.declared.values.TableVersion.{TableVersion}
@@ -29,8 +29,8 @@ matches_alike line method a b host path =
 verdicts_from : (n : ℕ) (lines : List PlainLine) (method : List ℕ) (a b : Target) → a.key.host ≡ b.key.host → a.table_path ≡ b.table_path → verdict_from n lines method a ≡ verdict_from n lines method b
 verdicts_from n [] method a b host path = refl
 verdicts_from n (line ∷ lines) method a b host path =
-    ap (λ t. cond t (verdict_by n line) (verdict_from (n + 1) lines method a)) (matches_alike line method a b host path)
-    ∙ ap (cond (matches_line line method b) (verdict_by n line)) (verdicts_from (n + 1) lines method a b host path)
+    ap (λ t. cond t (verdict_of_line n line) (verdict_from (n + 1) lines method a)) (matches_alike line method a b host path)
+    ∙ ap (cond (matches_line line method b) (verdict_of_line n line)) (verdicts_from (n + 1) lines method a b host path)
 
 pub verdicts_alike : (lines : List PlainLine) (method : List ℕ) (a b : Target) → a.key.host ≡ b.key.host → a.table_path ≡ b.table_path → verdict_of lines method a ≡ verdict_of lines method b
 unfolding verdict_of
@@ -50,7 +50,7 @@ not_true false e = refl
 no_bad_escape : (text : List ℕ) → is_line_path text ≡ true → has_bad_escape text ≡ false
 unfolding is_line_path
 no_bad_escape text is =
-    let bytes = (slice_index text 0 == slash) && ends_open text && list_all is_path_byte text in
+    let bytes = (slice_index text 0 == slash) && does_not_end_with_slash text && list_all is_path_byte text in
     let dots = and_parts (bytes && not (has_bad_escape text)) (not (has_dot_segment (table_path_of text))) is in
     not_true (has_bad_escape text) (and_parts bytes (not (has_bad_escape text)) dots.0).1
 
@@ -58,17 +58,17 @@ path_is : Once → (text : Option (List ℕ)) → is_some_and is_line_path text 
 path_is once None is = cc
 path_is once (Some text) is = once text (no_bad_escape text is)
 
-line_is : Once → (version : TableVersion) (n : ℕ) (ms : Members) → line_fault version n ms ≡ None → IsTablePath (line_of ms)
-unfolding line_fault line_of
+line_is : Once → (version : TableVersion) (n : ℕ) (ms : Members) → line_fault version n ms ≡ None → IsTablePath (line_read ms)
+unfolding line_fault line_read
 line_is once version n ms none = by_keys (first_unknown (Line version) ms) refl
   where
-    by_keys : (o : Option (List ℕ)) → first_unknown (Line version) ms ≡ o → IsTablePath (line_of ms)
+    by_keys : (o : Option (List ℕ)) → first_unknown (Line version) ms ≡ o → IsTablePath (line_read ms)
     by_keys (Some key) e = let bad : line_fault version n ms ≡ Some (UnknownKey key) = rw e refl in cc
     by_keys None e =
-        let is : line_fault version n ms ≡ option_map (fault_of n) (first_bad_key ms) = rw e refl in
-        let good : is_some_and is_line_path (text_at (codes "path") ms) ≡ true = each_good ms (none_mapped (fault_of n) (first_bad_key ms) (sym is ∙ none)) Path in
+        let is : line_fault version n ms ≡ option_map (fault_of_line_key n) (first_bad_key ms) = rw e refl in
+        let good : is_some_and is_line_path (text_at (codes "path") ms) ≡ true = each_good ms (none_mapped (fault_of_line_key n) (first_bad_key ms) (sym is ∙ none)) Path in
         path_is once (text_at (codes "path") ms) good
 
-pub read_paths_are : Once → (bytes : List ℕ) (table : Table) → ReadsAs bytes (Ok table) → All IsTablePath table.lines
+pub read_paths_are : Once → (bytes : List ℕ) (table : Table) → BytesReadAs bytes (Ok table) → All IsTablePath table.lines
 read_paths_are once bytes table (inl (t, is, e)) = each_line_read IsTablePath t table (line_is once (version_of t)) e
 read_paths_are once bytes table (inr (none, e)) = cc

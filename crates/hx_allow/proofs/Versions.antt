@@ -8,18 +8,18 @@ use Rattle.std.specs.Cmp.Lexicographic.{slice_cmp, nat_list_eq_equiv}
 use Rattle.std.proofs.lemmas.Slice.Eq.{bytes_eq-Decides}
 use Rattle.std.proofs.lemmas.Map.Text.{is_eq-slice_cmp}
 use Rattle.toml.specs.Data.{Data, Items, no_items, item, Members, no_members, member, get_member, as_table}
-use Rattle.hx_policy.specs.Words.{plain}
-use Rattle.hx_allow.specs.Lines.{Line as PlainLine, Table}
+use Rattle.hx_policy.specs.Policies.{plain}
+use Rattle.hx_allow.specs.TableLines.{Line as PlainLine, Table}
 use Rattle.hx_allow.specs.Keys.{word_key}
-use Rattle.hx_allow.specs.LineWords.{says}
-use Rattle.hx_allow.specs.Rows.{Row, line_row, word_row, line_keys, fault_at_top, fault_of, has_keys_of}
-use Rattle.hx_allow.specs.LineTables.{is_good_at, is_good, first_bad_key, line_fault, line_of, lines_fault, or_later, item_fault}
-use Rattle.hx_allow.specs.Tables.{first_bad_at_top, lines_at, version_of, table_fault, judge_table, fault_or_table}
+use Rattle.hx_allow.specs.LineWords.{key_has_text}
+use Rattle.hx_allow.specs.Rows.{Row, line_row, word_row, line_keys, fault_of_top_key, fault_of_line_key, has_keys_of}
+use Rattle.hx_allow.specs.LineTables.{is_good_at, is_good, first_bad_key, line_fault, line_read, lines_fault, first_fault_or_later, fault_of_line_item}
+use Rattle.hx_allow.specs.Tables.{first_bad_at_top, lines_at, version_of, table_fault, judge_table, fault_or_table_read}
 use Rattle.hx_allow.specs.Values.{is_known, is_key_of, first_unknown}
-use Rattle.hx_allow.specs.Versions.{HasNoWord}
-use Rattle.hx_allow.specs.declared.faults.ConfigFault.{ConfigFault}
-use Rattle.hx_allow.specs.declared.faults.ConfigFault.TheVariants.{UnknownKey, BadName, BadNumber, BadCache, BadWord, NoLines}
-use Rattle.hx_allow.specs.declared.faults.LineWord.{LineWord}
+use Rattle.hx_allow.specs.Versions.{LineHasNoWord}
+use Rattle.hx_allow.specs.declared.config_faults.ConfigFault.{ConfigFault}
+use Rattle.hx_allow.specs.declared.config_faults.ConfigFault.TheVariants.{UnknownKey, BadName, BadNumber, BadCache, BadWord, NoLines}
+use Rattle.hx_allow.specs.declared.config_faults.LineWord.{LineWord}
 use Rattle.hx_allow.specs.declared.rows.LineKey.{LineKey}
 use Rattle.hx_allow.specs.declared.rows.LineKey.TheVariants.{Host, Methods, Path, Origin, Cache, Word}
 use Rattle.hx_allow.specs.declared.rows.Place.{Place}
@@ -95,7 +95,7 @@ unknown_word One word other = not_true (is_known (Line One) (word_key word)) (ea
 unknown_word Two word other = not_true (is_known (Line Two) (word_key word)) (each_key (is_no_word_of Two) refl (Word word))
 unknown_word Three word other = absurd (other refl)
 
-no_words : (version : TableVersion) (ms : Members) → ¬ (version ≡ Three) → first_unknown (Line version) ms ≡ None → HasNoWord ms
+no_words : (version : TableVersion) (ms : Members) → ¬ (version ≡ Three) → first_unknown (Line version) ms ≡ None → LineHasNoWord ms
 no_words version ms other none = λ word. not_among_known (Line version) (word_key word) ms (unknown_word version word other) none
 
 -- ---- lines that say nothing new read alike
@@ -127,20 +127,20 @@ known_alike key other = any_alike (λ known. is_key_of Three key (line_row known
         ∙ (sym (and_false (has_keys_of Two (word_row word).since))
         ∙ sym (ap (λ b. has_keys_of Two (word_row word).since && b) (other word))))
 
-pub without_words : (ms : Members) → HasNoWord ms → first_unknown (Line Three) ms ≡ first_unknown (Line Two) ms
+pub without_words : (ms : Members) → LineHasNoWord ms → first_unknown (Line Three) ms ≡ first_unknown (Line Two) ms
 without_words no_members none = refl
 without_words (member key value ms) none =
     let others : (word : LineWord) → (bytes_eq key (word_key word) ≡ false) × (get_member (word_key word) ms ≡ None) =
     λ word. is_other (word_key word) key value (get_member (word_key word) ms) (none word) in
     rw (known_alike key (λ word. (others word).0)) (rw (without_words ms (λ word. (others word).1)) refl)
 
-pub same_fault : (version : TableVersion) (n : ℕ) (ms : Members) → get_member (codes "cache") ms ≡ None → HasNoWord ms → line_fault version n ms ≡ line_fault One n ms
+pub same_fault : (version : TableVersion) (n : ℕ) (ms : Members) → get_member (codes "cache") ms ≡ None → LineHasNoWord ms → line_fault version n ms ≡ line_fault One n ms
 unfolding line_fault
 same_fault One n ms none no_word = refl
 same_fault Two n ms none no_word = rw (same_unknown ms none) refl
 same_fault Three n ms none no_word = rw (without_words ms no_word) (rw (same_unknown ms none) refl)
 
-pub same_fault_of_two : (n : ℕ) (ms : Members) → HasNoWord ms → line_fault Three n ms ≡ line_fault Two n ms
+pub same_fault_of_two : (n : ℕ) (ms : Members) → LineHasNoWord ms → line_fault Three n ms ≡ line_fault Two n ms
 unfolding line_fault
 same_fault_of_two n ms no_word = rw (without_words ms no_word) refl
 
@@ -152,7 +152,7 @@ is_of_added_key (BadCache line) = true
 is_of_added_key (BadWord line word) = true
 is_of_added_key _ = false
 
-neither_gives : (a b : Option ConfigFault) (fault : ConfigFault) → ¬ (a ≡ Some fault) → ¬ (b ≡ Some fault) → ¬ (or_later a b ≡ Some fault)
+neither_gives : (a b : Option ConfigFault) (fault : ConfigFault) → ¬ (a ≡ Some fault) → ¬ (b ≡ Some fault) → ¬ (first_fault_or_later a b ≡ Some fault)
 neither_gives None b fault first later = later
 neither_gives (Some x) b fault first later = first
 
@@ -162,7 +162,7 @@ module _ (fault : ConfigFault) (is_added : is_of_added_key fault ≡ true) where
       let bad : is_of_added_key fault ≡ false = subst (λ f. is_of_added_key f ≡ false) same other in
       cc
 
-  module _ (version : TableVersion) (never : (n : ℕ) (ms : Members) (key : LineKey) → first_unknown (Line version) ms ≡ None → is_good ms key ≡ false → ¬ (fault_of n key ≡ fault)) where
+  module _ (version : TableVersion) (never : (n : ℕ) (ms : Members) (key : LineKey) → first_unknown (Line version) ms ≡ None → is_good ms key ≡ false → ¬ (fault_of_line_key n key ≡ fault)) where
     not_refused : (n : ℕ) (ms : Members) → ¬ (line_fault version n ms ≡ Some fault)
     unfolding line_fault
     not_refused n ms bad = by_keys (first_unknown (Line version) ms) refl (first_bad_key ms) refl
@@ -172,27 +172,27 @@ module _ (fault : ConfigFault) (is_added : is_of_added_key fault ≡ true) where
             let is : line_fault version n ms ≡ Some (UnknownKey key) = rw e refl in
             not_it (UnknownKey key) refl cc
         by_keys None e None f =
-            let is : line_fault version n ms ≡ None = rw e (ap (option_map (fault_of n)) f) in
+            let is : line_fault version n ms ≡ None = rw e (ap (option_map (fault_of_line_key n)) f) in
             cc
         by_keys None e (Some key) f =
-            let is : line_fault version n ms ≡ Some (fault_of n key) = rw e (ap (option_map (fault_of n)) f) in
-            let same : fault_of n key ≡ fault = cc in
+            let is : line_fault version n ms ≡ Some (fault_of_line_key n key) = rw e (ap (option_map (fault_of_line_key n)) f) in
+            let same : fault_of_line_key n key ≡ fault = cc in
             never n ms key e (found_fails (is_good ms) line_keys key f) same
 
-    item_not_refused : (n : ℕ) (o : Option Members) → ¬ (item_fault version n o ≡ Some fault)
+    item_not_refused : (n : ℕ) (o : Option Members) → ¬ (fault_of_line_item version n o ≡ Some fault)
     item_not_refused n None bad = cc
     item_not_refused n (Some ms) bad = not_refused n ms bad
 
     lines_not_refused : (n : ℕ) (ds : Items) → ¬ (lines_fault version n ds ≡ Some fault)
     lines_not_refused n no_items = λ bad. cc
     lines_not_refused n (item d ds) =
-        neither_gives (item_fault version n (as_table d)) (lines_fault version (n + 1) ds) fault (item_not_refused n (as_table d)) (lines_not_refused (n + 1) ds)
+        neither_gives (fault_of_line_item version n (as_table d)) (lines_fault version (n + 1) ds) fault (item_not_refused n (as_table d)) (lines_not_refused (n + 1) ds)
 
     table_not_refused : (t : Members) → version_of t ≡ version → ¬ (table_fault t ≡ Some fault)
     unfolding table_fault
     table_not_refused t same bad = by_keys (first_unknown Top t) refl (first_bad_at_top t) refl
       where
-        not_at_top : (key : TopKey) → ¬ (fault_at_top key ≡ fault)
+        not_at_top : (key : TopKey) → ¬ (fault_of_top_key key ≡ fault)
         not_at_top Name = not_it BadName refl
         not_at_top (Number key) = not_it (BadNumber key) refl
         not_at_top Lines = not_it NoLines refl
@@ -202,8 +202,8 @@ module _ (fault : ConfigFault) (is_added : is_of_added_key fault ≡ true) where
             let is : table_fault t ≡ Some (UnknownKey key) = rw e refl in
             not_it (UnknownKey key) refl cc
         by_keys None e (Some key) f =
-            let is : table_fault t ≡ Some (fault_at_top key) = rw e (rw f refl) in
-            let found : fault_at_top key ≡ fault = cc in
+            let is : table_fault t ≡ Some (fault_of_top_key key) = rw e (rw f refl) in
+            let found : fault_of_top_key key ≡ fault = cc in
             not_at_top key found
         by_keys None e None f =
             let is : table_fault t ≡ lines_fault version 1 (unwrap_or (lines_at t) no_items) = rw e (rw f (rw same refl)) in
@@ -214,13 +214,13 @@ module _ (fault : ConfigFault) (is_added : is_of_added_key fault ≡ true) where
     never_judged t same bad = by_fault (table_fault t) refl
       where
         by_fault : (o : Option ConfigFault) → table_fault t ≡ o → ⊥
-        by_fault None e = let is : judge_table t ≡ fault_or_table None t = rw e refl in cc
+        by_fault None e = let is : judge_table t ≡ fault_or_table_read None t = rw e refl in cc
         by_fault (Some other) e =
             let is : judge_table t ≡ Err other = rw e refl in
             let both : other ≡ fault = cc in
             table_not_refused t same (e ∙ ap Some both)
 
-never_of_cache : (line n : ℕ) (ms : Members) (key : LineKey) → first_unknown (Line One) ms ≡ None → is_good ms key ≡ false → ¬ (fault_of n key ≡ BadCache line)
+never_of_cache : (line n : ℕ) (ms : Members) (key : LineKey) → first_unknown (Line One) ms ≡ None → is_good ms key ≡ false → ¬ (fault_of_line_key n key ≡ BadCache line)
 never_of_cache line n ms Host known bad same = cc
 never_of_cache line n ms Methods known bad same = cc
 never_of_cache line n ms Path known bad same = cc
@@ -236,7 +236,7 @@ missing_is_good Needed row ms other none = cc
 missing_is_good AllowingLine row ms other none = rw none refl
 missing_is_good CachingLine row ms other none = rw none refl
 
-never_of_words : (version : TableVersion) (line : ℕ) (word : LineWord) (n : ℕ) (ms : Members) (key : LineKey) → ¬ (version ≡ Three) → first_unknown (Line version) ms ≡ None → is_good ms key ≡ false → ¬ (fault_of n key ≡ BadWord line word)
+never_of_words : (version : TableVersion) (line : ℕ) (word : LineWord) (n : ℕ) (ms : Members) (key : LineKey) → ¬ (version ≡ Three) → first_unknown (Line version) ms ≡ None → is_good ms key ≡ false → ¬ (fault_of_line_key n key ≡ BadWord line word)
 never_of_words version line word n ms Host other known bad same = cc
 never_of_words version line word n ms Methods other known bad same = cc
 never_of_words version line word n ms Path other known bad same = cc
@@ -264,15 +264,15 @@ all_keys_known version n ms none = by_keys (first_unknown (Line version) ms) ref
     by_keys (Some key) e = let is : line_fault version n ms ≡ Some (UnknownKey key) = rw e refl in cc
     by_keys None e = e
 
-is_cached_line : (n : ℕ) (ms : Members) → line_fault One n ms ≡ None → (line_of ms).policy ≡ plain true
-unfolding line_of
+is_cached_line : (n : ℕ) (ms : Members) → line_fault One n ms ≡ None → (line_read ms).policy ≡ plain true
+unfolding line_read
 is_cached_line n ms none =
     let known = all_keys_known One n ms none in
-    let caches : not (says (codes "cache") (codes "off") ms) ≡ true = rw (no_cache ms known) refl in
+    let caches : not (key_has_text (codes "cache") (codes "off") ms) ≡ true = rw (no_cache ms known) refl in
     plain_policy ms (no_words One ms (λ same. cc) known) ∙ ap plain caches
 
-is_plain_line : (version : TableVersion) (n : ℕ) (ms : Members) → ¬ (version ≡ Three) → line_fault version n ms ≡ None → (line_of ms).policy ≡ plain (line_of ms).policy.caches
-unfolding line_of
+is_plain_line : (version : TableVersion) (n : ℕ) (ms : Members) → ¬ (version ≡ Three) → line_fault version n ms ≡ None → (line_read ms).policy ≡ plain (line_read ms).policy.caches
+unfolding line_read
 is_plain_line version n ms other none = plain_policy ms (no_words version ms other (all_keys_known version n ms none))
 
 pub each_is_cached : (t : Members) (table : Table) → version_of t ≡ One → judge_table t ≡ Ok table → All (λ (line : PlainLine). line.policy ≡ plain true) table.lines

@@ -3,14 +3,14 @@ use Rattle.std.proofs.Common.{◌≡◌, inl, inr, ℕ, Bool, true, false, List,
 use Rattle.std.specs.Prelude.{Ok, not, ◌&&◌, ◌||◌, is_none, is_some, bytes_eq, option_map}
 use Rattle.std.specs.List.{All}
 use Rattle.toml.specs.Data.{Data, Members, get_member}
-use Rattle.hx_allow.specs.Lines.{Table}
-use Rattle.hx_allow.specs.LineWords.{says, takes_words}
-use Rattle.hx_allow.specs.Rows.{Row, word_row, fault_of}
-use Rattle.hx_allow.specs.LineTables.{is_line_origin, is_of_kind, is_good_at, first_bad_key, line_fault, line_of}
+use Rattle.hx_allow.specs.TableLines.{Table}
+use Rattle.hx_allow.specs.LineWords.{key_has_text, line_takes_words}
+use Rattle.hx_allow.specs.Rows.{Row, word_row, fault_of_line_key}
+use Rattle.hx_allow.specs.LineTables.{is_line_origin, is_of_kind, is_good_at, first_bad_key, line_fault, line_read}
 use Rattle.hx_allow.specs.Tables.{version_of, judge_table}
-use Rattle.hx_allow.specs.Values.{first_unknown, text_at, is_some_and, unless_text}
-use Rattle.hx_allow.specs.Versions.{HasNoWord, TakesItsWords}
-use Rattle.hx_allow.specs.declared.faults.ConfigFault.TheVariants.{UnknownKey}
+use Rattle.hx_allow.specs.Values.{first_unknown, text_at, is_some_and, text_unless}
+use Rattle.hx_allow.specs.Versions.{LineHasNoWord, LineTakesItsWords}
+use Rattle.hx_allow.specs.declared.config_faults.ConfigFault.TheVariants.{UnknownKey}
 use Rattle.hx_allow.specs.declared.rows.LineKey.{LineKey}
 use Rattle.hx_allow.specs.declared.rows.LineKey.TheVariants.{Origin, Word}
 use Rattle.hx_allow.specs.declared.rows.Place.{Place}
@@ -29,10 +29,10 @@ is_caching_word (Word word) = is_of_caching (word_row word).place
 is_caching_word key = true
 
 -- a line that takes no words has none
-absent : (place : Place) (row : Row) (ms : Members) → is_of_caching place ≡ true → takes_words ms ≡ false → is_good_at place row ms ≡ true → get_member row.key ms ≡ None
+absent : (place : Place) (row : Row) (ms : Members) → is_of_caching place ≡ true → line_takes_words ms ≡ false → is_good_at place row ms ≡ true → get_member row.key ms ≡ None
 absent Needed row ms caching untaken good = cc
 absent AllowingLine row ms caching untaken good = cc
-absent CachingLine row ms caching untaken good = by_value (get_member row.key ms) (is_of_kind row.kind row.key ms) (takes_words ms) untaken good
+absent CachingLine row ms caching untaken good = by_value (get_member row.key ms) (is_of_kind row.kind row.key ms) (line_takes_words ms) untaken good
   where
     by_value : (o : Option Data) (value takes : Bool) → takes ≡ false → is_none o || (value && takes) ≡ true → o ≡ None
     by_value None value takes untaken good = refl
@@ -40,12 +40,12 @@ absent CachingLine row ms caching untaken good = by_value (get_member row.key ms
     by_value (Some d) true false untaken good = cc
     by_value (Some d) false takes untaken good = cc
 
-no_words : (ms : Members) → takes_words ms ≡ false → first_bad_key ms ≡ None → HasNoWord ms
+no_words : (ms : Members) → line_takes_words ms ≡ false → first_bad_key ms ≡ None → LineHasNoWord ms
 no_words ms untaken none = λ word.
     absent (word_row word).place (word_row word) ms (each_key is_caching_word refl (Word word)) untaken (each_good ms none (Word word))
 
 -- a line that takes words has an origin and its cache on
-has_origin : (text : Option (List ℕ)) → is_some_and is_line_origin text ≡ true → is_some_and (λ t. bytes_eq t (codes "deny")) text ≡ false → is_some (unless_text (codes "deny") text) ≡ true
+has_origin : (text : Option (List ℕ)) → is_some_and is_line_origin text ≡ true → is_some_and (λ t. bytes_eq t (codes "deny")) text ≡ false → is_some (text_unless (codes "deny") text) ≡ true
 has_origin None good other = cc
 has_origin (Some text) good other = rw other refl
 
@@ -54,22 +54,22 @@ both_hold true b e = cc
 both_hold false true e = cc
 both_hold false false e = (refl, refl)
 
-takes_them : (version : TableVersion) (n : ℕ) (ms : Members) → line_fault version n ms ≡ None → TakesItsWords (line_of ms)
-unfolding line_fault line_of
+takes_them : (version : TableVersion) (n : ℕ) (ms : Members) → line_fault version n ms ≡ None → LineTakesItsWords (line_read ms)
+unfolding line_fault line_read
 takes_them version n ms none = by_keys (first_unknown (Line version) ms) refl
   where
-    parts : (takes : Bool) → takes_words ms ≡ takes → first_bad_key ms ≡ None → TakesItsWords (line_of ms)
+    parts : (takes : Bool) → line_takes_words ms ≡ takes → first_bad_key ms ≡ None → LineTakesItsWords (line_read ms)
     parts true is good =
-        let both = both_hold (says (codes "origin") (codes "deny") ms) (says (codes "cache") (codes "off") ms) is in
+        let both = both_hold (key_has_text (codes "origin") (codes "deny") ms) (key_has_text (codes "cache") (codes "off") ms) is in
         let origin : is_some_and is_line_origin (text_at (codes "origin") ms) ≡ true = each_good ms good Origin in
         inr (has_origin (text_at (codes "origin") ms) origin both.0, ap not both.1)
     parts false is good = inl (plain_policy ms (no_words ms is good))
 
-    by_keys : (o : Option (List ℕ)) → first_unknown (Line version) ms ≡ o → TakesItsWords (line_of ms)
+    by_keys : (o : Option (List ℕ)) → first_unknown (Line version) ms ≡ o → LineTakesItsWords (line_read ms)
     by_keys (Some key) e = let bad : line_fault version n ms ≡ Some (UnknownKey key) = rw e refl in cc
     by_keys None e =
-        let is : line_fault version n ms ≡ option_map (fault_of n) (first_bad_key ms) = rw e refl in
-        parts (takes_words ms) refl (none_mapped (fault_of n) (first_bad_key ms) (sym is ∙ none))
+        let is : line_fault version n ms ≡ option_map (fault_of_line_key n) (first_bad_key ms) = rw e refl in
+        parts (line_takes_words ms) refl (none_mapped (fault_of_line_key n) (first_bad_key ms) (sym is ∙ none))
 
-pub each_takes_them : (t : Members) (table : Table) → judge_table t ≡ Ok table → All TakesItsWords table.lines
-each_takes_them t table e = each_line_read TakesItsWords t table (takes_them (version_of t)) (sym e)
+pub each_takes_them : (t : Members) (table : Table) → judge_table t ≡ Ok table → All LineTakesItsWords table.lines
+each_takes_them t table e = each_line_read LineTakesItsWords t table (takes_them (version_of t)) (sym e)

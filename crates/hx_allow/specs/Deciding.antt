@@ -2,12 +2,13 @@
 use Rattle.std.specs.Prelude.{ℕ, List, Option, filter}
 use Rattle.std.specs.Option.{option_and_then}
 use Rattle.hx_target.specs.declared.targets.Target.{Target}
-use Rattle.hx_allow.specs.Lines.{Line}
-use Rattle.hx_allow.specs.Matching.{matches_host, verdict_of, line_number, numbered}
+use Rattle.hx_allow.specs.TableLines.{Line}
+use Rattle.hx_allow.specs.Matching.{matches_host, verdict_of, line_number, line_of_number}
 
 -- the line that the verdict names
-abbrev pub deciding : List Line → List ℕ → Target → Option Line
-deciding lines method target = option_and_then (numbered lines) (line_number (verdict_of lines method target))
+abbrev pub deciding_line : List Line → List ℕ → Target → Option Line
+deciding_line lines method target = option_and_then (line_of_number lines)
+    (line_number (verdict_of lines method target))
 
 -- the lines without those of other hosts
 abbrev pub lines_for_host : List ℕ → List Line → List Line

@@ -3,72 +3,79 @@ use Rattle.std.specs.Prelude.{ℕ, zero, suc, pos, true, false, List, [], ◌∷
 use Rattle.toml.specs.Data.{Data, string, integer, array, Items, no_items, item, Members, no_members, member}
 use Rattle.hx_target.specs.declared.targets.Target.{Target}
 use Rattle.hx_target.specs.Paths.{table_path_of}
-use Rattle.hx_policy.specs.Words.{plain}
-use Rattle.hx_allow.specs.Lines.{Line}
+use Rattle.hx_policy.specs.Policies.{plain}
+use Rattle.hx_allow.specs.TableLines.{Line}
 
 -- a key and its value
-abbrev pub Pair : Type 0
-Pair = List ℕ × Data
+abbrev pub KeyAndValue : Type 0
+KeyAndValue = List ℕ × Data
 
 -- the table of these keys, which ascend
-abbrev pub of_pairs : List Pair → Members
-of_pairs [] = no_members
-of_pairs (p ∷ ps) = member p.0 p.1 (of_pairs ps)
+abbrev pub table_of_pairs : List KeyAndValue → Members
+table_of_pairs [] = no_members
+table_of_pairs (p ∷ ps) = member p.0 p.1 (table_of_pairs ps)
 
 -- an array of these values
-abbrev pub of_items : List Data → Items
-of_items [] = no_items
-of_items (d ∷ ds) = item d (of_items ds)
+abbrev pub array_of_values : List Data → Items
+array_of_values [] = no_items
+array_of_values (d ∷ ds) = item d (array_of_values ds)
 
 -- so many of one value
-abbrev pub many : ℕ → Data → Items
-many zero d = no_items
-many (suc n) d = item d (many n d)
+abbrev pub repeated_value : ℕ → Data → Items
+repeated_value zero d = no_items
+repeated_value (suc n) d = item d (repeated_value n d)
 
 -- so many of one byte
-abbrev pub bytes : ℕ → ℕ → List ℕ
-bytes zero b = []
-bytes (suc n) b = b ∷ bytes n b
+abbrev pub repeated_byte : ℕ → ℕ → List ℕ
+repeated_byte zero b = []
+repeated_byte (suc n) b = b ∷ repeated_byte n b
 
 -- a key with a text, and one with a number
-abbrev pub text : List ℕ → List ℕ → Pair
-text key value = (key, string value)
+abbrev pub key_with_text : List ℕ → List ℕ → KeyAndValue
+key_with_text key value = (key, string value)
 
-abbrev pub number : List ℕ → ℕ → Pair
-number key n = (key, integer (pos n))
+abbrev pub key_with_number : List ℕ → ℕ → KeyAndValue
+key_with_number key n = (key, integer (pos n))
 
 -- the methods of a line, one of them
-abbrev pub method : List ℕ → Pair
-method name = (codes "methods", array (of_items (string name ∷ [])))
+abbrev pub key_with_method : List ℕ → KeyAndValue
+key_with_method name = (codes "methods", array (array_of_values (string name ∷ [])))
 
 -- a line of these four keys
 abbrev pub line_table : List ℕ → List ℕ → List ℕ → List ℕ → Members
 line_table host name path origin =
-    of_pairs (text (codes "host") host ∷ method name ∷ text (codes "origin") origin ∷ text (codes "path") path ∷ [])
+    table_of_pairs (key_with_text (codes "host") host ∷ key_with_method name ∷ key_with_text (codes "origin") origin
+    ∷ key_with_text (codes "path") path ∷ [])
 
 -- a line for every host with these keys besides, which come before `host`
-abbrev pub with_keys : List Pair → Members
-with_keys pairs = of_pairs (pairs ++ text (codes "host") (codes "*") ∷ method (codes "GET")
-    ∷ text (codes "origin") (codes "127.0.0.1:8081") ∷ text (codes "path") (codes "/") ∷ [])
+abbrev pub line_table_with_keys : List KeyAndValue → Members
+line_table_with_keys pairs = table_of_pairs (pairs ++ key_with_text (codes "host") (codes "*") ∷ key_with_method (codes "GET")
+    ∷ key_with_text (codes "origin") (codes "127.0.0.1:8081") ∷ key_with_text (codes "path") (codes "/") ∷ [])
 
 -- such a line, which denies
-abbrev pub denying_with : List Pair → Members
-denying_with pairs = of_pairs (pairs ++ text (codes "host") (codes "*") ∷ method (codes "GET")
-    ∷ text (codes "origin") (codes "deny") ∷ text (codes "path") (codes "/") ∷ [])
+abbrev pub denying_line_table_with : List KeyAndValue → Members
+denying_line_table_with pairs = table_of_pairs (pairs ++ key_with_text (codes "host") (codes "*") ∷ key_with_method
+    (codes "GET")
+    ∷ key_with_text (codes "origin") (codes "deny") ∷ key_with_text (codes "path") (codes "/") ∷ [])
 
 -- a table of the first run's name and limits with these lines, where its version and capacity are these
 abbrev pub top_table : ℕ → ℕ → Items → Members
 top_table version capacity lines =
-    of_pairs (number (codes "capacity") capacity ∷ (codes "line", array lines) ∷ number (codes "max_body") 1000 ∷ number (codes "max_stored") 1000
-    ∷ text (codes "name") (codes "edge") ∷ number (codes "version") version ∷ [])
+    table_of_pairs (key_with_number (codes "capacity") capacity ∷ (codes "line", array lines) ∷ key_with_number
+    (codes "max_body") 1000 ∷ key_with_number (codes "max_stored") 1000
+    ∷ key_with_text (codes "name") (codes "edge") ∷ key_with_number (codes "version") version ∷ [])
 
 -- a request for a path, of this host
-abbrev pub asks : List ℕ → List ℕ → Target
-asks host path = record { key = record { host = host; port = 80; path_query = path }; table_path = table_path_of path }
+abbrev pub target_for_path : List ℕ → List ℕ → Target
+target_for_path host path = record {
+  key = record { host = host; port = 80; path_query = path };
+  table_path
+      = table_path_of path;
+}
 
 -- a line that is read, with one method
-abbrev pub reads : Option (List ℕ) → List ℕ → List ℕ → Option (List ℕ) → Line
-reads host name path origin =
+abbrev pub line_with_method : Option (List ℕ) → List ℕ → List ℕ → Option (List ℕ) → Line
+line_with_method host name path origin =
     record { host = host; methods = name ∷ []; path = path; origin = origin; policy = plain true }
 
 -- the origin of the first run
@@ -77,20 +84,23 @@ origin_8081 = Some (codes "127.0.0.1:8081")
 
 -- the first line denies a path, the second allows to get any
 abbrev pub first_line_denies : List Line
-first_line_denies = reads None (codes "*") (codes "/admin") None ∷ reads None (codes "GET") (codes "/") origin_8081 ∷ []
+first_line_denies = line_with_method None (codes "*") (codes "/admin") None ∷ line_with_method None (codes "GET")
+    (codes "/") origin_8081 ∷ []
 
 -- the same, but the second is for one host
 abbrev pub several_lines : List Line
-several_lines = reads None (codes "*") (codes "/admin") None ∷ reads (Some (codes "x")) (codes "GET") (codes "/") origin_8081 ∷ []
+several_lines = line_with_method None (codes "*") (codes "/admin") None ∷ line_with_method (Some (codes "x"))
+    (codes "GET") (codes "/") origin_8081 ∷ []
 
 -- two lines for one host around one for every host
 abbrev pub indexed_lines : List Line
 indexed_lines =
-    reads (Some (codes "x")) (codes "*") (codes "/p") None ∷ reads None (codes "GET") (codes "/") origin_8081
-    ∷ reads (Some (codes "x")) (codes "POST") (codes "/") origin_8081 ∷ []
+    line_with_method (Some (codes "x")) (codes "*") (codes "/p") None ∷ line_with_method None (codes "GET")
+    (codes "/") origin_8081
+    ∷ line_with_method (Some (codes "x")) (codes "POST") (codes "/") origin_8081 ∷ []
 
 -- a line without cache, and one with it
 abbrev pub line_without_cache : List Line
 line_without_cache =
-    record (reads None (codes "*") (codes "/live") origin_8081) { policy = plain false }
-    ∷ reads None (codes "GET") (codes "/") origin_8081 ∷ []
+    record (line_with_method None (codes "*") (codes "/live") origin_8081) { policy = plain false }
+    ∷ line_with_method None (codes "GET") (codes "/") origin_8081 ∷ []

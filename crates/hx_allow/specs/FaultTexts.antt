@@ -1,9 +1,11 @@
 -- What is wrong with a table and what may stand there, in words for the operator.
 use Rattle.std.specs.Prelude.{ℕ, List, [], ◌++◌, Option, None, Some, codes, decimal}
-use Rattle.hx_allow.specs.declared.faults.ConfigFault.{ConfigFault}
-use Rattle.hx_allow.specs.declared.faults.ConfigFault.TheVariants.{NotToml, UnknownKey, BadName, BadNumber, BadHost}
-use Rattle.hx_allow.specs.declared.faults.ConfigFault.TheVariants.{BadMethod, BadPath, BadOrigin, NoLines, OutOfMemory}
-use Rattle.hx_allow.specs.declared.faults.ConfigFault.TheVariants.{BadCache, BadWord}
+use Rattle.hx_allow.specs.declared.config_faults.ConfigFault.{ConfigFault}
+use Rattle.hx_allow.specs.declared.config_faults.ConfigFault.TheVariants.{NotToml, UnknownKey, BadName, BadNumber}
+use Rattle.hx_allow.specs.declared.config_faults.ConfigFault.TheVariants.{BadHost}
+use Rattle.hx_allow.specs.declared.config_faults.ConfigFault.TheVariants.{BadMethod, BadPath, BadOrigin, NoLines}
+use Rattle.hx_allow.specs.declared.config_faults.ConfigFault.TheVariants.{OutOfMemory}
+use Rattle.hx_allow.specs.declared.config_faults.ConfigFault.TheVariants.{BadCache, BadWord}
 use Rattle.hx_allow.specs.declared.rows.LineKey.TheVariants.{Host, Methods, Path, Origin, Cache}
 use Rattle.hx_allow.specs.declared.rows.Place.{Place}
 use Rattle.hx_allow.specs.declared.rows.TopKey.TheVariants.{Name}
@@ -73,13 +75,13 @@ words_by (Some row) fault = words_of_row row
 words_by None fault = words_without_row fault
 
 -- what has to stand there
-abbrev pub words_of : ConfigFault → List ℕ
-words_of fault = words_by (row_at_fault fault) fault
+abbrev pub expected_words : ConfigFault → List ℕ
+expected_words fault = words_by (row_at_fault fault) fault
 
 -- the place in the table, where a line is at fault
-abbrev pub place_text : Option ℕ → List ℕ
-place_text (Some line) = codes "in [[line]] number " ++ (decimal line ++ codes " ")
-place_text None = []
+abbrev pub line_place_text : Option ℕ → List ℕ
+line_place_text (Some line) = codes "in [[line]] number " ++ (decimal line ++ codes " ")
+line_place_text None = []
 
 abbrev pub fault_text : ConfigFault → List ℕ
-fault_text fault = place_text (line_at_fault fault) ++ words_of fault
+fault_text fault = line_place_text (line_at_fault fault) ++ expected_words fault

@@ -1,12 +1,14 @@
 -- The keys of numbers and of a line's words, as they stand in the table, and the numbers of faults.
 use Rattle.std.specs.Prelude.{ℕ, List}
 use Rattle.hx_allow.specs.Rows.{number_row, word_row}
-use Rattle.hx_allow.specs.declared.faults.ConfigFault.{ConfigFault}
-use Rattle.hx_allow.specs.declared.faults.ConfigFault.TheVariants.{NotToml, UnknownKey, BadName, BadNumber, BadHost}
-use Rattle.hx_allow.specs.declared.faults.ConfigFault.TheVariants.{BadMethod, BadPath, BadOrigin, NoLines, OutOfMemory}
-use Rattle.hx_allow.specs.declared.faults.ConfigFault.TheVariants.{BadCache, BadWord}
-use Rattle.hx_allow.specs.declared.faults.LineWord.{LineWord}
-use Rattle.hx_allow.specs.declared.faults.NumberKey.{NumberKey}
+use Rattle.hx_allow.specs.declared.config_faults.ConfigFault.{ConfigFault}
+use Rattle.hx_allow.specs.declared.config_faults.ConfigFault.TheVariants.{NotToml, UnknownKey, BadName, BadNumber}
+use Rattle.hx_allow.specs.declared.config_faults.ConfigFault.TheVariants.{BadHost}
+use Rattle.hx_allow.specs.declared.config_faults.ConfigFault.TheVariants.{BadMethod, BadPath, BadOrigin, NoLines}
+use Rattle.hx_allow.specs.declared.config_faults.ConfigFault.TheVariants.{OutOfMemory}
+use Rattle.hx_allow.specs.declared.config_faults.ConfigFault.TheVariants.{BadCache, BadWord}
+use Rattle.hx_allow.specs.declared.config_faults.LineWord.{LineWord}
+use Rattle.hx_allow.specs.declared.config_faults.NumberKey.{NumberKey}
 
 abbrev pub key_text : NumberKey → List ℕ
 key_text number = (number_row number).key

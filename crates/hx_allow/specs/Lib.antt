@@ -4,7 +4,7 @@ pub mod Index
 pub mod Keys
 pub mod LineTables
 pub mod LineWords
-pub mod Lines
+pub mod TableLines
 pub mod Matching
 pub mod PathTails
 pub mod NeverReached

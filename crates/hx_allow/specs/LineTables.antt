@@ -10,19 +10,20 @@ use Rattle.hx_fields.specs.Tokens.{is_token}
 use Rattle.hx_target.specs.Hosts.{is_host}
 use Rattle.hx_target.specs.Paths.{has_bad_escape, has_dot_segment, table_path_of}
 use Rattle.hx_allow.specs.Addresses.{is_address}
-use Rattle.hx_allow.specs.Lines.{Line as PlainLine}
-use Rattle.hx_allow.specs.LineWords.{has_either, denies, takes_words, policy_read}
+use Rattle.hx_allow.specs.TableLines.{Line as PlainLine}
+use Rattle.hx_allow.specs.LineWords.{key_has_one_of_two, line_denies, line_takes_words, policy_of_line_table}
 use Rattle.hx_allow.specs.Matching.{is_never_allowed}
-use Rattle.hx_allow.specs.Rows.{Kind, a_number, some_seconds, one_of, a_host, some_methods, a_path, an_origin, Row, line_row}
-use Rattle.hx_allow.specs.Rows.{line_keys, fault_of}
-use Rattle.hx_allow.specs.Values.{first_unknown, text_at, number_between, is_some_and, counts_within, all_items}
-use Rattle.hx_allow.specs.Values.{unless_text, texts_of, items_at}
+use Rattle.hx_allow.specs.Rows.{Kind, a_number, some_seconds, one_of, a_host, some_methods, a_path, an_origin, Row}
+use Rattle.hx_allow.specs.Rows.{line_row}
+use Rattle.hx_allow.specs.Rows.{line_keys, fault_of_line_key}
+use Rattle.hx_allow.specs.Values.{first_unknown, text_at, number_between, is_some_and, has_one_to_most, all_items}
+use Rattle.hx_allow.specs.Values.{text_unless, texts_of, items_at}
 use Rattle.hx_allow.specs.declared.values.Scope.TheVariants.{Line}
 use Rattle.hx_allow.specs.declared.values.TableVersion.{TableVersion}
-use Rattle.hx_allow.specs.declared.faults.ConfigFault.{ConfigFault}
-use Rattle.hx_allow.specs.declared.faults.FoundFault.{FoundFault}
-use Rattle.hx_allow.specs.declared.faults.FoundFault.TheVariants as found
-use Rattle.hx_allow.specs.declared.faults.ConfigFault.TheVariants.{UnknownKey}
+use Rattle.hx_allow.specs.declared.config_faults.ConfigFault.{ConfigFault}
+use Rattle.hx_allow.specs.declared.config_faults.FoundFault.{FoundFault}
+use Rattle.hx_allow.specs.declared.config_faults.FoundFault.TheVariants as found
+use Rattle.hx_allow.specs.declared.config_faults.ConfigFault.TheVariants.{UnknownKey}
 use Rattle.hx_allow.specs.declared.rows.LineKey.{LineKey}
 use Rattle.hx_allow.specs.declared.rows.Place.{Place}
 use Rattle.hx_allow.specs.declared.rows.Place.TheVariants.{Needed, AllowingLine, CachingLine}
@@ -38,19 +39,20 @@ is_line_method text =
 
 -- 1 to 32 of these
 abbrev pub are_line_methods : Items → Bool
-are_line_methods ds = counts_within 32 ds && all_items (λ d. is_some_and is_line_method (as_str d)) ds
+are_line_methods ds = has_one_to_most 32 ds && all_items (λ d. is_some_and is_line_method (as_str d)) ds
 
 abbrev pub is_path_byte : ℕ → Bool
 is_path_byte b = nat_le 0x21 b && nat_le b 0x7E && not (b == question_mark) && not (b == hash_sign)
 
-abbrev pub ends_open : List ℕ → Bool
-ends_open text = (length text == 1) || not (slice_index text (length text - 1) == slash)
+abbrev pub does_not_end_with_slash : List ℕ → Bool
+does_not_end_with_slash text = (length text == 1) || not (slice_index text (length text - 1) == slash)
 
 -- `/`, or a path that begins with `/` and doesn't end with it, with whole escapes and, as a table path, without dot
 -- segments (RFC 3986, sections 2.1, 3.3 and 5.2.4)
 unfoldable pub is_line_path : List ℕ → Bool
 is_line_path text =
-    (slice_index text 0 == slash) && ends_open text && list_all is_path_byte text && not (has_bad_escape text)
+    (slice_index text 0 == slash) && does_not_end_with_slash text && list_all is_path_byte text
+    && not (has_bad_escape text)
     && not (has_dot_segment (table_path_of text))
 
 -- `deny`, or an address
@@ -61,7 +63,7 @@ is_line_origin text = bytes_eq text (codes "deny") || is_address text
 abbrev pub is_of_kind : Kind → List ℕ → Members → Bool
 is_of_kind (a_number low high) key ms = is_some (number_between low high (get_member key ms))
 is_of_kind (some_seconds low high) key ms = is_some (number_between low high (get_member key ms))
-is_of_kind (one_of first second) key ms = has_either key first second ms
+is_of_kind (one_of first second) key ms = key_has_one_of_two key first second ms
 is_of_kind a_host key ms = is_some_and is_line_host (text_at key ms)
 is_of_kind some_methods key ms = is_some_and are_line_methods (items_at key ms)
 is_of_kind a_path key ms = is_some_and is_line_path (text_at key ms)
@@ -72,9 +74,9 @@ is_of_kind _ key ms = false
 abbrev pub is_good_at : Place → Row → Members → Bool
 is_good_at Needed row ms = is_of_kind row.kind row.key ms
 is_good_at AllowingLine row ms =
-    is_none (get_member row.key ms) || (is_of_kind row.kind row.key ms && not (denies ms))
+    is_none (get_member row.key ms) || (is_of_kind row.kind row.key ms && not (line_denies ms))
 is_good_at CachingLine row ms =
-    is_none (get_member row.key ms) || (is_of_kind row.kind row.key ms && takes_words ms)
+    is_none (get_member row.key ms) || (is_of_kind row.kind row.key ms && line_takes_words ms)
 
 abbrev pub is_good : Members → LineKey → Bool
 is_good ms key = is_good_at (line_row key).place (line_row key) ms
@@ -89,46 +91,47 @@ line_fault version n ms = after_keys (first_unknown (Line version) ms)
   where
     after_keys : Option (List ℕ) → Option ConfigFault
     after_keys (Some key) = Some (UnknownKey key)
-    after_keys None = option_map (fault_of n) (first_bad_key ms)
+    after_keys None = option_map (fault_of_line_key n) (first_bad_key ms)
 
 -- the line, where it has no fault
-unfoldable pub line_of : Members → PlainLine
-line_of ms = record {
-  host = unless_text (codes "*") (text_at (codes "host") ms);
+unfoldable pub line_read : Members → PlainLine
+line_read ms = record {
+  host = text_unless (codes "*") (text_at (codes "host") ms);
   methods = texts_of (unwrap_or (items_at (codes "methods") ms) no_items);
   path = table_path_of (unwrap_or (text_at (codes "path") ms) []);
-  origin = unless_text (codes "deny") (text_at (codes "origin") ms);
-  policy = policy_read ms;
+  origin = text_unless (codes "deny") (text_at (codes "origin") ms);
+  policy = policy_of_line_table ms;
 }
 
-abbrev pub or_later : Option ConfigFault → Option ConfigFault → Option ConfigFault
-or_later None later = later
-or_later (Some fault) later = Some fault
+abbrev pub first_fault_or_later : Option ConfigFault → Option ConfigFault → Option ConfigFault
+first_fault_or_later None later = later
+first_fault_or_later (Some fault) later = Some fault
 
-abbrev pub item_fault : TableVersion → ℕ → Option Members → Option ConfigFault
-item_fault version n None = None
-item_fault version n (Some ms) = line_fault version n ms
+abbrev pub fault_of_line_item : TableVersion → ℕ → Option Members → Option ConfigFault
+fault_of_line_item version n None = None
+fault_of_line_item version n (Some ms) = line_fault version n ms
 
 -- the first fault among lines of which the first has this number, in a table of this version
 abbrev pub lines_fault : TableVersion → ℕ → Items → Option ConfigFault
 lines_fault version n no_items = None
-lines_fault version n (item d ds) = or_later (item_fault version n (as_table d)) (lines_fault version (n + 1) ds)
+lines_fault version n (item d ds) = first_fault_or_later (fault_of_line_item version n (as_table d))
+    (lines_fault version (n + 1) ds)
 
 -- the items of an array of these tables
-abbrev pub tables : List Members → Items
-tables [] = no_items
-tables (ms ∷ more) = item (table ms) (tables more)
+abbrev pub array_of_tables : List Members → Items
+array_of_tables [] = no_items
+array_of_tables (ms ∷ more) = item (table ms) (array_of_tables more)
 
-abbrev pub with_line : Option Members → List PlainLine → List PlainLine
-with_line None lines = lines
-with_line (Some ms) lines = line_of ms ∷ lines
+abbrev pub lines_with : Option Members → List PlainLine → List PlainLine
+lines_with None lines = lines
+lines_with (Some ms) lines = line_read ms ∷ lines
 
 -- what the lines say, where they have no fault
-abbrev pub lines_of : Items → List PlainLine
-lines_of no_items = []
-lines_of (item d ds) = with_line (as_table d) (lines_of ds)
+abbrev pub lines_read : Items → List PlainLine
+lines_read no_items = []
+lines_read (item d ds) = lines_with (as_table d) (lines_read ds)
 
 -- the fault that was found
-abbrev pub fault_found : FoundFault → ConfigFault
-fault_found (found.UnknownKey key) = UnknownKey key.now
-fault_found (found.Other fault) = fault
+abbrev pub config_fault_found : FoundFault → ConfigFault
+config_fault_found (found.UnknownKey key) = UnknownKey key.now
+config_fault_found (found.Other fault) = fault

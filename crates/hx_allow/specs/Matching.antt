@@ -10,8 +10,8 @@ use Rattle.std.specs.Option.{option_and_then}
 use Rattle.std.specs.List.{list_any}
 use Rattle.hx_target.specs.declared.targets.Target.{Target}
 use Rattle.hx_policy.specs.declared.words.Policy.{Policy}
-use Rattle.hx_policy.specs.Words.{plain}
-use Rattle.hx_allow.specs.Lines.{Line}
+use Rattle.hx_policy.specs.Policies.{plain}
+use Rattle.hx_allow.specs.TableLines.{Line}
 use Rattle.hx_allow.specs.declared.verdicts.Verdict.{Verdict}
 use Rattle.hx_allow.specs.declared.verdicts.Verdict.TheVariants.{Allowed, DeniedBy, NoLine}
 
@@ -24,22 +24,22 @@ matches_host (Some host) asked = bytes_eq host asked
 abbrev pub is_never_allowed : List ℕ → Bool
 is_never_allowed method = bytes_eq method (codes "CONNECT") || bytes_eq method (codes "TRACE") || bytes_eq method (codes "OPTIONS")
 
-abbrev pub is_any_or_same : List ℕ → List ℕ → Bool
-is_any_or_same method text = bytes_eq text (codes "*") || bytes_eq text method
+abbrev pub is_star_or_same : List ℕ → List ℕ → Bool
+is_star_or_same method text = bytes_eq text (codes "*") || bytes_eq text method
 
 -- methods compare with their case (RFC 9110, section 9.1)
 abbrev pub matches_method : List (List ℕ) → List ℕ → Bool
-matches_method methods method = not (is_never_allowed method) && list_any (is_any_or_same method) methods
+matches_method methods method = not (is_never_allowed method) && list_any (is_star_or_same method) methods
 
 -- the path of a line begins the asked one, and a slash follows
-abbrev pub is_continued : List ℕ → List ℕ → Bool
-is_continued path asked =
+abbrev pub path_continues : List ℕ → List ℕ → Bool
+path_continues path asked =
     nat_lt (length path) (length asked) && bytes_eq (take (length path) asked) path
     && (slice_index asked (length path) == 47)
 
 -- `/` matches all; any other path itself and what continues it with a slash
 abbrev pub matches_path : List ℕ → List ℕ → Bool
-matches_path path asked = bytes_eq path (codes "/") || bytes_eq path asked || is_continued path asked
+matches_path path asked = bytes_eq path (codes "/") || bytes_eq path asked || path_continues path asked
 
 unfoldable pub matches_line : Line → List ℕ → Target → Bool
 matches_line line method target =
@@ -47,26 +47,26 @@ matches_line line method target =
     && matches_path line.path target.table_path
 
 -- what a line of this number says where it decides
-abbrev pub verdict_by : ℕ → Line → Verdict
-verdict_by n line = if is_some line.origin then Allowed n else DeniedBy n
+abbrev pub verdict_of_line : ℕ → Line → Verdict
+verdict_of_line n line = if is_some line.origin then Allowed n else DeniedBy n
 
 -- the first line that matches, where the first of the list has this number
 abbrev pub verdict_from : ℕ → List Line → List ℕ → Target → Verdict
 verdict_from n [] method target = NoLine
 verdict_from n (line ∷ lines) method target =
-    if matches_line line method target then verdict_by n line else verdict_from (n + 1) lines method target
+    if matches_line line method target then verdict_of_line n line else verdict_from (n + 1) lines method target
 
 -- the first line that matches; lines are counted from 1
 unfoldable pub verdict_of : List Line → List ℕ → Target → Verdict
 verdict_of lines method target = verdict_from 1 lines method target
 
 -- the line of a number, where it stands; lines are counted from 1
-abbrev pub numbered : List Line → ℕ → Option Line
-numbered lines n = if n == 0 then None else slice_get lines (n - 1)
+abbrev pub line_of_number : List Line → ℕ → Option Line
+line_of_number lines n = if n == 0 then None else slice_get lines (n - 1)
 
 -- the origin of the line with this number, where it stands and doesn't deny
 abbrev pub origin_of : List Line → ℕ → Option (List ℕ)
-origin_of lines n = option_and_then (λ (line : Line). line.origin) (numbered lines n)
+origin_of lines n = option_and_then (λ (line : Line). line.origin) (line_of_number lines n)
 
 -- the bytes of the longest address of an origin
 abbrev pub longest_origin : List Line → ℕ
@@ -74,17 +74,17 @@ longest_origin lines = fold (λ n (line : Line). max n (length (unwrap_or line.o
 
 -- what the line with this number says of caching; what no line says anything of isn't kept
 unfoldable pub policy_of : List Line → ℕ → Policy
-policy_of lines n = unwrap_or (option_map (λ (line : Line). line.policy) (numbered lines n)) (plain false)
+policy_of lines n = unwrap_or (option_map (λ (line : Line). line.policy) (line_of_number lines n)) (plain false)
 
 -- a line of this number stands and has an origin
-abbrev pub IsAllowing : List Line → ℕ → Type 0
-IsAllowing lines n = (1 ≤ n) × IsSome (origin_of lines n)
+abbrev pub LineAllows : List Line → ℕ → Type 0
+LineAllows lines n = (1 ≤ n) × IsSome (origin_of lines n)
 
 -- where the verdict allows, its line stands and has an origin
-abbrev pub NamesAnOrigin : List Line → Verdict → Type 0
-NamesAnOrigin lines (Allowed n) = IsAllowing lines n
-NamesAnOrigin lines (DeniedBy n) = Unit {0}
-NamesAnOrigin lines NoLine = Unit {0}
+abbrev pub VerdictNamesAnOrigin : List Line → Verdict → Type 0
+VerdictNamesAnOrigin lines (Allowed n) = LineAllows lines n
+VerdictNamesAnOrigin lines (DeniedBy n) = Unit {0}
+VerdictNamesAnOrigin lines NoLine = Unit {0}
 
 -- the number of the line that decided
 abbrev pub line_number : Verdict → Option ℕ

@@ -2,17 +2,18 @@
 --
 -- number_row, top_row: the row of a key at the top     top_keys: their order
 -- word_row, line_row: the row of a key of a line       line_words, line_keys: their order
--- fault_at_top, fault_of: what is told of a key that is missing, or stands as it can't
+-- fault_of_top_key, fault_of_line_key: what is told of a key that is missing, or stands as it can't
 -- words_of_unknown_key: what is told of a key that isn't known
 use Rattle.std.specs.Prelude.{ℕ, nat_le, Bool, List, [], ◌∷◌, codes, map}
-use Rattle.hx_allow.specs.declared.faults.ConfigFault.{ConfigFault}
-use Rattle.hx_allow.specs.declared.faults.ConfigFault.TheVariants.{BadName, BadNumber, NoLines, BadHost, BadMethod}
-use Rattle.hx_allow.specs.declared.faults.ConfigFault.TheVariants.{BadPath, BadOrigin, BadCache, BadWord}
-use Rattle.hx_allow.specs.declared.faults.LineWord.{LineWord}
-use Rattle.hx_allow.specs.declared.faults.LineWord.TheVariants.{Lifetime, StaleIfError, SetCookie, Errors}
-use Rattle.hx_allow.specs.declared.faults.LineWord.TheVariants.{RequestDirectives, Wait, Explain}
-use Rattle.hx_allow.specs.declared.faults.NumberKey.{NumberKey}
-use Rattle.hx_allow.specs.declared.faults.NumberKey.TheVariants.{Version, Capacity, MaxBody, MaxStored}
+use Rattle.hx_allow.specs.declared.config_faults.ConfigFault.{ConfigFault}
+use Rattle.hx_allow.specs.declared.config_faults.ConfigFault.TheVariants.{BadName, BadNumber, NoLines, BadHost}
+use Rattle.hx_allow.specs.declared.config_faults.ConfigFault.TheVariants.{BadMethod}
+use Rattle.hx_allow.specs.declared.config_faults.ConfigFault.TheVariants.{BadPath, BadOrigin, BadCache, BadWord}
+use Rattle.hx_allow.specs.declared.config_faults.LineWord.{LineWord}
+use Rattle.hx_allow.specs.declared.config_faults.LineWord.TheVariants.{Lifetime, StaleIfError, SetCookie, Errors}
+use Rattle.hx_allow.specs.declared.config_faults.LineWord.TheVariants.{RequestDirectives, Wait, Explain}
+use Rattle.hx_allow.specs.declared.config_faults.NumberKey.{NumberKey}
+use Rattle.hx_allow.specs.declared.config_faults.NumberKey.TheVariants.{Version, Capacity, MaxBody, MaxStored}
 use Rattle.hx_allow.specs.declared.rows.Kind.{Kind as SourceKind}
 use Rattle.hx_allow.specs.declared.rows.Kind.TheVariants as source
 use Rattle.hx_allow.specs.declared.rows.LineKey.{LineKey}
@@ -49,45 +50,45 @@ pub record Row : Type 0 where
   pub place : Place
 
 -- a key that each version has, and that has to stand
-abbrev pub needed : List ℕ → Kind → Row
-needed key kind = record { key = key; since = One; kind = kind; place = Needed }
+abbrev pub required_row : List ℕ → Kind → Row
+required_row key kind = record { key = key; since = One; kind = kind; place = Needed }
 
 -- a key of a line that has an origin and its cache on
-abbrev pub of_caching : List ℕ → TableVersion → Kind → Row
-of_caching key since kind = record { key = key; since = since; kind = kind; place = CachingLine }
+abbrev pub row_for_caching_lines : List ℕ → TableVersion → Kind → Row
+row_for_caching_lines key since kind = record { key = key; since = since; kind = kind; place = CachingLine }
 
 abbrev pub number_row : NumberKey → Row
-number_row Version = needed (codes "version") a_version
-number_row Capacity = needed (codes "capacity") (a_number 1 65536)
-number_row MaxBody = needed (codes "max_body") (a_number 0 16777216)
-number_row MaxStored = needed (codes "max_stored") (a_number 0 16777216)
+number_row Version = required_row (codes "version") a_version
+number_row Capacity = required_row (codes "capacity") (a_number 1 65536)
+number_row MaxBody = required_row (codes "max_body") (a_number 0 16777216)
+number_row MaxStored = required_row (codes "max_stored") (a_number 0 16777216)
 
 abbrev pub top_row : TopKey → Row
-top_row Name = needed (codes "name") a_name
+top_row Name = required_row (codes "name") a_name
 top_row (Number key) = number_row key
-top_row Lines = needed (codes "line") some_lines
+top_row Lines = required_row (codes "line") some_lines
 
 -- the keys at the top, in the order in which they are looked at
 abbrev pub top_keys : List TopKey
 top_keys = Name ∷ Number Version ∷ Number Capacity ∷ Number MaxBody ∷ Number MaxStored ∷ Lines ∷ []
 
-abbrev pub fault_at_top : TopKey → ConfigFault
-fault_at_top Name = BadName
-fault_at_top (Number key) = BadNumber key
-fault_at_top Lines = NoLines
+abbrev pub fault_of_top_key : TopKey → ConfigFault
+fault_of_top_key Name = BadName
+fault_of_top_key (Number key) = BadNumber key
+fault_of_top_key Lines = NoLines
 
 -- the most seconds that a lifetime has (RFC 9111, section 1.2.2)
 abbrev pub most_seconds : ℕ
 most_seconds = 2147483648
 
 abbrev pub word_row : LineWord → Row
-word_row Lifetime = of_caching (codes "lifetime") Three (some_seconds 1 most_seconds)
-word_row StaleIfError = of_caching (codes "stale-if-error") Three (some_seconds 0 most_seconds)
-word_row SetCookie = of_caching (codes "set-cookie") Three (one_of (codes "stored") (codes "not-stored"))
-word_row Errors = of_caching (codes "errors") Three (one_of (codes "stored") (codes "not-stored"))
-word_row RequestDirectives = of_caching (codes "request-directives") Three (one_of (codes "heeded") (codes "ignored"))
-word_row Wait = of_caching (codes "wait") Three (one_of (codes "missing") (codes "missing-or-stale"))
-word_row Explain = of_caching (codes "explain") Three (one_of (codes "reuse") (codes "storing"))
+word_row Lifetime = row_for_caching_lines (codes "lifetime") Three (some_seconds 1 most_seconds)
+word_row StaleIfError = row_for_caching_lines (codes "stale-if-error") Three (some_seconds 0 most_seconds)
+word_row SetCookie = row_for_caching_lines (codes "set-cookie") Three (one_of (codes "stored") (codes "not-stored"))
+word_row Errors = row_for_caching_lines (codes "errors") Three (one_of (codes "stored") (codes "not-stored"))
+word_row RequestDirectives = row_for_caching_lines (codes "request-directives") Three (one_of (codes "heeded") (codes "ignored"))
+word_row Wait = row_for_caching_lines (codes "wait") Three (one_of (codes "missing") (codes "missing-or-stale"))
+word_row Explain = row_for_caching_lines (codes "explain") Three (one_of (codes "reuse") (codes "storing"))
 
 -- the words of a line, in the order in which they are looked at
 abbrev pub line_words : List LineWord
@@ -98,10 +99,10 @@ abbrev pub words_of_unknown_key : List ℕ
 words_of_unknown_key = codes "a key isn't known where it stands; correct its spelling or delete it: behind [[line]] keys belong to that line; cache needs version = 2 or 3, and lifetime, stale-if-error, set-cookie, errors, request-directives, wait and explain need version = 3"
 
 abbrev pub line_row : LineKey → Row
-line_row Host = needed (codes "host") a_host
-line_row Methods = needed (codes "methods") some_methods
-line_row Path = needed (codes "path") a_path
-line_row Origin = needed (codes "origin") an_origin
+line_row Host = required_row (codes "host") a_host
+line_row Methods = required_row (codes "methods") some_methods
+line_row Path = required_row (codes "path") a_path
+line_row Origin = required_row (codes "origin") an_origin
 line_row Cache = record {
   key = codes "cache";
   since = Two;
@@ -115,13 +116,13 @@ abbrev pub line_keys : List LineKey
 line_keys = Host ∷ Methods ∷ Path ∷ Origin ∷ Cache ∷ map Word line_words
 
 -- the fault of a key in the line with this number
-abbrev pub fault_of : ℕ → LineKey → ConfigFault
-fault_of n Host = BadHost n
-fault_of n Methods = BadMethod n
-fault_of n Path = BadPath n
-fault_of n Origin = BadOrigin n
-fault_of n Cache = BadCache n
-fault_of n (Word word) = BadWord n word
+abbrev pub fault_of_line_key : ℕ → LineKey → ConfigFault
+fault_of_line_key n Host = BadHost n
+fault_of_line_key n Methods = BadMethod n
+fault_of_line_key n Path = BadPath n
+fault_of_line_key n Origin = BadOrigin n
+fault_of_line_key n Cache = BadCache n
+fault_of_line_key n (Word word) = BadWord n word
 
 abbrev pub version_number : TableVersion → ℕ
 version_number One = 1
@@ -133,30 +134,30 @@ abbrev pub has_keys_of : TableVersion → TableVersion → Bool
 has_keys_of version since = nat_le (version_number since) (version_number version)
 
 -- the least and the greatest number of a kind
-abbrev pub least : Kind → ℕ
-least (a_number low high) = low
-least (some_seconds low high) = low
-least a_version = 1
-least _ = 0
+abbrev pub least_number : Kind → ℕ
+least_number (a_number low high) = low
+least_number (some_seconds low high) = low
+least_number a_version = 1
+least_number _ = 0
 
-abbrev pub greatest : Kind → ℕ
-greatest (a_number low high) = high
-greatest (some_seconds low high) = high
-greatest a_version = 3
-greatest _ = 0
+abbrev pub greatest_number : Kind → ℕ
+greatest_number (a_number low high) = high
+greatest_number (some_seconds low high) = high
+greatest_number a_version = 3
+greatest_number _ = 0
 
 -- the rows of the code
-abbrev pub kind_seen : SourceKind → Kind
-kind_seen (source.Number low high) = a_number low high
-kind_seen (source.Seconds low high) = some_seconds low high
-kind_seen source.Version = a_version
-kind_seen (source.OneOf first second) = one_of first.now second.now
-kind_seen source.Name = a_name
-kind_seen source.Lines = some_lines
-kind_seen source.Host = a_host
-kind_seen source.Methods = some_methods
-kind_seen source.Path = a_path
-kind_seen source.Origin = an_origin
+abbrev pub plain_kind : SourceKind → Kind
+plain_kind (source.Number low high) = a_number low high
+plain_kind (source.Seconds low high) = some_seconds low high
+plain_kind source.Version = a_version
+plain_kind (source.OneOf first second) = one_of first.now second.now
+plain_kind source.Name = a_name
+plain_kind source.Lines = some_lines
+plain_kind source.Host = a_host
+plain_kind source.Methods = some_methods
+plain_kind source.Path = a_path
+plain_kind source.Origin = an_origin
 
-abbrev pub row_seen : SourceRow → Row
-row_seen row = record { key = row.key.now; since = row.since; kind = kind_seen row.kind; place = row.place }
+abbrev pub plain_row : SourceRow → Row
+plain_row row = record { key = row.key.now; since = row.since; kind = plain_kind row.kind; place = row.place }

@@ -1,8 +1,8 @@
 -- What a TOML table says as an operator's table, or its first fault.
 --
--- table_fault: the first fault that stands      table_of: what is said where none stands
+-- table_fault: the first fault that stands      table_read: what is said where none stands
 -- judge_table: one or the other
--- ReadsAs: the same of bytes, with the reading of TOML as a relation
+-- BytesReadAs: the same of bytes, with the reading of TOML as a relation
 use Rattle.std.specs.Prelude.{◌≡◌, ◌⊎◌, ◌≤◌, ℕ, ◌==◌, nat_le, Bool, true, false, not, ◌&&◌, ◌||◌, if◌then◌else◌, List}
 use Rattle.std.specs.Prelude.{[], length, slice_index, find, codes, IsUtf8, Option, Some, None, is_some}
 use Rattle.std.specs.Prelude.{unwrap_or, Result, Ok, Err}
@@ -11,20 +11,20 @@ use Rattle.std.specs.List.{list_all}
 use Rattle.std.specs.Char.{is_ascii_lowercase, is_ascii_digit}
 use Rattle.toml.specs.Data.{Items, no_items, Members, as_table}
 use Rattle.toml.specs.Parse.{parse_document}
-use Rattle.hx_allow.specs.Lines.{Table}
-use Rattle.hx_allow.specs.LineTables.{lines_fault, lines_of}
-use Rattle.hx_allow.specs.Rows.{number_row, top_keys, fault_at_top}
-use Rattle.hx_allow.specs.Values.{first_unknown, text_at, number_in, is_some_and, counts_within, all_items}
+use Rattle.hx_allow.specs.TableLines.{Table}
+use Rattle.hx_allow.specs.LineTables.{lines_fault, lines_read}
+use Rattle.hx_allow.specs.Rows.{number_row, top_keys, fault_of_top_key}
+use Rattle.hx_allow.specs.Values.{first_unknown, text_at, number_in, is_some_and, has_one_to_most, all_items}
 use Rattle.hx_allow.specs.Values.{items_at}
 use Rattle.hx_allow.specs.declared.values.Scope.TheVariants.{Top}
 use Rattle.hx_allow.specs.declared.values.TableVersion.{TableVersion}
 use Rattle.hx_allow.specs.declared.values.TableVersion.TheVariants.{One, Two, Three}
-use Rattle.hx_allow.specs.declared.faults.ConfigFault.{ConfigFault}
-use Rattle.hx_allow.specs.declared.faults.ConfigFault.TheVariants.{NotToml, UnknownKey}
+use Rattle.hx_allow.specs.declared.config_faults.ConfigFault.{ConfigFault}
+use Rattle.hx_allow.specs.declared.config_faults.ConfigFault.TheVariants.{NotToml, UnknownKey}
 use Rattle.hx_allow.specs.declared.rows.TopKey.{TopKey}
 use Rattle.hx_allow.specs.declared.rows.TopKey.TheVariants.{Name, Number, Lines}
-use Rattle.hx_allow.specs.declared.faults.NumberKey.{NumberKey}
-use Rattle.hx_allow.specs.declared.faults.NumberKey.TheVariants.{Version, Capacity, MaxBody, MaxStored}
+use Rattle.hx_allow.specs.declared.config_faults.NumberKey.{NumberKey}
+use Rattle.hx_allow.specs.declared.config_faults.NumberKey.TheVariants.{Version, Capacity, MaxBody, MaxStored}
 
 -- the most lines of a table
 abbrev pub line_limit : ℕ
@@ -49,13 +49,13 @@ version_of t =
 
 -- an array of 1 to 256 tables
 abbrev pub are_lines : Items → Bool
-are_lines ds = counts_within line_limit ds && all_items (λ d. is_some (as_table d)) ds
+are_lines ds = has_one_to_most line_limit ds && all_items (λ d. is_some (as_table d)) ds
 
-abbrev pub if_lines : Items → Option Items
-if_lines ds = if are_lines ds then Some ds else None
+abbrev pub items_if_lines : Items → Option Items
+items_if_lines ds = if are_lines ds then Some ds else None
 
 abbrev pub lines_at : Members → Option Items
-lines_at t = option_and_then if_lines (items_at (codes "line") t)
+lines_at t = option_and_then items_if_lines (items_at (codes "line") t)
 
 abbrev pub is_good_at_top : Members → TopKey → Bool
 is_good_at_top t Name = is_some_and is_name (text_at (codes "name") t)
@@ -71,7 +71,7 @@ unfoldable pub table_fault : Members → Option ConfigFault
 table_fault t = after_keys (first_unknown Top t)
   where
     after_top : Option TopKey → Option ConfigFault
-    after_top (Some key) = Some (fault_at_top key)
+    after_top (Some key) = Some (fault_of_top_key key)
     after_top None = lines_fault (version_of t) 1 (unwrap_or (lines_at t) no_items)
 
     after_keys : Option (List ℕ) → Option ConfigFault
@@ -79,32 +79,32 @@ table_fault t = after_keys (first_unknown Top t)
     after_keys None = after_top (first_bad_at_top t)
 
 -- what a table says, where it has no fault
-unfoldable pub table_of : Members → Table
-table_of t = record {
+unfoldable pub table_read : Members → Table
+table_read t = record {
   name = unwrap_or (text_at (codes "name") t) [];
   capacity = unwrap_or (number_at Capacity t) 0;
   max_body = unwrap_or (number_at MaxBody t) 0;
   max_stored = unwrap_or (number_at MaxStored t) 0;
-  lines = lines_of (unwrap_or (lines_at t) no_items);
+  lines = lines_read (unwrap_or (lines_at t) no_items);
 }
 
-abbrev pub fault_or_table : Option ConfigFault → Members → Result Table ConfigFault
-fault_or_table (Some fault) t = Err fault
-fault_or_table None t = Ok (table_of t)
+abbrev pub fault_or_table_read : Option ConfigFault → Members → Result Table ConfigFault
+fault_or_table_read (Some fault) t = Err fault
+fault_or_table_read None t = Ok (table_read t)
 
 -- the first fault of a table, or what it says
 unfoldable pub judge_table : Members → Result Table ConfigFault
-judge_table t = fault_or_table (table_fault t) t
+judge_table t = fault_or_table_read (table_fault t) t
 
 -- the bytes are TOML of this table, within the limit
-abbrev pub IsTable : List ℕ → Members → Type 0
-IsTable bytes t = (length bytes ≤ 1048576) × IsUtf8 bytes × (parse_document bytes ≡ Some t)
+abbrev pub BytesAreToml : List ℕ → Members → Type 0
+BytesAreToml bytes t = (length bytes ≤ 1048576) × IsUtf8 bytes × (parse_document bytes ≡ Some t)
 
 -- what the bytes are read as: what their table says, or NotToml where they are none
-abbrev pub ReadsAs : List ℕ → Result Table ConfigFault → Type 0
-ReadsAs bytes r =
-    ((t : Members) × IsTable bytes t × (r ≡ judge_table t))
-    ⊎ (((t : Members) → ¬ (IsTable bytes t)) × (r ≡ Err NotToml))
+abbrev pub BytesReadAs : List ℕ → Result Table ConfigFault → Type 0
+BytesReadAs bytes r =
+    ((t : Members) × BytesAreToml bytes t × (r ≡ judge_table t))
+    ⊎ (((t : Members) → ¬ (BytesAreToml bytes t)) × (r ≡ Err NotToml))
 
 -- memory is taken before a fault is told only for the bytes of a key
 abbrev pub is_out_of_memory : Option ConfigFault → Bool

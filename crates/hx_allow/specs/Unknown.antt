@@ -9,16 +9,16 @@ use Rattle.hx_allow.specs.Values.{is_known}
 use Rattle.hx_allow.specs.declared.values.Scope.{Scope}
 
 -- the key stands in the table
-abbrev pub IsPresent : List ℕ → Members → Type 0
-IsPresent key ms = IsSome (get_member key ms)
+abbrev pub KeyIsPresent : List ℕ → Members → Type 0
+KeyIsPresent key ms = IsSome (get_member key ms)
 
 -- the bytes of a key come before those of another
-abbrev pub ComesBefore : List ℕ → List ℕ → Type 0
-ComesBefore key other = slice_cmp nat_cmp key other ≡ Less
+abbrev pub KeyComesBefore : List ℕ → List ℕ → Type 0
+KeyComesBefore key other = slice_cmp nat_cmp key other ≡ Less
 
 -- the key stands in the table and isn't known there, and it comes before each other such key
 pub record IsLeastUnknown (scope : Scope) (ms : Members) (key : List ℕ) : Type 0 where
-  pub is_present : IsPresent key ms
+  pub is_present : KeyIsPresent key ms
   pub unknown : is_known scope key ≡ false
-  pub least : (other : List ℕ) → IsPresent other ms → is_known scope other ≡ false → (other ≡ key)
-      ⊎ ComesBefore key other
+  pub least : (other : List ℕ) → KeyIsPresent other ms → is_known scope other ≡ false → (other ≡ key)
+      ⊎ KeyComesBefore key other

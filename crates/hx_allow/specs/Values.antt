@@ -8,7 +8,7 @@ use Rattle.toml.specs.Data.{as_array}
 use Rattle.hx_allow.specs.declared.values.Scope.{Scope}
 use Rattle.hx_allow.specs.declared.values.Scope.TheVariants.{Top, Line}
 use Rattle.hx_allow.specs.declared.values.TableVersion.{TableVersion}
-use Rattle.hx_allow.specs.Rows.{Row, top_row, top_keys, line_row, line_keys, has_keys_of, least, greatest}
+use Rattle.hx_allow.specs.Rows.{Row, top_row, top_keys, line_row, line_keys, has_keys_of, least_number, greatest_number}
 
 -- the key of a row, which a version has
 abbrev pub is_key_of : TableVersion → List ℕ → Row → Bool
@@ -38,7 +38,7 @@ number_between low high value = within low high (option_and_then as_integer valu
 
 -- the number of a row's key, where it is whole and within its bounds
 abbrev pub number_in : Row → Members → Option ℕ
-number_in row ms = number_between (least row.kind) (greatest row.kind) (get_member row.key ms)
+number_in row ms = number_between (least_number row.kind) (greatest_number row.kind) (get_member row.key ms)
 
 abbrev pub is_some_and : {A : Type 0} → (A → Bool) → Option A → Bool
 is_some_and test None = false
@@ -52,22 +52,22 @@ abbrev pub all_items : (Data → Bool) → Items → Bool
 all_items test no_items = true
 all_items test (item d ds) = test d && all_items test ds
 
-abbrev pub counts_within : ℕ → Items → Bool
-counts_within most ds = nat_le 1 (item_count ds) && nat_le (item_count ds) most
+abbrev pub has_one_to_most : ℕ → Items → Bool
+has_one_to_most most ds = nat_le 1 (item_count ds) && nat_le (item_count ds) most
 
 -- the text, but for the one that stands for none
-abbrev pub unless_text : List ℕ → Option (List ℕ) → Option (List ℕ)
-unless_text word None = None
-unless_text word (Some text) = if bytes_eq text word then None else Some text
+abbrev pub text_unless : List ℕ → Option (List ℕ) → Option (List ℕ)
+text_unless word None = None
+text_unless word (Some text) = if bytes_eq text word then None else Some text
 
-abbrev pub with_text : Option (List ℕ) → List (List ℕ) → List (List ℕ)
-with_text None texts = texts
-with_text (Some text) texts = text ∷ texts
+abbrev pub texts_with : Option (List ℕ) → List (List ℕ) → List (List ℕ)
+texts_with None texts = texts
+texts_with (Some text) texts = text ∷ texts
 
 -- the texts among some items
 abbrev pub texts_of : Items → List (List ℕ)
 texts_of no_items = []
-texts_of (item d ds) = with_text (as_str d) (texts_of ds)
+texts_of (item d ds) = texts_with (as_str d) (texts_of ds)
 
 abbrev pub items_at : List ℕ → Members → Option Items
 items_at key ms = option_and_then as_array (get_member key ms)

@@ -1,7 +1,8 @@
 //! Addresses of origins: four decimal numbers and a port.
 ghost use Rattle.std.specs.Prelude.{◌≡◌};
 ghost use Rattle.std.specs.Option.{option_map, option_copied};
-ghost use Rattle.hx_allow.specs.Addresses.{has_leading_zero, is_number, after_octet, port_text, is_address};
+ghost use Rattle.hx_allow.specs.Addresses.{has_leading_zero, is_decimal_within, after_octet, port_after_octets};
+ghost use Rattle.hx_allow.specs.Addresses.{is_address};
 
 use hx_fields::cut_at;
 use hx_target::short_number;
@@ -13,8 +14,8 @@ fn has_leading_zero(text: &[u8]) -> bool
 }
 
 /// Whether a text is a decimal number within bounds, without leading zeros.
-fn is_number(low: u32, high: u32, text: &[u8]) -> bool
-    ensures { result ≡ is_number low high text.now }
+fn is_decimal_within(low: u32, high: u32, text: &[u8]) -> bool
+    ensures { result ≡ is_decimal_within low high text.now }
 {
     if has_leading_zero(text) {
         return false;
@@ -30,13 +31,13 @@ fn after_octet(separator: u8, text: &[u8]) -> Option<&[u8]>
     ensures { option_copied result ≡ after_octet separator text.now }
 {
     match cut_at(separator, text) {
-        Some((octet, rest)) if is_number(0, 255, octet) => Some(rest),
+        Some((octet, rest)) if is_decimal_within(0, 255, octet) => Some(rest),
         _ => None,
     }
 }
 
-fn port_text(text: &[u8]) -> Option<&[u8]>
-    ensures { option_copied result ≡ port_text text.now }
+fn port_after_octets(text: &[u8]) -> Option<&[u8]>
+    ensures { option_copied result ≡ port_after_octets text.now }
 {
     let rest = after_octet(b'.', text)?;
     let rest = after_octet(b'.', rest)?;
@@ -49,8 +50,8 @@ fn port_text(text: &[u8]) -> Option<&[u8]>
 pub fn is_address(text: &[u8]) -> bool
     ensures { result ≡ is_address text.now }
 {
-    match port_text(text) {
-        Some(port) => is_number(1, 65_535, port),
+    match port_after_octets(text) {
+        Some(port) => is_decimal_within(1, 65_535, port),
         None => false,
     }
 }

@@ -1,14 +1,14 @@
 //! The operator's table, read.
 ghost use Rattle.std.specs.Prelude.{◌≡◌, ◌≤◌, ℕ, [], length, Err, unwrap_or};
-ghost use Rattle.hx_allow.specs.Matching.{verdict_of, origin_of, policy_of, longest_origin, NamesAnOrigin};
-ghost use Rattle.hx_allow.specs.NeverReached.{taken_by};
-ghost use Rattle.hx_allow.specs.Tables.{ReadsAs};
+ghost use Rattle.hx_allow.specs.Matching.{verdict_of, origin_of, policy_of, longest_origin, VerdictNamesAnOrigin};
+ghost use Rattle.hx_allow.specs.NeverReached.{first_line_taking};
+ghost use Rattle.hx_allow.specs.Tables.{BytesReadAs};
 
 use crate::host_index::HostIndex;
 use crate::lines::{Line, is_never_allowed};
 use crate::matching::{line_at, verdict_among};
 use crate::shadows::first_taking;
-use crate::{ConfigFault, Verdict, reading};
+use crate::{ConfigFault, Verdict, config_reading};
 use http::Method;
 use hx_policy::Policy;
 use hx_target::Target;
@@ -46,9 +46,9 @@ impl Drop for Config {
 
 impl Model for Config {
     ghost use Rattle.std.specs.Prelude.{string_bytes, length, ◌≤◌, ◌≡◌};
-    ghost use Rattle.hx_allow.specs.Lines.{Table};
+    ghost use Rattle.hx_allow.specs.TableLines.{Table};
     ghost use Rattle.hx_allow.specs.Matching.{longest_origin as longest_among};
-    ghost use Rattle.hx_allow.specs.Index.{IsIndexOf};
+    ghost use Rattle.hx_allow.specs.Index.{IsHostIndexOf};
 
     ghost Value = { Table };
 
@@ -61,26 +61,26 @@ impl Model for Config {
     } };
 
     ghost invariant = { λ c. (length c.lines.items ≤ 256) × (c.longest_origin ≡ longest_among c.lines.items)
-        × IsIndexOf c.lines.items c.by_host };
+        × IsHostIndexOf c.lines.items c.by_host };
 }
 
 impl Config {
     /// Reads a table of version 1, 2 or 3. The first fault in the order of looking is answered;
     /// out of memory is told in its place where the text or a key couldn't be copied.
     pub fn read(alloc: Global, bytes: &[u8]) -> Result<Config, ConfigFault>
-        ensures table { ¬ (result ≡ Err ConfigFault.OutOfMemory) → ReadsAs bytes.now result }
+        ensures table { ¬ (result ≡ Err ConfigFault.OutOfMemory) → BytesReadAs bytes.now result }
         // That a text is too long is told without memory. Any other fault may be hidden: the text
         // is read as TOML, which takes memory, before the first of them is looked for. In a table
         // that was read, out of memory hides only a key that isn't known, whose bytes are copied.
         ensures memory_last { result ≡ Err ConfigFault.OutOfMemory → length bytes.now ≤ 1048576 }
     {
-        reading::read(alloc, bytes)
+        config_reading::read(alloc, bytes)
     }
 
     /// What the table says of a request: the first line decides whose host, a method and path match.
     pub fn judge(&self, method: &Method, target: &Target) -> Verdict
         ensures verdict { result ≡ verdict_of self.now.lines method.now target.now }
-        ensures allowing { NamesAnOrigin self.now.lines result }
+        ensures allowing { VerdictNamesAnOrigin self.now.lines result }
     {
         let method = method.as_str().as_bytes();
         if is_never_allowed(method) {
@@ -128,7 +128,7 @@ impl Config {
     /// The first line in front of one, both counted from 1, that takes all that this could match,
     /// so that it never decides on a request.
     pub fn taken_by(&self, line: u16) -> Option<u16>
-        ensures { result ≡ taken_by self.now.lines line }
+        ensures { result ≡ first_line_taking self.now.lines line }
     {
         let later = line_at(&self.lines, line)?;
         first_taking(&self.lines[..usize::from(line) - 1], later)

@@ -1,49 +1,51 @@
 //! What an operator reads of each fault, computed from the rows of the keys: each function's
 //! contract is the cases, and its body is empty.
 ghost use Rattle.std.specs.Prelude.{◌≡◌, ℕ, List, codes};
-ghost use Rattle.hx_allow.specs.FaultTexts.{fault_text, words_of};
-ghost use Rattle.hx_allow.specs.declared.faults.ConfigFault.TheVariants.{NotToml, UnknownKey, BadName, BadNumber};
-ghost use Rattle.hx_allow.specs.declared.faults.ConfigFault.TheVariants.{BadHost, BadMethod, BadPath, BadOrigin};
-ghost use Rattle.hx_allow.specs.declared.faults.ConfigFault.TheVariants.{NoLines, OutOfMemory, BadCache, BadWord};
-ghost use Rattle.hx_allow.specs.declared.faults.LineWord.TheVariants.{Lifetime, StaleIfError, SetCookie, Errors};
-ghost use Rattle.hx_allow.specs.declared.faults.LineWord.TheVariants.{RequestDirectives, Wait, Explain};
-ghost use Rattle.hx_allow.specs.declared.faults.NumberKey.TheVariants.{Version, Capacity, MaxBody, MaxStored};
+ghost use Rattle.hx_allow.specs.FaultTexts.{fault_text, expected_words};
+ghost use Rattle.hx_allow.specs.declared.config_faults.ConfigFault.TheVariants.{NotToml, UnknownKey, BadName};
+ghost use Rattle.hx_allow.specs.declared.config_faults.ConfigFault.TheVariants.{BadNumber};
+ghost use Rattle.hx_allow.specs.declared.config_faults.ConfigFault.TheVariants.{BadHost, BadMethod, BadPath, BadOrigin};
+ghost use Rattle.hx_allow.specs.declared.config_faults.ConfigFault.TheVariants.{NoLines, OutOfMemory, BadCache};
+ghost use Rattle.hx_allow.specs.declared.config_faults.ConfigFault.TheVariants.{BadWord};
+ghost use Rattle.hx_allow.specs.declared.config_faults.LineWord.TheVariants.{Lifetime, StaleIfError, SetCookie, Errors};
+ghost use Rattle.hx_allow.specs.declared.config_faults.LineWord.TheVariants.{RequestDirectives, Wait, Explain};
+ghost use Rattle.hx_allow.specs.declared.config_faults.NumberKey.TheVariants.{Version, Capacity, MaxBody, MaxStored};
 
 /// What has to stand at the top of a table.
-pub fn words_of_the_top()
-    ensures not_toml { words_of NotToml ≡ codes "the table is no TOML, has a key twice, or has more than 1048576 bytes; look for a quote or bracket that is missing" }
-    ensures unknown_key { (key : List ℕ) → words_of (UnknownKey key) ≡ codes "a key isn't known where it stands; correct its spelling or delete it: behind [[line]] keys belong to that line; cache needs version = 2 or 3, and lifetime, stale-if-error, set-cookie, errors, request-directives, wait and explain need version = 3" }
-    ensures bad_name { words_of BadName ≡ codes "name has to be a lower-case letter and at most 31 of a-z, 0-9 and -, in quotes" }
-    ensures no_lines { words_of NoLines ≡ codes "a table has 1 to 256 lines, each of which begins with [[line]]" }
-    ensures out_of_memory { words_of OutOfMemory ≡ codes "no memory is left for the table" }
-    ensures version { words_of (BadNumber Version) ≡ codes "version has to be 1, 2 or 3, without quotes" }
-    ensures capacity { words_of (BadNumber Capacity) ≡ codes "capacity has to be a whole number from 1 to 65536, without quotes" }
-    ensures max_body { words_of (BadNumber MaxBody) ≡ codes "max_body has to be a whole number from 0 to 16777216, without quotes" }
-    ensures max_stored { words_of (BadNumber MaxStored) ≡ codes "max_stored has to be a whole number from 0 to 16777216, without quotes" }
+pub fn worked_words_of_the_top()
+    ensures not_toml { expected_words NotToml ≡ codes "the table is no TOML, has a key twice, or has more than 1048576 bytes; look for a quote or bracket that is missing" }
+    ensures unknown_key { (key : List ℕ) → expected_words (UnknownKey key) ≡ codes "a key isn't known where it stands; correct its spelling or delete it: behind [[line]] keys belong to that line; cache needs version = 2 or 3, and lifetime, stale-if-error, set-cookie, errors, request-directives, wait and explain need version = 3" }
+    ensures bad_name { expected_words BadName ≡ codes "name has to be a lower-case letter and at most 31 of a-z, 0-9 and -, in quotes" }
+    ensures no_lines { expected_words NoLines ≡ codes "a table has 1 to 256 lines, each of which begins with [[line]]" }
+    ensures out_of_memory { expected_words OutOfMemory ≡ codes "no memory is left for the table" }
+    ensures version { expected_words (BadNumber Version) ≡ codes "version has to be 1, 2 or 3, without quotes" }
+    ensures capacity { expected_words (BadNumber Capacity) ≡ codes "capacity has to be a whole number from 1 to 65536, without quotes" }
+    ensures max_body { expected_words (BadNumber MaxBody) ≡ codes "max_body has to be a whole number from 0 to 16777216, without quotes" }
+    ensures max_stored { expected_words (BadNumber MaxStored) ≡ codes "max_stored has to be a whole number from 0 to 16777216, without quotes" }
 {}
 
 /// What has to stand in a line.
-pub fn words_of_lines()
-    ensures bad_host { (line : ℕ) → words_of (BadHost line) ≡ codes "host has to be \"*\" or one host in lower case, without a port, an IPv6 address in brackets" }
-    ensures bad_method { (line : ℕ) → words_of (BadMethod line) ≡ codes "methods has to be a list of 1 to 32, each \"*\" or a method of at most 15 bytes, but not CONNECT, TRACE or OPTIONS" }
-    ensures bad_path { (line : ℕ) → words_of (BadPath line) ≡ codes "path has to begin with / and not to end with it, but for / itself; no ?, #, blank, byte above 7E, segment . or .., or % without two hexadecimal digits behind it" }
-    ensures bad_origin { (line : ℕ) → words_of (BadOrigin line) ≡ codes "origin has to be \"deny\" or an IPv4 address and a port, as in \"127.0.0.1:8081\"" }
-    ensures bad_cache { (line : ℕ) → words_of (BadCache line) ≡ codes "cache has to be \"on\" or \"off\", and not to stand in a line that denies" }
+pub fn worked_words_of_lines()
+    ensures bad_host { (line : ℕ) → expected_words (BadHost line) ≡ codes "host has to be \"*\" or one host in lower case, without a port, an IPv6 address in brackets" }
+    ensures bad_method { (line : ℕ) → expected_words (BadMethod line) ≡ codes "methods has to be a list of 1 to 32, each \"*\" or a method of at most 15 bytes, but not CONNECT, TRACE or OPTIONS" }
+    ensures bad_path { (line : ℕ) → expected_words (BadPath line) ≡ codes "path has to begin with / and not to end with it, but for / itself; no ?, #, blank, byte above 7E, segment . or .., or % without two hexadecimal digits behind it" }
+    ensures bad_origin { (line : ℕ) → expected_words (BadOrigin line) ≡ codes "origin has to be \"deny\" or an IPv4 address and a port, as in \"127.0.0.1:8081\"" }
+    ensures bad_cache { (line : ℕ) → expected_words (BadCache line) ≡ codes "cache has to be \"on\" or \"off\", and not to stand in a line that denies" }
 {}
 
 /// What has to stand at a word of version 3.
-pub fn words_of_words()
-    ensures lifetime { (line : ℕ) → words_of (BadWord line Lifetime) ≡ codes "lifetime has to be a whole number of seconds from 1 to 2147483648, without quotes, in a line that has an origin and its cache on" }
-    ensures stale_if_error { (line : ℕ) → words_of (BadWord line StaleIfError) ≡ codes "stale-if-error has to be a whole number of seconds from 0 to 2147483648, without quotes, in a line that has an origin and its cache on" }
-    ensures set_cookie { (line : ℕ) → words_of (BadWord line SetCookie) ≡ codes "set-cookie has to be \"stored\" or \"not-stored\", in a line that has an origin and its cache on" }
-    ensures errors { (line : ℕ) → words_of (BadWord line Errors) ≡ codes "errors has to be \"stored\" or \"not-stored\", in a line that has an origin and its cache on" }
-    ensures request_directives { (line : ℕ) → words_of (BadWord line RequestDirectives) ≡ codes "request-directives has to be \"heeded\" or \"ignored\", in a line that has an origin and its cache on" }
-    ensures wait { (line : ℕ) → words_of (BadWord line Wait) ≡ codes "wait has to be \"missing\" or \"missing-or-stale\", in a line that has an origin and its cache on" }
-    ensures explain { (line : ℕ) → words_of (BadWord line Explain) ≡ codes "explain has to be \"reuse\" or \"storing\", in a line that has an origin and its cache on" }
+pub fn worked_words_of_words()
+    ensures lifetime { (line : ℕ) → expected_words (BadWord line Lifetime) ≡ codes "lifetime has to be a whole number of seconds from 1 to 2147483648, without quotes, in a line that has an origin and its cache on" }
+    ensures stale_if_error { (line : ℕ) → expected_words (BadWord line StaleIfError) ≡ codes "stale-if-error has to be a whole number of seconds from 0 to 2147483648, without quotes, in a line that has an origin and its cache on" }
+    ensures set_cookie { (line : ℕ) → expected_words (BadWord line SetCookie) ≡ codes "set-cookie has to be \"stored\" or \"not-stored\", in a line that has an origin and its cache on" }
+    ensures errors { (line : ℕ) → expected_words (BadWord line Errors) ≡ codes "errors has to be \"stored\" or \"not-stored\", in a line that has an origin and its cache on" }
+    ensures request_directives { (line : ℕ) → expected_words (BadWord line RequestDirectives) ≡ codes "request-directives has to be \"heeded\" or \"ignored\", in a line that has an origin and its cache on" }
+    ensures wait { (line : ℕ) → expected_words (BadWord line Wait) ≡ codes "wait has to be \"missing\" or \"missing-or-stale\", in a line that has an origin and its cache on" }
+    ensures explain { (line : ℕ) → expected_words (BadWord line Explain) ≡ codes "explain has to be \"reuse\" or \"storing\", in a line that has an origin and its cache on" }
 {}
 
 /// A fault of a line begins with its number.
-pub fn places_of_faults()
+pub fn worked_places_of_faults()
     ensures of_a_line { fault_text (BadOrigin 12) ≡ codes "in [[line]] number 12 origin has to be \"deny\" or an IPv4 address and a port, as in \"127.0.0.1:8081\"" }
     ensures of_the_table { fault_text NoLines ≡ codes "a table has 1 to 256 lines, each of which begins with [[line]]" }
 {}

@@ -1,9 +1,9 @@
 //! What is wrong with a table and what may stand there, in words for the operator. No text takes memory.
 ghost use Rattle.std.specs.Prelude.{◌≡◌, None, Some, option_map};
 ghost use Rattle.hx_allow.specs.FaultTexts.{line_at_fault, row_at_fault, words_without_row};
-ghost use Rattle.hx_allow.specs.Rows.{row_seen};
+ghost use Rattle.hx_allow.specs.Rows.{plain_row};
 
-use crate::faults::ConfigFault;
+use crate::config_faults::ConfigFault;
 use crate::rows::{Kind, LineKey, Place, Row, TopKey, WORDS_OF_UNKNOWN_KEY};
 use std::fmt;
 use std::fmt::Formatter;
@@ -25,7 +25,7 @@ fn line_at_fault(fault: &ConfigFault) -> Option<u16>
 
 /// The row of the key at fault.
 fn row_at_fault(fault: &ConfigFault) -> Option<Row>
-    ensures { option_map row_seen result ≡ row_at_fault fault.now }
+    ensures { option_map plain_row result ≡ row_at_fault fault.now }
 {
     match fault {
         ConfigFault::BadName => Some(TopKey::Name.row()),
@@ -57,9 +57,9 @@ fn words_without_row(fault: &ConfigFault) -> &'static str
 impl fmt::Display for Kind {
     ghost use Rattle.std.specs.Prelude.{Some};
     ghost use Rattle.hx_allow.specs.FaultTexts.{words_of_kind};
-    ghost use Rattle.hx_allow.specs.Rows.{kind_seen};
+    ghost use Rattle.hx_allow.specs.Rows.{plain_kind};
 
-    ghost output = { λ kind. Some (words_of_kind (kind_seen kind)) };
+    ghost output = { λ kind. Some (words_of_kind (plain_kind kind)) };
 
     fn fmt<W: fmt::Write>(&self, f: &mut Formatter<W>) -> fmt::Result {
         match self {
@@ -111,9 +111,9 @@ impl fmt::Display for Place {
 impl fmt::Display for Row {
     ghost use Rattle.std.specs.Prelude.{Some};
     ghost use Rattle.hx_allow.specs.FaultTexts.{words_of_row};
-    ghost use Rattle.hx_allow.specs.Rows.{row_seen};
+    ghost use Rattle.hx_allow.specs.Rows.{plain_row};
 
-    ghost output = { λ row. Some (words_of_row (row_seen row)) };
+    ghost output = { λ row. Some (words_of_row (plain_row row)) };
 
     fn fmt<W: fmt::Write>(&self, f: &mut Formatter<W>) -> fmt::Result {
         write!(f, "{} has to {}{}", self.key, self.kind, self.place)
@@ -126,9 +126,9 @@ struct Words<'a>(&'a ConfigFault);
 
 impl fmt::Display for Words<'_> {
     ghost use Rattle.std.specs.Prelude.{Some};
-    ghost use Rattle.hx_allow.specs.FaultTexts.{words_of};
+    ghost use Rattle.hx_allow.specs.FaultTexts.{expected_words};
 
-    ghost output = { λ words. Some (words_of words.0.now) };
+    ghost output = { λ words. Some (expected_words words.0.now) };
 
     fn fmt<W: fmt::Write>(&self, f: &mut Formatter<W>) -> fmt::Result {
         match row_at_fault(self.0) {

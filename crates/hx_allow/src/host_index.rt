@@ -3,7 +3,7 @@
 //! A look-up costs the logarithm of the hosts that lines name, and takes no memory.
 ghost use Rattle.std.specs.Prelude.{◌≡◌, ◌≤◌, length, IfOk};
 ghost use Rattle.std.specs.Option.{option_copied};
-ghost use Rattle.hx_allow.specs.Index.{indexed, IsIndexOf, numbers_of};
+ghost use Rattle.hx_allow.specs.Index.{line_numbers_for_host, IsHostIndexOf, line_numbers_of};
 
 use crate::lines::Line;
 use std::alloc::{AllocError, Global};
@@ -31,24 +31,24 @@ impl HostIndex {
     /// The index of at most 256 lines. Fails only where memory runs out.
     pub(crate) fn of(alloc: Global, lines: &[Line]) -> Result<HostIndex, AllocError>
         requires { length lines.now ≤ 256 }
-        ensures { IfOk result (IsIndexOf lines.now) }
+        ensures { IfOk result (IsHostIndexOf lines.now) }
     {
         let mut named = BTreeMap::new(alloc);
         for line in lines {
             if let Some(host) = &line.host {
-                let numbers = numbers_of(alloc, lines, Some(host.as_slice()))?;
+                let numbers = line_numbers_of(alloc, lines, Some(host.as_slice()))?;
                 named.insert(Vec::from_slice(alloc, host.as_slice())?, numbers)?;
             }
         }
         Ok(HostIndex {
             named,
-            others: numbers_of(alloc, lines, None)?,
+            others: line_numbers_of(alloc, lines, None)?,
         })
     }
 
     /// The numbers of the lines that a host can match, ascending.
     pub(crate) fn numbers(&self, host: &[u8]) -> &[u16]
-        ensures { result.now ≡ indexed self.now host.now }
+        ensures { result.now ≡ line_numbers_for_host self.now host.now }
     {
         match self.named.get(host) {
             Some(numbers) => numbers.as_slice(),
@@ -58,9 +58,13 @@ impl HostIndex {
 }
 
 /// The numbers of the lines that can match a host, or where none is given one that no line names.
-fn numbers_of(alloc: Global, lines: &[Line], host: Option<&[u8]>) -> Result<Vec<u16>, AllocError>
+fn line_numbers_of(
+    alloc: Global,
+    lines: &[Line],
+    host: Option<&[u8]>,
+) -> Result<Vec<u16>, AllocError>
     requires { length lines.now ≤ 256 }
-    ensures { IfOk result (λ numbers. numbers.items ≡ numbers_of lines.now (option_copied host.entry)) }
+    ensures { IfOk result (λ numbers. numbers.items ≡ line_numbers_of lines.now (option_copied host.entry)) }
 {
     let mut numbers = Vec::new(alloc);
     let mut number = 1u16;

@@ -6,18 +6,18 @@ ghost use Rattle.std.specs.List.{All, position_from};
 ghost use Rattle.toml.specs.Data.{Members, get_member};
 ghost use Rattle.toml.specs.Parse.{parse_document};
 ghost use Rattle.hx_target.specs.declared.targets.Target.{Target};
-ghost use Rattle.hx_target.specs.Judgement.{Judged};
+ghost use Rattle.hx_target.specs.Judgement.{TargetIsJudged};
 ghost use Rattle.hx_target.specs.Paths.{table_path_of};
-ghost use Rattle.hx_policy.specs.Words.{plain};
-ghost use Rattle.hx_allow.specs.Lines.{Line, Table};
-ghost use Rattle.hx_allow.specs.LineTables.{line_fault, lines_fault, tables};
+ghost use Rattle.hx_policy.specs.Policies.{plain};
+ghost use Rattle.hx_allow.specs.TableLines.{Line, Table};
+ghost use Rattle.hx_allow.specs.LineTables.{line_fault, lines_fault, array_of_tables};
 ghost use Rattle.hx_allow.specs.Matching.{matches_line, verdict_of, line_number};
-ghost use Rattle.hx_allow.specs.NeverReached.{taken_by};
-ghost use Rattle.hx_allow.specs.Tables.{version_of, judge_table, ReadsAs};
-ghost use Rattle.hx_allow.specs.Versions.{HasNoWord, TakesItsWords};
-ghost use Rattle.hx_allow.specs.declared.faults.ConfigFault.{ConfigFault as Fault};
-ghost use Rattle.hx_allow.specs.declared.faults.LineWord.{LineWord as Word};
-ghost use Rattle.hx_allow.specs.declared.faults.NumberKey.TheVariants.{Version};
+ghost use Rattle.hx_allow.specs.NeverReached.{first_line_taking};
+ghost use Rattle.hx_allow.specs.Tables.{version_of, judge_table, BytesReadAs};
+ghost use Rattle.hx_allow.specs.Versions.{LineHasNoWord, LineTakesItsWords};
+ghost use Rattle.hx_allow.specs.declared.config_faults.ConfigFault.{ConfigFault as Fault};
+ghost use Rattle.hx_allow.specs.declared.config_faults.LineWord.{LineWord as Word};
+ghost use Rattle.hx_allow.specs.declared.config_faults.NumberKey.TheVariants.{Version};
 ghost use Rattle.hx_allow.specs.declared.values.TableVersion.{TableVersion};
 ghost use Rattle.hx_allow.specs.declared.values.TableVersion.TheVariants.{One, Two, Three};
 
@@ -25,7 +25,7 @@ use hx_target::normalising_twice_is_once;
 
 /// A text is read in one way.
 pub fn a_table_is_read_in_one_way()
-    ensures { (bytes : List ℕ) (r s : Result Table Fault) → ReadsAs bytes r → ReadsAs bytes s → r ≡ s }
+    ensures { (bytes : List ℕ) (r s : Result Table Fault) → BytesReadAs bytes r → BytesReadAs bytes s → r ≡ s }
 {}
 
 /// The line that a verdict names is the first that matches; where none is named, none matches.
@@ -41,9 +41,10 @@ pub fn one_verdict_for_each_table_path()
     ensures alike { (lines : List Line) (method : List ℕ) (a b : Target) → a.key.host ≡ b.key.host
         → a.table_path ≡ b.table_path → verdict_of lines method a ≡ verdict_of lines method b }
     ensures read { (lines : List Line) (method : List ℕ) (target also : List ℕ) (hosts others : List (List ℕ))
-        (a b : Target) → Judged target hosts (Ok a) → Judged also others (Ok b) → a.key.host ≡ b.key.host
+        (a b : Target) → TargetIsJudged target hosts (Ok a) → TargetIsJudged also others (Ok b) → a.key.host
+        ≡ b.key.host
         → a.table_path ≡ b.table_path → verdict_of lines method a ≡ verdict_of lines method b }
-    ensures lines { (bytes : List ℕ) (table : Table) → ReadsAs bytes (Ok table)
+    ensures lines { (bytes : List ℕ) (table : Table) → BytesReadAs bytes (Ok table)
         → All (λ (line : Line). table_path_of line.path ≡ line.path) table.lines }
 {
     normalising_twice_is_once();
@@ -52,8 +53,9 @@ pub fn one_verdict_for_each_table_path()
 /// Where the lines in front have no fault, a fault of a line is told by that line's number, whatever follows.
 pub fn the_first_line_at_fault_is_named()
     ensures { (version : TableVersion) (before : List Members) (members : Members) (after : List Members)
-        (fault : Fault) → lines_fault version 1 (tables before) ≡ None → line_fault version (1 + length before) members
-        ≡ Some fault → lines_fault version 1 (tables (before ++ members ∷ after)) ≡ Some fault }
+        (fault : Fault) → lines_fault version 1 (array_of_tables before) ≡ None → line_fault version
+        (1 + length before) members
+        ≡ Some fault → lines_fault version 1 (array_of_tables (before ++ members ∷ after)) ≡ Some fault }
 {}
 
 /// A table of the first version is never refused for `cache`, and each of its lines is cached,
@@ -64,7 +66,7 @@ pub fn version_one_reads_as_before()
     ensures cached { (t : Members) (table : Table) → version_of t ≡ One → judge_table t ≡ Ok table
         → All (λ (line : Line). line.policy ≡ plain true) table.lines }
     ensures alike { (version : TableVersion) (n : ℕ) (members : Members) → get_member (codes "cache") members ≡ None
-        → HasNoWord members → line_fault version n members ≡ line_fault One n members }
+        → LineHasNoWord members → line_fault version n members ≡ line_fault One n members }
 {}
 
 /// A table of the first two versions is never refused for a word of the third, and none of its
@@ -74,23 +76,23 @@ pub fn version_two_reads_as_before()
         → ¬ (judge_table t ≡ Err (Fault.BadWord line word)) }
     ensures plain { (t : Members) (table : Table) → ¬ (version_of t ≡ Three) → judge_table t ≡ Ok table
         → All (λ (line : Line). line.policy ≡ plain line.policy.caches) table.lines }
-    ensures alike { (n : ℕ) (members : Members) → HasNoWord members
+    ensures alike { (n : ℕ) (members : Members) → LineHasNoWord members
         → line_fault Three n members ≡ line_fault Two n members }
 {}
 
 /// A line that has a word of the third version allows, and has its cache on.
 pub fn words_belong_where_a_line_caches()
-    ensures { (t : Members) (table : Table) → judge_table t ≡ Ok table → All TakesItsWords table.lines }
+    ensures { (t : Members) (table : Table) → judge_table t ≡ Ok table → All LineTakesItsWords table.lines }
 {}
 
 /// A line that one in front of it takes never decides on a request.
 pub fn a_taken_line_never_decides()
-    ensures { (lines : List Line) (method : List ℕ) (target : Target) (n k : ℕ) → taken_by lines n ≡ Some k
+    ensures { (lines : List Line) (method : List ℕ) (target : Target) (n k : ℕ) → first_line_taking lines n ≡ Some k
         → line_number (verdict_of lines method target) ≡ Some n → ⊥ }
 {}
 
 /// The table of the first example.
-#[tactic(auto, unfolding(toml::proofs::OnLiterals::toml_on_literals, crate::specs::Tables::judge_table, crate::specs::Tables::table_fault, crate::specs::Tables::table_of, crate::specs::Tables::is_name, crate::specs::LineTables::line_fault, crate::specs::LineTables::line_of, crate::specs::LineTables::is_line_host, crate::specs::LineTables::is_line_method, crate::specs::LineTables::is_line_path, crate::specs::Addresses::is_address, hx_target::specs::Hosts::short_number, hx_target::specs::Paths::has_dot_segment))]
+#[tactic(auto, unfolding(toml::proofs::OnLiterals::toml_on_literals, crate::specs::Tables::judge_table, crate::specs::Tables::table_fault, crate::specs::Tables::table_read, crate::specs::Tables::is_name, crate::specs::LineTables::line_fault, crate::specs::LineTables::line_read, crate::specs::LineTables::is_line_host, crate::specs::LineTables::is_line_method, crate::specs::LineTables::is_line_path, crate::specs::Addresses::is_address, hx_target::specs::Hosts::short_number, hx_target::specs::Paths::has_dot_segment))]
 pub fn a_whole_table_is_read()
     ensures { option_map judge_table (parse_document (codes "version = 1\nname = \"edge\"\ncapacity = 2\nmax_body = 1000\nmax_stored = 1000\n\n[[line]]\nhost = \"*\"\nmethods = [\"GET\", \"HEAD\", \"POST\"]\npath = \"/\"\norigin = \"127.0.0.1:8081\"\n")) ≡ Some (Ok (record {
       name = codes "edge";
@@ -108,7 +110,7 @@ pub fn a_whole_table_is_read()
 {}
 
 /// A table of two lines, in their order: the first denies a path, the second allows what is left.
-#[tactic(auto, unfolding(toml::proofs::OnLiterals::toml_on_literals, crate::specs::Tables::judge_table, crate::specs::Tables::table_fault, crate::specs::Tables::table_of, crate::specs::Tables::is_name, crate::specs::LineTables::line_fault, crate::specs::LineTables::line_of, crate::specs::LineTables::is_line_host, crate::specs::LineTables::is_line_method, crate::specs::LineTables::is_line_path, crate::specs::Addresses::is_address, hx_target::specs::Hosts::is_host, hx_target::specs::Hosts::short_number, hx_target::specs::Paths::has_dot_segment))]
+#[tactic(auto, unfolding(toml::proofs::OnLiterals::toml_on_literals, crate::specs::Tables::judge_table, crate::specs::Tables::table_fault, crate::specs::Tables::table_read, crate::specs::Tables::is_name, crate::specs::LineTables::line_fault, crate::specs::LineTables::line_read, crate::specs::LineTables::is_line_host, crate::specs::LineTables::is_line_method, crate::specs::LineTables::is_line_path, crate::specs::Addresses::is_address, hx_target::specs::Hosts::is_host, hx_target::specs::Hosts::short_number, hx_target::specs::Paths::has_dot_segment))]
 pub fn a_table_of_two_lines_is_read()
     ensures { option_map judge_table (parse_document (codes "version = 1\nname = \"edge\"\ncapacity = 2\nmax_body = 1000\nmax_stored = 1000\n\n[[line]]\nhost = \"*\"\nmethods = [\"*\"]\npath = \"/admin\"\norigin = \"deny\"\n\n[[line]]\nhost = \"x\"\nmethods = [\"GET\"]\npath = \"/\"\norigin = \"127.0.0.1:8081\"\n")) ≡ Some (Ok (record {
       name = codes "edge";
@@ -132,13 +134,13 @@ pub fn a_table_of_two_lines_is_read()
 {}
 
 /// A fault of the second line has its number, and the first in the order of looking is named.
-#[tactic(auto, unfolding(toml::proofs::OnLiterals::toml_on_literals, crate::specs::Tables::judge_table, crate::specs::Tables::table_fault, crate::specs::Tables::table_of, crate::specs::Tables::is_name, crate::specs::LineTables::line_fault, crate::specs::LineTables::line_of, crate::specs::LineTables::is_line_host, crate::specs::LineTables::is_line_method, crate::specs::LineTables::is_line_path, crate::specs::Addresses::is_address, hx_target::specs::Hosts::is_host, hx_target::specs::Hosts::short_number, hx_target::specs::Paths::has_dot_segment))]
+#[tactic(auto, unfolding(toml::proofs::OnLiterals::toml_on_literals, crate::specs::Tables::judge_table, crate::specs::Tables::table_fault, crate::specs::Tables::table_read, crate::specs::Tables::is_name, crate::specs::LineTables::line_fault, crate::specs::LineTables::line_read, crate::specs::LineTables::is_line_host, crate::specs::LineTables::is_line_method, crate::specs::LineTables::is_line_path, crate::specs::Addresses::is_address, hx_target::specs::Hosts::is_host, hx_target::specs::Hosts::short_number, hx_target::specs::Paths::has_dot_segment))]
 pub fn a_fault_of_the_second_line_has_its_number()
     ensures { option_map judge_table (parse_document (codes "version = 1\nname = \"edge\"\ncapacity = 2\nmax_body = 1000\nmax_stored = 1000\n\n[[line]]\nhost = \"*\"\nmethods = [\"*\"]\npath = \"/admin\"\norigin = \"deny\"\n\n[[line]]\nhost = \"x\"\nmethods = [\"GET\"]\npath = \"/a/\"\norigin = \"allow\"\n")) ≡ Some (Err (Fault.BadPath 2)) }
 {}
 
 /// A table of the second version: a line without cache, one that says that it has one, and one that says nothing.
-#[tactic(auto, unfolding(toml::proofs::OnLiterals::toml_on_literals, crate::specs::Tables::judge_table, crate::specs::Tables::table_fault, crate::specs::Tables::table_of, crate::specs::Tables::is_name, crate::specs::LineTables::line_fault, crate::specs::LineTables::line_of, crate::specs::LineTables::is_line_host, crate::specs::LineTables::is_line_method, crate::specs::LineTables::is_line_path, crate::specs::Addresses::is_address, hx_target::specs::Hosts::is_host, hx_target::specs::Hosts::short_number, hx_target::specs::Paths::has_dot_segment))]
+#[tactic(auto, unfolding(toml::proofs::OnLiterals::toml_on_literals, crate::specs::Tables::judge_table, crate::specs::Tables::table_fault, crate::specs::Tables::table_read, crate::specs::Tables::is_name, crate::specs::LineTables::line_fault, crate::specs::LineTables::line_read, crate::specs::LineTables::is_line_host, crate::specs::LineTables::is_line_method, crate::specs::LineTables::is_line_path, crate::specs::Addresses::is_address, hx_target::specs::Hosts::is_host, hx_target::specs::Hosts::short_number, hx_target::specs::Paths::has_dot_segment))]
 pub fn lines_without_cache_are_read()
     ensures { option_map judge_table (parse_document (codes "version = 2\nname = \"edge\"\ncapacity = 2\nmax_body = 1000\nmax_stored = 1000\n\n[[line]]\nhost = \"*\"\nmethods = [\"*\"]\npath = \"/live\"\norigin = \"127.0.0.1:8081\"\ncache = \"off\"\n\n[[line]]\nhost = \"*\"\nmethods = [\"GET\"]\npath = \"/shop\"\norigin = \"127.0.0.1:8081\"\ncache = \"on\"\n\n[[line]]\nhost = \"*\"\nmethods = [\"GET\"]\npath = \"/\"\norigin = \"127.0.0.1:8081\"\n")) ≡ Some (Ok (record {
       name = codes "edge";
@@ -169,7 +171,7 @@ pub fn lines_without_cache_are_read()
 
 /// The first fault of tables that differ in their version and in the `cache` of their line: a version that isn't known,
 /// the key in a table of the first version, a word that isn't known, and the key in a line that denies.
-#[tactic(auto, unfolding(toml::proofs::OnLiterals::toml_on_literals, crate::specs::Tables::judge_table, crate::specs::Tables::table_fault, crate::specs::Tables::table_of, crate::specs::Tables::is_name, crate::specs::LineTables::line_fault, crate::specs::LineTables::line_of, crate::specs::LineTables::is_line_host, crate::specs::LineTables::is_line_method, crate::specs::LineTables::is_line_path, crate::specs::Addresses::is_address, hx_target::specs::Hosts::is_host, hx_target::specs::Hosts::short_number, hx_target::specs::Paths::has_dot_segment))]
+#[tactic(auto, unfolding(toml::proofs::OnLiterals::toml_on_literals, crate::specs::Tables::judge_table, crate::specs::Tables::table_fault, crate::specs::Tables::table_read, crate::specs::Tables::is_name, crate::specs::LineTables::line_fault, crate::specs::LineTables::line_read, crate::specs::LineTables::is_line_host, crate::specs::LineTables::is_line_method, crate::specs::LineTables::is_line_path, crate::specs::Addresses::is_address, hx_target::specs::Hosts::is_host, hx_target::specs::Hosts::short_number, hx_target::specs::Paths::has_dot_segment))]
 pub fn table_versions()
     ensures unknown { option_map judge_table (parse_document (codes "version = 4\nname = \"edge\"\ncapacity = 2\nmax_body = 1000\nmax_stored = 1000\n\n[[line]]\nhost = \"*\"\nmethods = [\"*\"]\npath = \"/live\"\norigin = \"127.0.0.1:8081\"\n")) ≡ Some (Err (Fault.BadNumber Version)) }
     ensures first { option_map judge_table (parse_document (codes "version = 1\nname = \"edge\"\ncapacity = 2\nmax_body = 1000\nmax_stored = 1000\n\n[[line]]\nhost = \"*\"\nmethods = [\"*\"]\npath = \"/live\"\norigin = \"127.0.0.1:8081\"\ncache = \"off\"\n")) ≡ Some (Err (Fault.UnknownKey (codes "cache"))) }

@@ -6,9 +6,10 @@
 
 mod addresses;
 mod config;
+mod config_faults;
+mod config_reading;
 mod fault_text_cases;
 mod fault_texts;
-mod faults;
 mod host_index;
 mod laws;
 mod limits;
@@ -18,7 +19,6 @@ mod line_words;
 mod lines;
 mod matching;
 mod path_tails;
-mod reading;
 mod rows;
 mod shadows;
 mod table_cases;
@@ -29,8 +29,10 @@ mod verdicts;
 mod worked_cases;
 
 pub use config::Config;
-pub use fault_text_cases::{places_of_faults, words_of_lines, words_of_the_top, words_of_words};
-pub use faults::{ConfigFault, LineWord, NumberKey};
+pub use config_faults::{ConfigFault, LineWord, NumberKey};
+pub use fault_text_cases::{
+    worked_places_of_faults, worked_words_of_lines, worked_words_of_the_top, worked_words_of_words,
+};
 pub use laws::{
     a_fault_of_the_second_line_has_its_number, a_table_is_read_in_one_way,
     a_table_of_two_lines_is_read, a_taken_line_never_decides, a_whole_table_is_read,
@@ -40,24 +42,25 @@ pub use laws::{
 };
 pub use limits::MOST_TABLE_BYTES;
 pub use line_word_cases::{
-    a_table_with_words_is_read, keys_of_words, seconds_of_a_line, texts_of_a_line, what_words_say,
-    where_words_belong,
+    a_table_with_words_is_read, worked_keys_of_words, worked_places_of_words,
+    worked_policies_of_words, worked_seconds_of_a_line, worked_texts_of_a_line,
 };
 pub use table_cases::{
-    a_table_has_1_to_256_lines, cache_of_a_line, faults_of_a_line_in_order,
-    faults_of_a_table_in_order, faults_of_texts, lines_in_their_order, missing_keys_of_a_line,
-    versions_of_tables, what_a_line_says, what_a_table_says, which_faults_take_memory,
+    a_table_has_1_to_256_lines, faults_of_a_line_in_order, faults_of_a_table_in_order,
+    lines_in_their_order, missing_keys_of_a_line, which_faults_take_memory, worked_cache_of_a_line,
+    worked_faults_of_texts, worked_lines, worked_tables, worked_versions_of_tables,
 };
 pub use table_laws::{
     a_table_is_toml_within_the_limit, fewer_lines_decide_alike, the_least_unknown_key_is_named,
 };
 pub use verdicts::Verdict;
 pub use worked_cases::{
-    a_line_has_1_to_32_methods, addresses_of_origins, bounds_of_the_numbers,
-    faults_have_these_numbers, hosts_of_lines, keys_at_the_top, keys_of_a_line, keys_of_numbers,
-    lines_of_a_host_decide, methods_of_lines, names_of_proxies,
-    numbers_are_whole_and_within_bounds, numbers_in_addresses, origins_of_lines, paths_of_lines,
-    several_lines_decide, tails_of_paths, texts_are_strings, the_first_line_denies,
-    which_hosts_match, which_lines_are_cached, which_lines_are_never_reached, which_methods_match,
-    which_origin_a_line_has, which_paths_match,
+    a_line_has_1_to_32_methods, bounds_of_the_numbers, faults_have_these_numbers,
+    lines_of_a_host_decide, numbers_are_whole_and_within_bounds, several_lines_decide,
+    texts_are_strings, the_first_line_denies, worked_addresses_of_origins, worked_hosts_of_lines,
+    worked_hosts_that_match, worked_keys_at_the_top, worked_keys_of_a_line, worked_keys_of_numbers,
+    worked_lines_never_reached, worked_lines_with_cache, worked_methods_of_lines,
+    worked_methods_that_match, worked_names_of_proxies, worked_numbers_in_addresses,
+    worked_origins_of_line_numbers, worked_origins_of_lines, worked_paths_of_lines,
+    worked_paths_that_match, worked_tails_of_paths,
 };

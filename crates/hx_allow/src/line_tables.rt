@@ -6,21 +6,24 @@ ghost use Rattle.hx_target.specs.Paths.{table_path_of};
 ghost use Rattle.std.specs.List.{list_any, list_all};
 ghost use Rattle.std.specs.Char.{is_ascii_uppercase};
 ghost use Rattle.toml.specs.View.{table_view, array_view, items_view, view};
-ghost use Rattle.hx_allow.specs.Values.{is_some_and, items_at, unless_text, texts_of};
-ghost use Rattle.hx_allow.specs.LineTables.{is_line_host, is_line_method, are_line_methods, is_path_byte, ends_open};
+ghost use Rattle.hx_allow.specs.Values.{is_some_and, items_at, text_unless, texts_of};
+ghost use Rattle.hx_allow.specs.LineTables.{is_line_host, is_line_method, are_line_methods, is_path_byte};
+ghost use Rattle.hx_allow.specs.LineTables.{does_not_end_with_slash};
 ghost use Rattle.hx_allow.specs.LineTables.{is_line_path, is_line_origin, is_of_kind, is_good_at, first_bad_key};
-ghost use Rattle.hx_allow.specs.Rows.{kind_seen, row_seen};
-ghost use Rattle.hx_allow.specs.LineTables.{line_fault, line_of, lines_fault, lines_of, item_fault, fault_found};
+ghost use Rattle.hx_allow.specs.Rows.{plain_kind, plain_row};
+ghost use Rattle.hx_allow.specs.LineTables.{line_fault, line_read, lines_fault, lines_read, fault_of_line_item};
+ghost use Rattle.hx_allow.specs.LineTables.{config_fault_found};
 
 use crate::ConfigFault;
 use crate::addresses::is_address;
-use crate::faults::FoundFault;
-use crate::line_words::{denies, has_either, policy_read, takes_words};
+use crate::config_faults::FoundFault;
+use crate::line_words::{key_has_one_of_two, line_denies, line_takes_words, policy_of_line_table};
 use crate::lines::{Line, is_never_allowed};
 use crate::path_tails::PathTail;
 use crate::rows::{Kind, LINE_KEYS, LineKey, Place, Row};
 use crate::values::{
-    Scope, TableVersion, array_at, counts_within, first_unknown, number_between, text_at, value_at,
+    Scope, TableVersion, array_at, first_unknown, has_one_to_most, number_between, text_at,
+    value_at,
 };
 use hx_fields::{Bytes, is_token};
 use hx_target::{has_bad_escape, is_host, names_a_dot_segment, table_path};
@@ -69,7 +72,7 @@ fn is_method_value(value: &Value) -> bool
 fn are_line_methods(values: &[Value]) -> bool
     ensures { result ≡ are_line_methods (items_view values.now) }
 {
-    if !counts_within(32, values) {
+    if !has_one_to_most(32, values) {
         return false;
     }
     for value in values {
@@ -101,8 +104,8 @@ fn are_path_bytes(text: &[u8]) -> bool
     text.iter().all(|b| is_path_byte(*b))
 }
 
-fn ends_open(text: &[u8]) -> bool
-    ensures { result ≡ ends_open text.now }
+fn does_not_end_with_slash(text: &[u8]) -> bool
+    ensures { result ≡ does_not_end_with_slash text.now }
 {
     text.len() == 1 || text.last() != Some(&b'/')
 }
@@ -112,7 +115,7 @@ fn ends_open(text: &[u8]) -> bool
 fn is_line_path(text: &[u8]) -> bool
     ensures { result ≡ is_line_path text.now }
 {
-    if text.first() != Some(&b'/') || !ends_open(text) {
+    if text.first() != Some(&b'/') || !does_not_end_with_slash(text) {
         return false;
     }
     are_path_bytes(text) && !has_bad_escape(text) && !names_a_dot_segment(text)
@@ -138,12 +141,12 @@ fn is_good_origin(text: Option<&str>) -> bool
 
 /// Whether the value of a key is of a kind, of those that stand in a line.
 fn is_of_kind(kind: Kind, key: &str, table: &Table) -> bool
-    ensures { result ≡ is_of_kind (kind_seen kind) key.now (table_view table.now) }
+    ensures { result ≡ is_of_kind (plain_kind kind) key.now (table_view table.now) }
 {
     match kind {
         Kind::Number(low, high) => number_between(table, key, low, high).is_some(),
         Kind::Seconds(low, high) => number_between(table, key, low, high).is_some(),
-        Kind::OneOf(first, second) => has_either(table, key, first, second),
+        Kind::OneOf(first, second) => key_has_one_of_two(table, key, first, second),
         Kind::Host => is_good_host(text_at(table, key)),
         Kind::Methods => are_good_methods(array_at(table, key)),
         Kind::Path => is_good_path(text_at(table, key)),
@@ -154,14 +157,14 @@ fn is_of_kind(kind: Kind, key: &str, table: &Table) -> bool
 
 /// Whether a row's key has a good value in a line that takes it, or needn't stand and doesn't.
 fn is_good(row: Row, table: &Table) -> bool
-    ensures { result ≡ is_good_at row.place (row_seen row) (table_view table.now) }
+    ensures { result ≡ is_good_at row.place (plain_row row) (table_view table.now) }
 {
     match row.place {
         Place::Needed => is_of_kind(row.kind, row.key, table),
         Place::AllowingLine => value_at(table, row.key).is_none()
-            || (is_of_kind(row.kind, row.key, table) && !denies(table)),
+            || (is_of_kind(row.kind, row.key, table) && !line_denies(table)),
         Place::CachingLine => value_at(table, row.key).is_none()
-            || (is_of_kind(row.kind, row.key, table) && takes_words(table)),
+            || (is_of_kind(row.kind, row.key, table) && line_takes_words(table)),
     }
 }
 
@@ -178,7 +181,7 @@ fn first_bad_key(table: &Table) -> Option<LineKey>
 /// The first fault of a line.
 #[tactic(auto, unfolding(crate::specs::LineTables::line_fault))]
 fn line_fault(version: TableVersion, number: u16, table: &Table) -> Option<FoundFault<'_>>
-    ensures first { option_map fault_found result ≡ line_fault version number (table_view table.now) }
+    ensures first { option_map config_fault_found result ≡ line_fault version number (table_view table.now) }
     ensures found_fault { ¬ (result ≡ Some (FoundFault.Other ConfigFault.OutOfMemory)) }
 {
     if let Some(key) = first_unknown(Scope::Line(version), table) {
@@ -190,7 +193,7 @@ fn line_fault(version: TableVersion, number: u16, table: &Table) -> Option<Found
 
 /// The text of a host, but for one that stands for every host.
 fn host_rule(alloc: Global, text: Option<&str>) -> Result<Option<Bytes>, AllocError>
-    ensures { IfOk result (λ host. host ≡ unless_text (codes "*") (option_copied text.entry)) }
+    ensures { IfOk result (λ host. host ≡ text_unless (codes "*") (option_copied text.entry)) }
 {
     match text {
         Some(text) if text != "*" => Ok(Some(Bytes::copy_of(alloc, text.as_bytes())?)),
@@ -201,7 +204,7 @@ fn host_rule(alloc: Global, text: Option<&str>) -> Result<Option<Bytes>, AllocEr
 /// The address of an origin, but for the word that denies.
 fn origin_rule(alloc: Global, text: Option<&str>) -> Result<Option<String>, AllocError>
     ensures { IfOk result (λ origin. option_map string_bytes origin
-        ≡ unless_text (codes "deny") (option_copied text.entry)) }
+        ≡ text_unless (codes "deny") (option_copied text.entry)) }
 {
     match text {
         Some(text) if text != "deny" => Ok(Some(String::from_str(alloc, text)?)),
@@ -242,9 +245,9 @@ fn method_texts(alloc: Global, table: &Table) -> Result<Vec<Bytes>, AllocError>
 }
 
 /// What a line without fault says.
-#[tactic(auto, unfolding(crate::specs::LineTables::line_of))]
-fn line_of(alloc: Global, table: &Table) -> Result<Line, AllocError>
-    ensures { IfOk result (λ line. line ≡ line_of (table_view table.now)) }
+#[tactic(auto, unfolding(crate::specs::LineTables::line_read))]
+fn line_read(alloc: Global, table: &Table) -> Result<Line, AllocError>
+    ensures { IfOk result (λ line. line ≡ line_read (table_view table.now)) }
 {
     let path = path_rule(alloc, text_at(table, "path"))?;
     Ok(Line {
@@ -253,12 +256,13 @@ fn line_of(alloc: Global, table: &Table) -> Result<Line, AllocError>
         methods: method_texts(alloc, table)?,
         path,
         origin: origin_rule(alloc, text_at(table, "origin"))?,
-        policy: policy_read(table),
+        policy: policy_of_line_table(table),
     })
 }
 
-fn item_fault(version: TableVersion, number: u16, value: &Value) -> Option<FoundFault<'_>>
-    ensures first { option_map fault_found result ≡ item_fault version number (as_table (view value.now)) }
+fn fault_of_line_item(version: TableVersion, number: u16, value: &Value) -> Option<FoundFault<'_>>
+    ensures first { option_map config_fault_found result ≡ fault_of_line_item version number
+        (as_table (view value.now)) }
     ensures found_fault { ¬ (result ≡ Some (FoundFault.Other ConfigFault.OutOfMemory)) }
 {
     match value.as_table() {
@@ -270,12 +274,12 @@ fn item_fault(version: TableVersion, number: u16, value: &Value) -> Option<Found
 /// The first fault among at most 256 lines, which are counted from 1.
 pub fn lines_fault(version: TableVersion, values: &[Value]) -> Option<FoundFault<'_>>
     requires { length values.now ≤ 256 }
-    ensures first { option_map fault_found result ≡ lines_fault version 1 (items_view values.now) }
+    ensures first { option_map config_fault_found result ≡ lines_fault version 1 (items_view values.now) }
     ensures found_fault { ¬ (result ≡ Some (FoundFault.Other ConfigFault.OutOfMemory)) }
 {
     let mut number = 1u16;
     for value in values {
-        if let Some(fault) = item_fault(version, number, value) {
+        if let Some(fault) = fault_of_line_item(version, number, value) {
             return Some(fault);
         }
         number += 1;
@@ -284,14 +288,14 @@ pub fn lines_fault(version: TableVersion, values: &[Value]) -> Option<FoundFault
 }
 
 /// What lines without fault say.
-pub fn lines_of(alloc: Global, values: &[Value]) -> Result<Vec<Line>, AllocError>
-    ensures said { IfOk result (λ lines. lines.items ≡ lines_of (items_view values.now)) }
+pub fn lines_read(alloc: Global, values: &[Value]) -> Result<Vec<Line>, AllocError>
+    ensures said { IfOk result (λ lines. lines.items ≡ lines_read (items_view values.now)) }
     ensures few { IfOk result (λ lines. length lines.items ≤ length values.now) }
 {
     let mut lines = Vec::new(alloc);
     for value in values {
         if let Some(table) = value.as_table() {
-            lines.push(line_of(alloc, table)?)?;
+            lines.push(line_read(alloc, table)?)?;
         }
     }
     Ok(lines)

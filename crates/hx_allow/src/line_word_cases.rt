@@ -3,20 +3,21 @@
 ghost use Rattle.std.specs.Prelude.{◌≡◌, ◌∷◌, [], Some, None, Ok, true, false, codes, option_map, negsuc};
 ghost use Rattle.toml.specs.Data.{boolean, integer};
 ghost use Rattle.toml.specs.Parse.{parse_document};
-ghost use Rattle.hx_policy.specs.Words.{plain};
-ghost use Rattle.hx_allow.specs.Examples.{denying_with, number, reads, origin_8081, text, with_keys};
+ghost use Rattle.hx_policy.specs.Policies.{plain};
+ghost use Rattle.hx_allow.specs.Examples.{denying_line_table_with, key_with_number, line_with_method, origin_8081};
+ghost use Rattle.hx_allow.specs.Examples.{key_with_text, line_table_with_keys};
 ghost use Rattle.hx_allow.specs.Keys.{word_key};
-ghost use Rattle.hx_allow.specs.LineTables.{line_fault, line_of};
+ghost use Rattle.hx_allow.specs.LineTables.{line_fault, line_read};
 ghost use Rattle.hx_allow.specs.Tables.{judge_table};
 ghost use Rattle.hx_allow.specs.Values.{is_known};
-ghost use Rattle.hx_allow.specs.declared.faults.ConfigFault.TheVariants.{BadCache, BadWord, UnknownKey};
-ghost use Rattle.hx_allow.specs.declared.faults.LineWord.TheVariants.{Lifetime, StaleIfError, SetCookie, Errors};
-ghost use Rattle.hx_allow.specs.declared.faults.LineWord.TheVariants.{RequestDirectives, Wait, Explain};
+ghost use Rattle.hx_allow.specs.declared.config_faults.ConfigFault.TheVariants.{BadCache, BadWord, UnknownKey};
+ghost use Rattle.hx_allow.specs.declared.config_faults.LineWord.TheVariants.{Lifetime, StaleIfError, SetCookie, Errors};
+ghost use Rattle.hx_allow.specs.declared.config_faults.LineWord.TheVariants.{RequestDirectives, Wait, Explain};
 ghost use Rattle.hx_allow.specs.declared.values.Scope.TheVariants.{Top, Line};
 ghost use Rattle.hx_allow.specs.declared.values.TableVersion.TheVariants.{One, Two, Three};
 
 /// The keys of the words, which lines have from the third version on, and the top never has.
-pub fn keys_of_words()
+pub fn worked_keys_of_words()
     ensures lifetime { is_known (Line Three) (word_key Lifetime) ≡ true }
     ensures stale_if_error { is_known (Line Three) (word_key StaleIfError) ≡ true }
     ensures set_cookie { is_known (Line Three) (word_key SetCookie) ≡ true }
@@ -42,118 +43,144 @@ pub fn keys_of_words()
 
 /// Seconds of a line: whole numbers within their bounds, and no text.
 #[tactic(auto, unfolding(crate::specs::LineTables::line_fault, crate::specs::LineTables::is_line_host, crate::specs::LineTables::is_line_method, crate::specs::LineTables::is_line_path, crate::specs::Addresses::is_address, hx_target::specs::Hosts::is_host, hx_target::specs::Hosts::short_number, hx_target::specs::Paths::has_dot_segment))]
-pub fn seconds_of_a_line()
-    ensures least { line_fault Three 1 (with_keys (number (codes "lifetime") 1 ∷ [])) ≡ None }
-    ensures most { line_fault Three 1 (with_keys (number (codes "lifetime") 2147483648 ∷ [])) ≡ None }
-    ensures zero { line_fault Three 1 (with_keys (number (codes "lifetime") 0 ∷ [])) ≡ Some (BadWord 1 Lifetime) }
-    ensures above { line_fault Three 1 (with_keys (number (codes "lifetime") 2147483649 ∷ [])) ≡ Some (BadWord 1 Lifetime) }
-    ensures negative { line_fault Three 1 (with_keys ((codes "lifetime", integer (negsuc 0)) ∷ []))
+pub fn worked_seconds_of_a_line()
+    ensures least { line_fault Three 1 (line_table_with_keys (key_with_number (codes "lifetime") 1 ∷ [])) ≡ None }
+    ensures most { line_fault Three 1 (line_table_with_keys (key_with_number (codes "lifetime") 2147483648 ∷ [])) ≡ None }
+    ensures zero { line_fault Three 1 (line_table_with_keys (key_with_number (codes "lifetime") 0 ∷ [])) ≡ Some
+        (BadWord 1 Lifetime) }
+    ensures above { line_fault Three 1 (line_table_with_keys (key_with_number (codes "lifetime") 2147483649 ∷ []))
         ≡ Some (BadWord 1 Lifetime) }
-    ensures a_text { line_fault Three 1 (with_keys (text (codes "lifetime") (codes "60") ∷ [])) ≡ Some (BadWord 1 Lifetime) }
-    ensures of_two { line_fault Two 1 (with_keys (number (codes "lifetime") 60 ∷ [])) ≡ Some (UnknownKey (codes "lifetime")) }
-    ensures no_staleness { line_fault Three 1 (with_keys (number (codes "stale-if-error") 0 ∷ [])) ≡ None }
-    ensures most_staleness { line_fault Three 1 (with_keys (number (codes "stale-if-error") 2147483648 ∷ [])) ≡ None }
-    ensures above_staleness { line_fault Three 1 (with_keys (number (codes "stale-if-error") 2147483649 ∷ []))
+    ensures negative { line_fault Three 1 (line_table_with_keys ((codes "lifetime", integer (negsuc 0)) ∷ []))
+        ≡ Some (BadWord 1 Lifetime) }
+    ensures a_text { line_fault Three 1 (line_table_with_keys (key_with_text (codes "lifetime") (codes "60") ∷ []))
+        ≡ Some (BadWord 1 Lifetime) }
+    ensures of_two { line_fault Two 1 (line_table_with_keys (key_with_number (codes "lifetime") 60 ∷ [])) ≡ Some
+        (UnknownKey (codes "lifetime")) }
+    ensures no_staleness { line_fault Three 1 (line_table_with_keys (key_with_number (codes "stale-if-error") 0 ∷ [])) ≡ None }
+    ensures most_staleness { line_fault Three 1
+        (line_table_with_keys (key_with_number (codes "stale-if-error") 2147483648 ∷ [])) ≡ None }
+    ensures above_staleness { line_fault Three 1 (line_table_with_keys (key_with_number (codes "stale-if-error") 2147483649 ∷ []))
         ≡ Some (BadWord 1 StaleIfError) }
-    ensures staleness_of_two { line_fault Two 1 (with_keys (number (codes "stale-if-error") 60 ∷ [])) ≡ Some (UnknownKey (codes "stale-if-error")) }
+    ensures staleness_of_two { line_fault Two 1
+        (line_table_with_keys (key_with_number (codes "stale-if-error") 60 ∷ [])) ≡ Some (UnknownKey (codes "stale-if-error")) }
 {}
 
 /// Texts of a line: two words each, in lower case.
 #[tactic(auto, unfolding(crate::specs::LineTables::line_fault, crate::specs::LineTables::is_line_host, crate::specs::LineTables::is_line_method, crate::specs::LineTables::is_line_path, crate::specs::Addresses::is_address, hx_target::specs::Hosts::is_host, hx_target::specs::Hosts::short_number, hx_target::specs::Paths::has_dot_segment))]
-pub fn texts_of_a_line()
-    ensures cookies_stored { line_fault Three 1 (with_keys (text (codes "set-cookie") (codes "stored") ∷ [])) ≡ None }
-    ensures cookies_not_stored { line_fault Three 1 (with_keys (text (codes "set-cookie") (codes "not-stored") ∷ [])) ≡ None }
-    ensures cookies_off { line_fault Three 1 (with_keys (text (codes "set-cookie") (codes "off") ∷ []))
+pub fn worked_texts_of_a_line()
+    ensures cookies_stored { line_fault Three 1
+        (line_table_with_keys (key_with_text (codes "set-cookie") (codes "stored") ∷ [])) ≡ None }
+    ensures cookies_not_stored { line_fault Three 1
+        (line_table_with_keys (key_with_text (codes "set-cookie") (codes "not-stored") ∷ [])) ≡ None }
+    ensures cookies_off { line_fault Three 1 (line_table_with_keys (key_with_text (codes "set-cookie") (codes "off") ∷ []))
         ≡ Some (BadWord 1 SetCookie) }
-    ensures cookies_upper { line_fault Three 1 (with_keys (text (codes "set-cookie") (codes "Stored") ∷ []))
+    ensures cookies_upper { line_fault Three 1 (line_table_with_keys (key_with_text (codes "set-cookie") (codes "Stored") ∷ []))
         ≡ Some (BadWord 1 SetCookie) }
-    ensures cookies_no_text { line_fault Three 1 (with_keys ((codes "set-cookie", boolean false) ∷ []))
+    ensures cookies_no_text { line_fault Three 1 (line_table_with_keys ((codes "set-cookie", boolean false) ∷ []))
         ≡ Some (BadWord 1 SetCookie) }
-    ensures errors_stored { line_fault Three 1 (with_keys (text (codes "errors") (codes "stored") ∷ [])) ≡ None }
-    ensures errors_not_stored { line_fault Three 1 (with_keys (text (codes "errors") (codes "not-stored") ∷ [])) ≡ None }
-    ensures errors_heeded { line_fault Three 1 (with_keys (text (codes "errors") (codes "heeded") ∷ [])) ≡ Some (BadWord 1 Errors) }
-    ensures directives_heeded { line_fault Three 1 (with_keys (text (codes "request-directives") (codes "heeded") ∷ [])) ≡ None }
-    ensures directives_ignored { line_fault Three 1 (with_keys (text (codes "request-directives") (codes "ignored") ∷ [])) ≡ None }
-    ensures wait_missing { line_fault Three 1 (with_keys (text (codes "wait") (codes "missing") ∷ [])) ≡ None }
-    ensures wait_stale { line_fault Three 1 (with_keys (text (codes "wait") (codes "missing-or-stale") ∷ [])) ≡ None }
-    ensures wait_stale_alone { line_fault Three 1 (with_keys (text (codes "wait") (codes "stale") ∷ []))
+    ensures errors_stored { line_fault Three 1 (line_table_with_keys (key_with_text (codes "errors") (codes "stored")
+        ∷ [])) ≡ None }
+    ensures errors_not_stored { line_fault Three 1
+        (line_table_with_keys (key_with_text (codes "errors") (codes "not-stored") ∷ [])) ≡ None }
+    ensures errors_heeded { line_fault Three 1 (line_table_with_keys (key_with_text (codes "errors") (codes "heeded")
+        ∷ [])) ≡ Some (BadWord 1 Errors) }
+    ensures directives_heeded { line_fault Three 1
+        (line_table_with_keys (key_with_text (codes "request-directives") (codes "heeded") ∷ [])) ≡ None }
+    ensures directives_ignored { line_fault Three 1
+        (line_table_with_keys (key_with_text (codes "request-directives") (codes "ignored") ∷ [])) ≡ None }
+    ensures wait_missing { line_fault Three 1 (line_table_with_keys (key_with_text (codes "wait") (codes "missing") ∷ [])) ≡ None }
+    ensures wait_stale { line_fault Three 1 (line_table_with_keys (key_with_text (codes "wait") (codes "missing-or-stale") ∷ [])) ≡ None }
+    ensures wait_stale_alone { line_fault Three 1 (line_table_with_keys (key_with_text (codes "wait") (codes "stale") ∷ []))
         ≡ Some (BadWord 1 Wait) }
-    ensures wait_no_text { line_fault Three 1 (with_keys ((codes "wait", boolean true) ∷ [])) ≡ Some (BadWord 1 Wait) }
-    ensures explain_reuse { line_fault Three 1 (with_keys (text (codes "explain") (codes "reuse") ∷ [])) ≡ None }
-    ensures explain_storing { line_fault Three 1 (with_keys (text (codes "explain") (codes "storing") ∷ [])) ≡ None }
-    ensures explain_all { line_fault Three 1 (with_keys (text (codes "explain") (codes "all") ∷ [])) ≡ Some (BadWord 1 Explain) }
-    ensures directives_stored { line_fault Three 1 (with_keys (text (codes "request-directives") (codes "stored") ∷ []))
+    ensures wait_no_text { line_fault Three 1 (line_table_with_keys ((codes "wait", boolean true) ∷ [])) ≡ Some
+        (BadWord 1 Wait) }
+    ensures explain_reuse { line_fault Three 1 (line_table_with_keys (key_with_text (codes "explain") (codes "reuse")
+        ∷ [])) ≡ None }
+    ensures explain_storing { line_fault Three 1
+        (line_table_with_keys (key_with_text (codes "explain") (codes "storing") ∷ [])) ≡ None }
+    ensures explain_all { line_fault Three 1 (line_table_with_keys (key_with_text (codes "explain") (codes "all")
+        ∷ [])) ≡ Some (BadWord 1 Explain) }
+    ensures directives_stored { line_fault Three 1 (line_table_with_keys (key_with_text (codes "request-directives") (codes "stored") ∷ []))
         ≡ Some (BadWord 1 RequestDirectives) }
 {}
 
 /// A line that denies or has its cache off takes no word. The words are looked at in the table's order, behind `cache`.
 #[tactic(auto, unfolding(crate::specs::LineTables::line_fault, crate::specs::LineTables::is_line_host, crate::specs::LineTables::is_line_method, crate::specs::LineTables::is_line_path, crate::specs::Addresses::is_address, hx_target::specs::Hosts::is_host, hx_target::specs::Hosts::short_number, hx_target::specs::Paths::has_dot_segment))]
-pub fn where_words_belong()
-    ensures denying { line_fault Three 2 (denying_with (number (codes "lifetime") 60 ∷ [])) ≡ Some (BadWord 2 Lifetime) }
-    ensures denying_default { line_fault Three 2 (denying_with (text (codes "errors") (codes "stored") ∷ []))
+pub fn worked_places_of_words()
+    ensures denying { line_fault Three 2 (denying_line_table_with (key_with_number (codes "lifetime") 60 ∷ [])) ≡ Some
+        (BadWord 2 Lifetime) }
+    ensures denying_default { line_fault Three 2 (denying_line_table_with (key_with_text (codes "errors") (codes "stored") ∷ []))
         ≡ Some (BadWord 2 Errors) }
-    ensures without_cache { line_fault Three 2 (with_keys (text (codes "cache") (codes "off")
-        ∷ number (codes "stale-if-error") 60 ∷ [])) ≡ Some (BadWord 2 StaleIfError) }
+    ensures without_cache { line_fault Three 2 (line_table_with_keys (key_with_text (codes "cache") (codes "off")
+        ∷ key_with_number (codes "stale-if-error") 60 ∷ [])) ≡ Some (BadWord 2 StaleIfError) }
     ensures with_cache { line_fault Three 2
-        (with_keys (text (codes "cache") (codes "on") ∷ number (codes "stale-if-error") 60 ∷ [])) ≡ None }
+        (line_table_with_keys (key_with_text (codes "cache") (codes "on") ∷ key_with_number (codes "stale-if-error") 60 ∷ [])) ≡ None }
     ensures behind_cache { line_fault Three 2
-        (with_keys (text (codes "cache") (codes "no") ∷ number (codes "lifetime") 0 ∷ [])) ≡ Some (BadCache 2) }
-    ensures lifetime_first { line_fault Three 2 (with_keys (number (codes "lifetime") 0
-        ∷ text (codes "stale-if-error") (codes "x") ∷ text (codes "set-cookie") (codes "x")
-        ∷ text (codes "errors") (codes "x") ∷ text (codes "request-directives") (codes "x") ∷ []))
+        (line_table_with_keys (key_with_text (codes "cache") (codes "no") ∷ key_with_number (codes "lifetime") 0 ∷ []))
+        ≡ Some (BadCache 2) }
+    ensures lifetime_first { line_fault Three 2 (line_table_with_keys (key_with_number (codes "lifetime") 0
+        ∷ key_with_text (codes "stale-if-error") (codes "x") ∷ key_with_text (codes "set-cookie") (codes "x")
+        ∷ key_with_text (codes "errors") (codes "x") ∷ key_with_text (codes "request-directives") (codes "x") ∷ []))
         ≡ Some (BadWord 2 Lifetime) }
-    ensures stale_if_error_next { line_fault Three 2 (with_keys (number (codes "lifetime") 1
-        ∷ text (codes "stale-if-error") (codes "x") ∷ text (codes "set-cookie") (codes "x")
-        ∷ text (codes "errors") (codes "x") ∷ text (codes "request-directives") (codes "x") ∷ []))
+    ensures stale_if_error_next { line_fault Three 2 (line_table_with_keys (key_with_number (codes "lifetime") 1
+        ∷ key_with_text (codes "stale-if-error") (codes "x") ∷ key_with_text (codes "set-cookie") (codes "x")
+        ∷ key_with_text (codes "errors") (codes "x") ∷ key_with_text (codes "request-directives") (codes "x") ∷ []))
         ≡ Some (BadWord 2 StaleIfError) }
-    ensures set_cookie_next { line_fault Three 2 (with_keys (text (codes "set-cookie") (codes "x")
-        ∷ text (codes "errors") (codes "x") ∷ text (codes "request-directives") (codes "x") ∷ []))
+    ensures set_cookie_next { line_fault Three 2 (line_table_with_keys (key_with_text (codes "set-cookie") (codes "x")
+        ∷ key_with_text (codes "errors") (codes "x") ∷ key_with_text (codes "request-directives") (codes "x") ∷ []))
         ≡ Some (BadWord 2 SetCookie) }
-    ensures errors_next { line_fault Three 2 (with_keys (text (codes "errors") (codes "x")
-        ∷ text (codes "request-directives") (codes "x") ∷ [])) ≡ Some (BadWord 2 Errors) }
-    ensures directives_next { line_fault Three 2 (with_keys (text (codes "explain") (codes "x")
-        ∷ text (codes "request-directives") (codes "x") ∷ [])) ≡ Some (BadWord 2 RequestDirectives) }
-    ensures wait_next { line_fault Three 2 (with_keys (text (codes "explain") (codes "x")
-        ∷ text (codes "wait") (codes "x") ∷ [])) ≡ Some (BadWord 2 Wait) }
-    ensures wait_denying { line_fault Three 2 (denying_with (text (codes "wait") (codes "missing") ∷ [])) ≡ Some (BadWord 2 Wait) }
-    ensures explain_last { line_fault Three 2 (with_keys (text (codes "explain") (codes "x") ∷ [])) ≡ Some (BadWord 2 Explain) }
+    ensures errors_next { line_fault Three 2 (line_table_with_keys (key_with_text (codes "errors") (codes "x")
+        ∷ key_with_text (codes "request-directives") (codes "x") ∷ [])) ≡ Some (BadWord 2 Errors) }
+    ensures directives_next { line_fault Three 2 (line_table_with_keys (key_with_text (codes "explain") (codes "x")
+        ∷ key_with_text (codes "request-directives") (codes "x") ∷ [])) ≡ Some (BadWord 2 RequestDirectives) }
+    ensures wait_next { line_fault Three 2 (line_table_with_keys (key_with_text (codes "explain") (codes "x")
+        ∷ key_with_text (codes "wait") (codes "x") ∷ [])) ≡ Some (BadWord 2 Wait) }
+    ensures wait_denying { line_fault Three 2 (denying_line_table_with (key_with_text (codes "wait") (codes "missing")
+        ∷ [])) ≡ Some (BadWord 2 Wait) }
+    ensures explain_last { line_fault Three 2 (line_table_with_keys (key_with_text (codes "explain") (codes "x") ∷ []))
+        ≡ Some (BadWord 2 Explain) }
 {}
 
 /// What lines say by their words; each that doesn't stand is as in the versions before.
-#[tactic(auto, unfolding(crate::specs::LineTables::line_of))]
-pub fn what_words_say()
-    ensures none { (line_of (with_keys [])).policy ≡ plain true }
-    ensures off { (line_of (with_keys (text (codes "cache") (codes "off") ∷ []))).policy ≡ plain false }
-    ensures lifetime { (line_of (with_keys (number (codes "lifetime") 60 ∷ []))).policy
+#[tactic(auto, unfolding(crate::specs::LineTables::line_read))]
+pub fn worked_policies_of_words()
+    ensures none { (line_read (line_table_with_keys [])).policy ≡ plain true }
+    ensures off { (line_read (line_table_with_keys (key_with_text (codes "cache") (codes "off") ∷ []))).policy ≡ plain false }
+    ensures lifetime { (line_read (line_table_with_keys (key_with_number (codes "lifetime") 60 ∷ []))).policy
         ≡ record (plain true) { lifetime = Some 60 } }
-    ensures stale_if_error { (line_of (with_keys (number (codes "stale-if-error") 600 ∷ []))).policy
+    ensures stale_if_error { (line_read (line_table_with_keys (key_with_number (codes "stale-if-error") 600 ∷ []))).policy
         ≡ record (plain true) { stale_if_error = Some 600 } }
-    ensures cookies { (line_of (with_keys (text (codes "set-cookie") (codes "not-stored") ∷ []))).policy
+    ensures cookies { (line_read (line_table_with_keys (key_with_text (codes "set-cookie") (codes "not-stored") ∷ []))).policy
         ≡ record (plain true) { stores_cookies = false } }
-    ensures cookies_stored { (line_of (with_keys (text (codes "set-cookie") (codes "stored") ∷ []))).policy ≡ plain true }
-    ensures errors { (line_of (with_keys (text (codes "errors") (codes "not-stored") ∷ []))).policy
+    ensures cookies_stored { (line_read (line_table_with_keys (key_with_text (codes "set-cookie") (codes "stored")
+        ∷ []))).policy ≡ plain true }
+    ensures errors { (line_read (line_table_with_keys (key_with_text (codes "errors") (codes "not-stored") ∷ []))).policy
         ≡ record (plain true) { stores_errors = false } }
-    ensures errors_stored { (line_of (with_keys (text (codes "errors") (codes "stored") ∷ []))).policy ≡ plain true }
-    ensures directives { (line_of (with_keys (text (codes "request-directives") (codes "ignored") ∷ []))).policy
+    ensures errors_stored { (line_read (line_table_with_keys (key_with_text (codes "errors") (codes "stored")
+        ∷ []))).policy ≡ plain true }
+    ensures directives { (line_read (line_table_with_keys (key_with_text (codes "request-directives") (codes "ignored") ∷ []))).policy
         ≡ record (plain true) { heeds_requests = false } }
-    ensures wait { (line_of (with_keys (text (codes "wait") (codes "missing-or-stale") ∷ []))).policy
+    ensures wait { (line_read (line_table_with_keys (key_with_text (codes "wait") (codes "missing-or-stale") ∷ []))).policy
         ≡ record (plain true) { waits_for_stale = true } }
-    ensures wait_missing { (line_of (with_keys (text (codes "wait") (codes "missing") ∷ []))).policy ≡ plain true }
-    ensures explain { (line_of (with_keys (text (codes "explain") (codes "storing") ∷ []))).policy
+    ensures wait_missing { (line_read (line_table_with_keys (key_with_text (codes "wait") (codes "missing")
+        ∷ []))).policy ≡ plain true }
+    ensures explain { (line_read (line_table_with_keys (key_with_text (codes "explain") (codes "storing") ∷ []))).policy
         ≡ record (plain true) { explains_storing = true } }
-    ensures explain_reuse { (line_of (with_keys (text (codes "explain") (codes "reuse") ∷ []))).policy ≡ plain true }
-    ensures directives_heeded { (line_of (with_keys (text (codes "request-directives") (codes "heeded") ∷ []))).policy ≡ plain true }
+    ensures explain_reuse { (line_read (line_table_with_keys (key_with_text (codes "explain") (codes "reuse")
+        ∷ []))).policy ≡ plain true }
+    ensures directives_heeded { (line_read (line_table_with_keys (key_with_text (codes "request-directives")
+        (codes "heeded") ∷ []))).policy ≡ plain true }
 {}
 
 /// A whole table of version 3.
-#[tactic(auto, unfolding(toml::proofs::OnLiterals::toml_on_literals, crate::specs::Tables::judge_table, crate::specs::Tables::table_fault, crate::specs::Tables::table_of, crate::specs::Tables::is_name, crate::specs::LineTables::line_fault, crate::specs::LineTables::line_of, crate::specs::LineTables::is_line_host, crate::specs::LineTables::is_line_method, crate::specs::LineTables::is_line_path, crate::specs::Addresses::is_address, hx_target::specs::Hosts::is_host, hx_target::specs::Hosts::short_number, hx_target::specs::Paths::has_dot_segment))]
+#[tactic(auto, unfolding(toml::proofs::OnLiterals::toml_on_literals, crate::specs::Tables::judge_table, crate::specs::Tables::table_fault, crate::specs::Tables::table_read, crate::specs::Tables::is_name, crate::specs::LineTables::line_fault, crate::specs::LineTables::line_read, crate::specs::LineTables::is_line_host, crate::specs::LineTables::is_line_method, crate::specs::LineTables::is_line_path, crate::specs::Addresses::is_address, hx_target::specs::Hosts::is_host, hx_target::specs::Hosts::short_number, hx_target::specs::Paths::has_dot_segment))]
 pub fn a_table_with_words_is_read()
     ensures { option_map judge_table (parse_document (codes "version = 3\nname = \"edge\"\ncapacity = 2\nmax_body = 1000\nmax_stored = 1000\n\n[[line]]\nhost = \"*\"\nmethods = [\"GET\"]\npath = \"/\"\norigin = \"127.0.0.1:8081\"\nlifetime = 60\nstale-if-error = 600\nset-cookie = \"not-stored\"\nerrors = \"not-stored\"\nrequest-directives = \"ignored\"\nwait = \"missing-or-stale\"\nexplain = \"storing\"\n")) ≡ Some (Ok (record {
       name = codes "edge";
       capacity = 2;
       max_body = 1000;
       max_stored = 1000;
-      lines = record (reads None (codes "GET") (codes "/") origin_8081) {
+      lines = record (line_with_method None (codes "GET") (codes "/") origin_8081) {
         policy = record {
           caches = true;
           lifetime = Some 60;

@@ -1,18 +1,19 @@
 //! What a line says of caching, and which lines may say it.
 ghost use Rattle.std.specs.Prelude.{◌≡◌};
 ghost use Rattle.toml.specs.View.{table_view};
-ghost use Rattle.hx_allow.specs.LineWords.{has_either, says, denies, takes_words, says_second, policy_read};
-ghost use Rattle.hx_allow.specs.Rows.{row_seen};
+ghost use Rattle.hx_allow.specs.LineWords.{key_has_one_of_two, key_has_text, line_denies, line_takes_words};
+ghost use Rattle.hx_allow.specs.LineWords.{says_second, policy_of_line_table};
+ghost use Rattle.hx_allow.specs.Rows.{plain_row};
 
-use crate::faults::LineWord;
+use crate::config_faults::LineWord;
 use crate::rows::{Kind, LineKey, Row};
 use crate::values::{number_in, text_at};
 use hx_policy::Policy;
 use toml::Table;
 
 /// Whether the text of a key is one of two.
-pub fn has_either(table: &Table, key: &str, first: &str, second: &str) -> bool
-    ensures { result ≡ has_either key.now first.now second.now (table_view table.now) }
+pub fn key_has_one_of_two(table: &Table, key: &str, first: &str, second: &str) -> bool
+    ensures { result ≡ key_has_one_of_two key.now first.now second.now (table_view table.now) }
 {
     match text_at(table, key) {
         Some(text) => text == first || text == second,
@@ -21,8 +22,8 @@ pub fn has_either(table: &Table, key: &str, first: &str, second: &str) -> bool
 }
 
 /// Whether a key has this text.
-fn says(table: &Table, key: &str, word: &str) -> bool
-    ensures { result ≡ says key.now word.now (table_view table.now) }
+fn key_has_text(table: &Table, key: &str, word: &str) -> bool
+    ensures { result ≡ key_has_text key.now word.now (table_view table.now) }
 {
     match text_at(table, key) {
         Some(text) => text == word,
@@ -30,32 +31,32 @@ fn says(table: &Table, key: &str, word: &str) -> bool
     }
 }
 
-pub fn denies(table: &Table) -> bool
-    ensures { result ≡ denies (table_view table.now) }
+pub fn line_denies(table: &Table) -> bool
+    ensures { result ≡ line_denies (table_view table.now) }
 {
-    says(table, "origin", "deny")
+    key_has_text(table, "origin", "deny")
 }
 
 /// Whether a line has an origin and its cache on.
-pub fn takes_words(table: &Table) -> bool
-    ensures { result ≡ takes_words (table_view table.now) }
+pub fn line_takes_words(table: &Table) -> bool
+    ensures { result ≡ line_takes_words (table_view table.now) }
 {
-    !denies(table) && !says(table, "cache", "off")
+    !line_denies(table) && !key_has_text(table, "cache", "off")
 }
 
 /// Whether a key says the second of its two texts.
 fn says_second(row: Row, table: &Table) -> bool
-    ensures { result ≡ says_second (row_seen row) (table_view table.now) }
+    ensures { result ≡ says_second (plain_row row) (table_view table.now) }
 {
     match row.kind {
-        Kind::OneOf(_, second) => says(table, row.key, second),
+        Kind::OneOf(_, second) => key_has_text(table, row.key, second),
         _ => false,
     }
 }
 
 /// What a line without fault says of caching.
-pub fn policy_read(table: &Table) -> Policy
-    ensures { result ≡ policy_read (table_view table.now) }
+pub fn policy_of_line_table(table: &Table) -> Policy
+    ensures { result ≡ policy_of_line_table (table_view table.now) }
 {
     Policy {
         caches: !says_second(LineKey::Cache.row(), table),

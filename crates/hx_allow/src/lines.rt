@@ -2,7 +2,8 @@
 ghost use Rattle.std.specs.Prelude.{◌≡◌, ◌≤◌, [], length, drop, option_map, string_bytes, unwrap_or};
 ghost use Rattle.std.specs.Option.{option_copied};
 ghost use Rattle.std.specs.List.{list_any};
-ghost use Rattle.hx_allow.specs.Matching.{matches_host, is_never_allowed, is_any_or_same, matches_path, is_continued};
+ghost use Rattle.hx_allow.specs.Matching.{matches_host, is_never_allowed, is_star_or_same, matches_path};
+ghost use Rattle.hx_allow.specs.Matching.{path_continues};
 ghost use Rattle.hx_allow.specs.Matching.{longest_origin};
 ghost use Rattle.hx_allow.specs.Index.{can_match, matches_beside_host};
 
@@ -30,8 +31,8 @@ pub struct Line {
 
 impl Model for Line {
     ghost use Rattle.std.specs.Prelude.{◌≡◌, option_map, string_bytes};
-    ghost use Rattle.hx_allow.specs.Lines.{Line as PlainLine};
-    ghost use Rattle.hx_allow.specs.PathTails.{tail_of};
+    ghost use Rattle.hx_allow.specs.TableLines.{Line as PlainLine};
+    ghost use Rattle.hx_allow.specs.PathTails.{path_tail_of};
 
     ghost Value = { PlainLine };
 
@@ -43,7 +44,7 @@ impl Model for Line {
       policy = l.policy;
     } };
 
-    ghost invariant = { λ l. l.tail ≡ tail_of l.path };
+    ghost invariant = { λ l. l.tail ≡ path_tail_of l.path };
 }
 
 fn matches_host(host: Option<&Bytes>, asked: &[u8]) -> bool
@@ -64,30 +65,30 @@ pub fn is_never_allowed(method: &[u8]) -> bool
         || method == b"OPTIONS".as_slice()
 }
 
-fn is_any_or_same(text: &[u8], method: &[u8]) -> bool
-    ensures { result ≡ is_any_or_same method.now text.now }
+fn is_star_or_same(text: &[u8], method: &[u8]) -> bool
+    ensures { result ≡ is_star_or_same method.now text.now }
 {
     text == b"*".as_slice() || text == method
 }
 
 pub(crate) fn has_any_or_same(methods: &[Bytes], method: &[u8]) -> bool
-    ensures { result ≡ list_any (is_any_or_same method.now) methods.now }
+    ensures { result ≡ list_any (is_star_or_same method.now) methods.now }
 {
     methods
         .iter()
-        .any(|text| is_any_or_same(text.as_slice(), method))
+        .any(|text| is_star_or_same(text.as_slice(), method))
 }
 
 /// Whether a table path is the path of a line, or continues it with a slash.
 fn matches_path(path: &[u8], asked: &[u8]) -> bool
     ensures { result ≡ matches_path path.now asked.now }
 {
-    path == b"/".as_slice() || path == asked || is_continued(path, asked)
+    path == b"/".as_slice() || path == asked || path_continues(path, asked)
 }
 
 /// Whether a path begins a longer one, and a slash follows.
-pub(crate) fn is_continued(path: &[u8], asked: &[u8]) -> bool
-    ensures { result ≡ is_continued path.now asked.now }
+pub(crate) fn path_continues(path: &[u8], asked: &[u8]) -> bool
+    ensures { result ≡ path_continues path.now asked.now }
 {
     path.len() < asked.len() && &asked[..path.len()] == path && asked[path.len()] == b'/'
 }

@@ -1,7 +1,7 @@
 //! The first line of the table that matches.
 ghost use Rattle.std.specs.Prelude.{◌≡◌};
 ghost use Rattle.std.specs.Option.{option_copied};
-ghost use Rattle.hx_allow.specs.Matching.{numbered, verdict_by};
+ghost use Rattle.hx_allow.specs.Matching.{line_of_number, verdict_of_line};
 ghost use Rattle.hx_allow.specs.Index.{verdict_among};
 
 use crate::Verdict;
@@ -9,7 +9,7 @@ use crate::lines::Line;
 
 /// The line of a number, counted from 1.
 pub(crate) fn line_at(lines: &[Line], number: u16) -> Option<&Line>
-    ensures { option_copied result ≡ numbered lines.now number }
+    ensures { option_copied result ≡ line_of_number lines.now number }
 {
     if number == 0 {
         return None;
@@ -18,8 +18,8 @@ pub(crate) fn line_at(lines: &[Line], number: u16) -> Option<&Line>
 }
 
 /// What a line of this number says where it decides.
-fn verdict_by(number: u16, line: &Line) -> Verdict
-    ensures { result ≡ verdict_by number line.now }
+fn verdict_of_line(number: u16, line: &Line) -> Verdict
+    ensures { result ≡ verdict_of_line number line.now }
 {
     if line.origin.is_some() {
         Verdict::Allowed(number)
@@ -36,7 +36,7 @@ pub(crate) fn verdict_among(lines: &[Line], numbers: &[u16], method: &[u8], path
     for number in numbers {
         if let Some(line) = line_at(lines, *number) {
             if line.matches(method, path) {
-                return verdict_by(*number, line);
+                return verdict_of_line(*number, line);
             }
         }
     }

@@ -3,7 +3,7 @@
 //! It stands in the line itself, so most lines that don't match are passed over without a look at
 //! the bytes of their paths.
 ghost use Rattle.std.specs.Prelude.{◌≡◌};
-ghost use Rattle.hx_allow.specs.PathTails.{may_match, tail_of};
+ghost use Rattle.hx_allow.specs.PathTails.{path_may_match_tail, path_tail_of};
 
 /// How long a line's path is, and its last byte. Of `/`, which every path matches, the size is 0.
 #[derive(Clone, Copy)]
@@ -15,7 +15,7 @@ pub struct PathTail {
 impl PathTail {
     /// That of a line's path.
     pub fn of(path: &[u8]) -> PathTail
-        ensures { result ≡ tail_of path.now }
+        ensures { result ≡ path_tail_of path.now }
     {
         if path == b"/".as_slice() {
             return PathTail { size: 0, last: 0 };
@@ -28,7 +28,7 @@ impl PathTail {
 
     /// Whether an asked path has that byte there. A path that doesn't isn't matched by the line.
     pub fn may_match(self, asked: &[u8]) -> bool
-        ensures { result ≡ may_match self asked.now }
+        ensures { result ≡ path_may_match_tail self asked.now }
     {
         if self.size == 0 {
             return true;

@@ -1,10 +1,12 @@
 //! The keys of the operator's table: a row for each, and the order in which their faults are looked
 //! for. `specs/Rows.antt` has the same rows.
 ghost use Rattle.std.specs.Prelude.{◌≡◌};
-ghost use Rattle.hx_allow.specs.Rows.{number_row, word_row, line_row, fault_of, has_keys_of, version_number, needed};
-ghost use Rattle.hx_allow.specs.Rows.{of_caching, least, greatest, row_seen, kind_seen, top_row, fault_at_top};
+ghost use Rattle.hx_allow.specs.Rows.{number_row, word_row, line_row, fault_of_line_key, has_keys_of, version_number};
+ghost use Rattle.hx_allow.specs.Rows.{required_row};
+ghost use Rattle.hx_allow.specs.Rows.{row_for_caching_lines, least_number, greatest_number, plain_row, plain_kind};
+ghost use Rattle.hx_allow.specs.Rows.{top_row, fault_of_top_key};
 
-use crate::faults::{ConfigFault, LineWord, NumberKey};
+use crate::config_faults::{ConfigFault, LineWord, NumberKey};
 use crate::values::TableVersion;
 use crate::values::TableVersion::{One, Three, Two};
 use Kind::{Number, OneOf, Seconds};
@@ -102,7 +104,7 @@ pub(crate) const WORDS_OF_UNKNOWN_KEY: &str =
 
 impl NumberKey {
     pub(crate) fn row(self) -> Row
-        ensures { row_seen result ≡ number_row self }
+        ensures { plain_row result ≡ number_row self }
     {
         match self {
             NumberKey::Version => Row::needed("version", Kind::Version),
@@ -115,7 +117,7 @@ impl NumberKey {
 
 impl TopKey {
     pub(crate) fn row(self) -> Row
-        ensures { row_seen result ≡ top_row self }
+        ensures { plain_row result ≡ top_row self }
     {
         match self {
             TopKey::Name => Row::needed("name", Kind::Name),
@@ -126,7 +128,7 @@ impl TopKey {
 
     /// The fault of the key.
     pub(crate) fn fault(self) -> ConfigFault
-        ensures fault { result ≡ fault_at_top self }
+        ensures fault { result ≡ fault_of_top_key self }
         ensures found_fault { ¬ (result ≡ ConfigFault.OutOfMemory) }
     {
         match self {
@@ -139,7 +141,7 @@ impl TopKey {
 
 impl LineWord {
     pub(crate) fn row(self) -> Row
-        ensures { row_seen result ≡ word_row self }
+        ensures { plain_row result ≡ word_row self }
     {
         match self {
             LineWord::Lifetime => Row::of_caching("lifetime", Three, Seconds(1, MOST_SECONDS)),
@@ -167,7 +169,7 @@ impl LineWord {
 
 impl LineKey {
     pub(crate) fn row(self) -> Row
-        ensures { row_seen result ≡ line_row self }
+        ensures { plain_row result ≡ line_row self }
     {
         match self {
             LineKey::Host => Row::needed("host", Kind::Host),
@@ -186,7 +188,7 @@ impl LineKey {
 
     /// The fault of the key in the line with this number.
     pub(crate) fn fault(self, number: u16) -> ConfigFault
-        ensures fault { result ≡ fault_of number self }
+        ensures fault { result ≡ fault_of_line_key number self }
         ensures found_fault { ¬ (result ≡ ConfigFault.OutOfMemory) }
     {
         match self {
@@ -203,7 +205,7 @@ impl LineKey {
 impl Row {
     /// A key that each version has, and that has to stand.
     fn needed(key: &'static str, kind: Kind) -> Row
-        ensures { row_seen result ≡ needed key.now (kind_seen kind) }
+        ensures { plain_row result ≡ required_row key.now (plain_kind kind) }
     {
         Row {
             key,
@@ -215,7 +217,7 @@ impl Row {
 
     /// A key of a line that has an origin and its cache on.
     fn of_caching(key: &'static str, since: TableVersion, kind: Kind) -> Row
-        ensures { row_seen result ≡ of_caching key.now since (kind_seen kind) }
+        ensures { plain_row result ≡ row_for_caching_lines key.now since (plain_kind kind) }
     {
         Row {
             key,
@@ -226,7 +228,7 @@ impl Row {
     }
 
     /// Whether tables of a version have the key.
-    pub(crate) fn is_of(&self, version: TableVersion) -> bool
+    pub(crate) fn is_known_in(&self, version: TableVersion) -> bool
         ensures { result ≡ has_keys_of version self.now.since }
     {
         self.since.number() <= version.number()
@@ -248,8 +250,8 @@ impl TableVersion {
 impl Kind {
     /// The least and the greatest number of a kind.
     pub(crate) fn bounds(self) -> (u32, u32)
-        ensures least { result.0 ≡ least (kind_seen self) }
-        ensures greatest { result.1 ≡ greatest (kind_seen self) }
+        ensures least { result.0 ≡ least_number (plain_kind self) }
+        ensures greatest { result.1 ≡ greatest_number (plain_kind self) }
     {
         match self {
             Kind::Number(low, high) => (low, high),

@@ -2,14 +2,15 @@
 ghost use Rattle.std.specs.Prelude.{◌≡◌, ◌<◌, length};
 ghost use Rattle.std.specs.List.{list_any, position_from};
 ghost use Rattle.std.specs.Option.{option_copied};
-ghost use Rattle.hx_allow.specs.Matching.{is_any_or_same, is_continued};
-ghost use Rattle.hx_allow.specs.NeverReached.{takes_host, takes_methods, takes_path, takes_line};
+ghost use Rattle.hx_allow.specs.Matching.{is_star_or_same, path_continues};
+ghost use Rattle.hx_allow.specs.NeverReached.{takes_each_host_of, takes_each_method_of, takes_each_path_of};
+ghost use Rattle.hx_allow.specs.NeverReached.{takes_each_request_of};
 
-use crate::lines::{Line, has_any_or_same, is_continued};
+use crate::lines::{Line, has_any_or_same, path_continues};
 use hx_fields::Bytes;
 
-fn takes_host(host: Option<&Bytes>, later: Option<&Bytes>) -> bool
-    ensures { result ≡ takes_host (option_copied host.entry) (option_copied later.entry) }
+fn takes_each_host_of(host: Option<&Bytes>, later: Option<&Bytes>) -> bool
+    ensures { result ≡ takes_each_host_of (option_copied host.entry) (option_copied later.entry) }
 {
     match (host, later) {
         (None, _) => true,
@@ -18,41 +19,41 @@ fn takes_host(host: Option<&Bytes>, later: Option<&Bytes>) -> bool
     }
 }
 
-fn takes_methods(methods: &[Bytes], later: &[Bytes]) -> bool
-    ensures { result ≡ takes_methods methods.now later.now }
+fn takes_each_method_of(methods: &[Bytes], later: &[Bytes]) -> bool
+    ensures { result ≡ takes_each_method_of methods.now later.now }
 {
     later
         .iter()
         .all(|text| has_any_or_same(methods, text.as_slice()))
 }
 
-fn takes_path(path: &[u8], later: &[u8]) -> bool
-    ensures { result ≡ takes_path path.now later.now }
+fn takes_each_path_of(path: &[u8], later: &[u8]) -> bool
+    ensures { result ≡ takes_each_path_of path.now later.now }
 {
     if path == b"/".as_slice() || path == later {
         return true;
     }
-    later != b"/".as_slice() && is_continued(path, later)
+    later != b"/".as_slice() && path_continues(path, later)
 }
 
 /// Whether the first line takes each request that the later one would.
-#[tactic(auto, unfolding(crate::specs::NeverReached::takes_line))]
-fn takes_line(first: &Line, later: &Line) -> bool
-    ensures { result ≡ takes_line first.now later.now }
+#[tactic(auto, unfolding(crate::specs::NeverReached::takes_each_request_of))]
+fn takes_each_request_of(first: &Line, later: &Line) -> bool
+    ensures { result ≡ takes_each_request_of first.now later.now }
 {
-    takes_host(first.host.as_ref(), later.host.as_ref())
-        && takes_methods(first.methods.as_slice(), later.methods.as_slice())
-        && takes_path(first.path.as_slice(), later.path.as_slice())
+    takes_each_host_of(first.host.as_ref(), later.host.as_ref())
+        && takes_each_method_of(first.methods.as_slice(), later.methods.as_slice())
+        && takes_each_path_of(first.path.as_slice(), later.path.as_slice())
 }
 
 /// The number of the first of at most 256 lines that takes all of a later one; they are counted from 1.
 pub(crate) fn first_taking(front: &[Line], later: &Line) -> Option<u16>
     requires { length front.now < 257 }
-    ensures { result ≡ position_from (λ first. takes_line first later.now) 1 front.now }
+    ensures { result ≡ position_from (λ first. takes_each_request_of first later.now) 1 front.now }
 {
     let mut number = 1u16;
     for first in front {
-        if takes_line(first, later) {
+        if takes_each_request_of(first, later) {
             return Some(number);
         }
         number += 1;

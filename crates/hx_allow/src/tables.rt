@@ -5,18 +5,18 @@ ghost use Rattle.std.specs.List.{list_all};
 ghost use Rattle.toml.specs.Data.{as_table};
 ghost use Rattle.toml.specs.View.{table_view, array_view, items_view, view};
 ghost use Rattle.hx_allow.specs.Values.{is_some_and, text_at};
-ghost use Rattle.hx_allow.specs.LineTables.{fault_found};
+ghost use Rattle.hx_allow.specs.LineTables.{config_fault_found};
 ghost use Rattle.hx_allow.specs.Tables.{is_name_byte, is_name, number_at, version_of, are_lines, lines_at, table_fault};
-ghost use Rattle.hx_allow.specs.Tables.{table_of, judge_table, is_good_at_top, first_bad_at_top, is_out_of_memory};
+ghost use Rattle.hx_allow.specs.Tables.{table_read, judge_table, is_good_at_top, first_bad_at_top, is_out_of_memory};
 
-use crate::faults::FoundFault;
+use crate::config_faults::FoundFault;
 use crate::host_index::HostIndex;
 use crate::limits::MOST_LINES;
-use crate::line_tables::{lines_fault, lines_of};
+use crate::line_tables::{lines_fault, lines_read};
 use crate::lines::longest_origin;
 use crate::rows::{TOP_KEYS, TopKey};
 use crate::values::{
-    Scope, TableVersion, array_at, counts_within, first_unknown, number_in, text_at,
+    Scope, TableVersion, array_at, first_unknown, has_one_to_most, number_in, text_at,
 };
 use crate::{Config, ConfigFault, NumberKey};
 use hx_fields::Bytes;
@@ -75,7 +75,7 @@ fn are_lines(values: &[Value]) -> bool
     ensures lines { result ≡ are_lines (items_view values.now) }
     ensures few { result ≡ true → length values.now ≤ 256 }
 {
-    if !counts_within(MOST_LINES, values) {
+    if !has_one_to_most(MOST_LINES, values) {
         return false;
     }
     for value in values {
@@ -126,7 +126,7 @@ fn first_bad_at_top(table: &Table) -> Option<TopKey>
 /// The first fault of a table.
 #[tactic(auto, unfolding(crate::specs::Tables::table_fault))]
 fn table_fault(table: &Table) -> Option<FoundFault<'_>>
-    ensures first { option_map fault_found result ≡ table_fault (table_view table.now) }
+    ensures first { option_map config_fault_found result ≡ table_fault (table_view table.now) }
     ensures found_fault { ¬ (result ≡ Some (FoundFault.Other ConfigFault.OutOfMemory)) }
 {
     if let Some(key) = first_unknown(Scope::Top, table) {
@@ -140,12 +140,12 @@ fn table_fault(table: &Table) -> Option<FoundFault<'_>>
 }
 
 /// What a table without fault says.
-#[tactic(auto, unfolding(crate::specs::Tables::table_of))]
+#[tactic(auto, unfolding(crate::specs::Tables::table_read))]
 fn config_of(alloc: Global, table: &Table) -> Result<Config, AllocError>
-    ensures { IfOk result (λ config. config ≡ table_of (table_view table.now)) }
+    ensures { IfOk result (λ config. config ≡ table_read (table_view table.now)) }
 {
     let lines = match lines_at(table) {
-        Some(values) => lines_of(alloc, values)?,
+        Some(values) => lines_read(alloc, values)?,
         None => Vec::new(alloc),
     };
     Ok(Config {

@@ -4,9 +4,9 @@ ghost use Rattle.std.specs.BTreeMap.{keys};
 ghost use Rattle.std.specs.Option.{option_copied};
 ghost use Rattle.toml.specs.Data.{get_member};
 ghost use Rattle.toml.specs.View.{table_view, array_view, items_view, view};
-ghost use Rattle.hx_allow.specs.Rows.{top_row, line_row, row_seen};
+ghost use Rattle.hx_allow.specs.Rows.{top_row, line_row, plain_row};
 ghost use Rattle.hx_allow.specs.Values.{is_known, is_key_of, first_unknown, text_at, items_at};
-ghost use Rattle.hx_allow.specs.Values.{number_between, number_in, counts_within};
+ghost use Rattle.hx_allow.specs.Values.{number_between, number_in, has_one_to_most};
 
 use crate::rows::{LINE_KEYS, LineKey, Row, TOP_KEYS, TopKey};
 use toml::value::Array;
@@ -65,7 +65,7 @@ fn is_same(version: TableVersion, key: &[u8], known: LineKey) -> bool
     ensures { result ≡ is_key_of version key.now (line_row known) }
 {
     let row = known.row();
-    row.is_of(version) && key == row.key.as_bytes()
+    row.is_known_in(version) && key == row.key.as_bytes()
 }
 
 fn unknown_key(scope: Scope, table: &Table) -> Option<&String>
@@ -125,7 +125,7 @@ pub fn number_between(table: &Table, key: &str, low: u32, high: u32) -> Option<u
 
 /// The number of a row's key, where it is whole and within its bounds.
 pub(crate) fn number_in(row: Row, table: &Table) -> Option<u32>
-    ensures { result ≡ number_in (row_seen row) (table_view table.now) }
+    ensures { result ≡ number_in (plain_row row) (table_view table.now) }
 {
     let (low, high) = row.kind.bounds();
     number_between(table, row.key, low, high)
@@ -142,8 +142,8 @@ fn within(low: u32, high: u32, number: Option<i64>) -> Option<u32>
 
 /// Whether there are 1 to `most` values.
 #[tactic(auto, using(crate::proofs::Items::item_count_view))]
-pub fn counts_within(most: usize, values: &[Value]) -> bool
-    ensures within { result ≡ counts_within most (items_view values.now) }
+pub fn has_one_to_most(most: usize, values: &[Value]) -> bool
+    ensures within { result ≡ has_one_to_most most (items_view values.now) }
     ensures few { result ≡ true → length values.now ≤ most }
 {
     1 <= values.len() && values.len() <= most

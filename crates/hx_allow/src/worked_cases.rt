@@ -2,25 +2,29 @@
 //! from them: each function's contract is the cases, and its body is empty.
 ghost use Rattle.std.specs.Prelude.{◌≡◌, ◌∷◌, ◌++◌, [], Some, None, true, false, codes, pos, negsuc};
 ghost use Rattle.toml.specs.Data.{string, integer, boolean, array, table, no_items, no_members};
-ghost use Rattle.hx_policy.specs.Words.{plain};
-ghost use Rattle.hx_allow.specs.Addresses.{is_address, is_number};
-ghost use Rattle.hx_allow.specs.Examples.{asks, bytes, first_line_denies, indexed_lines, line_without_cache, many};
-ghost use Rattle.hx_allow.specs.Examples.{number, of_items, of_pairs, origin_8081, reads, several_lines, text};
-ghost use Rattle.hx_allow.specs.Index.{numbers_of, verdict_among};
+ghost use Rattle.hx_policy.specs.Policies.{plain};
+ghost use Rattle.hx_allow.specs.Addresses.{is_address, is_decimal_within};
+ghost use Rattle.hx_allow.specs.Examples.{target_for_path, repeated_byte, first_line_denies, indexed_lines};
+ghost use Rattle.hx_allow.specs.Examples.{line_without_cache, repeated_value};
+ghost use Rattle.hx_allow.specs.Examples.{key_with_number, array_of_values, table_of_pairs, origin_8081};
+ghost use Rattle.hx_allow.specs.Examples.{line_with_method, several_lines, key_with_text};
+ghost use Rattle.hx_allow.specs.Index.{line_numbers_of, verdict_among};
 ghost use Rattle.hx_allow.specs.Keys.{fault_number, key_text};
 ghost use Rattle.hx_allow.specs.LineTables.{are_line_methods, is_line_host, is_line_method, is_line_origin};
 ghost use Rattle.hx_allow.specs.LineTables.{is_line_path};
 ghost use Rattle.hx_allow.specs.Matching.{policy_of, longest_origin, matches_host, matches_method, matches_path};
 ghost use Rattle.hx_allow.specs.Matching.{origin_of, verdict_of};
-ghost use Rattle.hx_allow.specs.PathTails.{may_match, tail_of};
-ghost use Rattle.hx_allow.specs.NeverReached.{taken_by, takes_line};
+ghost use Rattle.hx_allow.specs.PathTails.{path_may_match_tail, path_tail_of};
+ghost use Rattle.hx_allow.specs.NeverReached.{first_line_taking, takes_each_request_of};
 ghost use Rattle.hx_allow.specs.Tables.{is_name, number_at};
 ghost use Rattle.hx_allow.specs.Values.{is_known, items_at, number_between, text_at};
-ghost use Rattle.hx_allow.specs.declared.faults.ConfigFault.TheVariants.{NotToml, UnknownKey, BadName, BadNumber};
-ghost use Rattle.hx_allow.specs.declared.faults.ConfigFault.TheVariants.{BadHost, BadMethod, BadPath, BadOrigin};
-ghost use Rattle.hx_allow.specs.declared.faults.ConfigFault.TheVariants.{NoLines, OutOfMemory, BadCache, BadWord};
-ghost use Rattle.hx_allow.specs.declared.faults.LineWord.TheVariants.{Lifetime};
-ghost use Rattle.hx_allow.specs.declared.faults.NumberKey.TheVariants.{Version, Capacity, MaxBody, MaxStored};
+ghost use Rattle.hx_allow.specs.declared.config_faults.ConfigFault.TheVariants.{NotToml, UnknownKey, BadName};
+ghost use Rattle.hx_allow.specs.declared.config_faults.ConfigFault.TheVariants.{BadNumber};
+ghost use Rattle.hx_allow.specs.declared.config_faults.ConfigFault.TheVariants.{BadHost, BadMethod, BadPath, BadOrigin};
+ghost use Rattle.hx_allow.specs.declared.config_faults.ConfigFault.TheVariants.{NoLines, OutOfMemory, BadCache};
+ghost use Rattle.hx_allow.specs.declared.config_faults.ConfigFault.TheVariants.{BadWord};
+ghost use Rattle.hx_allow.specs.declared.config_faults.LineWord.TheVariants.{Lifetime};
+ghost use Rattle.hx_allow.specs.declared.config_faults.NumberKey.TheVariants.{Version, Capacity, MaxBody, MaxStored};
 ghost use Rattle.hx_allow.specs.declared.values.Scope.TheVariants.{Top, Line};
 ghost use Rattle.hx_allow.specs.declared.values.TableVersion.TheVariants.{One, Two};
 ghost use Rattle.hx_allow.specs.declared.verdicts.Verdict.TheVariants.{Allowed, DeniedBy, NoLine};
@@ -42,7 +46,7 @@ pub fn faults_have_these_numbers()
 {}
 
 /// The keys at the top of a table, and others.
-pub fn keys_at_the_top()
+pub fn worked_keys_at_the_top()
     ensures version { is_known Top (codes "version") ≡ true }
     ensures name { is_known Top (codes "name") ≡ true }
     ensures capacity { is_known Top (codes "capacity") ≡ true }
@@ -62,7 +66,7 @@ pub fn keys_at_the_top()
 {}
 
 /// The keys of a line: `cache` is one from the second version on.
-pub fn keys_of_a_line()
+pub fn worked_keys_of_a_line()
     ensures host { is_known (Line One) (codes "host") ≡ true }
     ensures methods { is_known (Line One) (codes "methods") ≡ true }
     ensures path { is_known (Line One) (codes "path") ≡ true }
@@ -82,12 +86,13 @@ pub fn keys_of_a_line()
 /// The text of a key is a string; a number isn't one.
 pub fn texts_are_strings()
     ensures is_present { text_at (codes "name")
-        (of_pairs (number (codes "capacity") 2 ∷ text (codes "name") (codes "edge") ∷ [])) ≡ Some (codes "edge") }
-    ensures missing { text_at (codes "name") (of_pairs (number (codes "capacity") 2 ∷ [])) ≡ None }
-    ensures a_number { text_at (codes "name") (of_pairs (number (codes "name") 2 ∷ [])) ≡ None }
-    ensures a_list { text_at (codes "name") (of_pairs ((codes "name", array (of_items (string (codes "edge") ∷ []))) ∷ [])) ≡ None }
-    ensures items { items_at (codes "line") (of_pairs ((codes "line", array no_items) ∷ [])) ≡ Some no_items }
-    ensures no_items { items_at (codes "line") (of_pairs ((codes "line", table no_members) ∷ [])) ≡ None }
+        (table_of_pairs (key_with_number (codes "capacity") 2 ∷ key_with_text (codes "name") (codes "edge") ∷ [])) ≡ Some (codes "edge") }
+    ensures missing { text_at (codes "name") (table_of_pairs (key_with_number (codes "capacity") 2 ∷ [])) ≡ None }
+    ensures a_number { text_at (codes "name") (table_of_pairs (key_with_number (codes "name") 2 ∷ [])) ≡ None }
+    ensures a_list { text_at (codes "name") (table_of_pairs
+        ((codes "name", array (array_of_values (string (codes "edge") ∷ []))) ∷ [])) ≡ None }
+    ensures items { items_at (codes "line") (table_of_pairs ((codes "line", array no_items) ∷ [])) ≡ Some no_items }
+    ensures no_items { items_at (codes "line") (table_of_pairs ((codes "line", table no_members) ∷ [])) ≡ None }
 {}
 
 /// Numbers within bounds, and beside them.
@@ -104,32 +109,35 @@ pub fn numbers_are_whole_and_within_bounds()
 
 /// The least and the greatest number of each key, and those beside them.
 pub fn bounds_of_the_numbers()
-    ensures version_0 { number_at Version (of_pairs (number (codes "version") 0 ∷ [])) ≡ None }
-    ensures version_1 { number_at Version (of_pairs (number (codes "version") 1 ∷ [])) ≡ Some 1 }
-    ensures version_2 { number_at Version (of_pairs (number (codes "version") 2 ∷ [])) ≡ Some 2 }
-    ensures version_3 { number_at Version (of_pairs (number (codes "version") 3 ∷ [])) ≡ Some 3 }
-    ensures version_4 { number_at Version (of_pairs (number (codes "version") 4 ∷ [])) ≡ None }
-    ensures capacity_0 { number_at Capacity (of_pairs (number (codes "capacity") 0 ∷ [])) ≡ None }
-    ensures capacity_1 { number_at Capacity (of_pairs (number (codes "capacity") 1 ∷ [])) ≡ Some 1 }
-    ensures capacity_65536 { number_at Capacity (of_pairs (number (codes "capacity") 65536 ∷ [])) ≡ Some 65536 }
-    ensures capacity_65537 { number_at Capacity (of_pairs (number (codes "capacity") 65537 ∷ [])) ≡ None }
-    ensures max_body_0 { number_at MaxBody (of_pairs (number (codes "max_body") 0 ∷ [])) ≡ Some 0 }
-    ensures max_body_16777216 { number_at MaxBody (of_pairs (number (codes "max_body") 16777216 ∷ [])) ≡ Some 16777216 }
-    ensures max_body_16777217 { number_at MaxBody (of_pairs (number (codes "max_body") 16777217 ∷ [])) ≡ None }
-    ensures max_stored_0 { number_at MaxStored (of_pairs (number (codes "max_stored") 0 ∷ [])) ≡ Some 0 }
-    ensures max_stored_16777216 { number_at MaxStored (of_pairs (number (codes "max_stored") 16777216 ∷ [])) ≡ Some 16777216 }
-    ensures max_stored_16777217 { number_at MaxStored (of_pairs (number (codes "max_stored") 16777217 ∷ [])) ≡ None }
+    ensures version_0 { number_at Version (table_of_pairs (key_with_number (codes "version") 0 ∷ [])) ≡ None }
+    ensures version_1 { number_at Version (table_of_pairs (key_with_number (codes "version") 1 ∷ [])) ≡ Some 1 }
+    ensures version_2 { number_at Version (table_of_pairs (key_with_number (codes "version") 2 ∷ [])) ≡ Some 2 }
+    ensures version_3 { number_at Version (table_of_pairs (key_with_number (codes "version") 3 ∷ [])) ≡ Some 3 }
+    ensures version_4 { number_at Version (table_of_pairs (key_with_number (codes "version") 4 ∷ [])) ≡ None }
+    ensures capacity_0 { number_at Capacity (table_of_pairs (key_with_number (codes "capacity") 0 ∷ [])) ≡ None }
+    ensures capacity_1 { number_at Capacity (table_of_pairs (key_with_number (codes "capacity") 1 ∷ [])) ≡ Some 1 }
+    ensures capacity_65536 { number_at Capacity (table_of_pairs (key_with_number (codes "capacity") 65536 ∷ [])) ≡ Some 65536 }
+    ensures capacity_65537 { number_at Capacity (table_of_pairs (key_with_number (codes "capacity") 65537 ∷ [])) ≡ None }
+    ensures max_body_0 { number_at MaxBody (table_of_pairs (key_with_number (codes "max_body") 0 ∷ [])) ≡ Some 0 }
+    ensures max_body_16777216 { number_at MaxBody (table_of_pairs (key_with_number (codes "max_body") 16777216 ∷ []))
+        ≡ Some 16777216 }
+    ensures max_body_16777217 { number_at MaxBody (table_of_pairs (key_with_number (codes "max_body") 16777217 ∷ [])) ≡ None }
+    ensures max_stored_0 { number_at MaxStored (table_of_pairs (key_with_number (codes "max_stored") 0 ∷ [])) ≡ Some 0 }
+    ensures max_stored_16777216 { number_at MaxStored
+        (table_of_pairs (key_with_number (codes "max_stored") 16777216 ∷ [])) ≡ Some 16777216 }
+    ensures max_stored_16777217 { number_at MaxStored
+        (table_of_pairs (key_with_number (codes "max_stored") 16777217 ∷ [])) ≡ None }
 {}
 
 /// Names of proxies.
 #[tactic(auto, unfolding(crate::specs::Tables::is_name))]
-pub fn names_of_proxies()
+pub fn worked_names_of_proxies()
     ensures edge { is_name (codes "edge") ≡ true }
     ensures one_letter { is_name (codes "a") ≡ true }
     ensures last_letter { is_name (codes "z") ≡ true }
     ensures all_kinds { is_name (codes "az-09") ≡ true }
-    ensures of_32 { is_name (bytes 32 97) ≡ true }
-    ensures of_33 { is_name (bytes 33 97) ≡ false }
+    ensures of_32 { is_name (repeated_byte 32 97) ≡ true }
+    ensures of_33 { is_name (repeated_byte 33 97) ≡ false }
     ensures empty { is_name [] ≡ false }
     ensures digit_first { is_name (codes "1a") ≡ false }
     ensures hyphen_first { is_name (codes "-a") ≡ false }
@@ -140,7 +148,7 @@ pub fn names_of_proxies()
 
 /// Hosts of lines: `*`, or a host in lower case without a port.
 #[tactic(auto, unfolding(crate::specs::LineTables::is_line_host, hx_target::specs::Hosts::is_host))]
-pub fn hosts_of_lines()
+pub fn worked_hosts_of_lines()
     ensures any { is_line_host (codes "*") ≡ true }
     ensures name { is_line_host (codes "a-b.c_9") ≡ true }
     ensures address { is_line_host (codes "[::1]") ≡ true }
@@ -156,7 +164,7 @@ pub fn hosts_of_lines()
 /// Methods of lines: `*`, or a token of at most 15 bytes (RFC 9110, section 9.1) other than the
 /// three that no line allows.
 #[tactic(auto, unfolding(crate::specs::LineTables::is_line_method))]
-pub fn methods_of_lines()
+pub fn worked_methods_of_lines()
     ensures any { is_line_method (codes "*") ≡ true }
     ensures get { is_line_method (codes "GET") ≡ true }
     ensures lower { is_line_method (codes "get") ≡ true }
@@ -173,16 +181,16 @@ pub fn methods_of_lines()
 #[tactic(auto, unfolding(crate::specs::LineTables::is_line_method))]
 pub fn a_line_has_1_to_32_methods()
     ensures none { are_line_methods no_items ≡ false }
-    ensures one { are_line_methods (many 1 (string (codes "GET"))) ≡ true }
-    ensures of_32 { are_line_methods (many 32 (string (codes "GET"))) ≡ true }
-    ensures of_33 { are_line_methods (many 33 (string (codes "GET"))) ≡ false }
-    ensures second_bad { are_line_methods (of_items (string (codes "GET") ∷ string (codes "TRACE") ∷ [])) ≡ false }
-    ensures first_bad { are_line_methods (of_items (integer (pos 1) ∷ string (codes "GET") ∷ [])) ≡ false }
+    ensures one { are_line_methods (repeated_value 1 (string (codes "GET"))) ≡ true }
+    ensures of_32 { are_line_methods (repeated_value 32 (string (codes "GET"))) ≡ true }
+    ensures of_33 { are_line_methods (repeated_value 33 (string (codes "GET"))) ≡ false }
+    ensures second_bad { are_line_methods (array_of_values (string (codes "GET") ∷ string (codes "TRACE") ∷ [])) ≡ false }
+    ensures first_bad { are_line_methods (array_of_values (integer (pos 1) ∷ string (codes "GET") ∷ [])) ≡ false }
 {}
 
 /// Paths of lines (RFC 3986, sections 2.1, 3.3 and 5.2.4).
 #[tactic(auto, unfolding(crate::specs::LineTables::is_line_path, hx_target::specs::Paths::has_dot_segment))]
-pub fn paths_of_lines()
+pub fn worked_paths_of_lines()
     ensures all { is_line_path (codes "/") ≡ true }
     ensures one { is_line_path (codes "/a") ≡ true }
     ensures closed { is_line_path (codes "/a/") ≡ false }
@@ -207,22 +215,22 @@ pub fn paths_of_lines()
 
 /// Numbers in addresses are decimal, without leading zeros.
 #[tactic(auto, unfolding(hx_target::specs::Hosts::short_number))]
-pub fn numbers_in_addresses()
-    ensures zero { is_number 0 255 (codes "0") ≡ true }
-    ensures greatest { is_number 0 255 (codes "255") ≡ true }
-    ensures above { is_number 0 255 (codes "256") ≡ false }
-    ensures below { is_number 1 65535 (codes "0") ≡ false }
-    ensures leading_zero { is_number 0 255 (codes "01") ≡ false }
-    ensures two_zeros { is_number 0 255 (codes "00") ≡ false }
-    ensures ten { is_number 0 255 (codes "10") ≡ true }
-    ensures hexadecimal { is_number 0 255 (codes "ff") ≡ false }
-    ensures sign { is_number 0 255 (codes "+1") ≡ false }
-    ensures empty { is_number 0 255 [] ≡ false }
+pub fn worked_numbers_in_addresses()
+    ensures zero { is_decimal_within 0 255 (codes "0") ≡ true }
+    ensures greatest { is_decimal_within 0 255 (codes "255") ≡ true }
+    ensures above { is_decimal_within 0 255 (codes "256") ≡ false }
+    ensures below { is_decimal_within 1 65535 (codes "0") ≡ false }
+    ensures leading_zero { is_decimal_within 0 255 (codes "01") ≡ false }
+    ensures two_zeros { is_decimal_within 0 255 (codes "00") ≡ false }
+    ensures ten { is_decimal_within 0 255 (codes "10") ≡ true }
+    ensures hexadecimal { is_decimal_within 0 255 (codes "ff") ≡ false }
+    ensures sign { is_decimal_within 0 255 (codes "+1") ≡ false }
+    ensures empty { is_decimal_within 0 255 [] ≡ false }
 {}
 
 /// Addresses of origins.
 #[tactic(auto, unfolding(crate::specs::Addresses::is_address, hx_target::specs::Hosts::short_number))]
-pub fn addresses_of_origins()
+pub fn worked_addresses_of_origins()
     ensures first_run { is_address (codes "127.0.0.1:8081") ≡ true }
     ensures least { is_address (codes "0.0.0.0:1") ≡ true }
     ensures greatest { is_address (codes "255.255.255.255:65535") ≡ true }
@@ -245,7 +253,7 @@ pub fn addresses_of_origins()
 
 /// Origins of lines: `deny`, or an address.
 #[tactic(auto, unfolding(crate::specs::Addresses::is_address, hx_target::specs::Hosts::short_number))]
-pub fn origins_of_lines()
+pub fn worked_origins_of_lines()
     ensures deny { is_line_origin (codes "deny") ≡ true }
     ensures address { is_line_origin (codes "127.0.0.1:8081") ≡ true }
     ensures upper { is_line_origin (codes "Deny") ≡ false }
@@ -254,7 +262,7 @@ pub fn origins_of_lines()
 {}
 
 /// Hosts compare by their bytes, and a line without one matches each.
-pub fn which_hosts_match()
+pub fn worked_hosts_that_match()
     ensures any { matches_host None (codes "h") ≡ true }
     ensures same { matches_host (Some (codes "x")) (codes "x") ≡ true }
     ensures other { matches_host (Some (codes "x")) (codes "h") ≡ false }
@@ -264,7 +272,7 @@ pub fn which_hosts_match()
 {}
 
 /// Methods compare with their case (RFC 9110, section 9.1); `*` is every method but three.
-pub fn which_methods_match()
+pub fn worked_methods_that_match()
     ensures same { matches_method (codes "GET" ∷ []) (codes "GET") ≡ true }
     ensures second { matches_method (codes "GET" ∷ codes "HEAD" ∷ []) (codes "HEAD") ≡ true }
     ensures other { matches_method (codes "GET" ∷ []) (codes "HEAD") ≡ false }
@@ -279,7 +287,7 @@ pub fn which_methods_match()
 {}
 
 /// A path matches itself and what continues it with a slash; `/` matches all.
-pub fn which_paths_match()
+pub fn worked_paths_that_match()
     ensures same { matches_path (codes "/admin") (codes "/admin") ≡ true }
     ensures continued { matches_path (codes "/admin") (codes "/admin/x") ≡ true }
     ensures closed { matches_path (codes "/admin") (codes "/admin/") ≡ true }
@@ -297,21 +305,21 @@ pub fn which_paths_match()
 /// The first line decides, also against a later one that allows; an escape in the asked path hides nothing.
 #[tactic(auto, unfolding(crate::specs::Matching::verdict_of, crate::specs::Matching::matches_line))]
 pub fn the_first_line_denies()
-    ensures escaped { verdict_of first_line_denies (codes "GET") (asks (codes "h") (codes "/%61dmin")) ≡ DeniedBy 1 }
-    ensures head { verdict_of first_line_denies (codes "HEAD") (asks (codes "h") (codes "/%61dmin")) ≡ DeniedBy 1 }
-    ensures other_path { verdict_of first_line_denies (codes "GET") (asks (codes "h") (codes "/admins")) ≡ Allowed 2 }
-    ensures other_method { verdict_of first_line_denies (codes "POST") (asks (codes "h") (codes "/x")) ≡ NoLine }
-    ensures connect { verdict_of first_line_denies (codes "CONNECT") (asks (codes "h") (codes "/admin")) ≡ NoLine }
-    ensures no_lines { verdict_of [] (codes "GET") (asks (codes "h") (codes "/x")) ≡ NoLine }
+    ensures escaped { verdict_of first_line_denies (codes "GET") (target_for_path (codes "h") (codes "/%61dmin")) ≡ DeniedBy 1 }
+    ensures head { verdict_of first_line_denies (codes "HEAD") (target_for_path (codes "h") (codes "/%61dmin")) ≡ DeniedBy 1 }
+    ensures other_path { verdict_of first_line_denies (codes "GET") (target_for_path (codes "h") (codes "/admins")) ≡ Allowed 2 }
+    ensures other_method { verdict_of first_line_denies (codes "POST") (target_for_path (codes "h") (codes "/x")) ≡ NoLine }
+    ensures connect { verdict_of first_line_denies (codes "CONNECT") (target_for_path (codes "h") (codes "/admin")) ≡ NoLine }
+    ensures no_lines { verdict_of [] (codes "GET") (target_for_path (codes "h") (codes "/x")) ≡ NoLine }
 {}
 
 /// A line for every host and one for one of them.
 #[tactic(auto, unfolding(crate::specs::Matching::verdict_of, crate::specs::Matching::matches_line))]
 pub fn several_lines_decide()
-    ensures denied { verdict_of several_lines (codes "GET") (asks (codes "h") (codes "/admin/x")) ≡ DeniedBy 1 }
-    ensures allowed { verdict_of several_lines (codes "GET") (asks (codes "x") (codes "/admins")) ≡ Allowed 2 }
-    ensures no_line { verdict_of several_lines (codes "GET") (asks (codes "h") (codes "/b")) ≡ NoLine }
-    ensures other_port { verdict_of several_lines (codes "GET") (record (asks (codes "x") (codes "/b")) {
+    ensures denied { verdict_of several_lines (codes "GET") (target_for_path (codes "h") (codes "/admin/x")) ≡ DeniedBy 1 }
+    ensures allowed { verdict_of several_lines (codes "GET") (target_for_path (codes "x") (codes "/admins")) ≡ Allowed 2 }
+    ensures no_line { verdict_of several_lines (codes "GET") (target_for_path (codes "h") (codes "/b")) ≡ NoLine }
+    ensures other_port { verdict_of several_lines (codes "GET") (record (target_for_path (codes "x") (codes "/b")) {
       key = record { host = codes "x"; port = 8080; path_query = codes "/b?q" };
     }) ≡ Allowed 2 }
 {}
@@ -319,13 +327,13 @@ pub fn several_lines_decide()
 /// Lines of one host around one for every host: those that a host can match, and which of them decides.
 #[tactic(auto, unfolding(crate::specs::Matching::verdict_of, crate::specs::Matching::matches_line))]
 pub fn lines_of_a_host_decide()
-    ensures denied { verdict_of indexed_lines (codes "GET") (asks (codes "x") (codes "/p/q")) ≡ DeniedBy 1 }
-    ensures for_every_host { verdict_of indexed_lines (codes "GET") (asks (codes "x") (codes "/")) ≡ Allowed 2 }
-    ensures behind_it { verdict_of indexed_lines (codes "POST") (asks (codes "x") (codes "/")) ≡ Allowed 3 }
-    ensures other_host { verdict_of indexed_lines (codes "POST") (asks (codes "y") (codes "/")) ≡ NoLine }
-    ensures numbers { numbers_of indexed_lines (Some (codes "x")) ≡ 1 ∷ 2 ∷ 3 ∷ [] }
-    ensures numbers_of_others { numbers_of indexed_lines (Some (codes "y")) ≡ 2 ∷ [] }
-    ensures numbers_of_none { numbers_of indexed_lines None ≡ 2 ∷ [] }
+    ensures denied { verdict_of indexed_lines (codes "GET") (target_for_path (codes "x") (codes "/p/q")) ≡ DeniedBy 1 }
+    ensures for_every_host { verdict_of indexed_lines (codes "GET") (target_for_path (codes "x") (codes "/")) ≡ Allowed 2 }
+    ensures behind_it { verdict_of indexed_lines (codes "POST") (target_for_path (codes "x") (codes "/")) ≡ Allowed 3 }
+    ensures other_host { verdict_of indexed_lines (codes "POST") (target_for_path (codes "y") (codes "/")) ≡ NoLine }
+    ensures numbers { line_numbers_of indexed_lines (Some (codes "x")) ≡ 1 ∷ 2 ∷ 3 ∷ [] }
+    ensures numbers_of_others { line_numbers_of indexed_lines (Some (codes "y")) ≡ 2 ∷ [] }
+    ensures numbers_of_none { line_numbers_of indexed_lines None ≡ 2 ∷ [] }
     ensures among { verdict_among indexed_lines (1 ∷ 2 ∷ 3 ∷ []) (codes "POST") (codes "/") ≡ Allowed 3 }
     ensures among_others { verdict_among indexed_lines (2 ∷ []) (codes "POST") (codes "/") ≡ NoLine }
     ensures among_none { verdict_among indexed_lines (0 ∷ 4 ∷ []) (codes "GET") (codes "/") ≡ NoLine }
@@ -335,7 +343,7 @@ pub fn lines_of_a_host_decide()
 
 /// Which lines are cached, and which say nothing.
 #[tactic(auto, unfolding(crate::specs::Matching::policy_of))]
-pub fn which_lines_are_cached()
+pub fn worked_lines_with_cache()
     ensures off { policy_of line_without_cache 1 ≡ plain false }
     ensures on { policy_of line_without_cache 2 ≡ plain true }
     ensures behind_the_last { policy_of line_without_cache 3 ≡ plain false }
@@ -343,29 +351,29 @@ pub fn which_lines_are_cached()
 {}
 
 /// The origin of a line, and the longest of all.
-pub fn which_origin_a_line_has()
+pub fn worked_origins_of_line_numbers()
     ensures denying { origin_of first_line_denies 1 ≡ None }
     ensures allowing { origin_of first_line_denies 2 ≡ origin_8081 }
     ensures behind_the_last { origin_of first_line_denies 3 ≡ None }
     ensures none { origin_of line_without_cache 0 ≡ None }
     ensures longest { longest_origin first_line_denies ≡ 14 }
-    ensures longest_of_the_first { longest_origin (reads None (codes "GET") (codes "/") origin_8081
-        ∷ reads None (codes "GET") (codes "/") None ∷ []) ≡ 14 }
+    ensures longest_of_the_first { longest_origin (line_with_method None (codes "GET") (codes "/") origin_8081
+        ∷ line_with_method None (codes "GET") (codes "/") None ∷ []) ≡ 14 }
     ensures longest_of_none { longest_origin [] ≡ 0 }
 {}
 
 /// The last byte of a line's path has to stand where it stands there; `/` asks for none.
-pub fn tails_of_paths()
-    ensures tail { tail_of (codes "/admin") ≡ record { size = 6; last = 110 } }
-    ensures root { tail_of (codes "/") ≡ record { size = 0; last = 0 } }
-    ensures is_present { may_match (tail_of (codes "/admin")) (codes "/login/x") ≡ true }
-    ensures other { may_match (tail_of (codes "/admin")) (codes "/admit") ≡ false }
-    ensures short { may_match (tail_of (codes "/admin")) (codes "/a") ≡ false }
-    ensures all { may_match (tail_of (codes "/")) (codes "/x") ≡ true }
+pub fn worked_tails_of_paths()
+    ensures tail { path_tail_of (codes "/admin") ≡ record { size = 6; last = 110 } }
+    ensures root { path_tail_of (codes "/") ≡ record { size = 0; last = 0 } }
+    ensures is_present { path_may_match_tail (path_tail_of (codes "/admin")) (codes "/login/x") ≡ true }
+    ensures other { path_may_match_tail (path_tail_of (codes "/admin")) (codes "/admit") ≡ false }
+    ensures short { path_may_match_tail (path_tail_of (codes "/admin")) (codes "/a") ≡ false }
+    ensures all { path_may_match_tail (path_tail_of (codes "/")) (codes "/x") ≡ true }
 {}
 
 /// The keys of numbers, as a table spells them.
-pub fn keys_of_numbers()
+pub fn worked_keys_of_numbers()
     ensures version { key_text Version ≡ codes "version" }
     ensures capacity { key_text Capacity ≡ codes "capacity" }
     ensures max_body { key_text MaxBody ≡ codes "max_body" }
@@ -373,35 +381,35 @@ pub fn keys_of_numbers()
 {}
 
 /// A line in front takes another where its host, its methods and its path take those.
-#[tactic(auto, unfolding(crate::specs::NeverReached::takes_line))]
-pub fn which_lines_are_never_reached()
-    ensures same { takes_line (reads None (codes "GET") (codes "/a") origin_8081)
-        (reads None (codes "GET") (codes "/a") None) ≡ true }
-    ensures below { takes_line (reads None (codes "GET") (codes "/a") origin_8081)
-        (reads None (codes "GET") (codes "/a/b") None) ≡ true }
-    ensures above { takes_line (reads None (codes "GET") (codes "/a/b") origin_8081)
-        (reads None (codes "GET") (codes "/a") None) ≡ false }
-    ensures beside { takes_line (reads None (codes "GET") (codes "/a") origin_8081)
-        (reads None (codes "GET") (codes "/ab") None) ≡ false }
-    ensures root { takes_line (reads None (codes "GET") (codes "/") origin_8081)
-        (reads None (codes "GET") (codes "/admin") None) ≡ true }
-    ensures under_root { takes_line (reads None (codes "GET") (codes "/a") origin_8081)
-        (reads None (codes "GET") (codes "/") None) ≡ false }
-    ensures any_method { takes_line (reads None (codes "*") (codes "/") origin_8081)
-        (reads None (codes "POST") (codes "/") None) ≡ true }
-    ensures other_method { takes_line (reads None (codes "GET") (codes "/") origin_8081)
-        (reads None (codes "POST") (codes "/") None) ≡ false }
-    ensures one_of_all { takes_line (reads None (codes "GET") (codes "/") origin_8081)
-        (reads None (codes "*") (codes "/") None) ≡ false }
-    ensures any_host { takes_line (reads None (codes "GET") (codes "/") origin_8081)
-        (reads (Some (codes "x")) (codes "GET") (codes "/") None) ≡ true }
-    ensures one_host { takes_line (reads (Some (codes "x")) (codes "GET") (codes "/") origin_8081)
-        (reads None (codes "GET") (codes "/") None) ≡ false }
-    ensures other_host { takes_line (reads (Some (codes "x")) (codes "GET") (codes "/") origin_8081)
-        (reads (Some (codes "y")) (codes "GET") (codes "/") None) ≡ false }
-    ensures denial_in_front { taken_by first_line_denies 2 ≡ None }
-    ensures denial_behind { taken_by (reads None (codes "*") (codes "/") origin_8081
-        ∷ reads None (codes "*") (codes "/admin") None ∷ []) 2 ≡ Some 1 }
-    ensures first { taken_by first_line_denies 1 ≡ None }
-    ensures missing { taken_by first_line_denies 3 ≡ None }
+#[tactic(auto, unfolding(crate::specs::NeverReached::takes_each_request_of))]
+pub fn worked_lines_never_reached()
+    ensures same { takes_each_request_of (line_with_method None (codes "GET") (codes "/a") origin_8081)
+        (line_with_method None (codes "GET") (codes "/a") None) ≡ true }
+    ensures below { takes_each_request_of (line_with_method None (codes "GET") (codes "/a") origin_8081)
+        (line_with_method None (codes "GET") (codes "/a/b") None) ≡ true }
+    ensures above { takes_each_request_of (line_with_method None (codes "GET") (codes "/a/b") origin_8081)
+        (line_with_method None (codes "GET") (codes "/a") None) ≡ false }
+    ensures beside { takes_each_request_of (line_with_method None (codes "GET") (codes "/a") origin_8081)
+        (line_with_method None (codes "GET") (codes "/ab") None) ≡ false }
+    ensures root { takes_each_request_of (line_with_method None (codes "GET") (codes "/") origin_8081)
+        (line_with_method None (codes "GET") (codes "/admin") None) ≡ true }
+    ensures under_root { takes_each_request_of (line_with_method None (codes "GET") (codes "/a") origin_8081)
+        (line_with_method None (codes "GET") (codes "/") None) ≡ false }
+    ensures any_method { takes_each_request_of (line_with_method None (codes "*") (codes "/") origin_8081)
+        (line_with_method None (codes "POST") (codes "/") None) ≡ true }
+    ensures other_method { takes_each_request_of (line_with_method None (codes "GET") (codes "/") origin_8081)
+        (line_with_method None (codes "POST") (codes "/") None) ≡ false }
+    ensures one_of_all { takes_each_request_of (line_with_method None (codes "GET") (codes "/") origin_8081)
+        (line_with_method None (codes "*") (codes "/") None) ≡ false }
+    ensures any_host { takes_each_request_of (line_with_method None (codes "GET") (codes "/") origin_8081)
+        (line_with_method (Some (codes "x")) (codes "GET") (codes "/") None) ≡ true }
+    ensures one_host { takes_each_request_of (line_with_method (Some (codes "x")) (codes "GET") (codes "/") origin_8081)
+        (line_with_method None (codes "GET") (codes "/") None) ≡ false }
+    ensures other_host { takes_each_request_of (line_with_method (Some (codes "x")) (codes "GET") (codes "/") origin_8081)
+        (line_with_method (Some (codes "y")) (codes "GET") (codes "/") None) ≡ false }
+    ensures denial_in_front { first_line_taking first_line_denies 2 ≡ None }
+    ensures denial_behind { first_line_taking (line_with_method None (codes "*") (codes "/") origin_8081
+        ∷ line_with_method None (codes "*") (codes "/admin") None ∷ []) 2 ≡ Some 1 }
+    ensures first { first_line_taking first_line_denies 1 ≡ None }
+    ensures missing { first_line_taking first_line_denies 3 ≡ None }
 {}

@@ -2,8 +2,8 @@
 use Rattle.std.proofs.Common.{◌≡◌, true, false, cond, List, [], ◌∷◌, ◌++◌, codes, refl, sym, ap, ◌∙◌, map}
 use Rattle.std.specs.List.{filter, filter_map}
 use Rattle.std.proofs.lemmas.List.Elements.{filter_map-append}
-use Rattle.hx_fields.specs.Names.{is_same_name, members_of_value, flatten}
-use Rattle.hx_fields.specs.Lines.{is_named, members_of}
+use Rattle.hx_fields.specs.Names.{is_same_name, members_of_value, joined_lists}
+use Rattle.hx_fields.specs.FieldLines.{is_named, members_of}
 use Rattle.hx_fields.specs.declared.field_line.Field.{Field}
 use Rattle.hx_directives.specs.declared.occurrences.Occurrence.{Occurrence}
 use Rattle.hx_directives.specs.Occurrences.{occurrence_of, line_occurrences, occurrences_of}
@@ -20,7 +20,7 @@ occurrences_of_lines (line ∷ more) =
     let spelled = filter_map occurrence_of (members_of_value line.value) in
     let from_lines = occurrences_of_lines more in
     elim (is_same_name line.name name) as (λ b. (cond b spelled [] ++ line_by_line more)
-    ≡ filter_map occurrence_of (flatten (map members_of_value (map (λ (f : Field). f.value) (cond b (line ∷ rest) rest))))) [
+    ≡ filter_map occurrence_of (joined_lists (map members_of_value (map (λ (f : Field). f.value) (cond b (line ∷ rest) rest))))) [
       | true ↦ ap (λ found. spelled ++ found) from_lines ∙ sym (filter_map-append occurrence_of (members_of_value line.value) (members_of more name))
       | false ↦ from_lines
     ]

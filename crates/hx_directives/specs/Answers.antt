@@ -11,15 +11,15 @@ use Rattle.hx_directives.specs.declared.answers.Seconds.{Seconds}
 use Rattle.hx_directives.specs.declared.answers.Seconds.TheVariants as seconds_are
 use Rattle.hx_directives.specs.declared.answers.MaxStale.{MaxStale}
 use Rattle.hx_directives.specs.declared.answers.MaxStale.TheVariants as accepts
-use Rattle.hx_directives.specs.Occurrences.{name_of}
+use Rattle.hx_directives.specs.Occurrences.{directive_name}
 
 abbrev pub is_same_directive : Directive → Directive → Bool
-is_same_directive d e = is_same_name (name_of d) (name_of e)
+is_same_directive d e = is_same_name (directive_name d) (directive_name e)
 
 -- the directive occurs, whatever its arguments
 -- own: a qualified `private` or `no-cache` acts as an unqualified one
-abbrev pub has : List Occurrence → Directive → Bool
-has found d = list_any (λ o. is_same_directive o.directive d) found
+abbrev pub directive_occurs : List Occurrence → Directive → Bool
+directive_occurs found d = list_any (λ o. is_same_directive o.directive d) found
 
 -- the arguments with which a directive occurs, in order
 abbrev pub arguments_of : List Occurrence → Directive → List Argument
@@ -31,8 +31,8 @@ argument_seconds (argument.Delta n) = Some n
 argument_seconds _ = None
 
 -- the seconds of a directive that is to occur once
-abbrev pub seconds : List Occurrence → Directive → Seconds
-seconds found d = of_arguments (arguments_of found d)
+abbrev pub seconds_of_directive : List Occurrence → Directive → Seconds
+seconds_of_directive found d = of_arguments (arguments_of found d)
   where
     of_number : Option ℕ → Seconds
     of_number None = seconds_are.Bad

@@ -17,18 +17,18 @@ quoted_content false (b ∷ rest) =
     else option_map (λ content. b ∷ content) (quoted_content false rest)
 
 -- the content of a quoted string, and any other text as it stands
-abbrev pub unquoted : List ℕ → List ℕ
-unquoted [] = []
-unquoted (b ∷ rest) = if b == quote then content_or (b ∷ rest) (quoted_content false rest) else b ∷ rest
+abbrev pub text_without_quotes : List ℕ → List ℕ
+text_without_quotes [] = []
+text_without_quotes (b ∷ rest) = if b == quote then content_or (b ∷ rest) (quoted_content false rest) else b ∷ rest
   where
     content_or : List ℕ → Option (List ℕ) → List ℕ
     content_or text None = text
     content_or text (Some content) = content
 
 -- what an argument says as seconds
-abbrev pub argument_of : Option (List ℕ) → Argument
-argument_of None = Absent
-argument_of (Some text) = of_seconds (seconds_of (unquoted text))
+abbrev pub seconds_of_argument : Option (List ℕ) → Argument
+seconds_of_argument None = Absent
+seconds_of_argument (Some text) = of_seconds (seconds_of (text_without_quotes text))
   where
     of_seconds : Option ℕ → Argument
     of_seconds None = Other

@@ -4,30 +4,30 @@ use Rattle.std.specs.Prelude.{unwrap_or, codes, Option, None, option_map}
 use Rattle.std.specs.List.{filter_map}
 use Rattle.hx_fields.specs.Names.{is_same_name, trimmed, members_of_value}
 use Rattle.hx_fields.specs.Tokens.{is_token}
-use Rattle.hx_fields.specs.Lines.{members_of}
+use Rattle.hx_fields.specs.FieldLines.{members_of}
 use Rattle.hx_fields.specs.declared.field_line.Field.{Field}
 use Rattle.hx_directives.specs.declared.names.Directive.{Directive}
 use Rattle.hx_directives.specs.declared.names.Directive.TheVariants.{MaxAge, SMaxage, MaxStale, MinFresh, StaleIfError}
 use Rattle.hx_directives.specs.declared.names.Directive.TheVariants.{NoCache, NoStore, OnlyIfCached, MustRevalidate}
 use Rattle.hx_directives.specs.declared.names.Directive.TheVariants.{ProxyRevalidate, MustUnderstand, Private, Public}
 use Rattle.hx_directives.specs.declared.occurrences.Occurrence.{Occurrence}
-use Rattle.hx_directives.specs.Arguments.{argument_of}
+use Rattle.hx_directives.specs.Arguments.{seconds_of_argument}
 
 -- the name of each directive that a rule reads (RFC 9111, sections 5.2.1 and 5.2.2; RFC 5861, section 4)
-abbrev pub name_of : Directive → List ℕ
-name_of MaxAge = codes "max-age"
-name_of SMaxage = codes "s-maxage"
-name_of MaxStale = codes "max-stale"
-name_of MinFresh = codes "min-fresh"
-name_of StaleIfError = codes "stale-if-error"
-name_of NoCache = codes "no-cache"
-name_of NoStore = codes "no-store"
-name_of OnlyIfCached = codes "only-if-cached"
-name_of MustRevalidate = codes "must-revalidate"
-name_of ProxyRevalidate = codes "proxy-revalidate"
-name_of MustUnderstand = codes "must-understand"
-name_of Private = codes "private"
-name_of Public = codes "public"
+abbrev pub directive_name : Directive → List ℕ
+directive_name MaxAge = codes "max-age"
+directive_name SMaxage = codes "s-maxage"
+directive_name MaxStale = codes "max-stale"
+directive_name MinFresh = codes "min-fresh"
+directive_name StaleIfError = codes "stale-if-error"
+directive_name NoCache = codes "no-cache"
+directive_name NoStore = codes "no-store"
+directive_name OnlyIfCached = codes "only-if-cached"
+directive_name MustRevalidate = codes "must-revalidate"
+directive_name ProxyRevalidate = codes "proxy-revalidate"
+directive_name MustUnderstand = codes "must-understand"
+directive_name Private = codes "private"
+directive_name Public = codes "public"
 
 abbrev pub all_directives : List Directive
 all_directives =
@@ -36,7 +36,7 @@ all_directives =
 
 -- the directive that a name spells, without case
 abbrev pub directive_of : List ℕ → Option Directive
-directive_of name = find (λ d. is_same_name name (name_of d)) all_directives
+directive_of name = find (λ d. is_same_name name (directive_name d)) all_directives
 
 abbrev pub is_equals : ℕ → Bool
 is_equals b = b == 61
@@ -53,7 +53,7 @@ member_argument member = option_map (λ i. trimmed (drop (i + 1) member)) (posit
 -- own: a name that is no token drops the member
 abbrev pub occurrence_of : List ℕ → Option Occurrence
 occurrence_of member =
-    option_map (λ d. record { directive = d; argument = argument_of (member_argument member) })
+    option_map (λ d. record { directive = d; argument = seconds_of_argument (member_argument member) })
     (if is_token (member_name member) then directive_of (member_name member) else None)
 
 -- the directives of one line; another line than Cache-Control has none

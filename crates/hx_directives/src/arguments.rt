@@ -3,7 +3,7 @@
 //! Both forms of an argument, token and quoted string, mean the same (RFC 9111, section 5.2).
 
 ghost use Rattle.std.specs.Prelude.{◌≡◌, false, IfOk, option_map, option_copied};
-ghost use Rattle.hx_directives.specs.Arguments.{argument_of, quoted_content};
+ghost use Rattle.hx_directives.specs.Arguments.{seconds_of_argument, quoted_content};
 
 use crate::numbers::capped_seconds;
 use std::alloc::{AllocError, Global};
@@ -20,8 +20,8 @@ pub enum Argument {
 }
 
 /// What an argument says.
-pub fn argument_of(alloc: Global, text: Option<&[u8]>) -> Result<Argument, AllocError>
-    ensures { IfOk result (λ a. a ≡ argument_of (option_copied text.entry)) }
+pub fn seconds_of_argument(alloc: Global, text: Option<&[u8]>) -> Result<Argument, AllocError>
+    ensures { IfOk result (λ a. a ≡ seconds_of_argument (option_copied text.entry)) }
 {
     let Some(text) = text else {
         return Ok(Argument::Absent);

@@ -6,7 +6,8 @@ ghost use Rattle.std.specs.Prelude.{◌≡◌, ◌++◌, ◌∷◌, [], IfOk, On
 ghost use Rattle.std.specs.List.{filter_map};
 ghost use Rattle.hx_fields.specs.Names.{members_of_value};
 ghost use Rattle.hx_directives.specs.Occurrences.{occurrence_of, line_occurrences, occurrences_of};
-ghost use Rattle.hx_directives.specs.Answers.{has, arguments_of, seconds, first_valid, max_stale};
+ghost use Rattle.hx_directives.specs.Answers.{directive_occurs, arguments_of, seconds_of_directive, first_valid};
+ghost use Rattle.hx_directives.specs.Answers.{max_stale};
 
 use crate::answers::{MaxStale, Seconds};
 use crate::arguments::Argument;
@@ -45,18 +46,18 @@ impl Directives {
 
     /// Whether a directive occurs, whatever its argument.
     pub fn has(&self, directive: Directive) -> bool
-        ensures { result ≡ has self.now directive }
+        ensures { result ≡ directive_occurs self.now directive }
     {
         self.found.iter().any(|o| o.directive == directive)
     }
 
     /// The seconds of a directive that is to occur once.
     pub fn seconds(&self, directive: Directive) -> Seconds
-        ensures { result ≡ seconds self.now directive }
+        ensures { result ≡ seconds_of_directive self.now directive }
     {
-        match next_argument(self.found.as_slice(), directive) {
+        match first_argument_of(self.found.as_slice(), directive) {
             None => Seconds::Absent,
-            Some((argument, rest)) => match next_argument(rest, directive) {
+            Some((argument, rest)) => match first_argument_of(rest, directive) {
                 Some(_) => Seconds::Repeated,
                 None => match argument {
                     Argument::Delta(n) => Seconds::Value(n),
@@ -131,7 +132,10 @@ fn push_value(alloc: Global, found: &mut Vec<Occurrence>, value: &[u8]) -> Resul
 }
 
 /// The first argument of a directive, and the occurrences after it.
-fn next_argument(found: &[Occurrence], directive: Directive) -> Option<(Argument, &[Occurrence])>
+fn first_argument_of(
+    found: &[Occurrence],
+    directive: Directive,
+) -> Option<(Argument, &[Occurrence])>
     ensures { MatchOption result (arguments_of found.now directive ≡ [])
         (λ r. arguments_of found.now directive ≡ r.0 ∷ arguments_of r.1.now directive) }
 {

@@ -2,68 +2,69 @@
 
 ghost use Rattle.std.specs.Prelude.{◌≡◌, ℕ, true, false, List, [], ◌∷◌, codes, Some, None};
 ghost use Rattle.hx_fields.specs.declared.field_line.Field.{Field};
-ghost use Rattle.hx_directives.specs.Occurrences.{directive_of, name_of, occurrences_of};
+ghost use Rattle.hx_directives.specs.Occurrences.{directive_of, directive_name, occurrences_of};
 ghost use Rattle.hx_directives.specs.declared.names.Directive.{Directive as Read};
 ghost use Rattle.hx_directives.specs.declared.names.Directive.TheVariants as directive;
 ghost use Rattle.hx_directives.specs.declared.arguments.Argument.TheVariants as argument;
-ghost use Rattle.hx_directives.specs.Answers.{has, seconds, first_valid, max_stale};
-ghost use Rattle.hx_directives.specs.Arguments.{argument_of, unquoted};
+ghost use Rattle.hx_directives.specs.Answers.{directive_occurs, seconds_of_directive, first_valid, max_stale};
+ghost use Rattle.hx_directives.specs.Arguments.{seconds_of_argument, text_without_quotes};
 ghost use Rattle.hx_directives.specs.Seconds.{capped, seconds_of};
-ghost use Rattle.hx_directives.specs.Cases.{control, says, quoted};
+ghost use Rattle.hx_directives.specs.Cases.{cache_control_line, directives_of_value, quoted_text};
 
 use crate::answers::{MaxStale, Seconds};
 use crate::names::Directive;
 
 /// A directive that stands twice, one without a number, a quoted one, and one inside quotes.
 pub fn repeated_and_bad_seconds()
-    ensures repeated { seconds (says (codes "max-age=60, max-age=60")) Directive.MaxAge
+    ensures repeated { seconds_of_directive (directives_of_value (codes "max-age=60, max-age=60")) Directive.MaxAge
         ≡ Seconds.Repeated }
-    ensures bad { seconds (says (codes "max-age=1x")) Directive.MaxAge ≡ Seconds.Bad }
-    ensures quoted { seconds (says (codes "max-age=\"60\"")) Directive.MaxAge ≡ Seconds.Value 60 }
-    ensures shared { seconds (says (codes "s-maxage=5, max-age=60")) Directive.SMaxage
+    ensures bad { seconds_of_directive (directives_of_value (codes "max-age=1x")) Directive.MaxAge ≡ Seconds.Bad }
+    ensures quoted { seconds_of_directive (directives_of_value (codes "max-age=\"60\"")) Directive.MaxAge ≡ Seconds.Value 60 }
+    ensures shared { seconds_of_directive (directives_of_value (codes "s-maxage=5, max-age=60")) Directive.SMaxage
         ≡ Seconds.Value 5 }
-    ensures inside_quotes { has (says (codes "a=\"x, no-store\"")) Directive.NoStore ≡ false }
-    ensures two_lines { seconds (occurrences_of (control (codes "max-age=1") ∷ control (codes "MAX-AGE=2") ∷ [])) Directive.MaxAge
+    ensures inside_quotes { directive_occurs (directives_of_value (codes "a=\"x, no-store\"")) Directive.NoStore ≡ false }
+    ensures two_lines { seconds_of_directive (occurrences_of (cache_control_line (codes "max-age=1")
+        ∷ cache_control_line (codes "MAX-AGE=2") ∷ [])) Directive.MaxAge
         ≡ Seconds.Repeated }
 {}
 
 /// A number that fits no type counts as 2147483648 seconds, and so does each above that.
 pub fn seconds_are_capped()
     ensures unbounded { seconds_of (codes "99999999999") ≡ Some 99999999999 }
-    ensures capped { seconds (says (codes "max-age=99999999999")) Directive.MaxAge
+    ensures capped { seconds_of_directive (directives_of_value (codes "max-age=99999999999")) Directive.MaxAge
         ≡ Seconds.Value 2147483648 }
-    ensures least_capped { seconds (says (codes "max-age=2147483649")) Directive.MaxAge
+    ensures least_capped { seconds_of_directive (directives_of_value (codes "max-age=2147483649")) Directive.MaxAge
         ≡ Seconds.Value 2147483648 }
 {}
 
 /// Both directives are seen, so the rule can set one against the other.
 pub fn must_understand_overrides_no_store()
-    ensures must_understand { has (says (codes "must-understand, no-store, max-age=60")) Directive.MustUnderstand
+    ensures must_understand { directive_occurs (directives_of_value (codes "must-understand, no-store, max-age=60")) Directive.MustUnderstand
         ≡ true }
-    ensures no_store { has (says (codes "must-understand, no-store, max-age=60")) Directive.NoStore
+    ensures no_store { directive_occurs (directives_of_value (codes "must-understand, no-store, max-age=60")) Directive.NoStore
         ≡ true }
-    ensures max_age { seconds (says (codes "must-understand, no-store, max-age=60")) Directive.MaxAge
+    ensures max_age { seconds_of_directive (directives_of_value (codes "must-understand, no-store, max-age=60")) Directive.MaxAge
         ≡ Seconds.Value 60 }
 {}
 
 /// The requests and responses of the least reuse rules, read.
 pub fn least_reuse_rule()
-    ensures no_cache { has (says (codes "no-cache, max-age=60")) Directive.NoCache ≡ true }
-    ensures no_age { first_valid (says (codes "no-cache, max-age=0")) Directive.MaxAge ≡ Some 0 }
-    ensures must_revalidate { has (says (codes "must-revalidate")) Directive.MustRevalidate ≡ true }
-    ensures up_to { max_stale (says (codes "max-stale=5, max-age=0")) ≡ MaxStale.UpTo 5 }
-    ensures any { max_stale (says (codes "max-stale=x, max-stale")) ≡ MaxStale.Any }
-    ensures none { max_stale (says (codes "max-stale=")) ≡ MaxStale.Absent }
+    ensures no_cache { directive_occurs (directives_of_value (codes "no-cache, max-age=60")) Directive.NoCache ≡ true }
+    ensures no_age { first_valid (directives_of_value (codes "no-cache, max-age=0")) Directive.MaxAge ≡ Some 0 }
+    ensures must_revalidate { directive_occurs (directives_of_value (codes "must-revalidate")) Directive.MustRevalidate ≡ true }
+    ensures up_to { max_stale (directives_of_value (codes "max-stale=5, max-age=0")) ≡ MaxStale.UpTo 5 }
+    ensures any { max_stale (directives_of_value (codes "max-stale=x, max-stale")) ≡ MaxStale.Any }
+    ensures none { max_stale (directives_of_value (codes "max-stale=")) ≡ MaxStale.Absent }
 {}
 
 /// Every text comes back from its quoted string, each of whose bytes stands after a backslash.
 pub fn quoting_is_undone()
-    ensures { (text : List ℕ) → unquoted (quoted text) ≡ text }
+    ensures { (text : List ℕ) → text_without_quotes (quoted_text text) ≡ text }
 {}
 
 /// Each directive is read by its own name, so no two have one.
 pub fn each_directive_is_read_by_its_name()
-    ensures { (d : Read) → directive_of (name_of d) ≡ Some d }
+    ensures { (d : Read) → directive_of (directive_name d) ≡ Some d }
 {}
 
 /// The names, in any case (RFC 9111, sections 5.2.1 and 5.2.2; RFC 5861, section 4), and one that no rule reads.
@@ -89,37 +90,37 @@ pub fn names_of_directives()
 /// What stands behind the first equals sign is the argument, without blanks; there may be none, or
 /// one that says no seconds.
 pub fn arguments_are_read()
-    ensures none { argument_of None ≡ argument.Absent }
-    ensures seconds { argument_of (Some (codes "60")) ≡ argument.Delta 60 }
-    ensures empty { argument_of (Some []) ≡ argument.Other }
-    ensures signed { argument_of (Some (codes "+60")) ≡ argument.Other }
-    ensures most { argument_of (Some (codes "2147483648")) ≡ argument.Delta 2147483648 }
-    ensures above { argument_of (Some (codes "2147483649")) ≡ argument.Delta 2147483648 }
-    ensures blanks { seconds (says (codes "max-age = 60")) Directive.MaxAge ≡ Seconds.Value 60 }
-    ensures second_equals { seconds (says (codes "max-age=6=0")) Directive.MaxAge ≡ Seconds.Bad }
-    ensures missing { seconds (says (codes "max-age")) Directive.MaxAge ≡ Seconds.Bad }
-    ensures absent { seconds (says (codes "public")) Directive.MaxAge ≡ Seconds.Absent }
-    ensures second_directive { has (says (codes "public, no-store")) Directive.NoStore ≡ true }
-    ensures another { has (says (codes "public")) Directive.NoStore ≡ false }
+    ensures none { seconds_of_argument None ≡ argument.Absent }
+    ensures seconds { seconds_of_argument (Some (codes "60")) ≡ argument.Delta 60 }
+    ensures empty { seconds_of_argument (Some []) ≡ argument.Other }
+    ensures signed { seconds_of_argument (Some (codes "+60")) ≡ argument.Other }
+    ensures most { seconds_of_argument (Some (codes "2147483648")) ≡ argument.Delta 2147483648 }
+    ensures above { seconds_of_argument (Some (codes "2147483649")) ≡ argument.Delta 2147483648 }
+    ensures blanks { seconds_of_directive (directives_of_value (codes "max-age = 60")) Directive.MaxAge ≡ Seconds.Value 60 }
+    ensures second_equals { seconds_of_directive (directives_of_value (codes "max-age=6=0")) Directive.MaxAge ≡ Seconds.Bad }
+    ensures missing { seconds_of_directive (directives_of_value (codes "max-age")) Directive.MaxAge ≡ Seconds.Bad }
+    ensures absent { seconds_of_directive (directives_of_value (codes "public")) Directive.MaxAge ≡ Seconds.Absent }
+    ensures second_directive { directive_occurs (directives_of_value (codes "public, no-store")) Directive.NoStore ≡ true }
+    ensures another { directive_occurs (directives_of_value (codes "public")) Directive.NoStore ≡ false }
 {}
 
 /// Of a request's directive the first valid seconds count, and no max-stale takes no stale response.
 pub fn the_first_valid_seconds_count()
-    ensures first { first_valid (says (codes "max-age=x, max-age=5, max-age=6")) Directive.MaxAge ≡ Some 5 }
-    ensures without { first_valid (says (codes "max-age, min-fresh=5")) Directive.MaxAge ≡ None }
-    ensures another { first_valid (says (codes "max-age=1, min-fresh=5")) Directive.MinFresh ≡ Some 5 }
-    ensures no_max_stale { max_stale (says (codes "max-age=1")) ≡ MaxStale.Absent }
-    ensures any { max_stale (says (codes "max-stale")) ≡ MaxStale.Any }
-    ensures first_limit { max_stale (says (codes "max-stale=1, max-stale=2")) ≡ MaxStale.UpTo 1 }
+    ensures first { first_valid (directives_of_value (codes "max-age=x, max-age=5, max-age=6")) Directive.MaxAge ≡ Some 5 }
+    ensures without { first_valid (directives_of_value (codes "max-age, min-fresh=5")) Directive.MaxAge ≡ None }
+    ensures another { first_valid (directives_of_value (codes "max-age=1, min-fresh=5")) Directive.MinFresh ≡ Some 5 }
+    ensures no_max_stale { max_stale (directives_of_value (codes "max-age=1")) ≡ MaxStale.Absent }
+    ensures any { max_stale (directives_of_value (codes "max-stale")) ≡ MaxStale.Any }
+    ensures first_limit { max_stale (directives_of_value (codes "max-stale=1, max-stale=2")) ≡ MaxStale.UpTo 1 }
 {}
 
 /// A quoted string ends with the text (RFC 9110, section 5.6.4); a text that only begins as one stands as it is.
 pub fn quoted_strings_are_whole()
-    ensures whole { unquoted (codes "\"60\"") ≡ codes "60" }
-    ensures pair { unquoted (codes "\"6\\0\"") ≡ codes "60" }
-    ensures open { unquoted (codes "\"60") ≡ codes "\"60" }
-    ensures closed_early { unquoted (codes "\"6\"0") ≡ codes "\"6\"0" }
-    ensures bare { unquoted (codes "60") ≡ codes "60" }
+    ensures whole { text_without_quotes (codes "\"60\"") ≡ codes "60" }
+    ensures pair { text_without_quotes (codes "\"6\\0\"") ≡ codes "60" }
+    ensures open { text_without_quotes (codes "\"60") ≡ codes "\"60" }
+    ensures closed_early { text_without_quotes (codes "\"6\"0") ≡ codes "\"6\"0" }
+    ensures bare { text_without_quotes (codes "60") ≡ codes "60" }
 {}
 
 /// So many seconds are counted at most, and fewer as they are (RFC 9111, section 1.2.2).

@@ -3,7 +3,7 @@
 ghost use Rattle.std.specs.Prelude.{◌≡◌, ◌<◌, length, position, IfOk, IfSome, option_copied};
 ghost use Rattle.hx_directives.specs.Occurrences.{is_equals, member_name, member_argument, occurrence_of};
 
-use crate::arguments::{Argument, argument_of};
+use crate::arguments::{Argument, seconds_of_argument};
 use crate::names::{Directive, directive_of};
 use hx_fields::{is_token, trim_blanks};
 use std::alloc::{AllocError, Global};
@@ -19,25 +19,25 @@ pub struct Occurrence {
 pub fn occurrence_of(alloc: Global, member: &[u8]) -> Result<Option<Occurrence>, AllocError>
     ensures { IfOk result (λ o. o ≡ occurrence_of member.now) }
 {
-    let (name, argument) = cut(member);
+    let (name, argument) = name_and_argument(member);
     if !is_token(name) {
         return Ok(None);
     }
     match directive_of(name) {
         Some(directive) => Ok(Some(Occurrence {
             directive,
-            argument: argument_of(alloc, argument)?,
+            argument: seconds_of_argument(alloc, argument)?,
         })),
         None => Ok(None),
     }
 }
 
 /// The name and the argument of a member.
-fn cut(member: &[u8]) -> (&[u8], Option<&[u8]>)
+fn name_and_argument(member: &[u8]) -> (&[u8], Option<&[u8]>)
     ensures name { result.0.now ≡ member_name member.now }
     ensures argument { option_copied result.1 ≡ member_argument member.now }
 {
-    match equals_at(member) {
+    match index_of_equals(member) {
         Some(i) => (
             trim_blanks(&member[..i]),
             Some(trim_blanks(&member[i + 1..])),
@@ -47,7 +47,7 @@ fn cut(member: &[u8]) -> (&[u8], Option<&[u8]>)
 }
 
 /// Where the first `=` stands.
-fn equals_at(member: &[u8]) -> Option<usize>
+fn index_of_equals(member: &[u8]) -> Option<usize>
     ensures first { result ≡ position is_equals member.now }
     ensures within { IfSome result (λ i. i < length member.now) }
 {

@@ -6,7 +6,7 @@ use Rattle.std.proofs.lemmas.List.{get_or-drop, length-drop}
 use Rattle.std.proofs.lemmas.Grind.{common_steps}
 use Rattle.std.proofs.lemmas.Bool.{cases_Bool}
 use Rattle.std.specs.List.{prefix_len, suffix_len}
-use Rattle.hx_fields.specs.Names.{pieces, in_front, cuts, next_place, trimmed, is_nonempty, is_blank, members_of_value}
+use Rattle.hx_fields.specs.Names.{pieces, piece_with_byte, is_separating_comma, quote_state_after, trimmed, is_nonempty, is_blank, members_of_value}
 use Rattle.hx_fields.specs.declared.cutting.QuoteState.{QuoteState}
 use Rattle.hx_fields.specs.declared.cutting.QuoteState.TheVariants.{Outside, Quoted, Escaped}
 
@@ -20,7 +20,7 @@ abbrev pub kept : List (List ℕ) → List (List ℕ)
 kept ps = filter is_nonempty (map trimmed ps)
 
 -- a byte in front is one more byte of the front
-pub all_in_front-in_front : (cur : List ℕ) (b : ℕ) (ps : List (List ℕ)) → all_in_front cur (in_front b ps) ≡ all_in_front (cur ++ b ∷ []) ps
+pub all_in_front-in_front : (cur : List ℕ) (b : ℕ) (ps : List (List ℕ)) → all_in_front cur (piece_with_byte b ps) ≡ all_in_front (cur ++ b ∷ []) ps
 all_in_front-in_front cur b [] = refl
 all_in_front-in_front cur b (p ∷ ps) = ap (λ q. q ∷ ps) (sym (append_assoc cur (b ∷ []) p))
 
@@ -28,12 +28,12 @@ all_in_front-in_front cur b (p ∷ ps) = ap (λ q. q ∷ ps) (sym (append_assoc 
 pub all_in_front-nil : (place : QuoteState) (text : List ℕ) → all_in_front [] (pieces place text) ≡ pieces place text
 all_in_front-nil place [] = refl
 all_in_front-nil place (b ∷ bs) =
-    let P : List (List ℕ) → Type 0 = λ ps. all_in_front [] (in_front b ps) ≡ in_front b ps in
-    let front : P (pieces (next_place place b) bs) = front_of b (pieces (next_place place b) bs) in
-    elim (cuts place b) as (λ t. all_in_front [] (cond t ([] ∷ pieces Outside bs) (in_front b (pieces (next_place place b) bs)))
-    ≡ cond t ([] ∷ pieces Outside bs) (in_front b (pieces (next_place place b) bs))) [ true ↦ refl | false ↦ front ]
+    let P : List (List ℕ) → Type 0 = λ ps. all_in_front [] (piece_with_byte b ps) ≡ piece_with_byte b ps in
+    let front : P (pieces (quote_state_after place b) bs) = front_of b (pieces (quote_state_after place b) bs) in
+    elim (is_separating_comma place b) as (λ t. all_in_front [] (cond t ([] ∷ pieces Outside bs) (piece_with_byte b (pieces (quote_state_after place b) bs)))
+    ≡ cond t ([] ∷ pieces Outside bs) (piece_with_byte b (pieces (quote_state_after place b) bs))) [ true ↦ refl | false ↦ front ]
   where
-    front_of : (b : ℕ) (ps : List (List ℕ)) → all_in_front [] (in_front b ps) ≡ in_front b ps
+    front_of : (b : ℕ) (ps : List (List ℕ)) → all_in_front [] (piece_with_byte b ps) ≡ piece_with_byte b ps
     front_of b [] = refl
     front_of b (p ∷ ps) = refl
 
@@ -42,16 +42,16 @@ pub filter-cons : {X : Type 0} (p : X → Bool) (x : X) (xs : List X) → filter
 filter-cons p x xs = elim (p x) as (λ t. cond t (x ∷ filter p xs) (filter p xs) ≡ cond t (x ∷ []) [] ++ filter p xs) [ true ↦ refl | false ↦ refl ]
 
 -- a byte that cuts stands outside quotes, and so does the next
-pub next_place-cuts : (place : QuoteState) (b : ℕ) → cuts place b ≡ true → next_place place b ≡ Outside
+pub next_place-cuts : (place : QuoteState) (b : ℕ) → is_separating_comma place b ≡ true → quote_state_after place b ≡ Outside
 next_place-cuts Outside b h = grind (arith, common_steps)
 next_place-cuts Quoted b h = cc
 next_place-cuts Escaped b h = cc
 
 -- the pieces at a byte that doesn't cut, and at one that does
-pub pieces-goes_on : (place : QuoteState) (b : ℕ) (bs : List ℕ) → cuts place b ≡ false → pieces place (b ∷ bs) ≡ in_front b (pieces (next_place place b) bs)
+pub pieces-goes_on : (place : QuoteState) (b : ℕ) (bs : List ℕ) → is_separating_comma place b ≡ false → pieces place (b ∷ bs) ≡ piece_with_byte b (pieces (quote_state_after place b) bs)
 pieces-goes_on place b bs h = rw h refl
 
-pub pieces-cut : (place : QuoteState) (b : ℕ) (bs : List ℕ) → cuts place b ≡ true → pieces place (b ∷ bs) ≡ [] ∷ pieces Outside bs
+pub pieces-cut : (place : QuoteState) (b : ℕ) (bs : List ℕ) → is_separating_comma place b ≡ true → pieces place (b ∷ bs) ≡ [] ∷ pieces Outside bs
 pieces-cut place b bs h = rw h refl
 
 -- a part with one more byte
@@ -64,9 +64,9 @@ range_grows v s i within at =
 
 module _ (value : List ℕ) (start i : ℕ) (place : QuoteState) (within : start ≤ i) (at : i < length value) where
   -- the next byte joins the front
-  pub front_grows : cuts place (get_or value i 0) ≡ false
+  pub front_grows : is_separating_comma place (get_or value i 0) ≡ false
       → all_in_front (slice_range value start i) (pieces place (drop i value))
-      ≡ all_in_front (slice_range value start (i + 1)) (pieces (next_place place (get_or value i 0)) (drop (i + 1) value))
+      ≡ all_in_front (slice_range value start (i + 1)) (pieces (quote_state_after place (get_or value i 0)) (drop (i + 1) value))
   front_grows h =
       let b : ℕ = get_or value i 0 in
       let cur : List ℕ = slice_range value start i in
@@ -74,20 +74,20 @@ module _ (value : List ℕ) (start i : ℕ) (place : QuoteState) (within : start
       let longer : cur ++ b ∷ [] ≡ slice_range value start (i + 1) = sym (range_grows value start i within at) in
       ap (λ t. all_in_front cur (pieces place t)) e
       ∙ ap (λ ps. all_in_front cur ps) (pieces-goes_on place b (drop (i + 1) value) h)
-      ∙ all_in_front-in_front cur b (pieces (next_place place b) (drop (i + 1) value))
-      ∙ ap (λ q. all_in_front q (pieces (next_place place b) (drop (i + 1) value))) longer
+      ∙ all_in_front-in_front cur b (pieces (quote_state_after place b) (drop (i + 1) value))
+      ∙ ap (λ q. all_in_front q (pieces (quote_state_after place b) (drop (i + 1) value))) longer
 
   -- the front is a piece
-  pub front_ends : cuts place (get_or value i 0) ≡ true
+  pub front_ends : is_separating_comma place (get_or value i 0) ≡ true
       → kept (all_in_front (slice_range value start i) (pieces place (drop i value)))
-      ≡ kept (slice_range value start i ∷ []) ++ kept (all_in_front (slice_range value (i + 1) (i + 1)) (pieces (next_place place (get_or value i 0)) (drop (i + 1) value)))
+      ≡ kept (slice_range value start i ∷ []) ++ kept (all_in_front (slice_range value (i + 1) (i + 1)) (pieces (quote_state_after place (get_or value i 0)) (drop (i + 1) value)))
   front_ends h =
       let b : ℕ = get_or value i 0 in
       let cur : List ℕ = slice_range value start i in
       let rest : List (List ℕ) = pieces Outside (drop (i + 1) value) in
       let e : drop i value ≡ b ∷ drop (i + 1) value = rw add-one (drop-cons value i 0 at) in
       let none : slice_range value (i + 1) (i + 1) ≡ [] = grind (arith, common_steps) in
-      let after : all_in_front (slice_range value (i + 1) (i + 1)) (pieces (next_place place b) (drop (i + 1) value)) ≡ rest
+      let after : all_in_front (slice_range value (i + 1) (i + 1)) (pieces (quote_state_after place b) (drop (i + 1) value)) ≡ rest
       = rw (none, next_place-cuts place b h) (all_in_front-nil Outside (drop (i + 1) value)) in
       ap (λ t. kept (all_in_front cur (pieces place t))) e
       ∙ ap (λ ps. kept (all_in_front cur ps)) (pieces-cut place b (drop (i + 1) value) h)
@@ -107,20 +107,20 @@ blank_is_trimmed b p h =
     one_more : (n : ℕ) → 1 + n ≡ suc n
     one_more n = omega arith
 
-in_front_of_a_piece : (b : ℕ) (ps : List (List ℕ)) → is_blank b ≡ true → kept (in_front b ps) ≡ kept ps
+in_front_of_a_piece : (b : ℕ) (ps : List (List ℕ)) → is_blank b ≡ true → kept (piece_with_byte b ps) ≡ kept ps
 in_front_of_a_piece b [] h = rw (blank_is_trimmed b [] h) refl
 in_front_of_a_piece b (p ∷ ps) h = ap (λ t. filter is_nonempty (t ∷ map trimmed ps)) (blank_is_trimmed b p h)
 
-is_no_comma : (b : ℕ) → is_blank b ≡ true → cuts Outside b ≡ false
+is_no_comma : (b : ℕ) → is_blank b ≡ true → is_separating_comma Outside b ≡ false
 is_no_comma b h = grind (arith, common_steps)
 
-is_no_quote : (b : ℕ) → is_blank b ≡ true → next_place Outside b ≡ Outside
+is_no_quote : (b : ℕ) → is_blank b ≡ true → quote_state_after Outside b ≡ Outside
 is_no_quote b h = grind (arith, common_steps)
 
 blank_in_front : (b : ℕ) (bs : List ℕ) → is_blank b ≡ true → members_of_value (b ∷ bs) ≡ members_of_value bs
 blank_in_front b bs h =
     ap kept (pieces-goes_on Outside b bs (is_no_comma b h))
-    ∙ ap (λ place. kept (in_front b (pieces place bs))) (is_no_quote b h)
+    ∙ ap (λ place. kept (piece_with_byte b (pieces place bs))) (is_no_quote b h)
     ∙ in_front_of_a_piece b (pieces Outside bs) h
 
 pub separator_in_front : (b : ℕ) (bs : List ℕ) → (is_blank b || b == 44) ≡ true → members_of_value (b ∷ bs) ≡ members_of_value bs

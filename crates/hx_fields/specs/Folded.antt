@@ -18,11 +18,11 @@ abbrev pub folded : List ℕ → List ℕ
 folded name = str_to_ascii_lowercase name
 
 -- the bytes as digits to a base of 257, so that no two names of up to seven bytes have one number
-abbrev pub numbered : ℕ → ℕ → ℕ
-numbered number byte = ((number * 257) % 2 ^ 64 + byte) % 2 ^ 64
+abbrev pub bytes_as_digits : ℕ → ℕ → ℕ
+bytes_as_digits number byte = ((number * 257) % 2 ^ 64 + byte) % 2 ^ 64
 
 unfoldable pub number_of : List ℕ → ℕ
-number_of name = fold numbered 0 name
+number_of name = fold bytes_as_digits 0 name
 
 abbrev pub folded_cmp : List ℕ → List ℕ → Ordering
 folded_cmp a b = ordering_then (nat_cmp (number_of a) (number_of b)) (slice_cmp nat_cmp a b)

@@ -1,7 +1,7 @@
-pub mod Kept
+pub mod ByteStrings
 pub mod Names
-pub mod Lines
+pub mod FieldLines
 pub mod Tokens
-pub mod Numbers
+pub mod SpelledNumbers
 pub mod Examples
 pub mod Folded

@@ -43,27 +43,28 @@ backslash = 92
 
 -- where the next byte stands: in a quoted string a backslash takes the next byte with it (RFC 9110, section 5.6.4)
 -- own: an unclosed quote runs to the end of its line
-abbrev pub next_place : QuoteState → ℕ → QuoteState
-next_place Outside b = if b == quote then Quoted else Outside
-next_place Quoted b = if b == quote then Outside else if b == backslash then Escaped else Quoted
-next_place Escaped b = Quoted
+abbrev pub quote_state_after : QuoteState → ℕ → QuoteState
+quote_state_after Outside b = if b == quote then Quoted else Outside
+quote_state_after Quoted b = if b == quote then Outside else if b == backslash then Escaped else Quoted
+quote_state_after Escaped b = Quoted
 
 -- a comma separates members only outside quotes
-abbrev pub cuts : QuoteState → ℕ → Bool
-cuts Outside b = b == comma
-cuts Quoted b = false
-cuts Escaped b = false
+abbrev pub is_separating_comma : QuoteState → ℕ → Bool
+is_separating_comma Outside b = b == comma
+is_separating_comma Quoted b = false
+is_separating_comma Escaped b = false
 
 -- a byte in front of the first piece
-abbrev pub in_front : ℕ → List (List ℕ) → List (List ℕ)
-in_front b [] = (b ∷ []) ∷ []
-in_front b (p ∷ ps) = (b ∷ p) ∷ ps
+abbrev pub piece_with_byte : ℕ → List (List ℕ) → List (List ℕ)
+piece_with_byte b [] = (b ∷ []) ∷ []
+piece_with_byte b (p ∷ ps) = (b ∷ p) ∷ ps
 
 -- the pieces of a text between the commas that separate members; its first byte stands at this place
 abbrev pub pieces : QuoteState → List ℕ → List (List ℕ)
 pieces place [] = [] ∷ []
 pieces place (b ∷ bs) =
-    if cuts place b then [] ∷ pieces Outside bs else in_front b (pieces (next_place place b) bs)
+    if is_separating_comma place b then [] ∷ pieces Outside bs else piece_with_byte b
+    (pieces (quote_state_after place b) bs)
 
 abbrev pub is_nonempty : List ℕ → Bool
 is_nonempty text = nat_lt 0 (length text)
@@ -73,9 +74,9 @@ abbrev pub members_of_value : List ℕ → List (List ℕ)
 members_of_value value = filter is_nonempty (map trimmed (pieces Outside value))
 
 -- lists in a row
-abbrev pub flatten : List (List (List ℕ)) → List (List ℕ)
-flatten [] = []
-flatten (xs ∷ xss) = xs ++ flatten xss
+abbrev pub joined_lists : List (List (List ℕ)) → List (List ℕ)
+joined_lists [] = []
+joined_lists (xs ∷ xss) = xs ++ joined_lists xss
 
 -- what stands before the first of these bytes, and what stands behind it
 abbrev pub cut_at : ℕ → List ℕ → Option (List ℕ × List ℕ)

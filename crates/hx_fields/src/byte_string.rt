@@ -2,7 +2,7 @@
 //!
 //! They are a vector of their own, or a part of a buffer that others share: a copy of a part takes no memory.
 ghost use Rattle.std.specs.Prelude.{◌≡◌, ◌≤◌, ◌==◌, ◌++◌, [], length, IfOk, OnOk, OnErr, slice_range};
-ghost use Rattle.hx_fields.specs.Kept.{bytes_kept};
+ghost use Rattle.hx_fields.specs.ByteStrings.{bytes_kept};
 
 use crate::limits::LEAST_SHARED_BYTES;
 use std::alloc::{AllocError, Global};
@@ -64,7 +64,7 @@ impl Model for Part {
 
 impl Model for Bytes {
     ghost use Rattle.std.specs.Prelude.{List, ℕ};
-    ghost use Rattle.hx_fields.specs.Kept.{bytes_kept};
+    ghost use Rattle.hx_fields.specs.ByteStrings.{bytes_kept};
 
     ghost Value = { List ℕ };
 

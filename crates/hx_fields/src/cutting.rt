@@ -3,7 +3,8 @@ ghost use Rattle.std.specs.Prelude.{◌≡◌, ◌≤◌, ◌-◌, ◌∷◌, �
 ghost use Rattle.std.specs.Prelude.{IfSome};
 ghost use Rattle.std.specs.Option.{option_map};
 ghost use Rattle.std.specs.List.{prefix_len, suffix_len};
-ghost use Rattle.hx_fields.specs.Names.{is_same_name, pieces, is_blank, trimmed, cuts, next_place, members_of_value};
+ghost use Rattle.hx_fields.specs.Names.{is_same_name, pieces, is_blank, trimmed, is_separating_comma};
+ghost use Rattle.hx_fields.specs.Names.{quote_state_after, members_of_value};
 ghost use Rattle.hx_fields.specs.Names.{cut_at};
 ghost use Rattle.hx_fields.specs.declared.cutting.QuoteState.{QuoteState};
 
@@ -60,14 +61,14 @@ pub fn trim_blanks(text: &[u8]) -> &[u8]
     &rest[..trailing_start(rest)]
 }
 
-fn cuts(place: QuoteState, b: u8) -> bool
-    ensures { result ≡ cuts place b }
+fn is_separating_comma(place: QuoteState, b: u8) -> bool
+    ensures { result ≡ is_separating_comma place b }
 {
     place == QuoteState::Outside && b == b','
 }
 
-fn next_place(place: QuoteState, b: u8) -> QuoteState
-    ensures { result ≡ next_place place b }
+fn quote_state_after(place: QuoteState, b: u8) -> QuoteState
+    ensures { result ≡ quote_state_after place b }
 {
     match place {
         QuoteState::Outside => {
@@ -110,10 +111,10 @@ fn piece_end(text: &[u8]) -> usize
     }
     let mut place = QuoteState::Outside;
     while i < text.len() {
-        if cuts(place, text[i]) {
+        if is_separating_comma(place, text[i]) {
             return i;
         }
-        place = next_place(place, text[i]);
+        place = quote_state_after(place, text[i]);
         i += 1;
     }
     i

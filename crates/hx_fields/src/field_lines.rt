@@ -1,7 +1,8 @@
 //! A list of field lines, in the order in which they came.
 ghost use Rattle.std.specs.Prelude.{◌≡◌, ◌++◌, ◌∷◌, [], length, IfOk, OnOk, OnErr, slice_get, count_by, option_copied};
-ghost use Rattle.hx_fields.specs.Lines.{is_named, has, count_of, values_of, only_value, combined_of, members_of};
-ghost use Rattle.hx_fields.specs.Lines.{without_named};
+ghost use Rattle.hx_fields.specs.FieldLines.{is_named, has_field, count_of, values_of, only_value, combined_of};
+ghost use Rattle.hx_fields.specs.FieldLines.{members_of};
+ghost use Rattle.hx_fields.specs.FieldLines.{without_named};
 ghost use Rattle.hx_fields.specs.Names.{members_of_value};
 
 use crate::byte_string::Bytes;
@@ -97,7 +98,7 @@ impl Fields {
 
     /// Whether a line of this name stands.
     pub fn has(&self, name: &[u8]) -> bool
-        ensures { result ≡ has self.now name.now }
+        ensures { result ≡ has_field self.now name.now }
     {
         has_line(self.lines.as_slice(), name)
     }
@@ -178,7 +179,7 @@ impl Fields {
 }
 
 fn has_line(lines: &[Field], name: &[u8]) -> bool
-    ensures { result ≡ has lines.now name.now }
+    ensures { result ≡ has_field lines.now name.now }
 {
     lines
         .iter()

@@ -1,6 +1,6 @@
 //! What the definitions give on values that can be judged by eye.
 ghost use Rattle.std.specs.Prelude.{◌≡◌, ◌∷◌, [], codes, Some, None};
-ghost use Rattle.hx_fields.specs.Lines.{members_of, combined_of, only_value};
+ghost use Rattle.hx_fields.specs.FieldLines.{members_of, combined_of, only_value};
 ghost use Rattle.hx_fields.specs.Names.{cut_at};
 ghost use Rattle.hx_fields.specs.Examples.{line};
 

@@ -1,8 +1,8 @@
 //! Field lines of HTTP messages: names, combined values and list members (RFC 9110, section 5); the
 //! bytes that messages share, the numbers that digits spell, and the end of time.
 //!
-//! `specs/Names.antt` says how bytes are read, `specs/Lines.antt` what a list of lines says of a
-//! name. `specs/Numbers.antt` says what digits spell. Nothing here knows what any field means, but
+//! `specs/Names.antt` says how bytes are read, `specs/FieldLines.antt` what a list of lines says of a
+//! name. `specs/SpelledNumbers.antt` says what digits spell. Nothing here knows what any field means, but
 //! for the last second that a date can tell.
 #![tactic(auto)]
 

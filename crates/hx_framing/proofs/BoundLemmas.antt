@@ -4,14 +4,14 @@ use Rattle.std.proofs.Math.Seq.{drop-append_seam, take-append_seam}
 use Rattle.std.proofs.lemmas.Bool.{lt-ltb, le-ltb}
 use Rattle.httparse.specs.Grammar.{RequestHead, ResponseHead, ReadsRequest, ReadsResponse}
 use Rattle.httparse.proofs.GrammarLemmas.{request_unique, response_unique}
-use Rattle.hx_framing.specs.declared.fault.FrameFault.TheVariants as fault
+use Rattle.hx_framing.specs.declared.frame_fault.FrameFault.TheVariants as fault
 use Rattle.hx_framing.specs.declared.messages.Request.{Request}
 use Rattle.hx_framing.specs.declared.messages.Response.{Response}
-use Rattle.hx_framing.specs.Head.{IsHead, Judges, head_of, head_fault}
+use Rattle.hx_framing.specs.Head.{IsHeadOfRequest, RequestHeadIsJudged, head_of_grammar, request_head_fault}
 use Rattle.hx_framing.specs.StatusHead as status
 use Rattle.hx_framing.specs.StatusHead.{IsStatusHead, status_head_of, status_head_fault}
-use Rattle.hx_framing.specs.Places.{empty_lines_length, head_length}
-use Rattle.hx_framing.specs.Reading.{Reading, Incomplete, Over, Faulty, cut_off}
+use Rattle.hx_framing.specs.HeadEnd.{empty_lines_length, head_length}
+use Rattle.hx_framing.specs.Reading.{StreamReading, Incomplete, Over, Faulty, reading_cut_off}
 use Rattle.hx_framing.specs.RequestReading.{Reads}
 use Rattle.hx_framing.specs.ResponseReading as response
 use Rattle.hx_framing.specs.Version.{start_line, without_return, is_other_version, begins_with_other_version, ends_with_other_version}
@@ -25,32 +25,32 @@ pub long_request : (max : ℕ) (e t : Bool) (bytes : List ℕ) → head_length (
     → Reads max e t bytes (Faulty fault.Head)
 long_request max e t bytes none long =
     reads_no_request max e t bytes (Faulty fault.Head) none
-    (sym (ap (λ (t : Bool). cond {A = Reading Request} t (Faulty fault.Head) (cond (e && (empty_lines_length bytes == length bytes)) Over (cut_off e))) (lt-ltb 32768 (length bytes) long)))
+    (sym (ap (λ (t : Bool). cond {A = StreamReading Request} t (Faulty fault.Head) (cond (e && (empty_lines_length bytes == length bytes)) Over (reading_cut_off e))) (lt-ltb 32768 (length bytes) long)))
 
 pub short_request : (max : ℕ) (t : Bool) (bytes : List ℕ) → head_length (take 32768 bytes) ≡ None → length bytes ≤ 32768
     → Reads max false t bytes Incomplete
 short_request max t bytes none short =
     reads_no_request max false t bytes Incomplete none
-    (sym (ap (λ (t : Bool). cond {A = Reading Request} t (Faulty fault.Head) Incomplete) (le-ltb 32768 (length bytes) short)))
+    (sym (ap (λ (t : Bool). cond {A = StreamReading Request} t (Faulty fault.Head) Incomplete) (le-ltb 32768 (length bytes) short)))
 
 pub long_response : (max : ℕ) (h e : Bool) (bytes : List ℕ) → head_length (take 32768 bytes) ≡ None → 32768 < length bytes
     → response.Reads max h e bytes (Faulty fault.Head)
 long_response max h e bytes none long =
     reads_no_response max h e bytes (Faulty fault.Head) none
-    (sym (ap (λ (t : Bool). cond {A = Reading Response} t (Faulty fault.Head) (cut_off e)) (lt-ltb 32768 (length bytes) long)))
+    (sym (ap (λ (t : Bool). cond {A = StreamReading Response} t (Faulty fault.Head) (reading_cut_off e)) (lt-ltb 32768 (length bytes) long)))
 
 pub short_response : (max : ℕ) (h : Bool) (bytes : List ℕ) → head_length (take 32768 bytes) ≡ None → length bytes ≤ 32768
     → response.Reads max h false bytes Incomplete
 short_response max h bytes none short =
     reads_no_response max h false bytes Incomplete none
-    (sym (ap (λ (t : Bool). cond {A = Reading Response} t (Faulty fault.Head) Incomplete) (le-ltb 32768 (length bytes) short)))
+    (sym (ap (λ (t : Bool). cond {A = StreamReading Response} t (Faulty fault.Head) Incomplete) (le-ltb 32768 (length bytes) short)))
 
 -- ---- many lines
 
-pub few_lines : (bytes : List ℕ) (h : RequestHead) → ReadsRequest bytes h [] → length h.fields ≤ 100 → Judges bytes (Ok (head_of h))
+pub few_lines : (bytes : List ℕ) (h : RequestHead) → ReadsRequest bytes h [] → length h.fields ≤ 100 → RequestHeadIsJudged bytes (Ok (head_of_grammar h))
 few_lines bytes h read few = (h, (read, few), refl)
 
-pub many_lines : (bytes : List ℕ) (h : RequestHead) → ReadsRequest bytes h [] → 100 < length h.fields → Judges bytes (Err (head_fault bytes))
+pub many_lines : (bytes : List ℕ) (h : RequestHead) → ReadsRequest bytes h [] → 100 < length h.fields → RequestHeadIsJudged bytes (Err (request_head_fault bytes))
 many_lines bytes h read many = (
   λ k is. absurd (
       let same = ap (λ (g : RequestHead). length g.fields) (request_unique bytes k h [] [] is.0 read).0 in omega (arith, same, is.1, many)
@@ -58,11 +58,11 @@ many_lines bytes h read many = (
   refl,
 )
 
-pub few_status_lines : (bytes : List ℕ) (h : ResponseHead) → ReadsResponse bytes h [] → length h.fields ≤ 100 → status.Judges bytes (Ok (status_head_of h))
+pub few_status_lines : (bytes : List ℕ) (h : ResponseHead) → ReadsResponse bytes h [] → length h.fields ≤ 100 → status.ResponseHeadIsJudged bytes (Ok (status_head_of h))
 few_status_lines bytes h read few = (h, (read, few), refl)
 
 pub many_status_lines : (bytes : List ℕ) (h : ResponseHead) → ReadsResponse bytes h [] → 100 < length h.fields
-    → status.Judges bytes (Err (status_head_fault bytes))
+    → status.ResponseHeadIsJudged bytes (Err (status_head_fault bytes))
 many_status_lines bytes h read many = (
   λ k is. absurd (
       let same = ap (λ (g : ResponseHead). length g.fields) (response_unique bytes k h [] [] is.0 read).0 in omega (arith, same, is.1, many)
@@ -83,16 +83,16 @@ last_eight front v eight =
     let place : length (front ++ v) - 8 ≡ length front = omega (arith, length-append front v, eight) in
     ap (λ n. drop n (front ++ v)) place ∙ drop-append_seam front v
 
-request_known : (bytes : List ℕ) (h : RequestHead) → IsHead bytes h → ends_with_other_version (without_return (start_line bytes)) ≡ false
+request_known : (bytes : List ℕ) (h : RequestHead) → IsHeadOfRequest bytes h → ends_with_other_version (without_return (start_line bytes)) ≡ false
 request_known bytes h is =
-    let first = request_first bytes (head_of h) (h, is, refl) in
+    let first = request_first bytes (head_of_grammar h) (h, is, refl) in
     let front : List ℕ = h.method ++ 32 ∷ (h.target ++ 32 ∷ []) in
     let v : List ℕ = version_text h.minor in
     let line : without_return (start_line bytes) ≡ front ++ v
     = first.parts ∙ sym (append_assoc h.method (32 ∷ (h.target ++ 32 ∷ [])) v ∙ ap (λ l. h.method ++ 32 ∷ l) (append_assoc h.target (32 ∷ []) v)) in
     ap ends_with_other_version line ∙ ap is_other_version (last_eight front v (omega arith)) ∙ known h.minor first.minor
 
-pub request_version : (bytes : List ℕ) → ends_with_other_version (without_return (start_line bytes)) ≡ true → Judges bytes (Err fault.Version)
+pub request_version : (bytes : List ℕ) → ends_with_other_version (without_return (start_line bytes)) ≡ true → RequestHeadIsJudged bytes (Err fault.Version)
 request_version bytes other = (
   λ h is. absurd (let e : true ≡ false = sym other ∙ request_known bytes h is in cc),
   sym (ap (λ (t : Bool). if t then fault.Version else fault.Head) other),
@@ -111,7 +111,7 @@ response_known bytes h is =
     let v : List ℕ = version_text h.minor in
     ap is_other_version (first_eight (start_line bytes) v _ (omega arith) first.parts) ∙ known h.minor first.minor
 
-pub response_version : (bytes : List ℕ) → begins_with_other_version (start_line bytes) ≡ true → status.Judges bytes (Err fault.Version)
+pub response_version : (bytes : List ℕ) → begins_with_other_version (start_line bytes) ≡ true → status.ResponseHeadIsJudged bytes (Err fault.Version)
 response_version bytes other = (
   λ h is. absurd (let e : true ≡ false = sym other ∙ response_known bytes h is in cc),
   sym (ap (λ (t : Bool). if t then fault.Version else fault.Head) other),

@@ -1,34 +1,34 @@
 -- What is found in a content, behind whichever head, and how it goes on.
 use Rattle.std.proofs.Common.{◌≡◌, ℕ, Bool, true, false, List, [], ◌++◌, drop, Option, sym, ap, subst, ◌∙◌, append_assoc}
 use Rattle.std.proofs.lemmas.List.{append-nil}
-use Rattle.hx_framing.specs.declared.fault.FrameFault.{FrameFault}
-use Rattle.hx_framing.specs.declared.fault.FrameFault.TheVariants as fault
+use Rattle.hx_framing.specs.declared.frame_fault.FrameFault.{FrameFault}
+use Rattle.hx_framing.specs.declared.frame_fault.FrameFault.TheVariants as fault
 use Rattle.hx_framing.specs.declared.contents.content.Content.{Content}
 use Rattle.hx_framing.specs.declared.contents.content.ContentProgress.{ContentProgress}
 use Rattle.hx_framing.specs.declared.contents.content.ContentProgress.TheVariants as content_progress
-use Rattle.hx_framing.specs.Body.{Body, Short, Bad, Whole}
-use Rattle.hx_framing.specs.Contents.{body_from}
-use Rattle.hx_framing.specs.ContentReading.{ReadsOn, ResumesAs}
-use Rattle.hx_framing.specs.Reading.{Reading, Incomplete, Continue, Over, Spelled, Faulty, cut_off, with_body}
+use Rattle.hx_framing.specs.Body.{ContentFound, Short, Bad, Whole}
+use Rattle.hx_framing.specs.Contents.{content_rest}
+use Rattle.hx_framing.specs.ContentReading.{ContentGoesOn, ContentResumesAs}
+use Rattle.hx_framing.specs.Reading.{StreamReading, Incomplete, Continue, Over, Spelled, Faulty, reading_cut_off, reading_with_content}
 
 -- the fault of a reading that has one
-fault_in : {M : Type 0} → Reading M → FrameFault
+fault_in : {M : Type 0} → StreamReading M → FrameFault
 fault_in Incomplete = fault.Head
 fault_in Continue = fault.Head
 fault_in Over = fault.Head
 fault_in (Spelled m rest) = fault.Head
 fault_in (Faulty f) = f
 
-abbrev refused : (M : Type 0) → FrameFault → Reading M
+abbrev refused : (M : Type 0) → FrameFault → StreamReading M
 refused M f = Faulty f
 
 same_fault : {M : Type 0} (g f : FrameFault) → refused (Option (List ℕ)) g ≡ refused (Option (List ℕ)) f → refused M g ≡ refused M f
 unfolding fault_in
-same_fault {M} g f is = ap (λ (r : Reading (Option (List ℕ))). refused M (fault_in r)) is
+same_fault {M} g f is = ap (λ (r : StreamReading (Option (List ℕ))). refused M (fault_in r)) is
 
 -- the fault that is told without the message
-pub body_faulty : {M : Type 0} (ended : Bool) (make : Option (List ℕ) → M) (body : Body) (f : FrameFault)
-    → with_body {M = Option (List ℕ)} ended (λ c. c) body ≡ Faulty f → with_body ended make body ≡ Faulty f
+pub body_faulty : {M : Type 0} (ended : Bool) (make : Option (List ℕ) → M) (body : ContentFound) (f : FrameFault)
+    → reading_with_content {M = Option (List ℕ)} ended (λ c. c) body ≡ Faulty f → reading_with_content ended make body ≡ Faulty f
 body_faulty true make Short f is = same_fault fault.Truncated f is
 body_faulty false make Short f is = absurd cc
 body_faulty ended make (Bad g) f is = same_fault g f is
@@ -36,44 +36,44 @@ body_faulty ended make (Whole content rest) f is = absurd cc
 
 -- what was read of the unread bytes, as a function has it
 pub read_of : (closed : Bool → Bool) {e ended : Bool} {unread bytes : List ℕ} (left : List ℕ) (content new : Content) {t s : ContentProgress} → e ≡ ended → unread ≡ bytes → t ≡ s
-    → ReadsOn e (closed e) unread content t new left → ReadsOn ended (closed ended) bytes content s new left
+    → ContentGoesOn e (closed e) unread content t new left → ContentGoesOn ended (closed ended) bytes content s new left
 read_of closed {e} {ended} {unread} {bytes} left content new {t} {s} ends kept is h =
-    subst (λ (e : Bool). ReadsOn e (closed e) bytes content s new left) ends
-    (subst (λ (t : ContentProgress). ReadsOn e (closed e) bytes content t new left) is
-    (subst (λ (u : List ℕ). ReadsOn e (closed e) u content t new left) kept h))
+    subst (λ (e : Bool). ContentGoesOn e (closed e) bytes content s new left) ends
+    (subst (λ (t : ContentProgress). ContentGoesOn e (closed e) bytes content t new left) is
+    (subst (λ (u : List ℕ). ContentGoesOn e (closed e) u content t new left) kept h))
 
 -- what the bytes read as where that is found in the content
-abbrev pub reading_of : {M : Type 0} → (Option (List ℕ) → M) → List ℕ → ContentProgress → Reading M
+abbrev pub reading_of : {M : Type 0} → (Option (List ℕ) → M) → List ℕ → ContentProgress → StreamReading M
 reading_of make bytes (content_progress.Incomplete n) = Incomplete
 reading_of make bytes (content_progress.Faulty f) = Faulty f
 reading_of make bytes (content_progress.Whole c n) = Spelled (make c) (drop n bytes)
 
 pub content_found : {M : Type 0} (make : Option (List ℕ) → M) (ended closed : Bool) (bytes left : List ℕ) (content new : Content) (s : ContentProgress)
-    → ReadsOn ended closed bytes content s new left → with_body ended make (body_from content closed bytes) ≡ reading_of make bytes s
+    → ContentGoesOn ended closed bytes content s new left → reading_with_content ended make (content_rest content closed bytes) ≡ reading_of make bytes s
 content_found {M} make ended closed bytes left content new (content_progress.Incomplete n) k =
-    ap (λ (b : Body). with_body ended make b) k.1.1 ∙ ap (λ (e : Bool). cut_off {M = M} e) k.0
-content_found make ended closed bytes left content new (content_progress.Faulty f) k = body_faulty ended make (body_from content closed bytes) f k.0
-content_found make ended closed bytes left content new (content_progress.Whole c n) k = ap (λ (b : Body). with_body ended make b) k.0.1
+    ap (λ (b : ContentFound). reading_with_content ended make b) k.1.1 ∙ ap (λ (e : Bool). reading_cut_off {M = M} e) k.0
+content_found make ended closed bytes left content new (content_progress.Faulty f) k = body_faulty ended make (content_rest content closed bytes) f k.0
+content_found make ended closed bytes left content new (content_progress.Whole c n) k = ap (λ (b : ContentFound). reading_with_content ended make b) k.0.1
 
 -- ---- a content that resumes
 
-module _ {M : Type 0} (reads : Bool → List ℕ → Reading M → Type 0) (make : Option (List ℕ) → M) (closed : Bool → Bool) where
+module _ {M : Type 0} (reads : Bool → List ℕ → StreamReading M → Type 0) (make : Option (List ℕ) → M) (closed : Bool → Bool) where
   -- nothing more has come
-  pub resumes_now : (content : Content) (bytes unread : List ℕ) → ResumesAs reads make closed content bytes unread → (ended : Bool)
-      → reads ended bytes (with_body ended make (body_from content (closed ended) unread))
+  pub resumes_now : (content : Content) (bytes unread : List ℕ) → ContentResumesAs reads make closed content bytes unread → (ended : Bool)
+      → reads ended bytes (reading_with_content ended make (content_rest content (closed ended) unread))
   resumes_now content bytes unread on ended =
-      subst (λ (u : List ℕ). reads ended bytes (with_body ended make (body_from content (closed ended) u))) (append-nil unread)
-      (subst (λ (u : List ℕ). reads ended u (with_body ended make (body_from content (closed ended) (unread ++ [])))) (append-nil bytes) (on [] ended))
+      subst (λ (u : List ℕ). reads ended bytes (reading_with_content ended make (content_rest content (closed ended) u))) (append-nil unread)
+      (subst (λ (u : List ℕ). reads ended u (reading_with_content ended make (content_rest content (closed ended) (unread ++ [])))) (append-nil bytes) (on [] ended))
 
   -- a piece has come
-  pub resumes_fed : (content : Content) (bytes unread w : List ℕ) → ResumesAs reads make closed content bytes unread
-      → ResumesAs reads make closed content (bytes ++ w) (unread ++ w)
+  pub resumes_fed : (content : Content) (bytes unread w : List ℕ) → ContentResumesAs reads make closed content bytes unread
+      → ContentResumesAs reads make closed content (bytes ++ w) (unread ++ w)
   resumes_fed content bytes unread w on = λ more ended.
-      subst (λ (u : List ℕ). reads ended u (with_body ended make (body_from content (closed ended) ((unread ++ w) ++ more)))) (sym (append_assoc bytes w more))
-      (subst (λ (u : List ℕ). reads ended (bytes ++ (w ++ more)) (with_body ended make (body_from content (closed ended) u))) (sym (append_assoc unread w more)) (on (w ++ more) ended))
+      subst (λ (u : List ℕ). reads ended u (reading_with_content ended make (content_rest content (closed ended) ((unread ++ w) ++ more)))) (sym (append_assoc bytes w more))
+      (subst (λ (u : List ℕ). reads ended (bytes ++ (w ++ more)) (reading_with_content ended make (content_rest content (closed ended) u))) (sym (append_assoc unread w more)) (on (w ++ more) ended))
 
   -- it has gone on
-  pub resumes_on : (content new : Content) (bytes unread left : List ℕ) → ((more : List ℕ) (e : Bool) → body_from content e (unread ++ more) ≡ body_from new e (left ++ more))
-      → ResumesAs reads make closed content bytes unread → ResumesAs reads make closed new bytes left
+  pub resumes_on : (content new : Content) (bytes unread left : List ℕ) → ((more : List ℕ) (e : Bool) → content_rest content e (unread ++ more) ≡ content_rest new e (left ++ more))
+      → ContentResumesAs reads make closed content bytes unread → ContentResumesAs reads make closed new bytes left
   resumes_on content new bytes unread left same on = λ more ended.
-      subst (λ (body : Body). reads ended (bytes ++ more) (with_body ended make body)) (same more (closed ended)) (on more ended)
+      subst (λ (body : ContentFound). reads ended (bytes ++ more) (reading_with_content ended make body)) (same more (closed ended)) (on more ended)

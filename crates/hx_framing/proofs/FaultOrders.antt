@@ -1,15 +1,15 @@
 -- Of the faults that stand at the end of a head the least is told.
 use Rattle.std.proofs.Common.{◌≡◌, ℕ, ◌≤◌, ◌&&◌, ◌||◌, ◌==◌, Bool, true, false, not, cond, refl, sym, ap, ◌∙◌, subst, arith, Result, Ok, Err}
-use Rattle.hx_framing.specs.declared.fault.FrameFault.{FrameFault}
-use Rattle.hx_framing.specs.declared.fault.FrameFault.TheVariants as fault
+use Rattle.hx_framing.specs.declared.frame_fault.FrameFault.{FrameFault}
+use Rattle.hx_framing.specs.declared.frame_fault.FrameFault.TheVariants as fault
 use Rattle.hx_framing.specs.declared.lengths.framing.Framing.{Framing}
 use Rattle.hx_framing.specs.declared.lengths.framing.Framing.TheVariants as framing
 use Rattle.hx_framing.specs.declared.lengths.framing.RequestBody.{RequestBody}
 use Rattle.hx_framing.specs.declared.heads.request_head.Head.{Head}
 use Rattle.hx_framing.specs.declared.heads.status_head.StatusHead.{StatusHead}
-use Rattle.hx_framing.specs.Fault.{number_of}
-use Rattle.hx_framing.specs.FaultOrder.{applies_to_request, counts, applies_to_response, IsLeast}
-use Rattle.hx_framing.specs.Lengths.{has_both, has_bad_length, has_endless_coding, has_other_coding, is_too_large, has_other_expectation, has_content, expects_continue, expectation, framing_shown, framing_of_response, is_without_content, is_taken_status, request_body_of, with_expectation, with_status}
+use Rattle.hx_framing.specs.Fault.{frame_fault_number}
+use Rattle.hx_framing.specs.FaultOrder.{fault_applies_to_request, length_fields_are_judged, fault_applies_to_response, IsLeastFault}
+use Rattle.hx_framing.specs.Lengths.{has_both_lengths, has_bad_length, has_endless_coding, has_other_coding, is_too_large, has_other_expectation, framing_has_content, expects_continue, expected_of_server, framing_of_faultless_fields, framing_of_response, response_has_no_content, is_accepted_status, request_body_of, with_expectation, framing_if_accepted_status}
 
 -- the faults of a head, of which some stand
 abbrev applies : Bool → Bool → Bool → Bool → Bool → Bool → FrameFault → Bool
@@ -25,8 +25,8 @@ applies both length coding large expect status fault.Truncated = false
 applies both length coding large expect status fault.Status = status
 
 -- the first of them
-abbrev first : {A : Type 0} → Bool → Bool → Bool → Bool → Bool → Bool → A → Result A FrameFault
-first both length coding large expect status a =
+abbrev first_bytes : {A : Type 0} → Bool → Bool → Bool → Bool → Bool → Bool → A → Result A FrameFault
+first_bytes both length coding large expect status a =
     cond both (Err fault.BothLengths)
     (cond length (Err fault.Length)
     (cond coding (Err fault.Coding)
@@ -37,7 +37,7 @@ first both length coding large expect status a =
 
 -- ---- a fault that stands has at least the number of the first
 
-from_both : (length coding large expect status : Bool) → (f : FrameFault) → applies true length coding large expect status f ≡ true → 3 ≤ number_of f
+from_both : (length coding large expect status : Bool) → (f : FrameFault) → applies true length coding large expect status f ≡ true → 3 ≤ frame_fault_number f
 from_both length coding large expect status fault.Head s = absurd cc
 from_both length coding large expect status fault.Version s = absurd cc
 from_both length coding large expect status fault.BothLengths s = omega arith
@@ -49,7 +49,7 @@ from_both length coding large expect status fault.Expect s = omega arith
 from_both length coding large expect status fault.Truncated s = absurd cc
 from_both length coding large expect status fault.Status s = omega arith
 
-from_length : (coding large expect status : Bool) → (f : FrameFault) → applies false true coding large expect status f ≡ true → 4 ≤ number_of f
+from_length : (coding large expect status : Bool) → (f : FrameFault) → applies false true coding large expect status f ≡ true → 4 ≤ frame_fault_number f
 from_length coding large expect status fault.Head s = absurd cc
 from_length coding large expect status fault.Version s = absurd cc
 from_length coding large expect status fault.BothLengths s = absurd cc
@@ -61,7 +61,7 @@ from_length coding large expect status fault.Expect s = omega arith
 from_length coding large expect status fault.Truncated s = absurd cc
 from_length coding large expect status fault.Status s = omega arith
 
-from_coding : (large expect status : Bool) → (f : FrameFault) → applies false false true large expect status f ≡ true → 5 ≤ number_of f
+from_coding : (large expect status : Bool) → (f : FrameFault) → applies false false true large expect status f ≡ true → 5 ≤ frame_fault_number f
 from_coding large expect status fault.Head s = absurd cc
 from_coding large expect status fault.Version s = absurd cc
 from_coding large expect status fault.BothLengths s = absurd cc
@@ -73,7 +73,7 @@ from_coding large expect status fault.Expect s = omega arith
 from_coding large expect status fault.Truncated s = absurd cc
 from_coding large expect status fault.Status s = omega arith
 
-from_large : (expect status : Bool) → (f : FrameFault) → applies false false false true expect status f ≡ true → 7 ≤ number_of f
+from_large : (expect status : Bool) → (f : FrameFault) → applies false false false true expect status f ≡ true → 7 ≤ frame_fault_number f
 from_large expect status fault.Head s = absurd cc
 from_large expect status fault.Version s = absurd cc
 from_large expect status fault.BothLengths s = absurd cc
@@ -85,7 +85,7 @@ from_large expect status fault.Expect s = omega arith
 from_large expect status fault.Truncated s = absurd cc
 from_large expect status fault.Status s = omega arith
 
-from_expect : (status : Bool) → (f : FrameFault) → applies false false false false true status f ≡ true → 8 ≤ number_of f
+from_expect : (status : Bool) → (f : FrameFault) → applies false false false false true status f ≡ true → 8 ≤ frame_fault_number f
 from_expect status fault.Head s = absurd cc
 from_expect status fault.Version s = absurd cc
 from_expect status fault.BothLengths s = absurd cc
@@ -97,7 +97,7 @@ from_expect status fault.Expect s = omega arith
 from_expect status fault.Truncated s = absurd cc
 from_expect status fault.Status s = omega arith
 
-from_status : (f : FrameFault) → applies false false false false false true f ≡ true → 10 ≤ number_of f
+from_status : (f : FrameFault) → applies false false false false false true f ≡ true → 10 ≤ frame_fault_number f
 from_status fault.Head s = absurd cc
 from_status fault.Version s = absurd cc
 from_status fault.BothLengths s = absurd cc
@@ -124,29 +124,29 @@ nothing fault.Status = refl
 same_error : {A : Type 0} (f g : FrameFault) → ◌≡◌ {A = Result A FrameFault} (Err g) (Err f) → g ≡ f
 same_error f g e = cc
 
-least : {A : Type 0} (both length coding large expect status : Bool) (a : A) (f : FrameFault) → first both length coding large expect status a ≡ Err f
-    → IsLeast (applies both length coding large expect status) f
+least : {A : Type 0} (both length coding large expect status : Bool) (a : A) (f : FrameFault) → first_bytes both length coding large expect status a ≡ Err f
+    → IsLeastFault (applies both length coding large expect status) f
 least true length coding large expect status a f h =
-    subst (λ (g : FrameFault). IsLeast (applies true length coding large expect status) g) (same_error f fault.BothLengths h)
+    subst (λ (g : FrameFault). IsLeastFault (applies true length coding large expect status) g) (same_error f fault.BothLengths h)
     (record { this = refl; least = from_both length coding large expect status })
 least false true coding large expect status a f h =
-    subst (λ (g : FrameFault). IsLeast (applies false true coding large expect status) g) (same_error f fault.Length h)
+    subst (λ (g : FrameFault). IsLeastFault (applies false true coding large expect status) g) (same_error f fault.Length h)
     (record { this = refl; least = from_length coding large expect status })
 least false false true large expect status a f h =
-    subst (λ (g : FrameFault). IsLeast (applies false false true large expect status) g) (same_error f fault.Coding h)
+    subst (λ (g : FrameFault). IsLeastFault (applies false false true large expect status) g) (same_error f fault.Coding h)
     (record { this = refl; least = from_coding large expect status })
 least false false false true expect status a f h =
-    subst (λ (g : FrameFault). IsLeast (applies false false false true expect status) g) (same_error f fault.TooLarge h)
+    subst (λ (g : FrameFault). IsLeastFault (applies false false false true expect status) g) (same_error f fault.TooLarge h)
     (record { this = refl; least = from_large expect status })
 least false false false false true status a f h =
-    subst (λ (g : FrameFault). IsLeast (applies false false false false true status) g) (same_error f fault.Expect h)
+    subst (λ (g : FrameFault). IsLeastFault (applies false false false false true status) g) (same_error f fault.Expect h)
     (record { this = refl; least = from_expect status })
 least false false false false false true a f h =
-    subst (λ (g : FrameFault). IsLeast (applies false false false false false true) g) (same_error f fault.Status h)
+    subst (λ (g : FrameFault). IsLeastFault (applies false false false false false true) g) (same_error f fault.Status h)
     (record { this = refl; least = from_status })
 least false false false false false false a f h = absurd cc
 
-none_applies : {A : Type 0} (both length coding large expect status : Bool) (a b : A) (f : FrameFault) → first both length coding large expect status a ≡ Ok b
+none_applies : {A : Type 0} (both length coding large expect status : Bool) (a b : A) (f : FrameFault) → first_bytes both length coding large expect status a ≡ Ok b
     → applies both length coding large expect status f ≡ false
 none_applies true length coding large expect status a b f h = absurd cc
 none_applies false true coding large expect status a b f h = absurd cc
@@ -157,26 +157,26 @@ none_applies false false false false false true a b f h = absurd cc
 none_applies false false false false false false a b f h = nothing f
 
 -- the same table
-same_least : (table other : FrameFault → Bool) (f : FrameFault) → ((g : FrameFault) → table g ≡ other g) → IsLeast table f → IsLeast other f
+same_least : (table other : FrameFault → Bool) (f : FrameFault) → ((g : FrameFault) → table g ≡ other g) → IsLeastFault table f → IsLeastFault other f
 same_least table other f same is = record { this = sym (same f) ∙ is.this; least = λ g s. is.least g (same g ∙ s) }
 
 -- ---- requests
 
 shown_request_body : Head → RequestBody
 shown_request_body head =
-    let shown : Framing = framing_shown framing.Nothing head.fields in
-    record { framing = shown; wants_continue = expects_continue (expectation head) && has_content shown }
+    let shown : Framing = framing_of_faultless_fields framing.Nothing head.fields in
+    record { framing = shown; wants_continue = expects_continue (expected_of_server head) && framing_has_content shown }
 
 request_first : (max : ℕ) (head : Head) → request_body_of max head
-    ≡ first (has_both head.fields) (has_bad_length head.minor head.fields || has_endless_coding head.fields) (has_other_coding head.fields)
-    (is_too_large max head.fields) (has_other_expectation (expectation head)) false (shown_request_body head)
+    ≡ first_bytes (has_both_lengths head.fields) (has_bad_length head.minor head.fields || has_endless_coding head.fields) (has_other_coding head.fields)
+    (is_too_large max head.fields) (has_other_expectation (expected_of_server head)) false (shown_request_body head)
 unfolding shown_request_body
 request_first max head =
-    by_tests (has_both head.fields) (has_bad_length head.minor head.fields || has_endless_coding head.fields) (has_other_coding head.fields) (is_too_large max head.fields)
+    by_tests (has_both_lengths head.fields) (has_bad_length head.minor head.fields || has_endless_coding head.fields) (has_other_coding head.fields) (is_too_large max head.fields)
   where
-    by_tests : (a b c d : Bool) → with_expectation (expectation head) (cond a (Err fault.BothLengths) (cond b (Err fault.Length) (cond c (Err fault.Coding)
-        (cond d (Err fault.TooLarge) (Ok (framing_shown framing.Nothing head.fields))))))
-        ≡ first a b c d (has_other_expectation (expectation head)) false (shown_request_body head)
+    by_tests : (a b c d : Bool) → with_expectation (expected_of_server head) (cond a (Err fault.BothLengths) (cond b (Err fault.Length) (cond c (Err fault.Coding)
+        (cond d (Err fault.TooLarge) (Ok (framing_of_faultless_fields framing.Nothing head.fields))))))
+        ≡ first_bytes a b c d (has_other_expectation (expected_of_server head)) false (shown_request_body head)
     by_tests true b c d = refl
     by_tests false true c d = refl
     by_tests false false true d = refl
@@ -184,9 +184,9 @@ request_first max head =
     by_tests false false false false = refl
 
 request_table : (max : ℕ) (head : Head) (f : FrameFault)
-    → applies (has_both head.fields) (has_bad_length head.minor head.fields || has_endless_coding head.fields) (has_other_coding head.fields)
-    (is_too_large max head.fields) (has_other_expectation (expectation head)) false f
-    ≡ applies_to_request max head f
+    → applies (has_both_lengths head.fields) (has_bad_length head.minor head.fields || has_endless_coding head.fields) (has_other_coding head.fields)
+    (is_too_large max head.fields) (has_other_expectation (expected_of_server head)) false f
+    ≡ fault_applies_to_request max head f
 request_table max head fault.Head = refl
 request_table max head fault.Version = refl
 request_table max head fault.BothLengths = refl
@@ -198,28 +198,28 @@ request_table max head fault.Expect = refl
 request_table max head fault.Truncated = refl
 request_table max head fault.Status = refl
 
-pub request_least : (max : ℕ) (head : Head) (f : FrameFault) → request_body_of max head ≡ Err f → IsLeast (applies_to_request max head) f
+pub request_least : (max : ℕ) (head : Head) (f : FrameFault) → request_body_of max head ≡ Err f → IsLeastFault (fault_applies_to_request max head) f
 request_least max head f h =
-    same_least _ (applies_to_request max head) f (request_table max head)
-    (least (has_both head.fields) (has_bad_length head.minor head.fields || has_endless_coding head.fields) (has_other_coding head.fields)
-    (is_too_large max head.fields) (has_other_expectation (expectation head)) false (shown_request_body head) f (sym (request_first max head) ∙ h))
+    same_least _ (fault_applies_to_request max head) f (request_table max head)
+    (least (has_both_lengths head.fields) (has_bad_length head.minor head.fields || has_endless_coding head.fields) (has_other_coding head.fields)
+    (is_too_large max head.fields) (has_other_expectation (expected_of_server head)) false (shown_request_body head) f (sym (request_first max head) ∙ h))
 
-pub request_none : (max : ℕ) (head : Head) (request_body : RequestBody) → request_body_of max head ≡ Ok request_body → (f : FrameFault) → applies_to_request max head f ≡ false
+pub request_none : (max : ℕ) (head : Head) (request_body : RequestBody) → request_body_of max head ≡ Ok request_body → (f : FrameFault) → fault_applies_to_request max head f ≡ false
 request_none max head request_body h f =
     sym (request_table max head f)
-    ∙ none_applies (has_both head.fields) (has_bad_length head.minor head.fields || has_endless_coding head.fields) (has_other_coding head.fields)
-    (is_too_large max head.fields) (has_other_expectation (expectation head)) false (shown_request_body head) request_body f (sym (request_first max head) ∙ h)
+    ∙ none_applies (has_both_lengths head.fields) (has_bad_length head.minor head.fields || has_endless_coding head.fields) (has_other_coding head.fields)
+    (is_too_large max head.fields) (has_other_expectation (expected_of_server head)) false (shown_request_body head) request_body f (sym (request_first max head) ∙ h)
 
 -- ---- responses
 
 response_framing : Bool → StatusHead → Framing
-response_framing to_head head = cond (counts to_head head) (framing_shown framing.UntilClose head.fields) framing.Nothing
+response_framing to_head head = cond (length_fields_are_judged to_head head) (framing_of_faultless_fields framing.UntilClose head.fields) framing.Nothing
 
 abbrev table_of : ℕ → Bool → StatusHead → FrameFault → Bool
 table_of max to_head head =
-    let judged : Bool = counts to_head head in
-    applies (judged && has_both head.fields) (judged && has_bad_length head.minor head.fields) (judged && has_other_coding head.fields)
-    (judged && is_too_large max head.fields) false (not (is_taken_status head.status))
+    let judged : Bool = length_fields_are_judged to_head head in
+    applies (judged && has_both_lengths head.fields) (judged && has_bad_length head.minor head.fields) (judged && has_other_coding head.fields)
+    (judged && is_too_large max head.fields) false (not (is_accepted_status head.status))
 
 or_false : (t : Bool) → (t || false) ≡ t
 or_false true = refl
@@ -230,28 +230,28 @@ abbrev with_status_by : Bool → Result Framing FrameFault → Result Framing Fr
 with_status_by taken (Err f) = Err f
 with_status_by taken (Ok shown) = cond taken (Ok shown) (Err fault.Status)
 
-same_status : (status : ℕ) (r : Result Framing FrameFault) → with_status status r ≡ with_status_by (is_taken_status status) r
+same_status : (status : ℕ) (r : Result Framing FrameFault) → framing_if_accepted_status status r ≡ with_status_by (is_accepted_status status) r
 same_status status (Err f) = refl
 same_status status (Ok shown) = refl
 
 response_order : (max : ℕ) (to_head : Bool) (head : StatusHead) → framing_of_response max to_head head
-    ≡ first (counts to_head head && has_both head.fields) (counts to_head head && has_bad_length head.minor head.fields)
-    (counts to_head head && has_other_coding head.fields) (counts to_head head && is_too_large max head.fields) false
-    (not (is_taken_status head.status)) (response_framing to_head head)
+    ≡ first_bytes (length_fields_are_judged to_head head && has_both_lengths head.fields) (length_fields_are_judged to_head head && has_bad_length head.minor head.fields)
+    (length_fields_are_judged to_head head && has_other_coding head.fields) (length_fields_are_judged to_head head && is_too_large max head.fields) false
+    (not (is_accepted_status head.status)) (response_framing to_head head)
 unfolding response_framing
 response_order max to_head head =
-    ap (λ (t : Bool). with_status head.status (cond (head.status == 101 || is_without_content to_head head.status) (Ok framing.Nothing)
-    (cond (has_both head.fields) (Err fault.BothLengths) (cond t (Err fault.Length) (cond (has_other_coding head.fields) (Err fault.Coding)
-    (cond (is_too_large max head.fields) (Err fault.TooLarge) (Ok (framing_shown framing.UntilClose head.fields))))))))
+    ap (λ (t : Bool). framing_if_accepted_status head.status (cond (head.status == 101 || response_has_no_content to_head head.status) (Ok framing.Nothing)
+    (cond (has_both_lengths head.fields) (Err fault.BothLengths) (cond t (Err fault.Length) (cond (has_other_coding head.fields) (Err fault.Coding)
+    (cond (is_too_large max head.fields) (Err fault.TooLarge) (Ok (framing_of_faultless_fields framing.UntilClose head.fields))))))))
     (or_false (has_bad_length head.minor head.fields))
     ∙ same_status head.status _
-    ∙ by_tests (head.status == 101 || is_without_content to_head head.status) (has_both head.fields) (has_bad_length head.minor head.fields) (has_other_coding head.fields)
-    (is_too_large max head.fields) (is_taken_status head.status)
+    ∙ by_tests (head.status == 101 || response_has_no_content to_head head.status) (has_both_lengths head.fields) (has_bad_length head.minor head.fields) (has_other_coding head.fields)
+    (is_too_large max head.fields) (is_accepted_status head.status)
   where
     by_tests : (w a b c d s : Bool)
         → with_status_by s (cond w (Ok framing.Nothing) (cond a (Err fault.BothLengths) (cond b (Err fault.Length) (cond c (Err fault.Coding)
-        (cond d (Err fault.TooLarge) (Ok (framing_shown framing.UntilClose head.fields)))))))
-        ≡ first (not w && a) (not w && b) (not w && c) (not w && d) false (not s) (cond (not w) (framing_shown framing.UntilClose head.fields) framing.Nothing)
+        (cond d (Err fault.TooLarge) (Ok (framing_of_faultless_fields framing.UntilClose head.fields)))))))
+        ≡ first_bytes (not w && a) (not w && b) (not w && c) (not w && d) false (not s) (cond (not w) (framing_of_faultless_fields framing.UntilClose head.fields) framing.Nothing)
     by_tests true a b c d true = refl
     by_tests true a b c d false = refl
     by_tests false true b c d s = refl
@@ -261,7 +261,7 @@ response_order max to_head head =
     by_tests false false false false false true = refl
     by_tests false false false false false false = refl
 
-response_table : (max : ℕ) (to_head : Bool) (head : StatusHead) (f : FrameFault) → table_of max to_head head f ≡ applies_to_response max to_head head f
+response_table : (max : ℕ) (to_head : Bool) (head : StatusHead) (f : FrameFault) → table_of max to_head head f ≡ fault_applies_to_response max to_head head f
 response_table max to_head head fault.Head = refl
 response_table max to_head head fault.Version = refl
 response_table max to_head head fault.BothLengths = refl
@@ -274,17 +274,17 @@ response_table max to_head head fault.Truncated = refl
 response_table max to_head head fault.Status = refl
 
 pub response_least : (max : ℕ) (to_head : Bool) (head : StatusHead) (f : FrameFault) → framing_of_response max to_head head ≡ Err f
-    → IsLeast (applies_to_response max to_head head) f
+    → IsLeastFault (fault_applies_to_response max to_head head) f
 response_least max to_head head f h =
-    same_least (table_of max to_head head) (applies_to_response max to_head head) f (response_table max to_head head)
-    (least (counts to_head head && has_both head.fields) (counts to_head head && has_bad_length head.minor head.fields)
-    (counts to_head head && has_other_coding head.fields) (counts to_head head && is_too_large max head.fields) false
-    (not (is_taken_status head.status)) (response_framing to_head head) f (sym (response_order max to_head head) ∙ h))
+    same_least (table_of max to_head head) (fault_applies_to_response max to_head head) f (response_table max to_head head)
+    (least (length_fields_are_judged to_head head && has_both_lengths head.fields) (length_fields_are_judged to_head head && has_bad_length head.minor head.fields)
+    (length_fields_are_judged to_head head && has_other_coding head.fields) (length_fields_are_judged to_head head && is_too_large max head.fields) false
+    (not (is_accepted_status head.status)) (response_framing to_head head) f (sym (response_order max to_head head) ∙ h))
 
 pub response_none : (max : ℕ) (to_head : Bool) (head : StatusHead) (framing : Framing) → framing_of_response max to_head head ≡ Ok framing
-    → (f : FrameFault) → applies_to_response max to_head head f ≡ false
+    → (f : FrameFault) → fault_applies_to_response max to_head head f ≡ false
 response_none max to_head head shown h f =
     sym (response_table max to_head head f)
-    ∙ none_applies (counts to_head head && has_both head.fields) (counts to_head head && has_bad_length head.minor head.fields)
-    (counts to_head head && has_other_coding head.fields) (counts to_head head && is_too_large max head.fields) false
-    (not (is_taken_status head.status)) (response_framing to_head head) shown f (sym (response_order max to_head head) ∙ h)
+    ∙ none_applies (length_fields_are_judged to_head head && has_both_lengths head.fields) (length_fields_are_judged to_head head && has_bad_length head.minor head.fields)
+    (length_fields_are_judged to_head head && has_other_coding head.fields) (length_fields_are_judged to_head head && is_too_large max head.fields) false
+    (not (is_accepted_status head.status)) (response_framing to_head head) shown f (sym (response_order max to_head head) ∙ h)

@@ -2,13 +2,13 @@
 use Rattle.std.proofs.Common.{◌≡◌, ℕ, ◌&&◌, ◌||◌, ◌==◌, not, Bool, true, false, cond, List, Option, Some, None, is_some, MatchOption, Result, Ok, Err, refl, ap, ◌∙◌, nat_lt, nat_le}
 use Rattle.std.proofs.lemmas.Bool.{leb-true, leb-false, le-ltb, lt-ltb}
 use Rattle.hx_fields.specs.declared.field_line.Field.{Field}
-use Rattle.hx_fields.specs.Lines.{has}
-use Rattle.hx_framing.specs.declared.fault.FrameFault.{FrameFault}
-use Rattle.hx_framing.specs.declared.fault.FrameFault.TheVariants as fault
+use Rattle.hx_fields.specs.FieldLines.{has_field}
+use Rattle.hx_framing.specs.declared.frame_fault.FrameFault.{FrameFault}
+use Rattle.hx_framing.specs.declared.frame_fault.FrameFault.TheVariants as fault
 use Rattle.hx_framing.specs.declared.lengths.framing.Framing.{Framing}
 use Rattle.hx_framing.specs.declared.lengths.framing.Framing.TheVariants as framing
-use Rattle.hx_framing.specs.ContentLength.{content_length, length_shown, length_up_to}
-use Rattle.hx_framing.specs.Lengths.{transfer_encoding, codings, ends_in_chunks, is_only_chunked, announced, is_above, framing_or, uncoded, framing_of_codings, framing_of_lengths, has_endless_coding}
+use Rattle.hx_framing.specs.ContentLength.{content_length_name, announced_length, length_up_to}
+use Rattle.hx_framing.specs.Lengths.{transfer_encoding_name, codings, last_coding_is_chunked, is_only_chunked, announced_framing, exceeds, announced_framing_or, framing_without_codings, framing_of_codings, framing_of_lengths, has_endless_coding}
 use Rattle.hx_framing.proofs.LengthShown.{absent_shown}
 
 -- coded, stands: which of the fields stand; zero: it is HTTP/1.0; endless, only: what the codings are
@@ -18,13 +18,13 @@ module _ (max_body : ℕ) (neither : Framing) where
       cond (coded && represents) (Err fault.BothLengths)
       (cond (((coded && zero) || (represents && not (is_some shown))) || endless) (Err fault.Length)
       (cond (coded && not only) (Err fault.Coding)
-      (cond (is_above max_body shown) (Err fault.TooLarge) (Ok (cond coded framing.Chunked (framing_or neither shown))))))
+      (cond (exceeds max_body shown) (Err fault.TooLarge) (Ok (cond coded framing.Chunked (announced_framing_or neither shown))))))
 
   -- the same without the codings
   abbrev judged_uncoded : (coded represents zero : Bool) → Option ℕ → Option (Result Framing FrameFault)
   judged_uncoded coded represents zero shown =
       cond (coded && represents) (Some (Err fault.BothLengths))
-      (cond (not coded) (Some (cond represents (announced (length_up_to max_body shown)) (Ok neither)))
+      (cond (not coded) (Some (cond represents (announced_framing (length_up_to max_body shown)) (Ok neither)))
       (cond zero (Some (Err fault.Length)) None))
 
   above : {A : Type 0} (n : ℕ) (large small : A) → cond (nat_lt max_body n) large small ≡ cond (nat_le n max_body) small large
@@ -36,11 +36,11 @@ module _ (max_body : ℕ) (neither : Framing) where
 
   -- without codings
   by_length : (represents zero only : Bool) (shown : Option ℕ) → (represents ≡ false → shown ≡ None)
-      → judged false represents zero false only shown ≡ cond represents (announced (length_up_to max_body shown)) (Ok neither)
+      → judged false represents zero false only shown ≡ cond represents (announced_framing (length_up_to max_body shown)) (Ok neither)
   by_length true zero only None none = refl
   by_length true zero only (Some n) none = above n (Err fault.TooLarge) (Ok (framing.Announced n)) ∙ by_test (nat_le n max_body)
     where
-      by_test : (t : Bool) → cond t (Ok (framing.Announced n)) (Err fault.TooLarge) ≡ announced (cond t (Ok n) (Err fault.TooLarge))
+      by_test : (t : Bool) → cond t (Ok (framing.Announced n)) (Err fault.TooLarge) ≡ announced_framing (cond t (Ok n) (Err fault.TooLarge))
       by_test true = refl
       by_test false = refl
   by_length false zero only shown none = ap (judged false false zero false only) (none refl)
@@ -67,12 +67,12 @@ module _ (max_body : ℕ) (neither : Framing) where
   by_lengths false represents zero false ends only shown none = by_codings false represents zero false only shown none (λ e. refl)
 
 pub lengths-uncoded : (max_body minor : ℕ) (neither : Framing) (must_end : Bool) (fields : List Field)
-    → MatchOption (uncoded max_body minor neither fields)
+    → MatchOption (framing_without_codings max_body minor neither fields)
     (framing_of_lengths max_body minor neither (must_end && has_endless_coding fields) fields ≡ framing_of_codings must_end (codings fields))
     (λ r. framing_of_lengths max_body minor neither (must_end && has_endless_coding fields) fields ≡ r)
 lengths-uncoded max_body minor neither must_end fields =
-    by_lengths max_body neither (has fields transfer_encoding) (has fields content_length) (minor == 0) must_end
-    (ends_in_chunks (codings fields)) (is_only_chunked (codings fields)) (length_shown fields) (absent_shown fields)
+    by_lengths max_body neither (has_field fields transfer_encoding_name) (has_field fields content_length_name) (minor == 0) must_end
+    (last_coding_is_chunked (codings fields)) (is_only_chunked (codings fields)) (announced_length fields) (absent_shown fields)
 
 -- what a call found without the codings, and where they count
 module _ (whole coded : Result Framing FrameFault) where

@@ -11,29 +11,29 @@ use Rattle.httparse.specs.Pieces.{is_newline}
 use Rattle.httparse.proofs.GrammarLemmas.{print_request-append, print_response-append}
 use Rattle.httparse.proofs.PieceLemmas.{token_is_no_newline}
 use Rattle.hx_fields.specs.declared.field_line.Field.{Field as Line}
-use Rattle.hx_fields.specs.Lines.{has, is_named, without_named}
+use Rattle.hx_fields.specs.FieldLines.{has_field, is_named, without_named}
 use Rattle.hx_framing.specs.declared.heads.request_head.Head.{Head}
 use Rattle.hx_framing.specs.declared.heads.status_head.StatusHead.{StatusHead}
 use Rattle.hx_framing.specs.declared.messages.Request.{Request}
 use Rattle.hx_framing.specs.declared.messages.Response.{Response}
 use Rattle.hx_framing.specs.declared.lengths.framing.RequestBody.{RequestBody}
 use Rattle.hx_framing.specs.declared.lengths.framing.Framing.{Framing}
-use Rattle.hx_framing.specs.declared.fault.FrameFault.{FrameFault}
-use Rattle.hx_framing.specs.declared.fault.FrameFault.TheVariants as fault
-use Rattle.hx_framing.specs.Places.{empty_lines_length, head_length, most_head_bytes}
+use Rattle.hx_framing.specs.declared.frame_fault.FrameFault.{FrameFault}
+use Rattle.hx_framing.specs.declared.frame_fault.FrameFault.TheVariants as fault
+use Rattle.hx_framing.specs.HeadEnd.{empty_lines_length, head_length, most_head_bytes}
 use Rattle.hx_framing.specs.Version.{start_line, without_return}
-use Rattle.hx_framing.specs.Head.{IsHead, Judges, field_of, head_of}
+use Rattle.hx_framing.specs.Head.{IsHeadOfRequest, RequestHeadIsJudged, field_of_grammar, head_of_grammar}
 use Rattle.hx_framing.specs.StatusHead as status
 use Rattle.hx_framing.specs.StatusHead.{IsStatusHead, status_head_of}
-use Rattle.hx_framing.specs.Body.{Body, Short, Bad, Whole}
-use Rattle.hx_framing.specs.Contents.{body_at}
-use Rattle.hx_framing.specs.ContentLength.{content_length}
-use Rattle.hx_framing.specs.Lengths.{transfer_encoding, request_body_of, framing_of_response, without_lengths}
-use Rattle.hx_framing.specs.Reading.{Continue, Over, Spelled, Faulty, cut_off, with_body}
-use Rattle.hx_framing.specs.RequestReading.{Reads, ReadsBy, request_of, with_request_body}
+use Rattle.hx_framing.specs.Body.{ContentFound, Short, Bad, Whole}
+use Rattle.hx_framing.specs.Contents.{content_at}
+use Rattle.hx_framing.specs.ContentLength.{content_length_name}
+use Rattle.hx_framing.specs.Lengths.{transfer_encoding_name, request_body_of, framing_of_response, without_lengths}
+use Rattle.hx_framing.specs.Reading.{Continue, Over, Spelled, Faulty, reading_cut_off, reading_with_content}
+use Rattle.hx_framing.specs.RequestReading.{Reads, RequestReadsByLength, request_of_head, reading_with_request_body}
 use Rattle.hx_framing.specs.ResponseReading as response
-use Rattle.hx_framing.specs.ResponseReading.{FrontBy, Passes, response_of, with_framing}
-use Rattle.hx_framing.specs.GivenFields.{GivesFields, SpellsRequestLine, SpellsStatusLine, phrase_text, is_target_byte}
+use Rattle.hx_framing.specs.ResponseReading.{FrontReadsByLength, PassesInterimResponses, response_of_head, reading_with_framing}
+use Rattle.hx_framing.specs.GivenFields.{HeadGivesFields, LineSpellsRequestLine, LineSpellsStatusLine, reason_phrase_text, is_request_target_byte}
 use Rattle.hx_framing.proofs.HeadLineLemmas.{IsNo, each, token_byte, uri_byte, digit_byte, token, first_at, with_return, without_return-is, text_of, blank_is, lines_of, one_line, section_lines, empty_end, version}
 use Rattle.hx_framing.proofs.GivenLemmas.{spell_all}
 
@@ -62,7 +62,7 @@ behind_empty_lines bytes line end fields last s =
     ap (λ n. drop n bytes) blank ∙ ap (drop (length (print_blank s.ends))) s.parts ∙ drop-append_seam (print_blank s.ends) rest
 
 gives : (bytes line : List ℕ) (end : LineEnd) (fields : List Field) (last : LineEnd) → Split bytes line end fields last
-    → GivesFields bytes (map field_of fields)
+    → HeadGivesFields bytes (map field_of_grammar fields)
 gives bytes line end fields last s = record {
   lines = map text_of fields;
   last = with_return [] last;
@@ -111,7 +111,7 @@ spaced stop a b apart first second = All-append (IsNo stop) a (32 ∷ b) first (
 abbrev request_line : RequestHead → List ℕ
 request_line h = h.method ++ 32 ∷ (h.target ++ 32 ∷ print_version h.minor)
 
-split_request : (bytes : List ℕ) (h : RequestHead) → IsHead bytes h → Split bytes (request_line h) h.line_end h.fields h.last
+split_request : (bytes : List ℕ) (h : RequestHead) → IsHeadOfRequest bytes h → Split bytes (request_line h) h.line_end h.fields h.last
 split_request bytes h head = by_method h.method refl head.0.0.method
   where
     regroup : (m t v e s : List ℕ) → m ++ 32 ∷ (t ++ 32 ∷ (v ++ (e ++ (s ++ [])))) ≡ (m ++ 32 ∷ (t ++ 32 ∷ v)) ++ (e ++ s)
@@ -136,22 +136,22 @@ split_request bytes h head = by_method h.method refl head.0.0.method
               ∙ ap (λ t. print_blank h.blank ++ t) (regroup h.method h.target (print_version h.minor) (print_end h.line_end) (print_section h.fields h.last));
         }
 
-request_starts : (bytes : List ℕ) (h : RequestHead) → IsHead bytes h → SpellsRequestLine (start_line bytes) (head_of h)
+request_starts : (bytes : List ℕ) (h : RequestHead) → IsHeadOfRequest bytes h → LineSpellsRequestLine (start_line bytes) (head_of_grammar h)
 request_starts bytes h head = record {
   parts = starts bytes (request_line h) h.line_end h.fields h.last (split_request bytes h head);
   method = token h.method head.0.0.method;
-  target = (head.0.0.target.0, list_all-from_AllPass is_target_byte h.target head.0.0.target.1);
+  target = (head.0.0.target.0, list_all-from_AllPass is_request_target_byte h.target head.0.0.target.1);
   minor = head.0.0.minor;
 }
 
-pub request_gives : (bytes : List ℕ) (head : Head) → Judges bytes (Ok head) → GivesFields bytes head.fields
+pub request_gives : (bytes : List ℕ) (head : Head) → RequestHeadIsJudged bytes (Ok head) → HeadGivesFields bytes head.fields
 request_gives bytes head judged =
-    subst (λ (k : Head). GivesFields bytes k.fields) (sym judged.2)
+    subst (λ (k : Head). HeadGivesFields bytes k.fields) (sym judged.2)
     (gives bytes (request_line judged.0) judged.0.line_end judged.0.fields judged.0.last (split_request bytes judged.0 judged.1))
 
-pub request_first : (bytes : List ℕ) (head : Head) → Judges bytes (Ok head) → SpellsRequestLine (start_line bytes) head
+pub request_first : (bytes : List ℕ) (head : Head) → RequestHeadIsJudged bytes (Ok head) → LineSpellsRequestLine (start_line bytes) head
 request_first bytes head judged =
-    subst (λ (k : Head). SpellsRequestLine (start_line bytes) k) (sym judged.2) (request_starts bytes judged.0 judged.1)
+    subst (λ (k : Head). LineSpellsRequestLine (start_line bytes) k) (sym judged.2) (request_starts bytes judged.0 judged.1)
 
 -- ---- responses
 
@@ -186,7 +186,7 @@ split_response bytes h head =
     regroup : (v d r e s : List ℕ) → v ++ 32 ∷ (d ++ (r ++ (e ++ (s ++ [])))) ≡ (v ++ 32 ∷ (d ++ r)) ++ (e ++ s)
     regroup v d r e s = simp (append_assoc, append-nil)
 
-response_starts : (bytes : List ℕ) (h : ResponseHead) → IsStatusHead bytes h → SpellsStatusLine (start_line bytes) (status_head_of h)
+response_starts : (bytes : List ℕ) (h : ResponseHead) → IsStatusHead bytes h → LineSpellsStatusLine (start_line bytes) (status_head_of h)
 response_starts bytes h head = record {
   digits = h.digits;
   phrase = h.reason;
@@ -197,23 +197,23 @@ response_starts bytes h head = record {
   minor = head.0.0.minor;
 }
   where
-    same_reason : (r : Option (List ℕ)) → print_version h.minor ++ 32 ∷ (h.digits ++ print_reason r) ≡ print_version h.minor ++ 32 ∷ (h.digits ++ phrase_text r)
+    same_reason : (r : Option (List ℕ)) → print_version h.minor ++ 32 ∷ (h.digits ++ print_reason r) ≡ print_version h.minor ++ 32 ∷ (h.digits ++ reason_phrase_text r)
     same_reason None = refl
     same_reason (Some phrase) = refl
 
-pub response_gives : (bytes : List ℕ) (head : StatusHead) → status.Judges bytes (Ok head) → GivesFields bytes head.fields
+pub response_gives : (bytes : List ℕ) (head : StatusHead) → status.ResponseHeadIsJudged bytes (Ok head) → HeadGivesFields bytes head.fields
 response_gives bytes head judged =
-    subst (λ (k : StatusHead). GivesFields bytes k.fields) (sym judged.2)
+    subst (λ (k : StatusHead). HeadGivesFields bytes k.fields) (sym judged.2)
     (gives bytes (status_line judged.0) judged.0.line_end judged.0.fields judged.0.last (split_response bytes judged.0 judged.1))
 
-pub response_first : (bytes : List ℕ) (head : StatusHead) → status.Judges bytes (Ok head) → SpellsStatusLine (start_line bytes) head
+pub response_first : (bytes : List ℕ) (head : StatusHead) → status.ResponseHeadIsJudged bytes (Ok head) → LineSpellsStatusLine (start_line bytes) head
 response_first bytes head judged =
-    subst (λ (k : StatusHead). SpellsStatusLine (start_line bytes) k) (sym judged.2) (response_starts bytes judged.0 judged.1)
+    subst (λ (k : StatusHead). LineSpellsStatusLine (start_line bytes) k) (sym judged.2) (response_starts bytes judged.0 judged.1)
 
 -- ---- what is read
 
 -- a message that is read was made with a content
-body_makes : {M : Type 0} (e : Bool) (make : Option (List ℕ) → M) (body : Body) (m : M) (rest : List ℕ) → Spelled m rest ≡ with_body e make body
+body_makes : {M : Type 0} (e : Bool) (make : Option (List ℕ) → M) (body : ContentFound) (m : M) (rest : List ℕ) → Spelled m rest ≡ reading_with_content e make body
     → (content : Option (List ℕ)) × (m ≡ make content)
 body_makes true make Short m rest is = absurd cc
 body_makes false make Short m rest is = absurd cc
@@ -223,20 +223,20 @@ body_makes e make (Whole content behind) m rest is = (content, cc)
 abbrev RequestLines : List ℕ → Request → Type 0
 RequestLines bytes given =
     (n : ℕ) × (head_length (take most_head_bytes bytes) ≡ Some n)
-    × ((fields : List Line) × GivesFields (take n bytes) fields × (given.fields ≡ without_lengths fields))
+    × ((fields : List Line) × HeadGivesFields (take n bytes) fields × (given.fields ≡ without_lengths fields))
 
 request_body_makes : (max : ℕ) (e t : Bool) (head : Head) (bytes : List ℕ) (m : Request) (rest : List ℕ) (f : Result RequestBody FrameFault)
-    → Spelled m rest ≡ with_request_body max e t head bytes f → m.fields ≡ without_lengths head.fields
+    → Spelled m rest ≡ reading_with_request_body max e t head bytes f → m.fields ≡ without_lengths head.fields
 request_body_makes max e t head bytes m rest (Err f) is = absurd cc
 request_body_makes max e t head bytes m rest (Ok request_body) is = by_wish (request_body.wants_continue && not t) is
   where
-    by_wish : (w : Bool) → Spelled m rest ≡ cond w Continue (with_body e (request_of head) (body_at max request_body.framing false bytes))
+    by_wish : (w : Bool) → Spelled m rest ≡ cond w Continue (reading_with_content e (request_of_head head) (content_at max request_body.framing false bytes))
         → m.fields ≡ without_lengths head.fields
     by_wish true is = absurd cc
     by_wish false is =
-        let made = body_makes e (request_of head) (body_at max request_body.framing false bytes) m rest is in ap (λ (r : Request). r.fields) made.1
+        let made = body_makes e (request_of_head head) (content_at max request_body.framing false bytes) m rest is in ap (λ (r : Request). r.fields) made.1
 
-no_request : (e over blank : Bool) (m : Request) (r : List ℕ) → Spelled m r ≡ cond over (Faulty fault.Head) (cond (e && blank) Over (cut_off e)) → ⊥
+no_request : (e over blank : Bool) (m : Request) (r : List ℕ) → Spelled m r ≡ cond over (Faulty fault.Head) (cond (e && blank) Over (reading_cut_off e)) → ⊥
 no_request e true blank m r is = cc
 no_request true false true m r is = cc
 no_request true false false m r is = cc
@@ -246,7 +246,7 @@ pub request_lines_given : (max : ℕ) (e t : Bool) (bytes : List ℕ) (given : R
     → RequestLines bytes given
 request_lines_given max e t bytes given rest reads = by_place (head_length (take most_head_bytes bytes)) refl reads
   where
-    by_place : (o : Option ℕ) → head_length (take most_head_bytes bytes) ≡ o → ReadsBy max e t bytes o (Spelled given rest) → RequestLines bytes given
+    by_place : (o : Option ℕ) → head_length (take most_head_bytes bytes) ≡ o → RequestReadsByLength max e t bytes o (Spelled given rest) → RequestLines bytes given
     by_place None place is = absurd (no_request e (nat_lt most_head_bytes (length bytes)) (empty_lines_length bytes == length bytes) given rest is)
     by_place (Some n) place (Err f, judged, is) = absurd cc
     by_place (Some n) place (Ok head, judged, is) =
@@ -255,25 +255,25 @@ request_lines_given max e t bytes given rest reads = by_place (head_length (take
 abbrev ResponseLines : List ℕ → Response → Type 0
 ResponseLines front given =
     (n : ℕ) × (head_length (take most_head_bytes front) ≡ Some n)
-    × ((fields : List Line) × GivesFields (take n front) fields × (given.fields ≡ without_lengths fields))
+    × ((fields : List Line) × HeadGivesFields (take n front) fields × (given.fields ≡ without_lengths fields))
 
 framing_makes : (max : ℕ) (h e : Bool) (head : StatusHead) (bytes : List ℕ) (m : Response) (rest : List ℕ) (f : Result Framing FrameFault)
-    → Spelled m rest ≡ with_framing max h e head bytes f → m.fields ≡ without_lengths head.fields
+    → Spelled m rest ≡ reading_with_framing max h e head bytes f → m.fields ≡ without_lengths head.fields
 framing_makes max h e head bytes m rest (Err f) is = absurd cc
 framing_makes max h e head bytes m rest (Ok framing) is =
-    let made = body_makes e (response_of h head) (body_at max framing e bytes) m rest is in ap (λ (r : Response). r.fields) made.1
+    let made = body_makes e (response_of_head h head) (content_at max framing e bytes) m rest is in ap (λ (r : Response). r.fields) made.1
 
-no_response : (e over : Bool) (m : Response) (r : List ℕ) → Spelled m r ≡ cond over (Faulty fault.Head) (cut_off e) → ⊥
+no_response : (e over : Bool) (m : Response) (r : List ℕ) → Spelled m r ≡ cond over (Faulty fault.Head) (reading_cut_off e) → ⊥
 no_response e true m r is = cc
 no_response true false m r is = cc
 no_response false false m r is = cc
 
 pub response_lines_given : (max : ℕ) (h e : Bool) (bytes : List ℕ) (given : Response) (rest : List ℕ) → response.Reads max h e bytes (Spelled given rest)
-    → (sizes : List ℕ) × (front : List ℕ) × Passes bytes sizes front × ResponseLines front given
+    → (sizes : List ℕ) × (front : List ℕ) × PassesInterimResponses bytes sizes front × ResponseLines front given
 response_lines_given max h e bytes given rest (sizes, front, passes, reads) =
     (sizes, front, passes, by_place (head_length (take most_head_bytes front)) refl reads)
   where
-    by_place : (o : Option ℕ) → head_length (take most_head_bytes front) ≡ o → FrontBy max h e front o (Spelled given rest) → ResponseLines front given
+    by_place : (o : Option ℕ) → head_length (take most_head_bytes front) ≡ o → FrontReadsByLength max h e front o (Spelled given rest) → ResponseLines front given
     by_place None place is = absurd (no_response e (nat_lt most_head_bytes (length front)) given rest is)
     by_place (Some n) place (Err f, judged, final, is) = absurd cc
     by_place (Some n) place (Ok head, judged, final, is) =
@@ -284,24 +284,24 @@ response_lines_given max h e bytes given rest (sizes, front, passes, reads) =
 pub record IsMadeRequest (given : Request) : Type 0 where
   pub text : List ℕ
   pub head : Head
-  pub judged : Judges text (Ok head)
+  pub judged : RequestHeadIsJudged text (Ok head)
   pub minor : given.minor ≡ head.minor
   pub fields : given.fields ≡ without_lengths head.fields
 
 request_body_minor : (max : ℕ) (e t : Bool) (head : Head) (bytes : List ℕ) (m : Request) (rest : List ℕ) (f : Result RequestBody FrameFault)
-    → Spelled m rest ≡ with_request_body max e t head bytes f → m.minor ≡ head.minor
+    → Spelled m rest ≡ reading_with_request_body max e t head bytes f → m.minor ≡ head.minor
 request_body_minor max e t head bytes m rest (Err f) is = absurd cc
 request_body_minor max e t head bytes m rest (Ok request_body) is = by_wish (request_body.wants_continue && not t) is
   where
-    by_wish : (w : Bool) → Spelled m rest ≡ cond w Continue (with_body e (request_of head) (body_at max request_body.framing false bytes)) → m.minor ≡ head.minor
+    by_wish : (w : Bool) → Spelled m rest ≡ cond w Continue (reading_with_content e (request_of_head head) (content_at max request_body.framing false bytes)) → m.minor ≡ head.minor
     by_wish true is = absurd cc
     by_wish false is =
-        let made = body_makes e (request_of head) (body_at max request_body.framing false bytes) m rest is in ap (λ (r : Request). r.minor) made.1
+        let made = body_makes e (request_of_head head) (content_at max request_body.framing false bytes) m rest is in ap (λ (r : Request). r.minor) made.1
 
 request_made : (max : ℕ) (e t : Bool) (bytes : List ℕ) (given : Request) (rest : List ℕ) → Reads max e t bytes (Spelled given rest) → IsMadeRequest given
 request_made max e t bytes given rest reads = by_place (head_length (take most_head_bytes bytes)) reads
   where
-    by_place : (o : Option ℕ) → ReadsBy max e t bytes o (Spelled given rest) → IsMadeRequest given
+    by_place : (o : Option ℕ) → RequestReadsByLength max e t bytes o (Spelled given rest) → IsMadeRequest given
     by_place None is = absurd (no_request e (nat_lt most_head_bytes (length bytes)) (empty_lines_length bytes == length bytes) given rest is)
     by_place (Some n) (Err f, judged, is) = absurd cc
     by_place (Some n) (Ok head, judged, is) = record {
@@ -318,35 +318,35 @@ request_minor max e t bytes given rest reads =
     omega (arith, made.minor, (request_first made.text made.head made.judged).minor)
 
 -- no line of a name is left where they are taken out
-none_named : (fields : List Line) (name : List ℕ) → has (without_named fields name) name ≡ false
+none_named : (fields : List Line) (name : List ℕ) → has_field (without_named fields name) name ≡ false
 none_named [] name = refl
 none_named (f ∷ fields) name = by_test (is_named name f) refl (none_named fields name)
   where
-    by_test : (t : Bool) → is_named name f ≡ t → has (without_named fields name) name ≡ false
-        → has (cond (not t) (f ∷ without_named fields name) (without_named fields name)) name ≡ false
+    by_test : (t : Bool) → is_named name f ≡ t → has_field (without_named fields name) name ≡ false
+        → has_field (cond (not t) (f ∷ without_named fields name) (without_named fields name)) name ≡ false
     by_test true p later = later
-    by_test false p later = or_from (is_named name f) (has (without_named fields name) name) p later
+    by_test false p later = or_from (is_named name f) (has_field (without_named fields name) name) p later
 
 -- nor does one come back with others taken out
-none_back : (fields : List Line) (name other : List ℕ) → has fields name ≡ false → has (without_named fields other) name ≡ false
+none_back : (fields : List Line) (name other : List ℕ) → has_field fields name ≡ false → has_field (without_named fields other) name ≡ false
 none_back [] name other none = refl
 none_back (f ∷ fields) name other none =
-    let parts = or_parts (is_named name f) (has fields name) none in
+    let parts = or_parts (is_named name f) (has_field fields name) none in
     by_test (is_named other f) (none_back fields name other parts.1) parts.0
   where
-    by_test : (t : Bool) → has (without_named fields other) name ≡ false → is_named name f ≡ false
-        → has (cond (not t) (f ∷ without_named fields other) (without_named fields other)) name ≡ false
+    by_test : (t : Bool) → has_field (without_named fields other) name ≡ false → is_named name f ≡ false
+        → has_field (cond (not t) (f ∷ without_named fields other) (without_named fields other)) name ≡ false
     by_test true later p = later
-    by_test false later p = or_from (is_named name f) (has (without_named fields other) name) p later
+    by_test false later p = or_from (is_named name f) (has_field (without_named fields other) name) p later
 
-pub no_lengths : (fields : List Line) → (has (without_lengths fields) content_length ≡ false) × (has (without_lengths fields) transfer_encoding ≡ false)
+pub no_lengths : (fields : List Line) → (has_field (without_lengths fields) content_length_name ≡ false) × (has_field (without_lengths fields) transfer_encoding_name ≡ false)
 no_lengths fields = (
-  none_back (without_named fields content_length) content_length transfer_encoding (none_named fields content_length),
-  none_named (without_named fields content_length) transfer_encoding,
+  none_back (without_named fields content_length_name) content_length_name transfer_encoding_name (none_named fields content_length_name),
+  none_named (without_named fields content_length_name) transfer_encoding_name,
 )
 
 abbrev HasNoLengths : List Line → Type 0
-HasNoLengths fields = (has fields content_length ≡ false) × (has fields transfer_encoding ≡ false)
+HasNoLengths fields = (has_field fields content_length_name ≡ false) × (has_field fields transfer_encoding_name ≡ false)
 
 pub request_without_lengths : (max : ℕ) (e t : Bool) (bytes : List ℕ) (given : Request) (rest : List ℕ) → Reads max e t bytes (Spelled given rest)
     → HasNoLengths given.fields

@@ -11,9 +11,9 @@ use Rattle.httparse.proofs.TrimLemmas.{AllPass-trim_ows, AllPass-reverse}
 use Rattle.hx_fields.specs.declared.field_line.Field.{Field as Line}
 use Rattle.hx_fields.specs.Names.{is_blank, is_nonempty}
 use Rattle.hx_fields.specs.Tokens as tokens
-use Rattle.hx_framing.specs.Head.{field_of}
+use Rattle.hx_framing.specs.Head.{field_of_grammar}
 use Rattle.hx_framing.specs.HeadLines.{is_colon}
-use Rattle.hx_framing.specs.GivenFields.{is_content_byte, IsTrimmed, SpellsField, SpellFields, GivesFields}
+use Rattle.hx_framing.specs.GivenFields.{is_content_byte, IsTrimmed, LineSpellsField, LinesSpellFields, HeadGivesFields}
 use Rattle.hx_framing.proofs.HeadLineLemmas.{IsNo, each, value_byte, token_byte, token_no_colon, same_token_byte, token, first_at, without_return-is, text_of}
 
 -- ---- white space
@@ -131,7 +131,7 @@ no_return f field =
     let raw = each is_value_byte (IsNo 13) f.raw (λ b v. (value_byte b v).0) field.raw in
     All-append (IsNo 13) f.name (58 ∷ f.raw) name (All-cons (IsNo 13) 58 f.raw refl raw)
 
-spells : (f : Field) → IsField f → SpellsField (text_of f) (field_of f)
+spells : (f : Field) → IsField f → LineSpellsField (text_of f) (field_of_grammar f)
 spells f field =
     let t = trims f.raw in record {
       before = t.before;
@@ -143,7 +143,7 @@ spells f field =
       white = t.white;
     }
 
-pub spell_all : (fields : List Field) → All IsField fields → SpellFields (map text_of fields) (map field_of fields)
+pub spell_all : (fields : List Field) → All IsField fields → LinesSpellFields (map text_of fields) (map field_of_grammar fields)
 spell_all [] fine = tt
 spell_all (f ∷ fields) fine = (spells f (All-head IsField f fields fine), spell_all fields (All-tail IsField f fields fine))
 
@@ -165,8 +165,8 @@ cut_once a b r q first second same =
     = sym (drop-append_seam a (58 ∷ r)) ∙ ap (drop (length a)) same ∙ ap (λ n. drop n (b ++ 58 ∷ q)) long ∙ drop-append_seam b (58 ∷ q) in
     (names, ap (drop 1) behind)
 
-pub spelled_once : (line : List ℕ) (f g : Line) → SpellsField line f → SpellsField line g → f ≡ g
-spelled_once line f g x y =
+pub a_stream_spells_one_list : (line : List ℕ) (f g : Line) → LineSpellsField line f → LineSpellsField line g → f ≡ g
+a_stream_spells_one_list line f g x y =
     let rest : List ℕ = x.before ++ (f.value ++ x.behind) in
     let cut = cut_once f.name g.name rest (y.before ++ (g.value ++ y.behind)) x.name y.name (sym x.parts ∙ y.parts) in
     let first : f.value ≡ trim_ows rest
@@ -176,14 +176,14 @@ spelled_once line f g x y =
     let values : f.value ≡ g.value = first ∙ sym second in
     λ i. record { name = cut.0 i; value = values i }
 
-all_once : (lines : List (List ℕ)) (fs gs : List Line) → SpellFields lines fs → SpellFields lines gs → fs ≡ gs
+all_once : (lines : List (List ℕ)) (fs gs : List Line) → LinesSpellFields lines fs → LinesSpellFields lines gs → fs ≡ gs
 all_once [] [] [] x y = refl
 all_once [] [] (g ∷ gs) x y = absurd y
 all_once [] (f ∷ fs) gs x y = absurd x
 all_once (line ∷ lines) [] gs x y = absurd x
 all_once (line ∷ lines) (f ∷ fs) [] x y = absurd y
 all_once (line ∷ lines) (f ∷ fs) (g ∷ gs) x y =
-    let first = spelled_once line f g x.0 y.0 in
+    let first = a_stream_spells_one_list line f g x.0 y.0 in
     let later = all_once lines fs gs x.1 y.1 in
     λ i. first i ∷ later i
 
@@ -195,7 +195,7 @@ same_lines xs ys a b same =
     sym (take-append_seam xs (a ∷ [] ∷ [])) ∙ ap (take (length xs)) same ∙ ap (λ n. take n (ys ++ b ∷ [] ∷ [])) long
     ∙ take-append_seam ys (b ∷ [] ∷ [])
 
-pub given_once : (bytes : List ℕ) (fs gs : List Line) → GivesFields bytes fs → GivesFields bytes gs → fs ≡ gs
+pub given_once : (bytes : List ℕ) (fs gs : List Line) → HeadGivesFields bytes fs → HeadGivesFields bytes gs → fs ≡ gs
 given_once bytes fs gs x y =
     let lines : x.lines ≡ y.lines = same_lines x.lines y.lines x.last y.last (sym x.are ∙ y.are) in
-    all_once y.lines fs gs (subst (λ (ls : List (List ℕ)). SpellFields ls fs) lines x.spelled) y.spelled
+    all_once y.lines fs gs (subst (λ (ls : List (List ℕ)). LinesSpellFields ls fs) lines x.spelled) y.spelled

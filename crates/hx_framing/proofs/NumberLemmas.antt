@@ -9,7 +9,7 @@ use Rattle.std.proofs.lemmas.Int.Digits.{digits_value-lt}
 use Rattle.std.proofs.lemmas.Slice.Eq.{bytes_eq-Decides}
 use Rattle.std.proofs.lemmas.Str.{digit_value_digit}
 use Rattle.std.specs.Bool.{one_answer}
-use Rattle.hx_framing.specs.ContentLength.{significant}
+use Rattle.hx_framing.specs.ContentLength.{without_leading_zeros}
 
 in_range : (c : ℕ) → is_ascii_digit c ≡ true → (48 ≤ c) × (c ≤ 57)
 in_range c digit = let both = and_parts (leb 48 c) (leb c 57) digit in (leb-true 48 c both.0, leb-true c 57 both.1)
@@ -81,49 +81,49 @@ one_text a b da db sa sb same = by (cases_order (length a) (length b))
     by (inr (inr more)) = absurd (omega (arith, longer b a db da sa more))
 
 -- a text begins with a zero, or it is significant as it stands
-zero_in_front : (c : ℕ) (text : List ℕ) → (c == 48) ≡ true → significant (c ∷ text) ≡ significant text
+zero_in_front : (c : ℕ) (text : List ℕ) → (c == 48) ≡ true → without_leading_zeros (c ∷ text) ≡ without_leading_zeros text
 zero_in_front c text zero =
     let one : 1 + prefix_len (λ b. b == 48) text ≡ suc (prefix_len (λ b. b == 48) text) = omega arith in
     ap (λ t. drop (cond t (1 + prefix_len (λ b. b == 48) text) 0) (c ∷ text)) zero ∙ ap (λ n. drop n (c ∷ text)) one
 
-no_zero : (c : ℕ) (text : List ℕ) → (c == 48) ≡ false → significant (c ∷ text) ≡ c ∷ text
+no_zero : (c : ℕ) (text : List ℕ) → (c == 48) ≡ false → without_leading_zeros (c ∷ text) ≡ c ∷ text
 no_zero c text other = ap (λ t. drop (cond t (1 + prefix_len (λ b. b == 48) text) 0) (c ∷ text)) other
 
-pub significant_value : (text : List ℕ) → digits_value 10 (significant text) ≡ digits_value 10 text
+pub significant_value : (text : List ℕ) → digits_value 10 (without_leading_zeros text) ≡ digits_value 10 text
 significant_value [] = refl
 significant_value (c ∷ text) = by_test (significant_value text) (c == 48) refl
   where
-    by_test : digits_value 10 (significant text) ≡ digits_value 10 text → (t : Bool) → (c == 48) ≡ t → digits_value 10 (significant (c ∷ text)) ≡ digits_value 10 (c ∷ text)
+    by_test : digits_value 10 (without_leading_zeros text) ≡ digits_value 10 text → (t : Bool) → (c == 48) ≡ t → digits_value 10 (without_leading_zeros (c ∷ text)) ≡ digits_value 10 (c ∷ text)
     by_test later true zero =
         ap (digits_value 10) (zero_in_front c text zero) ∙ later
         ∙ ap (λ d. digits_value 10 (d ∷ text)) (sym (eqb-true c 48 zero))
     by_test later false other = ap (digits_value 10) (no_zero c text other)
 
-pub significant_digits : (text : List ℕ) → list_all is_ascii_digit text ≡ true → list_all is_ascii_digit (significant text) ≡ true
+pub significant_digits : (text : List ℕ) → list_all is_ascii_digit text ≡ true → list_all is_ascii_digit (without_leading_zeros text) ≡ true
 significant_digits [] digits = refl
 significant_digits (c ∷ text) digits =
     by_test (significant_digits text (and_parts (is_ascii_digit c) (list_all is_ascii_digit text) digits).1) (c == 48) refl
   where
-    by_test : list_all is_ascii_digit (significant text) ≡ true → (t : Bool) → (c == 48) ≡ t → list_all is_ascii_digit (significant (c ∷ text)) ≡ true
+    by_test : list_all is_ascii_digit (without_leading_zeros text) ≡ true → (t : Bool) → (c == 48) ≡ t → list_all is_ascii_digit (without_leading_zeros (c ∷ text)) ≡ true
     by_test later true zero = ap (list_all is_ascii_digit) (zero_in_front c text zero) ∙ later
     by_test later false other = ap (list_all is_ascii_digit) (no_zero c text other) ∙ digits
 
-pub significant_starts : (text : List ℕ) → get_or (significant text) 0 0 ≡ 48 → ⊥
+pub significant_starts : (text : List ℕ) → get_or (without_leading_zeros text) 0 0 ≡ 48 → ⊥
 significant_starts [] zero = omega arith
 significant_starts (c ∷ text) starts = by_test (significant_starts text) (c == 48) refl
   where
-    by_test : (get_or (significant text) 0 0 ≡ 48 → ⊥) → (t : Bool) → (c == 48) ≡ t → ⊥
+    by_test : (get_or (without_leading_zeros text) 0 0 ≡ 48 → ⊥) → (t : Bool) → (c == 48) ≡ t → ⊥
     by_test later true zero = later (ap (λ s. get_or s 0 0) (sym (zero_in_front c text zero)) ∙ starts)
     by_test later false other = eqb-false c 48 other (ap (λ s. get_or s 0 0) (sym (no_zero c text other)) ∙ starts)
 
 -- two texts of digits are one number exactly where they are one text behind their zeros
 pub same_number : (a b : List ℕ) → list_all is_ascii_digit a ≡ true → list_all is_ascii_digit b ≡ true
-    → (digits_value 10 a == digits_value 10 b) ≡ bytes_eq (significant a) (significant b)
+    → (digits_value 10 a == digits_value 10 b) ≡ bytes_eq (without_leading_zeros a) (without_leading_zeros b)
 same_number a b da db =
-    one_answer (digits_value 10 a == digits_value 10 b) (bytes_eq (significant a) (significant b)) (
-      λ same. one_text (significant a) (significant b) (significant_digits a da) (significant_digits b db)
+    one_answer (digits_value 10 a == digits_value 10 b) (bytes_eq (without_leading_zeros a) (without_leading_zeros b)) (
+      λ same. one_text (without_leading_zeros a) (without_leading_zeros b) (significant_digits a da) (significant_digits b db)
           (significant_starts a) (significant_starts b)
           (significant_value a ∙ eqb-true (digits_value 10 a) (digits_value 10 b) same ∙ sym (significant_value b)),
       λ same. eq-eqb (digits_value 10 a) (digits_value 10 b) (sym (significant_value a) ∙ ap (digits_value 10) same ∙ significant_value b),
     )
-    (bytes_eq-Decides (significant a) (significant b))
+    (bytes_eq-Decides (without_leading_zeros a) (without_leading_zeros b))

@@ -3,19 +3,19 @@ use Rattle.std.proofs.Common.{◌≡◌, ℕ, ◌≤◌, ◌||◌, ◌==◌, Boo
 use Rattle.std.specs.Prelude.{Option, Some, None, Result, Ok, Err, nat_lt}
 use Rattle.std.proofs.lemmas.Bool.Decides.{nat_tests}
 use Rattle.hx_fields.specs.declared.field_line.Field.{Field}
-use Rattle.hx_framing.specs.declared.fault.FrameFault.{FrameFault}
-use Rattle.hx_framing.specs.declared.fault.FrameFault.TheVariants as fault
+use Rattle.hx_framing.specs.declared.frame_fault.FrameFault.{FrameFault}
+use Rattle.hx_framing.specs.declared.frame_fault.FrameFault.TheVariants as fault
 use Rattle.hx_framing.specs.declared.lengths.framing.Framing.{Framing}
 use Rattle.hx_framing.specs.declared.lengths.framing.Framing.TheVariants as framing
 use Rattle.hx_framing.specs.declared.messages.Response.{Response}
 use Rattle.hx_framing.specs.declared.heads.status_head.StatusHead.{StatusHead}
-use Rattle.hx_framing.specs.Body.{Body, Short, Bad, Whole}
-use Rattle.hx_framing.specs.Contents.{body_at}
-use Rattle.hx_framing.specs.Lengths.{framing_of_response, is_interim, is_taken_status, is_without_content, framing_of_final, with_status, without_lengths}
-use Rattle.hx_framing.specs.Places.{head_length, most_head_bytes}
-use Rattle.hx_framing.specs.Reading.{Faulty, Spelled, cut_off, with_body}
-use Rattle.hx_framing.specs.ResponseReading.{FrontBy, Reads, response_of, with_framing, without_head}
-use Rattle.hx_framing.specs.StatusHead.{Judges}
+use Rattle.hx_framing.specs.Body.{ContentFound, Short, Bad, Whole}
+use Rattle.hx_framing.specs.Contents.{content_at}
+use Rattle.hx_framing.specs.Lengths.{framing_of_response, is_interim, is_accepted_status, response_has_no_content, framing_of_final, framing_if_accepted_status, without_lengths}
+use Rattle.hx_framing.specs.HeadEnd.{head_length, most_head_bytes}
+use Rattle.hx_framing.specs.Reading.{Faulty, Spelled, reading_cut_off, reading_with_content}
+use Rattle.hx_framing.specs.ResponseReading.{FrontReadsByLength, Reads, response_of_head, reading_with_framing, reading_without_response_head}
+use Rattle.hx_framing.specs.StatusHead.{ResponseHeadIsJudged}
 
 or_true : (t : Bool) → (t || true) ≡ true
 or_true true = refl
@@ -25,29 +25,29 @@ or_true false = refl
 pub record IsMade (h : Bool) (r : Response) : Type 0 where
   pub head : StatusHead
   pub content : Option (List ℕ)
-  pub same : r ≡ response_of h head content
+  pub same : r ≡ response_of_head h head content
   pub text : List ℕ
-  pub judged : Judges text (Ok head)
-  pub taken : is_taken_status head.status ≡ true
+  pub judged : ResponseHeadIsJudged text (Ok head)
+  pub taken : is_accepted_status head.status ≡ true
   pub final : is_interim head.status ≡ false
-  pub without : is_without_content h head.status ≡ true → content ≡ None
+  pub without : response_has_no_content h head.status ≡ true → content ≡ None
 
-no_head : (e : Bool) (bytes : List ℕ) (r : Response) (rest : List ℕ) → Spelled r rest ≡ without_head e bytes → ⊥
+no_head : (e : Bool) (bytes : List ℕ) (r : Response) (rest : List ℕ) → Spelled r rest ≡ reading_without_response_head e bytes → ⊥
 no_head e bytes r rest is = by_tests (nat_lt most_head_bytes (length bytes)) e is
   where
-    by_tests : (t u : Bool) → Spelled r rest ≡ cond t (Faulty fault.Head) (cut_off u) → ⊥
+    by_tests : (t u : Bool) → Spelled r rest ≡ cond t (Faulty fault.Head) (reading_cut_off u) → ⊥
     by_tests true u h = cc
     by_tests false true h = cc
     by_tests false false h = cc
 
 -- it was made with a content that is whole
-record IsWhole (h : Bool) (head : StatusHead) (body : Body) (r : Response) : Type 0 where
+record IsWhole (h : Bool) (head : StatusHead) (body : ContentFound) (r : Response) : Type 0 where
   content : Option (List ℕ)
   behind : List ℕ
   body_is : body ≡ Whole content behind
-  same : r ≡ response_of h head content
+  same : r ≡ response_of_head h head content
 
-of_body : (e h : Bool) (head : StatusHead) (body : Body) (r : Response) (rest : List ℕ) → Spelled r rest ≡ with_body e (response_of h head) body → IsWhole h head body r
+of_body : (e h : Bool) (head : StatusHead) (body : ContentFound) (r : Response) (rest : List ℕ) → Spelled r rest ≡ reading_with_content e (response_of_head h head) body → IsWhole h head body r
 of_body true h head Short r rest is = absurd cc
 of_body false h head Short r rest is = absurd cc
 of_body e h head (Bad f) r rest is = absurd cc
@@ -55,33 +55,33 @@ of_body e h head (Whole content behind) r rest is = record { content = content; 
 
 -- where a response has no content, none was taken
 none_taken : (max : ℕ) (h e : Bool) (head : StatusHead) (bytes : List ℕ) (shown : Framing) (content : Option (List ℕ)) (behind : List ℕ)
-    → framing_of_response max h head ≡ Ok shown → body_at max shown e bytes ≡ Whole content behind → is_without_content h head.status ≡ true → content ≡ None
-none_taken max h e head bytes shown content behind is body without = by_status (is_taken_status head.status) (sym judged ∙ is)
+    → framing_of_response max h head ≡ Ok shown → content_at max shown e bytes ≡ Whole content behind → response_has_no_content h head.status ≡ true → content ≡ None
+none_taken max h e head bytes shown content behind is body without = by_status (is_accepted_status head.status) (sym judged ∙ is)
   where
-    judged : framing_of_response max h head ≡ with_status head.status (Ok framing.Nothing)
-    judged = ap (λ t. with_status head.status (cond (head.status == 101 || t) (Ok framing.Nothing) (framing_of_final max head))) without
-        ∙ ap (λ t. with_status head.status (cond t (Ok framing.Nothing) (framing_of_final max head))) (or_true (head.status == 101))
+    judged : framing_of_response max h head ≡ framing_if_accepted_status head.status (Ok framing.Nothing)
+    judged = ap (λ t. framing_if_accepted_status head.status (cond (head.status == 101 || t) (Ok framing.Nothing) (framing_of_final max head))) without
+        ∙ ap (λ t. framing_if_accepted_status head.status (cond t (Ok framing.Nothing) (framing_of_final max head))) (or_true (head.status == 101))
 
     by_status : (t : Bool) → cond t (Ok framing.Nothing) (Err fault.Status) ≡ Ok shown → content ≡ None
     by_status true h =
         let nothing : framing.Nothing ≡ shown = cc in
-        let whole : Whole None bytes ≡ Whole content behind = ap (λ (f : Framing). body_at max f e bytes) nothing ∙ body in cc
+        let whole : Whole None bytes ≡ Whole content behind = ap (λ (f : Framing). content_at max f e bytes) nothing ∙ body in cc
     by_status false h = absurd cc
 
 -- a head that tells its framing has a status that is taken
-taken_by : (status : ℕ) (judged : Result Framing FrameFault) (shown : Framing) → with_status status judged ≡ Ok shown → is_taken_status status ≡ true
+taken_by : (status : ℕ) (judged : Result Framing FrameFault) (shown : Framing) → framing_if_accepted_status status judged ≡ Ok shown → is_accepted_status status ≡ true
 taken_by status (Err f) shown is = absurd cc
-taken_by status (Ok framing) shown is = by_test (is_taken_status status) is
+taken_by status (Ok framing) shown is = by_test (is_accepted_status status) is
   where
     by_test : (t : Bool) → cond t (Ok framing) (Err fault.Status) ≡ Ok shown → t ≡ true
     by_test true h = refl
     by_test false h = absurd cc
 
 of_framing : (max : ℕ) (h e : Bool) (head : StatusHead) (text bytes : List ℕ) (judged : Result Framing FrameFault) (r : Response) (rest : List ℕ)
-    → framing_of_response max h head ≡ judged → Judges text (Ok head) → is_interim head.status ≡ false → Spelled r rest ≡ with_framing max h e head bytes judged → IsMade h r
+    → framing_of_response max h head ≡ judged → ResponseHeadIsJudged text (Ok head) → is_interim head.status ≡ false → Spelled r rest ≡ reading_with_framing max h e head bytes judged → IsMade h r
 of_framing max h e head text bytes (Err f) r rest shown judges final is = absurd cc
 of_framing max h e head text bytes (Ok framing) r rest shown judges final is =
-    let whole = of_body e h head (body_at max framing e bytes) r rest is in record {
+    let whole = of_body e h head (content_at max framing e bytes) r rest is in record {
       head = head;
       content = whole.content;
       same = whole.same;
@@ -92,7 +92,7 @@ of_framing max h e head text bytes (Ok framing) r rest shown judges final is =
       without = none_taken max h e head bytes framing whole.content whole.behind shown whole.body_is;
     }
 
-of_head : (max : ℕ) (h e : Bool) (bytes : List ℕ) (o : Option ℕ) (r : Response) (rest : List ℕ) → FrontBy max h e bytes o (Spelled r rest) → IsMade h r
+of_head : (max : ℕ) (h e : Bool) (bytes : List ℕ) (o : Option ℕ) (r : Response) (rest : List ℕ) → FrontReadsByLength max h e bytes o (Spelled r rest) → IsMade h r
 of_head max h e bytes None r rest is = absurd (no_head e bytes r rest is)
 of_head max h e bytes (Some n) r rest (Err f, judges, final, is) = absurd cc
 of_head max h e bytes (Some n) r rest (Ok head, judges, final, is) = of_framing max h e head (take n bytes) (drop n bytes) (framing_of_response max h head) r rest refl judges final is
@@ -102,7 +102,7 @@ made max h e bytes r rest (sizes, front, passes, reads) = of_head max h e front 
 
 -- ---- the laws
 
-final_taken : (status : ℕ) → is_taken_status status ≡ true → is_interim status ≡ false → (200 ≤ status) × (status ≤ 599)
+final_taken : (status : ℕ) → is_accepted_status status ≡ true → is_interim status ≡ false → (200 ≤ status) × (status ≤ 599)
 final_taken status taken final = (grind (arith, nat_tests), grind (arith, nat_tests))
 
 pub final_status : (max : ℕ) (h e : Bool) (bytes : List ℕ) (r : Response) (rest : List ℕ) → Reads max h e bytes (Spelled r rest) → (200 ≤ r.status) × (r.status ≤ 599)

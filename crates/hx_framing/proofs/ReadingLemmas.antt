@@ -10,14 +10,14 @@ use Rattle.std.proofs.lemmas.Str.{IsUtf8-from_ascii}
 use Rattle.httparse.specs.Grammar.{crlf, Field, IsField, IsToken, RequestHead, IsRequestHead, ResponseHead, IsResponseHead, print_request, print_response, is_token_byte, is_uri_byte, is_value_byte, reason_phrase, is_token}
 use Rattle.hx_framing.specs.declared.messages.Request.{Request}
 use Rattle.hx_framing.specs.declared.messages.Response.{Response}
-use Rattle.hx_framing.specs.Places.{head_length, most_head_bytes, most_field_lines}
-use Rattle.hx_framing.specs.Head.{IsHead, head_of}
+use Rattle.hx_framing.specs.HeadEnd.{head_length, most_head_bytes, most_field_lines}
+use Rattle.hx_framing.specs.Head.{IsHeadOfRequest, head_of_grammar}
 use Rattle.hx_framing.specs.StatusHead.{IsStatusHead, status_head_of}
 use Rattle.hx_framing.specs.Lengths.{is_interim}
-use Rattle.hx_framing.specs.Reading.{Reading}
-use Rattle.hx_framing.specs.RequestReading.{Reads, ReadsBy, with_head, without_head}
+use Rattle.hx_framing.specs.Reading.{StreamReading}
+use Rattle.hx_framing.specs.RequestReading.{Reads, RequestReadsByLength, reading_behind_request_head, reading_without_request_head}
 use Rattle.hx_framing.specs.ResponseReading as response
-use Rattle.hx_framing.specs.ResponseReading.{Front, FrontBy, IsInterim}
+use Rattle.hx_framing.specs.ResponseReading.{FrontReads, FrontReadsByLength, IsInterimHead}
 
 -- ---- trees
 
@@ -70,7 +70,7 @@ ascii [] fine k = omega arith
 ascii (b ∷ text) fine zero = ltb-true b 128 (and_parts (nat_lt b 128) (list_all (λ b. nat_lt b 128) text) fine).0
 ascii (b ∷ text) fine (suc k) = ascii text (and_parts (nat_lt b 128) (list_all (λ b. nat_lt b 128) text) fine).1 k
 
-fine_request : (bytes : List ℕ) (h : RequestHead) → is_fine_request h ≡ true → bytes ≡ print_request h ++ [] → IsHead bytes h
+fine_request : (bytes : List ℕ) (h : RequestHead) → is_fine_request h ≡ true → bytes ≡ print_request h ++ [] → IsHeadOfRequest bytes h
 fine_request bytes h fine is =
     let a = and_parts (is_token h.method) (is_fine_target h.target && (nat_le h.minor 1 && is_fine_section h.fields)) fine in
     let b = and_parts (is_fine_target h.target) (nat_le h.minor 1 && is_fine_section h.fields) a.1 in
@@ -110,40 +110,40 @@ fine_response bytes h fine is =
 
 -- ---- what is read
 
-pub reads_request : (max : ℕ) (ended continue_sent : Bool) (bytes : List ℕ) (h : RequestHead) (n : ℕ) (reading : Reading Request)
+pub reads_request : (max : ℕ) (ended continue_sent : Bool) (bytes : List ℕ) (h : RequestHead) (n : ℕ) (reading : StreamReading Request)
     → head_length (take most_head_bytes bytes) ≡ Some n → is_fine_request h ≡ true → take n bytes ≡ print_request h ++ []
-    → reading ≡ with_head max ended continue_sent (drop n bytes) (Ok (head_of h)) → Reads max ended continue_sent bytes reading
+    → reading ≡ reading_behind_request_head max ended continue_sent (drop n bytes) (Ok (head_of_grammar h)) → Reads max ended continue_sent bytes reading
 reads_request max ended continue_sent bytes h n reading place fine text is =
-    subst (λ (o : Option ℕ). ReadsBy max ended continue_sent bytes o reading) (sym place) (Ok (head_of h), (h, fine_request (take n bytes) h fine text, refl), is)
+    subst (λ (o : Option ℕ). RequestReadsByLength max ended continue_sent bytes o reading) (sym place) (Ok (head_of_grammar h), (h, fine_request (take n bytes) h fine text, refl), is)
 
-pub reads_response : (max : ℕ) (to_head ended : Bool) (bytes : List ℕ) (h : ResponseHead) (n : ℕ) (reading : Reading Response)
+pub reads_response : (max : ℕ) (to_head ended : Bool) (bytes : List ℕ) (h : ResponseHead) (n : ℕ) (reading : StreamReading Response)
     → head_length (take most_head_bytes bytes) ≡ Some n → is_fine_response h ≡ true → take n bytes ≡ print_response h ++ []
     → is_interim (status_head_of h).status ≡ false
-    → reading ≡ response.with_head max to_head ended (drop n bytes) (Ok (status_head_of h)) → response.Reads max to_head ended bytes reading
+    → reading ≡ response.reading_behind_response_head max to_head ended (drop n bytes) (Ok (status_head_of h)) → response.Reads max to_head ended bytes reading
 reads_response max to_head ended bytes h n reading place fine text final is =
-    let front : Front max to_head ended bytes reading
-    = subst (λ (o : Option ℕ). FrontBy max to_head ended bytes o reading) (sym place)
+    let front : FrontReads max to_head ended bytes reading
+    = subst (λ (o : Option ℕ). FrontReadsByLength max to_head ended bytes o reading) (sym place)
     (Ok (status_head_of h), (h, fine_response (take n bytes) h fine text, refl), final, is) in
     ([], bytes, refl, front)
 
 -- behind an interim response
-pub passes_interim : (max : ℕ) (to_head ended : Bool) (bytes : List ℕ) (h : ResponseHead) (n : ℕ) (reading : Reading Response)
+pub passes_interim : (max : ℕ) (to_head ended : Bool) (bytes : List ℕ) (h : ResponseHead) (n : ℕ) (reading : StreamReading Response)
     → head_length (take most_head_bytes bytes) ≡ Some n → is_fine_response h ≡ true → take n bytes ≡ print_response h ++ []
     → is_interim (status_head_of h).status ≡ true
     → response.Reads max to_head ended (drop n bytes) reading → response.Reads max to_head ended bytes reading
 passes_interim max to_head ended bytes h n reading place fine text interim (sizes, rest, passes, front) =
-    let first : IsInterim bytes n
+    let first : IsInterimHead bytes n
     = record { place = place; head = status_head_of h; judged = (h, fine_response (take n bytes) h fine text, refl); interim = interim } in
     (n ∷ sizes, rest, (first, passes), front)
 
 -- without a head
-pub reads_no_request : (max : ℕ) (ended continue_sent : Bool) (bytes : List ℕ) (reading : Reading Request)
-    → head_length (take most_head_bytes bytes) ≡ None → reading ≡ without_head ended bytes → Reads max ended continue_sent bytes reading
-reads_no_request max ended continue_sent bytes reading none is = subst (λ (o : Option ℕ). ReadsBy max ended continue_sent bytes o reading) (sym none) is
+pub reads_no_request : (max : ℕ) (ended continue_sent : Bool) (bytes : List ℕ) (reading : StreamReading Request)
+    → head_length (take most_head_bytes bytes) ≡ None → reading ≡ reading_without_request_head ended bytes → Reads max ended continue_sent bytes reading
+reads_no_request max ended continue_sent bytes reading none is = subst (λ (o : Option ℕ). RequestReadsByLength max ended continue_sent bytes o reading) (sym none) is
 
-pub reads_no_response : (max : ℕ) (to_head ended : Bool) (bytes : List ℕ) (reading : Reading Response)
-    → head_length (take most_head_bytes bytes) ≡ None → reading ≡ response.without_head ended bytes → response.Reads max to_head ended bytes reading
+pub reads_no_response : (max : ℕ) (to_head ended : Bool) (bytes : List ℕ) (reading : StreamReading Response)
+    → head_length (take most_head_bytes bytes) ≡ None → reading ≡ response.reading_without_response_head ended bytes → response.Reads max to_head ended bytes reading
 reads_no_response max to_head ended bytes reading none is =
-    let front : Front max to_head ended bytes reading
-    = subst (λ (o : Option ℕ). FrontBy max to_head ended bytes o reading) (sym none) is in
+    let front : FrontReads max to_head ended bytes reading
+    = subst (λ (o : Option ℕ). FrontReadsByLength max to_head ended bytes o reading) (sym none) is in
     ([], bytes, refl, front)

@@ -5,8 +5,8 @@ use Rattle.hx_framing.specs.declared.messages.Request.{Request}
 use Rattle.hx_framing.specs.declared.readers.progress.HeadProgress.{HeadProgress}
 use Rattle.hx_framing.specs.declared.readers.progress.HeadProgress.TheVariants as head_progress
 use Rattle.hx_framing.specs.declared.readers.request_reader.RequestPhase.TheVariants as phase
-use Rattle.hx_framing.specs.Progress.{Progress, next_of}
-use Rattle.hx_framing.specs.Reading.{Reading, Incomplete, Continue, Over, Spelled, Faulty}
+use Rattle.hx_framing.specs.Progress.{Progress, next_of_reading}
+use Rattle.hx_framing.specs.Reading.{StreamReading, Incomplete, Continue, Over, Spelled, Faulty}
 use Rattle.hx_framing.specs.RequestReading.{Reads}
 use Rattle.hx_framing.specs.RequestHeadProgress.{IsHeadProgress}
 use Rattle.hx_framing.specs.RequestState.{State, RepresentsStream}
@@ -24,7 +24,7 @@ pub found_answers : (s : State) (p : Progress Request) (f g : HeadProgress Head 
     → IsHeadProgress s.max_body s.ended s.unread f → RepresentsStream s p → Answers p (answer_of g)
 found_answers s p f g is waiting found represents = by_case g (progress_of s f g is found)
   where
-    by_reading : (r : Reading Request) → Reads s.max_body s.ended false s.unread r → Answers p (next_of r)
+    by_reading : (r : StreamReading Request) → Reads s.max_body s.ended false s.unread r → Answers p (next_of_reading r)
     by_reading r reads = answers_by p s r represents (kept_reads s p r waiting represents reads)
 
     by_case : (g : HeadProgress Head Request) → IsHeadProgress s.max_body s.ended s.unread g → Answers p (answer_of g)

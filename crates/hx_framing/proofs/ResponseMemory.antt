@@ -1,6 +1,6 @@
 -- Behind the head of a final response, and in its content, the answer may want memory.
 use Rattle.std.proofs.Common.{◌≡◌, ℕ, Bool, true, not, List, [], drop, refl, sym, ap, subst, ◌∙◌, Option, Result, Ok, Err}
-use Rattle.hx_framing.specs.declared.fault.FrameFault.{FrameFault}
+use Rattle.hx_framing.specs.declared.frame_fault.FrameFault.{FrameFault}
 use Rattle.hx_framing.specs.declared.lengths.framing.Framing.{Framing}
 use Rattle.hx_framing.specs.declared.heads.status_head.StatusHead.{StatusHead}
 use Rattle.hx_framing.specs.declared.messages.Response.{Response}
@@ -8,46 +8,46 @@ use Rattle.hx_framing.specs.declared.contents.content.Content.{Content}
 use Rattle.hx_framing.specs.declared.readers.response_reader.ResponsePhase.TheVariants as phase
 use Rattle.hx_framing.specs.declared.messages.Next.{Next}
 use Rattle.hx_framing.specs.Lengths.{framing_of_response}
-use Rattle.hx_framing.specs.Contents.{body_at, body_from}
-use Rattle.hx_framing.specs.Reading.{Reading, with_body}
-use Rattle.hx_framing.specs.ResponseReading.{response_of, with_framing, with_head, Reads, FrontBy}
-use Rattle.hx_framing.specs.ResponseHeadProgress.{HasFinalHead}
+use Rattle.hx_framing.specs.Contents.{content_at, content_rest}
+use Rattle.hx_framing.specs.Reading.{StreamReading, reading_with_content}
+use Rattle.hx_framing.specs.ResponseReading.{response_of_head, reading_with_framing, reading_behind_response_head, Reads, FrontReadsByLength}
+use Rattle.hx_framing.specs.ResponseHeadProgress.{FinalHeadStands}
 use Rattle.hx_framing.specs.ResponseState.{State, RepresentsStream}
 use Rattle.hx_framing.specs.ResponseStream.{NeedsMemory}
-use Rattle.hx_framing.specs.Progress.{Progress, needs_memory, next_of}
+use Rattle.hx_framing.specs.Progress.{Progress, answer_needs_memory, next_of_reading}
 use Rattle.hx_framing.proofs.MemoryLemmas.{IsBehindHead, framing_behind, body_behind, rest_behind, body_needs}
 use Rattle.hx_framing.proofs.ResponseOnce.{answered_once_lem}
 use Rattle.hx_framing.proofs.ResponseStreams.{answers_by, before, kept_reads, inside, content_reads}
 
-framing_needs : (max : ℕ) (h e : Bool) (head : StatusHead) (bytes : List ℕ) (r : Result Framing FrameFault) → IsBehindHead r → needs_memory (next_of (with_framing max h e head bytes r)) ≡ true
+framing_needs : (max : ℕ) (h e : Bool) (head : StatusHead) (bytes : List ℕ) (r : Result Framing FrameFault) → IsBehindHead r → answer_needs_memory (next_of_reading (reading_with_framing max h e head bytes r)) ≡ true
 framing_needs max h e head bytes (Err f) x = ap not x
-framing_needs max h e head bytes (Ok continue_sent) x = body_needs e (response_of h head) (body_at max continue_sent e bytes) (body_behind max continue_sent e bytes)
+framing_needs max h e head bytes (Ok continue_sent) x = body_needs e (response_of_head h head) (content_at max continue_sent e bytes) (body_behind max continue_sent e bytes)
 
 -- the answer of a stream is one
-needs_by : (p : Progress Response) (s : State) (r : Reading Response) → p.given ≡ [] → RepresentsStream s p → Reads p.max_body p.to_head p.ended p.stream r
-    → needs_memory (next_of r) ≡ true → NeedsMemory p
+needs_by : (p : Progress Response) (s : State) (r : StreamReading Response) → p.given ≡ [] → RepresentsStream s p → Reads p.max_body p.to_head p.ended p.stream r
+    → answer_needs_memory (next_of_reading r) ≡ true → NeedsMemory p
 needs_by p s r none represents reads needs = λ answer x.
-    ap (λ (a : Next Response). needs_memory a) (answered_once_lem p answer (next_of r) x (answers_by p s r none represents reads)) ∙ needs
+    ap (λ (a : Next Response). answer_needs_memory a) (answered_once_lem p answer (next_of_reading r) x (answers_by p s r none represents reads)) ∙ needs
 
-final_reads : (max : ℕ) (h e : Bool) (bytes : List ℕ) → (has : HasFinalHead bytes)
-    → Reads max h e bytes (with_head max h e (drop has.2.1.2 has.2.1.1) (Ok has.0))
+final_reads : (max : ℕ) (h e : Bool) (bytes : List ℕ) → (has : FinalHeadStands bytes)
+    → Reads max h e bytes (reading_behind_response_head max h e (drop has.2.1.2 has.2.1.1) (Ok has.0))
 final_reads max h e bytes has =
     let x = has.2.1 in (
       x.0,
       x.1,
       x.3,
-      subst (λ (o : Option ℕ). FrontBy max h e x.1 o (with_head max h e (drop x.2 x.1) (Ok has.0))) (sym x.4) (Ok has.0, x.5, x.6, refl),
+      subst (λ (o : Option ℕ). FrontReadsByLength max h e x.1 o (reading_behind_response_head max h e (drop x.2 x.1) (Ok has.0))) (sym x.4) (Ok has.0, x.5, x.6, refl),
     )
 
-pub head_needs : (s : State) (p : Progress Response) → s.phase ≡ phase.BeforeHead → HasFinalHead s.unread → RepresentsStream s p → NeedsMemory p
+pub head_needs : (s : State) (p : Progress Response) → s.phase ≡ phase.BeforeHead → FinalHeadStands s.unread → RepresentsStream s p → NeedsMemory p
 head_needs s p waiting has represents =
     let rest = drop has.2.1.2 has.2.1.1 in
-    needs_by p s (with_head s.max_body s.to_head s.ended rest (Ok has.0)) (before s p waiting represents).none represents
+    needs_by p s (reading_behind_response_head s.max_body s.to_head s.ended rest (Ok has.0)) (before s p waiting represents).none represents
     (kept_reads s p _ waiting represents (final_reads s.max_body s.to_head s.ended s.unread has))
     (framing_needs s.max_body s.to_head s.ended has.0 rest (framing_of_response s.max_body s.to_head has.0) (framing_behind s.max_body s.to_head has.0))
 
 pub content_needs : (s : State) (p : Progress Response) (head : StatusHead) (content : Content) → s.phase ≡ phase.InContent head content → RepresentsStream s p → NeedsMemory p
 content_needs s p head content going represents =
-    needs_by p s (with_body s.ended (response_of s.to_head head) (body_from content s.ended s.unread)) (inside s p head content going represents).none represents
-    (content_reads s p head content (body_from content s.ended s.unread) going represents refl)
-    (body_needs s.ended (response_of s.to_head head) (body_from content s.ended s.unread) (rest_behind content s.ended s.unread))
+    needs_by p s (reading_with_content s.ended (response_of_head s.to_head head) (content_rest content s.ended s.unread)) (inside s p head content going represents).none represents
+    (content_reads s p head content (content_rest content s.ended s.unread) going represents refl)
+    (body_needs s.ended (response_of_head s.to_head head) (content_rest content s.ended s.unread) (rest_behind content s.ended s.unread))

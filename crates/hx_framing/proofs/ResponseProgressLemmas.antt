@@ -5,22 +5,22 @@ use Rattle.std.proofs.lemmas.List.{drop-append-le, take-append-le}
 use Rattle.hx_framing.specs.declared.heads.status_head.StatusHead.{StatusHead}
 use Rattle.hx_framing.specs.declared.messages.Response.{Response}
 use Rattle.hx_framing.specs.declared.lengths.framing.Framing.{Framing}
-use Rattle.hx_framing.specs.declared.fault.FrameFault.{FrameFault}
-use Rattle.hx_framing.specs.declared.fault.FrameFault.TheVariants as fault
+use Rattle.hx_framing.specs.declared.frame_fault.FrameFault.{FrameFault}
+use Rattle.hx_framing.specs.declared.frame_fault.FrameFault.TheVariants as fault
 use Rattle.hx_framing.specs.declared.contents.content.Content.{Content}
 use Rattle.hx_framing.specs.declared.contents.content.ContentProgress.{ContentProgress}
 use Rattle.hx_framing.specs.declared.contents.content.ContentProgress.TheVariants as content_progress
 use Rattle.hx_framing.specs.declared.readers.progress.HeadProgress.TheVariants as head_progress
 use Rattle.hx_framing.specs.declared.readers.response_reading.FinalHead.TheVariants as final_head
-use Rattle.hx_framing.specs.Places.{head_length}
-use Rattle.hx_framing.specs.StatusHead.{Judges}
+use Rattle.hx_framing.specs.HeadEnd.{head_length}
+use Rattle.hx_framing.specs.StatusHead.{ResponseHeadIsJudged}
 use Rattle.hx_framing.specs.Lengths.{framing_of_response, is_interim}
-use Rattle.hx_framing.specs.Body.{Body, Short, Whole}
-use Rattle.hx_framing.specs.Contents.{body_at, body_from, begun, IsOpen}
-use Rattle.hx_framing.specs.ContentReading.{ReadsOn, behind as behind_read}
-use Rattle.hx_framing.specs.Reading.{Reading, Incomplete, Spelled, Faulty, cut_off, with_body}
-use Rattle.hx_framing.specs.ResponseReading.{response_of, with_framing, FrontBy, Passes, Reads}
-use Rattle.hx_framing.specs.ResponseHeadProgress.{Resumes, IsFinalHead, IsHeadProgress}
+use Rattle.hx_framing.specs.Body.{ContentFound, Short, Whole}
+use Rattle.hx_framing.specs.Contents.{content_at, content_rest, content_begun, IsUnfinishedContent}
+use Rattle.hx_framing.specs.ContentReading.{ContentGoesOn, bytes_behind_content as behind_read}
+use Rattle.hx_framing.specs.Reading.{StreamReading, Incomplete, Spelled, Faulty, reading_cut_off, reading_with_content}
+use Rattle.hx_framing.specs.ResponseReading.{response_of_head, reading_with_framing, FrontReadsByLength, PassesInterimResponses, Reads}
+use Rattle.hx_framing.specs.ResponseHeadProgress.{ResponseContentResumes, FinalHeadIsFound, IsHeadProgress}
 use Rattle.hx_framing.proofs.HeadEnds.{front_stable}
 use Rattle.hx_framing.proofs.HeadSearches.{open_head}
 use Rattle.hx_framing.proofs.BodyLemmas.{begun_is}
@@ -29,24 +29,24 @@ use Rattle.hx_framing.proofs.ResponseLemmas.{place_within, passes_append, passes
 
 -- ---- interim responses in front
 
-pub interim_at : (bytes : List ℕ) (at n : ℕ) (head : StatusHead) → head_length (take 32768 (drop at bytes)) ≡ Some n → Judges (take n (drop at bytes)) (Ok head)
-    → is_interim head.status ≡ true → (sizes : List ℕ) × Passes bytes sizes (drop at bytes) → (sizes : List ℕ) × Passes bytes sizes (drop (at + n) bytes)
+pub interim_at : (bytes : List ℕ) (at n : ℕ) (head : StatusHead) → head_length (take 32768 (drop at bytes)) ≡ Some n → ResponseHeadIsJudged (take n (drop at bytes)) (Ok head)
+    → is_interim head.status ≡ true → (sizes : List ℕ) × PassesInterimResponses bytes sizes (drop at bytes) → (sizes : List ℕ) × PassesInterimResponses bytes sizes (drop (at + n) bytes)
 interim_at bytes at n head place judged interim x = (
   x.0 ++ n ∷ [],
-  subst (λ (u : List ℕ). Passes bytes (x.0 ++ n ∷ []) u) (drop-drop n at bytes)
+  subst (λ (u : List ℕ). PassesInterimResponses bytes (x.0 ++ n ∷ []) u) (drop-drop n at bytes)
       (passes_push bytes x.0 (drop at bytes) n x.1 (record { place = place; head = head; judged = judged; interim = interim })),
 )
 
 pub final_head_complete : (bytes : List ℕ) (at n : ℕ) (head : StatusHead) → at ≤ length bytes → 0 < n → head_length (take 32768 (drop at bytes)) ≡ Some n
-    → Judges (take n (drop at bytes)) (Ok head) → is_interim head.status ≡ false → (sizes : List ℕ) × Passes bytes sizes (drop at bytes)
-    → IsFinalHead bytes (final_head.Complete head (at + n))
+    → ResponseHeadIsJudged (take n (drop at bytes)) (Ok head) → is_interim head.status ≡ false → (sizes : List ℕ) × PassesInterimResponses bytes sizes (drop at bytes)
+    → FinalHeadIsFound bytes (final_head.Complete head (at + n))
 final_head_complete bytes at n head within some place judged final x = (
   (omega arith, omega (arith, within, place_within (drop at bytes) n place, length-drop at bytes)),
   (x.0, drop at bytes, n, x.1, place, judged, final, drop-drop n at bytes),
 )
 
 pub final_head_faulty : (bytes : List ℕ) (at n : ℕ) (f : FrameFault) → at ≤ length bytes → 0 < n → head_length (take 32768 (drop at bytes)) ≡ Some n
-    → Judges (take n (drop at bytes)) (Err f) → (sizes : List ℕ) × Passes bytes sizes (drop at bytes) → IsFinalHead bytes (final_head.Faulty f)
+    → ResponseHeadIsJudged (take n (drop at bytes)) (Err f) → (sizes : List ℕ) × PassesInterimResponses bytes sizes (drop at bytes) → FinalHeadIsFound bytes (final_head.Faulty f)
 final_head_faulty bytes at n f within some place judged x = (
   omega (arith, within, some, place_within (drop at bytes) n place, length-drop at bytes),
   (x.0, drop at bytes, n, x.1, place, judged),
@@ -54,21 +54,21 @@ final_head_faulty bytes at n f within some place judged x = (
 
 -- ---- behind a final head
 
-reads_final : (max : ℕ) (h e : Bool) (bytes : List ℕ) (at : ℕ) (head : StatusHead) (shown : Framing) → IsFinalHead bytes (final_head.Complete head at)
-    → framing_of_response max h head ≡ Ok shown → Reads max h e bytes (with_body e (response_of h head) (body_at max shown e (drop at bytes)))
+reads_final : (max : ℕ) (h e : Bool) (bytes : List ℕ) (at : ℕ) (head : StatusHead) (shown : Framing) → FinalHeadIsFound bytes (final_head.Complete head at)
+    → framing_of_response max h head ≡ Ok shown → Reads max h e bytes (reading_with_content e (response_of_head h head) (content_at max shown e (drop at bytes)))
 reads_final max h e bytes at head shown x is = (
   x.1.0,
   x.1.1,
   x.1.3,
-  subst (λ (o : Option ℕ). FrontBy max h e x.1.1 o (with_body e (response_of h head) (body_at max shown e (drop at bytes)))) (sym x.1.4) (
+  subst (λ (o : Option ℕ). FrontReadsByLength max h e x.1.1 o (reading_with_content e (response_of_head h head) (content_at max shown e (drop at bytes)))) (sym x.1.4) (
     Ok head,
     x.1.5,
     x.1.6,
-    sym (ap (with_framing max h e head (drop x.1.2 x.1.1)) is ∙ ap (λ u. with_body e (response_of h head) (body_at max shown e u)) x.1.7),
+    sym (ap (reading_with_framing max h e head (drop x.1.2 x.1.1)) is ∙ ap (λ u. reading_with_content e (response_of_head h head) (content_at max shown e u)) x.1.7),
   ),
 )
 
-final_append : (bytes w : List ℕ) (at : ℕ) (head : StatusHead) → IsFinalHead bytes (final_head.Complete head at) → IsFinalHead (bytes ++ w) (final_head.Complete head at)
+final_append : (bytes w : List ℕ) (at : ℕ) (head : StatusHead) → FinalHeadIsFound bytes (final_head.Complete head at) → FinalHeadIsFound (bytes ++ w) (final_head.Complete head at)
 final_append bytes w at head x =
     let n = x.1.2 in
     let rest = x.1.1 in
@@ -80,36 +80,36 @@ final_append bytes w at head x =
         n,
         passes_append bytes x.1.0 rest w x.1.3,
         front_stable 32768 n rest w x.1.4,
-        subst (λ (u : List ℕ). Judges u (Ok head)) (sym (take-append-le n rest w inner)) x.1.5,
+        subst (λ (u : List ℕ). ResponseHeadIsJudged u (Ok head)) (sym (take-append-le n rest w inner)) x.1.5,
         x.1.6,
         drop-append-le n rest w inner ∙ ap (λ u. u ++ w) x.1.7 ∙ sym (drop-append-le at bytes w x.0.1),
       ),
     )
 
 resumes_from : (max : ℕ) (h : Bool) (bytes : List ℕ) (at : ℕ) (head : StatusHead) (shown : Framing) (content : Content) (unread : List ℕ)
-    → IsFinalHead bytes (final_head.Complete head at) → framing_of_response max h head ≡ Ok shown
-    → ((more : List ℕ) (e : Bool) → body_at max shown e (drop at bytes ++ more) ≡ body_from content e (unread ++ more))
-    → Resumes max h head content bytes unread
+    → FinalHeadIsFound bytes (final_head.Complete head at) → framing_of_response max h head ≡ Ok shown
+    → ((more : List ℕ) (e : Bool) → content_at max shown e (drop at bytes ++ more) ≡ content_rest content e (unread ++ more))
+    → ResponseContentResumes max h head content bytes unread
 resumes_from max h bytes at head shown content unread x is on = λ more ended.
-    subst (λ (body : Body). Reads max h ended (bytes ++ more) (with_body ended (response_of h head) body))
-    (ap (body_at max shown ended) (drop-append-le at bytes more x.0.1) ∙ on more ended)
+    subst (λ (body : ContentFound). Reads max h ended (bytes ++ more) (reading_with_content ended (response_of_head h head) body))
+    (ap (content_at max shown ended) (drop-append-le at bytes more x.0.1) ∙ on more ended)
     (reads_final max h ended (bytes ++ more) at head shown (final_append bytes more at head x) is)
 
 -- what was read of the content behind the head
 abbrev pub Took : ℕ → Bool → Framing → List ℕ → ℕ → ContentProgress → Content → Type 0
-Took max e shown bytes at t content = ReadsOn e e (drop at bytes) (begun max shown) t content (behind_read t (drop at bytes))
+Took max e shown bytes at t content = ContentGoesOn e e (drop at bytes) (content_begun max shown) t content (behind_read t (drop at bytes))
 
 pub took : (max : ℕ) (e : Bool) (shown : Framing) (bytes : List ℕ) (at : ℕ) (rest : List ℕ) (old : Content) (t s : ContentProgress) (content : Content)
-    → rest ≡ drop at bytes → old ≡ begun max shown → t ≡ s → ReadsOn e e rest old t content (behind_read t rest) → Took max e shown bytes at s content
+    → rest ≡ drop at bytes → old ≡ content_begun max shown → t ≡ s → ContentGoesOn e e rest old t content (behind_read t rest) → Took max e shown bytes at s content
 took max e shown bytes at rest old t s content same is kind h =
     subst (λ (t : ContentProgress). Took max e shown bytes at t content) kind
-    (subst (λ (u : List ℕ). ReadsOn e e u (begun max shown) t content (behind_read t u)) same
-    (subst (λ (o : Content). ReadsOn e e rest o t content (behind_read t rest)) is h))
+    (subst (λ (u : List ℕ). ContentGoesOn e e u (content_begun max shown) t content (behind_read t u)) same
+    (subst (λ (o : Content). ContentGoesOn e e rest o t content (behind_read t rest)) is h))
 
-reads_taken : (max : ℕ) (h e : Bool) (bytes : List ℕ) (at : ℕ) (head : StatusHead) (shown : Framing) (body : Body) → IsFinalHead bytes (final_head.Complete head at)
-    → framing_of_response max h head ≡ Ok shown → body_from (begun max shown) e (drop at bytes) ≡ body → Reads max h e bytes (with_body e (response_of h head) body)
+reads_taken : (max : ℕ) (h e : Bool) (bytes : List ℕ) (at : ℕ) (head : StatusHead) (shown : Framing) (body : ContentFound) → FinalHeadIsFound bytes (final_head.Complete head at)
+    → framing_of_response max h head ≡ Ok shown → content_rest (content_begun max shown) e (drop at bytes) ≡ body → Reads max h e bytes (reading_with_content e (response_of_head h head) body)
 reads_taken max h e bytes at head shown body x is gives =
-    subst (λ (body : Body). Reads max h e bytes (with_body e (response_of h head) body)) (begun_is max shown e (drop at bytes) ∙ gives)
+    subst (λ (body : ContentFound). Reads max h e bytes (reading_with_content e (response_of_head h head) body)) (begun_is max shown e (drop at bytes) ∙ gives)
     (reads_final max h e bytes at head shown x is)
 
 -- some of the bytes are there
@@ -119,43 +119,43 @@ some_bytes bytes at k some within = omega (arith, some, within)
 behind : (bytes : List ℕ) (at n : ℕ) → at ≤ length bytes → n ≤ length (drop at bytes) → at + n ≤ length bytes
 behind bytes at n low high = omega (arith, low, high, length-drop at bytes)
 
-pub progress_going : (max : ℕ) (h e : Bool) (bytes : List ℕ) (at : ℕ) (head : StatusHead) (shown : Framing) (content : Content) (n : ℕ) → IsFinalHead bytes (final_head.Complete head at)
+pub progress_going : (max : ℕ) (h e : Bool) (bytes : List ℕ) (at : ℕ) (head : StatusHead) (shown : Framing) (content : Content) (n : ℕ) → FinalHeadIsFound bytes (final_head.Complete head at)
     → framing_of_response max h head ≡ Ok shown → Took max e shown bytes at (content_progress.Incomplete n) content → IsHeadProgress max h e bytes (head_progress.InContent head content (at + n))
 progress_going max h e bytes at head shown content n x is k =
     let same : drop n (drop at bytes) ≡ drop (at + n) bytes = drop-drop n at bytes in (
       (omega (arith, x.0.0), behind bytes at n x.0.1 k.1.0),
-      subst (λ (r : Reading Response). Reads max h e bytes r) (ap (λ (e : Bool). cut_off {M = Response} e) k.0) (reads_taken max h e bytes at head shown Short x is k.1.1),
+      subst (λ (r : StreamReading Response). Reads max h e bytes r) (ap (λ (e : Bool). reading_cut_off {M = Response} e) k.0) (reads_taken max h e bytes at head shown Short x is k.1.1),
       resumes_from max h bytes at head shown content (drop (at + n) bytes) x is
-          (λ more e. begun_is max shown e (drop at bytes ++ more) ∙ k.1.2 more e ∙ ap (λ u. body_from content e (u ++ more)) same),
-      subst (λ (u : List ℕ). IsOpen content u) same k.1.3,
+          (λ more e. begun_is max shown e (drop at bytes ++ more) ∙ k.1.2 more e ∙ ap (λ u. content_rest content e (u ++ more)) same),
+      subst (λ (u : List ℕ). IsUnfinishedContent content u) same k.1.3,
     )
 
-pub progress_faulty : (max : ℕ) (h e : Bool) (bytes : List ℕ) (at : ℕ) (head : StatusHead) (shown : Framing) (content : Content) (f : FrameFault) → IsFinalHead bytes (final_head.Complete head at)
+pub progress_faulty : (max : ℕ) (h e : Bool) (bytes : List ℕ) (at : ℕ) (head : StatusHead) (shown : Framing) (content : Content) (f : FrameFault) → FinalHeadIsFound bytes (final_head.Complete head at)
     → framing_of_response max h head ≡ Ok shown → Took max e shown bytes at (content_progress.Faulty f) content → IsHeadProgress max h e bytes (head_progress.Faulty f)
 progress_faulty max h e bytes at head shown content f x is k =
-    let body : Body = body_from (begun max shown) e (drop at bytes) in (
+    let body : ContentFound = content_rest (content_begun max shown) e (drop at bytes) in (
       some_bytes bytes at _ x.0.0 x.0.1,
-      subst (λ (r : Reading Response). Reads max h e bytes r) (body_faulty e (response_of h head) body f k.0) (reads_taken max h e bytes at head shown body x is refl),
+      subst (λ (r : StreamReading Response). Reads max h e bytes r) (body_faulty e (response_of_head h head) body f k.0) (reads_taken max h e bytes at head shown body x is refl),
     )
 
 pub progress_message : (max : ℕ) (h e : Bool) (bytes : List ℕ) (at : ℕ) (head : StatusHead) (shown : Framing) (content : Content) (c : Option (List ℕ)) (n : ℕ)
-    → IsFinalHead bytes (final_head.Complete head at) → framing_of_response max h head ≡ Ok shown → Took max e shown bytes at (content_progress.Whole c n) content
-    → IsHeadProgress max h e bytes (head_progress.Message (response_of h head c) (at + n))
+    → FinalHeadIsFound bytes (final_head.Complete head at) → framing_of_response max h head ≡ Ok shown → Took max e shown bytes at (content_progress.Whole c n) content
+    → IsHeadProgress max h e bytes (head_progress.Message (response_of_head h head c) (at + n))
 progress_message max h e bytes at head shown content c n x is k = (
   (omega (arith, x.0.0), behind bytes at n x.0.1 k.0.0),
-  subst (λ (u : List ℕ). Reads max h e bytes (Spelled (response_of h head c) u)) (drop-drop n at bytes)
+  subst (λ (u : List ℕ). Reads max h e bytes (Spelled (response_of_head h head c) u)) (drop-drop n at bytes)
       (reads_taken max h e bytes at head shown (Whole c (drop n (drop at bytes))) x is k.0.1),
 )
 
 -- ---- a head that is at fault
 
-pub progress_refused : (max : ℕ) (h e : Bool) (bytes : List ℕ) (f : FrameFault) → IsFinalHead bytes (final_head.Faulty f) → IsHeadProgress max h e bytes (head_progress.Faulty f)
+pub progress_refused : (max : ℕ) (h e : Bool) (bytes : List ℕ) (f : FrameFault) → FinalHeadIsFound bytes (final_head.Faulty f) → IsHeadProgress max h e bytes (head_progress.Faulty f)
 progress_refused max h e bytes f x = (
   omega (arith, x.0),
-  (x.1.0, x.1.1, x.1.3, subst (λ (o : Option ℕ). FrontBy max h e x.1.1 o (Faulty f)) (sym x.1.4) (Err f, x.1.5, tt, refl)),
+  (x.1.0, x.1.1, x.1.3, subst (λ (o : Option ℕ). FrontReadsByLength max h e x.1.1 o (Faulty f)) (sym x.1.4) (Err f, x.1.5, tt, refl)),
 )
 
-pub progress_unframed : (max : ℕ) (h e : Bool) (bytes : List ℕ) (at : ℕ) (head : StatusHead) (f : FrameFault) → IsFinalHead bytes (final_head.Complete head at)
+pub progress_unframed : (max : ℕ) (h e : Bool) (bytes : List ℕ) (at : ℕ) (head : StatusHead) (f : FrameFault) → FinalHeadIsFound bytes (final_head.Complete head at)
     → framing_of_response max h head ≡ Err f → IsHeadProgress max h e bytes (head_progress.Faulty f)
 progress_unframed max h e bytes at head f x is = (
   some_bytes bytes at _ x.0.0 x.0.1,
@@ -163,15 +163,15 @@ progress_unframed max h e bytes at head f x is = (
     x.1.0,
     x.1.1,
     x.1.3,
-    subst (λ (o : Option ℕ). FrontBy max h e x.1.1 o (Faulty f)) (sym x.1.4)
-        (Ok head, x.1.5, x.1.6, sym (ap (with_framing max h e head (drop x.1.2 x.1.1)) is)),
+    subst (λ (o : Option ℕ). FrontReadsByLength max h e x.1.1 o (Faulty f)) (sym x.1.4)
+        (Ok head, x.1.5, x.1.6, sym (ap (reading_with_framing max h e head (drop x.1.2 x.1.1)) is)),
   ),
 )
 
 -- ---- no head yet
 
 -- behind the interim responses a head may still end within the limit
-pub progress_open : (max : ℕ) (h e : Bool) (bytes : List ℕ) (at : ℕ) → e ≡ false → length (drop at bytes) ≤ 32768 → IsFinalHead bytes (final_head.Incomplete at)
+pub progress_open : (max : ℕ) (h e : Bool) (bytes : List ℕ) (at : ℕ) → e ≡ false → length (drop at bytes) ≤ 32768 → FinalHeadIsFound bytes (final_head.Incomplete at)
     → IsHeadProgress max h e bytes (head_progress.Incomplete at)
 progress_open max h e bytes at open_still short x = (
   x.0,
@@ -179,9 +179,9 @@ progress_open max h e bytes at open_still short x = (
     x.1.0,
     drop at bytes,
     x.1.1,
-    subst (λ (o : Option ℕ). FrontBy max h e (drop at bytes) o Incomplete) (sym x.2)
-        (sym (ap (λ (t : Bool). cond {A = Reading Response} t (Faulty fault.Head) (cut_off e)) (le-ltb 32768 (length (drop at bytes)) short)
-        ∙ ap (λ (e : Bool). cut_off {M = Response} e) open_still)),
+    subst (λ (o : Option ℕ). FrontReadsByLength max h e (drop at bytes) o Incomplete) (sym x.2)
+        (sym (ap (λ (t : Bool). cond {A = StreamReading Response} t (Faulty fault.Head) (reading_cut_off e)) (le-ltb 32768 (length (drop at bytes)) short)
+        ∙ ap (λ (e : Bool). reading_cut_off {M = Response} e) open_still)),
   ),
   x.1,
   open_head (drop at bytes) short x.2,

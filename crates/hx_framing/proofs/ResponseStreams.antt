@@ -2,20 +2,20 @@
 use Rattle.std.proofs.Common.{◌≡◌, ℕ, Bool, true, false, List, [], ◌∷◌, ◌++◌, drop, refl, sym, ap, subst, ◌∙◌, Result, Ok, Err, OnOk}
 use Rattle.hx_framing.specs.declared.heads.status_head.StatusHead.{StatusHead}
 use Rattle.hx_framing.specs.declared.messages.Response.{Response}
-use Rattle.hx_framing.specs.declared.fault.FrameFault.{FrameFault}
+use Rattle.hx_framing.specs.declared.frame_fault.FrameFault.{FrameFault}
 use Rattle.hx_framing.specs.declared.messages.Next.{Next}
 use Rattle.hx_framing.specs.declared.messages.Next.TheVariants.{End}
 use Rattle.hx_framing.specs.declared.contents.content.Content.{Content}
 use Rattle.hx_framing.specs.declared.readers.response_reader.ResponsePhase.{ResponsePhase}
 use Rattle.hx_framing.specs.declared.readers.response_reader.ResponsePhase.TheVariants as phase
-use Rattle.hx_framing.specs.Body.{Body}
-use Rattle.hx_framing.specs.Contents.{body_from}
-use Rattle.hx_framing.specs.Reading.{Reading, Spelled, Faulty, with_body, IsSettled, extended}
-use Rattle.hx_framing.specs.ResponseReading.{response_of, Passes, Reads}
-use Rattle.hx_framing.specs.ResponseHeadProgress.{Resumes}
-use Rattle.hx_framing.specs.ResponseStream.{IsGiven, AnswersBy, Answers}
-use Rattle.hx_framing.specs.Progress.{Progress, next_of, fed, finished, IsDue}
-use Rattle.hx_framing.specs.ResponseState.{State, RepresentsStream, KeepsBy}
+use Rattle.hx_framing.specs.Body.{ContentFound}
+use Rattle.hx_framing.specs.Contents.{content_rest}
+use Rattle.hx_framing.specs.Reading.{StreamReading, Spelled, Faulty, reading_with_content, ReadingIsSettled, reading_with_more}
+use Rattle.hx_framing.specs.ResponseReading.{response_of_head, PassesInterimResponses, Reads}
+use Rattle.hx_framing.specs.ResponseHeadProgress.{ResponseContentResumes}
+use Rattle.hx_framing.specs.ResponseStream.{OneResponseIsGiven, AnswersAfterGiven, Answers}
+use Rattle.hx_framing.specs.Progress.{Progress, next_of_reading, stream_with_piece, stream_finished, AnswerIsDue}
+use Rattle.hx_framing.specs.ResponseState.{State, RepresentsStream, ResponseReaderKeeps}
 use Rattle.hx_framing.proofs.ResponseOnce.{read_once_lem}
 use Rattle.hx_framing.proofs.ContentReadings.{resumes_now, resumes_fed}
 use Rattle.hx_framing.proofs.StreamLemmas.{same_fault, next_extended, due_settled}
@@ -27,68 +27,68 @@ one_fault_lem max h bytes more f g x y = same_fault f g (read_once_lem max h fal
 
 -- ---- what is due stays due
 
-reads_settled : (max : ℕ) (h e : Bool) (u : List ℕ) (r : Reading Response) → IsDue (next_of r) → Reads max h e u r → IsSettled r
-reads_settled max h e u r due x = due_settled r due (λ over. reads_over max h e u (subst (λ (r : Reading Response). Reads max h e u r) over x))
+reads_settled : (max : ℕ) (h e : Bool) (u : List ℕ) (r : StreamReading Response) → AnswerIsDue (next_of_reading r) → Reads max h e u r → ReadingIsSettled r
+reads_settled max h e u r due x = due_settled r due (λ over. reads_over max h e u (subst (λ (r : StreamReading Response). Reads max h e u r) over x))
 
 -- a reading of the stream so far is one of the longer stream
-reads_fed : (p : Progress Response) (r : Reading Response) (w : List ℕ) → p.ended ≡ false → IsSettled r
-    → Reads p.max_body p.to_head p.ended p.stream r → Reads p.max_body p.to_head p.ended (p.stream ++ w) (extended r w)
+reads_fed : (p : Progress Response) (r : StreamReading Response) (w : List ℕ) → p.ended ≡ false → ReadingIsSettled r
+    → Reads p.max_body p.to_head p.ended p.stream r → Reads p.max_body p.to_head p.ended (p.stream ++ w) (reading_with_more r w)
 reads_fed p r w open_still settled x =
-    subst (λ (e : Bool). Reads p.max_body p.to_head e (p.stream ++ w) (extended r w)) (sym open_still)
+    subst (λ (e : Bool). Reads p.max_body p.to_head e (p.stream ++ w) (reading_with_more r w)) (sym open_still)
     (reads_append p.max_body p.to_head p.stream w r settled (subst (λ (e : Bool). Reads p.max_body p.to_head e p.stream r) open_still x))
 
-given_fed : (p : Progress Response) (w : List ℕ) (given : List Response) → p.ended ≡ false → IsGiven p given → IsGiven (fed p w) given
+given_fed : (p : Progress Response) (w : List ℕ) (given : List Response) → p.ended ≡ false → OneResponseIsGiven p given → OneResponseIsGiven (stream_with_piece p w) given
 given_fed p w [] open_still x = tt
 given_fed p w (m ∷ []) open_still x = (x.0 ++ w, reads_fed p (Spelled m x.0) w open_still tt x.1)
 given_fed p w (m ∷ n ∷ more) open_still x = x
 
-given_finished : (p : Progress Response) (given : List Response) → IsGiven p given → IsGiven (finished p) given
+given_finished : (p : Progress Response) (given : List Response) → OneResponseIsGiven p given → OneResponseIsGiven (stream_finished p) given
 given_finished p [] x = tt
 given_finished p (m ∷ []) x = (x.0, reads_ended p.max_body p.to_head p.ended p.stream (Spelled m x.0) tt x.1)
 given_finished p (m ∷ n ∷ more) x = x
 
-pub due_fed : (p : Progress Response) (a : Next Response) (w : List ℕ) → p.ended ≡ false → IsDue a → Answers p a → Answers (fed p w) a
+pub due_fed : (p : Progress Response) (a : Next Response) (w : List ℕ) → p.ended ≡ false → AnswerIsDue a → Answers p a → Answers (stream_with_piece p w) a
 due_fed p a w open_still due x = record { spells = given_fed p w p.given open_still x.spells; by = by_given p.given x.by }
   where
-    by_given : (given : List Response) → AnswersBy p given a → AnswersBy (fed p w) given a
+    by_given : (given : List Response) → AnswersAfterGiven p given a → AnswersAfterGiven (stream_with_piece p w) given a
     by_given [] x =
-        let settled : IsSettled x.0 = reads_settled p.max_body p.to_head p.ended p.stream x.0 (subst IsDue x.2 due) x.1 in
-        (extended x.0 w, reads_fed p x.0 w open_still settled x.1, x.2 ∙ sym (next_extended x.0 w))
+        let settled : ReadingIsSettled x.0 = reads_settled p.max_body p.to_head p.ended p.stream x.0 (subst AnswerIsDue x.2 due) x.1 in
+        (reading_with_more x.0 w, reads_fed p x.0 w open_still settled x.1, x.2 ∙ sym (next_extended x.0 w))
     by_given (m ∷ more) x = x
 
-pub due_finished : (p : Progress Response) (a : Next Response) → IsDue a → Answers p a → Answers (finished p) a
+pub due_finished : (p : Progress Response) (a : Next Response) → AnswerIsDue a → Answers p a → Answers (stream_finished p) a
 due_finished p a due x = record { spells = given_finished p p.given x.spells; by = by_given p.given x.by }
   where
-    by_given : (given : List Response) → AnswersBy p given a → AnswersBy (finished p) given a
+    by_given : (given : List Response) → AnswersAfterGiven p given a → AnswersAfterGiven (stream_finished p) given a
     by_given [] x =
-        let settled : IsSettled x.0 = reads_settled p.max_body p.to_head p.ended p.stream x.0 (subst IsDue x.2 due) x.1 in
+        let settled : ReadingIsSettled x.0 = reads_settled p.max_body p.to_head p.ended p.stream x.0 (subst AnswerIsDue x.2 due) x.1 in
         (x.0, reads_ended p.max_body p.to_head p.ended p.stream x.0 settled x.1, x.2)
     by_given (m ∷ more) x = x
 
 -- ---- a reader
 
 -- what is read before the message is the answer
-pub answers_by : (p : Progress Response) (s : State) (r : Reading Response) → p.given ≡ [] → RepresentsStream s p
-    → Reads p.max_body p.to_head p.ended p.stream r → Answers p (next_of r)
+pub answers_by : (p : Progress Response) (s : State) (r : StreamReading Response) → p.given ≡ [] → RepresentsStream s p
+    → Reads p.max_body p.to_head p.ended p.stream r → Answers p (next_of_reading r)
 answers_by p s r none represents reads = record {
   spells = represents.spells;
-  by = subst (λ (given : List Response). AnswersBy p given (next_of r)) (sym none) (r, reads, refl);
+  by = subst (λ (given : List Response). AnswersAfterGiven p given (next_of_reading r)) (sym none) (r, reads, refl);
 }
 
 -- before the head
 pub record Before (s : State) (p : Progress Response) (given : List Response) : Type 0 where
   pub none : given ≡ []
-  pub passes : (sizes : List ℕ) × Passes p.stream sizes s.unread
+  pub passes : (sizes : List ℕ) × PassesInterimResponses p.stream sizes s.unread
 
-before_by : (s : State) (p : Progress Response) (given : List Response) → KeepsBy s p phase.BeforeHead given → Before s p given
+before_by : (s : State) (p : Progress Response) (given : List Response) → ResponseReaderKeeps s p phase.BeforeHead given → Before s p given
 before_by s p [] k = record { none = refl; passes = k }
 before_by s p (m ∷ more) k = absurd k
 
 pub before : (s : State) (p : Progress Response) → s.phase ≡ phase.BeforeHead → RepresentsStream s p → Before s p p.given
-before s p waiting represents = before_by s p p.given (subst (λ (f : ResponsePhase). KeepsBy s p f p.given) waiting represents.keeps)
+before s p waiting represents = before_by s p p.given (subst (λ (f : ResponsePhase). ResponseReaderKeeps s p f p.given) waiting represents.keeps)
 
 -- what is read in the unread bytes is read in the stream
-pub kept_reads : (s : State) (p : Progress Response) (r : Reading Response) → s.phase ≡ phase.BeforeHead → RepresentsStream s p
+pub kept_reads : (s : State) (p : Progress Response) (r : StreamReading Response) → s.phase ≡ phase.BeforeHead → RepresentsStream s p
     → Reads s.max_body s.to_head s.ended s.unread r → Reads p.max_body p.to_head p.ended p.stream r
 kept_reads s p r waiting represents reads =
     let keeps = before s p waiting represents in
@@ -100,46 +100,46 @@ kept_reads s p r waiting represents reads =
 -- in the content
 pub record Inside (s : State) (p : Progress Response) (head : StatusHead) (content : Content) (given : List Response) : Type 0 where
   pub none : given ≡ []
-  pub resumes : Resumes p.max_body p.to_head head content p.stream s.unread
+  pub resumes : ResponseContentResumes p.max_body p.to_head head content p.stream s.unread
 
-inside_by : (s : State) (p : Progress Response) (head : StatusHead) (content : Content) (given : List Response) → KeepsBy s p (phase.InContent head content) given
+inside_by : (s : State) (p : Progress Response) (head : StatusHead) (content : Content) (given : List Response) → ResponseReaderKeeps s p (phase.InContent head content) given
     → Inside s p head content given
 inside_by s p head content [] k = record { none = refl; resumes = k }
 inside_by s p head content (m ∷ more) k = absurd k
 
 pub inside : (s : State) (p : Progress Response) (head : StatusHead) (content : Content) → s.phase ≡ phase.InContent head content → RepresentsStream s p
     → Inside s p head content p.given
-inside s p head content going represents = inside_by s p head content p.given (subst (λ (f : ResponsePhase). KeepsBy s p f p.given) going represents.keeps)
+inside s p head content going represents = inside_by s p head content p.given (subst (λ (f : ResponsePhase). ResponseReaderKeeps s p f p.given) going represents.keeps)
 
 -- what is taken of a content is read in the stream
-pub content_reads : (s : State) (p : Progress Response) (head : StatusHead) (content : Content) (body : Body) → s.phase ≡ phase.InContent head content → RepresentsStream s p
-    → body_from content s.ended s.unread ≡ body → Reads p.max_body p.to_head p.ended p.stream (with_body s.ended (response_of s.to_head head) body)
+pub content_reads : (s : State) (p : Progress Response) (head : StatusHead) (content : Content) (body : ContentFound) → s.phase ≡ phase.InContent head content → RepresentsStream s p
+    → content_rest content s.ended s.unread ≡ body → Reads p.max_body p.to_head p.ended p.stream (reading_with_content s.ended (response_of_head s.to_head head) body)
 content_reads s p head content body going represents is =
-    subst (λ (h : Bool). Reads p.max_body p.to_head p.ended p.stream (with_body s.ended (response_of h head) body)) (sym represents.to_head)
-    (subst (λ (e : Bool). Reads p.max_body p.to_head p.ended p.stream (with_body e (response_of p.to_head head) body)) (sym represents.ended)
-    (subst (λ (b : Body). Reads p.max_body p.to_head p.ended p.stream (with_body p.ended (response_of p.to_head head) b))
-    (ap (λ (e : Bool). body_from content e s.unread) (sym represents.ended) ∙ is)
-    (resumes_now (λ (e : Bool). Reads p.max_body p.to_head e) (response_of p.to_head head) (λ (e : Bool). e) content p.stream s.unread (inside s p head content going represents).resumes p.ended)))
+    subst (λ (h : Bool). Reads p.max_body p.to_head p.ended p.stream (reading_with_content s.ended (response_of_head h head) body)) (sym represents.to_head)
+    (subst (λ (e : Bool). Reads p.max_body p.to_head p.ended p.stream (reading_with_content e (response_of_head p.to_head head) body)) (sym represents.ended)
+    (subst (λ (b : ContentFound). Reads p.max_body p.to_head p.ended p.stream (reading_with_content p.ended (response_of_head p.to_head head) b))
+    (ap (λ (e : Bool). content_rest content e s.unread) (sym represents.ended) ∙ is)
+    (resumes_now (λ (e : Bool). Reads p.max_body p.to_head e) (response_of_head p.to_head head) (λ (e : Bool). e) content p.stream s.unread (inside s p head content going represents).resumes p.ended)))
 
 -- behind the message comes the end
 pub answers_end : (s : State) (p : Progress Response) → s.phase ≡ phase.Given → RepresentsStream s p → Answers p End
 answers_end s p given represents = record {
   spells = represents.spells;
-  by = by_given p.given (subst (λ (f : ResponsePhase). KeepsBy s p f p.given) given represents.keeps);
+  by = by_given p.given (subst (λ (f : ResponsePhase). ResponseReaderKeeps s p f p.given) given represents.keeps);
 }
   where
-    by_given : (g : List Response) → KeepsBy s p phase.Given g → AnswersBy p g End
+    by_given : (g : List Response) → ResponseReaderKeeps s p phase.Given g → AnswersAfterGiven p g End
     by_given [] k = absurd k
     by_given (m ∷ more) k = refl
 
 -- a fault that was answered is answered again
-pub answers_fault : (s : State) (p : Progress Response) (f : FrameFault) → s.phase ≡ phase.Faulty f → RepresentsStream s p → Answers p (next_of (Faulty f))
+pub answers_fault : (s : State) (p : Progress Response) (f : FrameFault) → s.phase ≡ phase.Faulty f → RepresentsStream s p → Answers p (next_of_reading (Faulty f))
 answers_fault s p f faulty represents = record {
   spells = represents.spells;
-  by = by_given p.given (subst (λ (f : ResponsePhase). KeepsBy s p f p.given) faulty represents.keeps);
+  by = by_given p.given (subst (λ (f : ResponsePhase). ResponseReaderKeeps s p f p.given) faulty represents.keeps);
 }
   where
-    by_given : (g : List Response) → KeepsBy s p (phase.Faulty f) g → AnswersBy p g (next_of (Faulty f))
+    by_given : (g : List Response) → ResponseReaderKeeps s p (phase.Faulty f) g → AnswersAfterGiven p g (next_of_reading (Faulty f))
     by_given [] k = (Faulty f, k, refl)
     by_given (m ∷ more) k = absurd k
 
@@ -159,7 +159,7 @@ same_stream s v t is shape = record {
   ended = ap (λ (s : State). s.ended) shape ∙ ap (λ (s : State). s.ended) is;
 }
 
-represents_on : (s t : State) (p : Progress Response) → Same s t → RepresentsStream s p → KeepsBy t p t.phase p.given → RepresentsStream t p
+represents_on : (s t : State) (p : Progress Response) → Same s t → RepresentsStream s p → ResponseReaderKeeps t p t.phase p.given → RepresentsStream t p
 represents_on s t p same represents keeps = record {
   max_body = same.max_body ∙ represents.max_body;
   to_head = same.to_head ∙ represents.to_head;
@@ -170,32 +170,32 @@ represents_on s t p same represents keeps = record {
 
 -- interim responses were passed over
 pub represents_passed : (s t : State) (p : Progress Response) (n : ℕ) → Same s t → s.phase ≡ phase.BeforeHead → t.phase ≡ phase.BeforeHead
-    → t.unread ≡ drop n s.unread → (sizes : List ℕ) × Passes s.unread sizes (drop n s.unread) → RepresentsStream s p → RepresentsStream t p
+    → t.unread ≡ drop n s.unread → (sizes : List ℕ) × PassesInterimResponses s.unread sizes (drop n s.unread) → RepresentsStream s p → RepresentsStream t p
 represents_passed s t p n same waiting still left x represents =
     let keeps = before s p waiting represents in
-    let passed : (sizes : List ℕ) × Passes p.stream sizes t.unread
-    = (keeps.passes.0 ++ x.0, subst (λ (u : List ℕ). Passes p.stream (keeps.passes.0 ++ x.0) u) (sym left) (passes_behind p.stream keeps.passes.0 s.unread x.0 (drop n s.unread) keeps.passes.1 x.1)) in
-    represents_on s t p same represents (subst (λ (f : ResponsePhase). KeepsBy t p f p.given) (sym still)
-    (subst (λ (g : List Response). KeepsBy t p phase.BeforeHead g) (sym keeps.none) passed))
+    let passed : (sizes : List ℕ) × PassesInterimResponses p.stream sizes t.unread
+    = (keeps.passes.0 ++ x.0, subst (λ (u : List ℕ). PassesInterimResponses p.stream (keeps.passes.0 ++ x.0) u) (sym left) (passes_behind p.stream keeps.passes.0 s.unread x.0 (drop n s.unread) keeps.passes.1 x.1)) in
+    represents_on s t p same represents (subst (λ (f : ResponsePhase). ResponseReaderKeeps t p f p.given) (sym still)
+    (subst (λ (g : List Response). ResponseReaderKeeps t p phase.BeforeHead g) (sym keeps.none) passed))
 
 -- a content goes on
 pub represents_going : (s t : State) (p : Progress Response) (head : StatusHead) (content : Content) → Same s t → p.given ≡ [] → t.phase ≡ phase.InContent head content
-    → Resumes p.max_body p.to_head head content p.stream t.unread → RepresentsStream s p → RepresentsStream t p
+    → ResponseContentResumes p.max_body p.to_head head content p.stream t.unread → RepresentsStream s p → RepresentsStream t p
 represents_going s t p head content same none going on represents =
-    represents_on s t p same represents (subst (λ (f : ResponsePhase). KeepsBy t p f p.given) (sym going)
-    (subst (λ (g : List Response). KeepsBy t p (phase.InContent head content) g) (sym none) on))
+    represents_on s t p same represents (subst (λ (f : ResponsePhase). ResponseReaderKeeps t p f p.given) (sym going)
+    (subst (λ (g : List Response). ResponseReaderKeeps t p (phase.InContent head content) g) (sym none) on))
 
 -- a content was begun
 pub represents_begun : (s t : State) (p : Progress Response) (head : StatusHead) (content : Content) (n : ℕ) → Same s t → s.phase ≡ phase.BeforeHead → t.phase ≡ phase.InContent head content
-    → t.unread ≡ drop n s.unread → Resumes s.max_body s.to_head head content s.unread (drop n s.unread) → RepresentsStream s p → RepresentsStream t p
+    → t.unread ≡ drop n s.unread → ResponseContentResumes s.max_body s.to_head head content s.unread (drop n s.unread) → RepresentsStream s p → RepresentsStream t p
 represents_begun s t p head content n same waiting going left on represents =
     let keeps = before s p waiting represents in
-    let here : Resumes s.max_body s.to_head head content p.stream t.unread = λ more ended.
+    let here : ResponseContentResumes s.max_body s.to_head head content p.stream t.unread = λ more ended.
     reads_behind s.max_body s.to_head ended (p.stream ++ more) keeps.passes.0 (s.unread ++ more) _ (passes_append p.stream keeps.passes.0 s.unread more keeps.passes.1)
-    (subst (λ (u : List ℕ). Reads s.max_body s.to_head ended (s.unread ++ more) (with_body ended (response_of s.to_head head) (body_from content ended (u ++ more)))) (sym left) (on more ended)) in
+    (subst (λ (u : List ℕ). Reads s.max_body s.to_head ended (s.unread ++ more) (reading_with_content ended (response_of_head s.to_head head) (content_rest content ended (u ++ more)))) (sym left) (on more ended)) in
     represents_going s t p head content same keeps.none going
-    (subst (λ (m : ℕ). Resumes m p.to_head head content p.stream t.unread) represents.max_body
-    (subst (λ (h : Bool). Resumes s.max_body h head content p.stream t.unread) represents.to_head here)) represents
+    (subst (λ (m : ℕ). ResponseContentResumes m p.to_head head content p.stream t.unread) represents.max_body
+    (subst (λ (h : Bool). ResponseContentResumes s.max_body h head content p.stream t.unread) represents.to_head here)) represents
 
 -- the message was given
 pub represents_given : (s t : State) (p : Progress Response) (m : Response) (rest : List ℕ) → Same s t → p.given ≡ [] → t.phase ≡ phase.Given
@@ -206,36 +206,36 @@ represents_given s t p m rest same none given reads represents =
       max_body = same.max_body ∙ represents.max_body;
       to_head = same.to_head ∙ represents.to_head;
       ended = same.ended ∙ represents.ended;
-      spells = subst (λ (g : List Response). IsGiven q (g ++ m ∷ [])) (sym none) (rest, reads);
-      keeps = subst (λ (f : ResponsePhase). KeepsBy t q f (p.given ++ m ∷ [])) (sym given)
-          (subst (λ (g : List Response). KeepsBy t q phase.Given (g ++ m ∷ [])) (sym none) tt);
+      spells = subst (λ (g : List Response). OneResponseIsGiven q (g ++ m ∷ [])) (sym none) (rest, reads);
+      keeps = subst (λ (f : ResponsePhase). ResponseReaderKeeps t q f (p.given ++ m ∷ [])) (sym given)
+          (subst (λ (g : List Response). ResponseReaderKeeps t q phase.Given (g ++ m ∷ [])) (sym none) tt);
     }
 
 -- the fault is kept
 pub represents_fault : (s t : State) (p : Progress Response) (f : FrameFault) → Same s t → p.given ≡ [] → t.phase ≡ phase.Faulty f
     → Reads p.max_body p.to_head p.ended p.stream (Faulty f) → RepresentsStream s p → RepresentsStream t p
 represents_fault s t p f same none faulty reads represents =
-    represents_on s t p same represents (subst (λ (g : ResponsePhase). KeepsBy t p g p.given) (sym faulty)
-    (subst (λ (g : List Response). KeepsBy t p (phase.Faulty f) g) (sym none) reads))
+    represents_on s t p same represents (subst (λ (g : ResponsePhase). ResponseReaderKeeps t p g p.given) (sym faulty)
+    (subst (λ (g : List Response). ResponseReaderKeeps t p (phase.Faulty f) g) (sym none) reads))
 
 -- ---- a piece has come, and the stream has ended
 
 pub represents_fed : (s t : State) (p : Progress Response) (piece : List ℕ) → Same s t → t.phase ≡ s.phase → t.unread ≡ s.unread ++ piece → p.ended ≡ false
-    → RepresentsStream s p → RepresentsStream t (fed p piece)
+    → RepresentsStream s p → RepresentsStream t (stream_with_piece p piece)
 represents_fed s t p piece same kept longer open_still represents = record {
   max_body = same.max_body ∙ represents.max_body;
   to_head = same.to_head ∙ represents.to_head;
   ended = same.ended ∙ represents.ended;
   spells = given_fed p piece p.given open_still represents.spells;
-  keeps = subst (λ (f : ResponsePhase). KeepsBy t (fed p piece) f p.given) (sym kept) (by_phase s.phase p.given represents.keeps);
+  keeps = subst (λ (f : ResponsePhase). ResponseReaderKeeps t (stream_with_piece p piece) f p.given) (sym kept) (by_phase s.phase p.given represents.keeps);
 }
   where
-    by_phase : (f : ResponsePhase) (g : List Response) → KeepsBy s p f g → KeepsBy t (fed p piece) f g
-    by_phase phase.BeforeHead [] k = (k.0, subst (λ (u : List ℕ). Passes (p.stream ++ piece) k.0 u) (sym longer) (passes_append p.stream k.0 s.unread piece k.1))
+    by_phase : (f : ResponsePhase) (g : List Response) → ResponseReaderKeeps s p f g → ResponseReaderKeeps t (stream_with_piece p piece) f g
+    by_phase phase.BeforeHead [] k = (k.0, subst (λ (u : List ℕ). PassesInterimResponses (p.stream ++ piece) k.0 u) (sym longer) (passes_append p.stream k.0 s.unread piece k.1))
     by_phase phase.BeforeHead (m ∷ more) k = k
     by_phase (phase.InContent head content) [] k =
-        subst (λ (u : List ℕ). Resumes p.max_body p.to_head head content (p.stream ++ piece) u) (sym longer)
-        (resumes_fed (λ (e : Bool). Reads p.max_body p.to_head e) (response_of p.to_head head) (λ (e : Bool). e) content p.stream s.unread piece k)
+        subst (λ (u : List ℕ). ResponseContentResumes p.max_body p.to_head head content (p.stream ++ piece) u) (sym longer)
+        (resumes_fed (λ (e : Bool). Reads p.max_body p.to_head e) (response_of_head p.to_head head) (λ (e : Bool). e) content p.stream s.unread piece k)
     by_phase (phase.InContent head content) (m ∷ more) k = k
     by_phase phase.Given [] k = k
     by_phase phase.Given (m ∷ more) k = k
@@ -245,41 +245,41 @@ represents_fed s t p piece same kept longer open_still represents = record {
 -- where the piece found room
 pub represents_fed_by : {A E : Type 0} (s t : State) (piece : List ℕ) {unread : List ℕ} → Same s t → t.phase ≡ s.phase → unread ≡ s.unread
     → (r : Result A E) → OnOk r (t.unread ≡ unread ++ piece)
-    → OnOk r ((p : Progress Response) → RepresentsStream s p → p.ended ≡ false → RepresentsStream t (fed p piece))
+    → OnOk r ((p : Progress Response) → RepresentsStream s p → p.ended ≡ false → RepresentsStream t (stream_with_piece p piece))
 represents_fed_by s t piece same phase_same kept (Ok x) longer = λ p represents open_still. represents_fed s t p piece same phase_same (longer ∙ ap (λ u. u ++ piece) kept) open_still represents
 represents_fed_by s t piece same phase_same kept (Err x) longer = tt
 
 pub represents_fed_given : (s : State) (p : Progress Response) (piece : List ℕ) → s.phase ≡ phase.Given → RepresentsStream s p → p.ended ≡ false
-    → RepresentsStream s (fed p piece)
+    → RepresentsStream s (stream_with_piece p piece)
 represents_fed_given s p piece given represents open_still = record {
   max_body = represents.max_body;
   to_head = represents.to_head;
   ended = represents.ended;
   spells = given_fed p piece p.given open_still represents.spells;
-  keeps = subst (λ (f : ResponsePhase). KeepsBy s (fed p piece) f p.given) (sym given)
-      (by_given p.given (subst (λ (f : ResponsePhase). KeepsBy s p f p.given) given represents.keeps));
+  keeps = subst (λ (f : ResponsePhase). ResponseReaderKeeps s (stream_with_piece p piece) f p.given) (sym given)
+      (by_given p.given (subst (λ (f : ResponsePhase). ResponseReaderKeeps s p f p.given) given represents.keeps));
 }
   where
-    by_given : (g : List Response) → KeepsBy s p phase.Given g → KeepsBy s (fed p piece) phase.Given g
+    by_given : (g : List Response) → ResponseReaderKeeps s p phase.Given g → ResponseReaderKeeps s (stream_with_piece p piece) phase.Given g
     by_given [] k = k
     by_given (m ∷ more) k = k
 
 pub represents_fed_faulty : (s : State) (p : Progress Response) (piece : List ℕ) (f : FrameFault) → s.phase ≡ phase.Faulty f → RepresentsStream s p → p.ended ≡ false
-    → RepresentsStream s (fed p piece)
+    → RepresentsStream s (stream_with_piece p piece)
 represents_fed_faulty s p piece f faulty represents open_still = record {
   max_body = represents.max_body;
   to_head = represents.to_head;
   ended = represents.ended;
   spells = given_fed p piece p.given open_still represents.spells;
-  keeps = subst (λ (f : ResponsePhase). KeepsBy s (fed p piece) f p.given) (sym faulty)
-      (by_given p.given (subst (λ (f : ResponsePhase). KeepsBy s p f p.given) faulty represents.keeps));
+  keeps = subst (λ (f : ResponsePhase). ResponseReaderKeeps s (stream_with_piece p piece) f p.given) (sym faulty)
+      (by_given p.given (subst (λ (f : ResponsePhase). ResponseReaderKeeps s p f p.given) faulty represents.keeps));
 }
   where
-    by_given : (g : List Response) → KeepsBy s p (phase.Faulty f) g → KeepsBy s (fed p piece) (phase.Faulty f) g
+    by_given : (g : List Response) → ResponseReaderKeeps s p (phase.Faulty f) g → ResponseReaderKeeps s (stream_with_piece p piece) (phase.Faulty f) g
     by_given [] k = reads_fed p (Faulty f) piece open_still tt k
     by_given (m ∷ more) k = k
 
-pub represents_finished : (s : State) (p : Progress Response) → RepresentsStream s p → RepresentsStream (record s { ended = true }) (finished p)
+pub represents_finished : (s : State) (p : Progress Response) → RepresentsStream s p → RepresentsStream (record s { ended = true }) (stream_finished p)
 represents_finished s p represents = record {
   max_body = represents.max_body;
   to_head = represents.to_head;
@@ -288,7 +288,7 @@ represents_finished s p represents = record {
   keeps = by_phase s.phase p.given represents.keeps;
 }
   where
-    by_phase : (f : ResponsePhase) (g : List Response) → KeepsBy s p f g → KeepsBy (record s { ended = true }) (finished p) f g
+    by_phase : (f : ResponsePhase) (g : List Response) → ResponseReaderKeeps s p f g → ResponseReaderKeeps (record s { ended = true }) (stream_finished p) f g
     by_phase phase.BeforeHead [] k = k
     by_phase phase.BeforeHead (m ∷ more) k = k
     by_phase (phase.InContent head content) [] k = k

@@ -10,9 +10,9 @@ use Rattle.httparse.specs.Pieces.{Stops, is_newline}
 use Rattle.httparse.proofs.PieceLemmas.{Stops_token}
 use Rattle.hx_fields.specs.declared.field_line.Field.{Field}
 use Rattle.hx_framing.specs.declared.messages.Request.{Request}
-use Rattle.hx_framing.specs.Places.{empty_lines_length, head_end_from, head_length, most_head_bytes}
-use Rattle.hx_framing.specs.Text.{field_line, field_lines, content_bytes, request_text}
-use Rattle.hx_framing.specs.Written.{head_text, sent_fields, IsWritableField, IsWritable}
+use Rattle.hx_framing.specs.HeadEnd.{empty_lines_length, head_end_from, head_length, most_head_bytes}
+use Rattle.hx_framing.specs.Text.{field_line_text, field_lines_text, content_bytes, request_text}
+use Rattle.hx_framing.specs.Written.{request_head_text, request_fields_sent, FieldIsWritable, RequestIsWritable}
 use Rattle.hx_framing.proofs.HeadEnds.{front_stable}
 use Rattle.hx_framing.proofs.WrittenLines.{sent_lines, sent_writable}
 
@@ -76,40 +76,40 @@ line_end (y ∷ l) at stops =
 abbrev front : Field → List ℕ
 front f = f.name ++ 58 ∷ 32 ∷ f.value
 
-front_inside : (f : Field) → IsWritableField f → AreInside (front f)
+front_inside : (f : Field) → FieldIsWritable f → AreInside (front f)
 front_inside f writable =
     inside_append f.name (58 ∷ 32 ∷ f.value) (inside_by is_token_byte token_inside f.name writable.name.1)
     (inside_by is_value_byte refl f.value writable.value)
 
-line_parts : (f : Field) → field_line f ≡ front f ++ 13 ∷ 10 ∷ []
+line_parts : (f : Field) → field_line_text f ≡ front f ++ 13 ∷ 10 ∷ []
 line_parts f = regroup f.name f.value
   where
     regroup : (n v : List ℕ) → ((n ++ 58 ∷ 32 ∷ []) ++ v) ++ 13 ∷ 10 ∷ [] ≡ (n ++ 58 ∷ 32 ∷ v) ++ 13 ∷ 10 ∷ []
     regroup n v = simp append_assoc refl
 
 -- a written line begins no empty one
-line_stops : (f : Field) (l : List ℕ) → IsWritableField f → Stops is_newline (front f ++ l)
+line_stops : (f : Field) (l : List ℕ) → FieldIsWritable f → Stops is_newline (front f ++ l)
 line_stops f l writable =
     subst (Stops is_newline) (sym (append_assoc f.name (58 ∷ 32 ∷ f.value) l))
     (Stops_token f.name ((58 ∷ 32 ∷ f.value) ++ l) writable.name.0 writable.name.1)
 
 -- field lines with an empty line behind them
-pub lines_end : (fs : List Field) (l : List ℕ) (at : ℕ) → All IsWritableField fs
-    → head_end_from at (10 ∷ (field_lines fs ++ 13 ∷ 10 ∷ l)) ≡ Some (at + 1 + length (field_lines fs) + 2)
+pub lines_end : (fs : List Field) (l : List ℕ) (at : ℕ) → All FieldIsWritable fs
+    → head_end_from at (10 ∷ (field_lines_text fs ++ 13 ∷ 10 ∷ l)) ≡ Some (at + 1 + length (field_lines_text fs) + 2)
 lines_end [] l at all = let e : at + 3 ≡ at + 1 + 0 + 2 = omega arith in ap Some e
 lines_end (f ∷ fs) l at all =
-    let writable = All-head IsWritableField f fs all in
-    let rest : List ℕ = field_lines fs ++ 13 ∷ 10 ∷ l in
-    let start : ℕ = at + 1 + length (front f) + 1 in
-    let lines : length (field_lines (f ∷ fs)) ≡ length (front f) + 2 + length (field_lines fs)
-    = ap (λ t. length (t ++ field_lines fs)) (line_parts f) ∙ length-append (front f ++ 13 ∷ 10 ∷ []) (field_lines fs) ∙ ap (λ k. k + length (field_lines fs)) (length-append (front f) (13 ∷ 10 ∷ [])) in
-    let size : start + 1 + length (field_lines fs) + 2 ≡ at + 1 + length (field_lines (f ∷ fs)) + 2 = omega (arith, lines) in
-    ap (λ t. head_end_from at (10 ∷ (t ++ field_lines fs ++ 13 ∷ 10 ∷ l))) (line_parts f)
-    ∙ ap (λ t. head_end_from at (10 ∷ t)) (regroup (front f) (field_lines fs) (13 ∷ 10 ∷ l))
+    let writable = All-head FieldIsWritable f fs all in
+    let rest : List ℕ = field_lines_text fs ++ 13 ∷ 10 ∷ l in
+    let no_stream : ℕ = at + 1 + length (front f) + 1 in
+    let lines : length (field_lines_text (f ∷ fs)) ≡ length (front f) + 2 + length (field_lines_text fs)
+    = ap (λ t. length (t ++ field_lines_text fs)) (line_parts f) ∙ length-append (front f ++ 13 ∷ 10 ∷ []) (field_lines_text fs) ∙ ap (λ k. k + length (field_lines_text fs)) (length-append (front f) (13 ∷ 10 ∷ [])) in
+    let size : no_stream + 1 + length (field_lines_text fs) + 2 ≡ at + 1 + length (field_lines_text (f ∷ fs)) + 2 = omega (arith, lines) in
+    ap (λ t. head_end_from at (10 ∷ (t ++ field_lines_text fs ++ 13 ∷ 10 ∷ l))) (line_parts f)
+    ∙ ap (λ t. head_end_from at (10 ∷ t)) (regroup (front f) (field_lines_text fs) (13 ∷ 10 ∷ l))
     ∙ line_end (front f ++ 13 ∷ 10 ∷ rest) at (line_stops f (13 ∷ 10 ∷ rest) writable)
     ∙ run (front f) (13 ∷ 10 ∷ rest) (at + 1) (front_inside f writable)
     ∙ step 13 (10 ∷ rest) (at + 1 + length (front f)) refl
-    ∙ lines_end fs l start (All-tail IsWritableField f fs all)
+    ∙ lines_end fs l no_stream (All-tail FieldIsWritable f fs all)
     ∙ ap Some size
   where
     regroup : (a b c : List ℕ) → ((a ++ 13 ∷ 10 ∷ []) ++ b) ++ c ≡ a ++ 13 ∷ 10 ∷ (b ++ c)
@@ -125,10 +125,10 @@ empty_lines_none (b ∷ c ∷ l) stops =
     rw (other, more) refl
 
 -- the request line before its end
-abbrev start : Request → List ℕ
-start r = ((r.method ++ 32 ∷ []) ++ r.target) ++ codes " HTTP/1.1"
+abbrev no_stream : Request → List ℕ
+no_stream r = ((r.method ++ 32 ∷ []) ++ r.target) ++ codes " HTTP/1.1"
 
-start_inside : (r : Request) → IsWritable r → AreInside (start r)
+start_inside : (r : Request) → RequestIsWritable r → AreInside (no_stream r)
 start_inside r writable =
     inside_append ((r.method ++ 32 ∷ []) ++ r.target) (codes " HTTP/1.1")
     (inside_append (r.method ++ 32 ∷ []) r.target
@@ -136,7 +136,7 @@ start_inside r writable =
     (inside_by is_uri_byte refl r.target writable.target.1))
     refl
 
-start_stops : (r : Request) (l : List ℕ) → IsWritable r → Stops is_newline (start r ++ l)
+start_stops : (r : Request) (l : List ℕ) → RequestIsWritable r → Stops is_newline (no_stream r ++ l)
 start_stops r l writable =
     subst (Stops is_newline) (regroup r.method (32 ∷ []) r.target (codes " HTTP/1.1") l)
     (Stops_token r.method (32 ∷ [] ++ (r.target ++ (codes " HTTP/1.1" ++ l))) writable.method.0 writable.method.1)
@@ -146,33 +146,33 @@ start_stops r l writable =
 
 -- the head's text, line by line
 abbrev whole : Request → List ℕ
-whole r = start r ++ 13 ∷ 10 ∷ (field_lines (sent_fields r) ++ 13 ∷ 10 ∷ [])
+whole r = no_stream r ++ 13 ∷ 10 ∷ (field_lines_text (request_fields_sent r) ++ 13 ∷ 10 ∷ [])
 
-whole-is : (r : Request) → head_text r ≡ whole r
-whole-is r = sent_lines r ∙ regroup (start r) (field_lines (sent_fields r))
+whole-is : (r : Request) → request_head_text r ≡ whole r
+whole-is r = sent_lines r ∙ regroup (no_stream r) (field_lines_text (request_fields_sent r))
   where
     regroup : (a b : List ℕ) → (a ++ 13 ∷ 10 ∷ []) ++ (b ++ 13 ∷ 10 ∷ []) ≡ a ++ 13 ∷ 10 ∷ (b ++ 13 ∷ 10 ∷ [])
     regroup a b = simp append_assoc refl
 
-whole_end : (r : Request) → IsWritable r → head_length (whole r) ≡ Some (length (whole r))
+whole_end : (r : Request) → RequestIsWritable r → head_length (whole r) ≡ Some (length (whole r))
 whole_end r writable =
-    let fs = sent_fields r in
-    let tail : List ℕ = field_lines fs ++ 13 ∷ 10 ∷ [] in
-    let at : ℕ = 0 + length (start r) + 1 in
-    let size : at + 1 + length (field_lines fs) + 2 ≡ length (whole r)
-    = omega (arith, length-append (start r) (13 ∷ 10 ∷ tail), length-append (field_lines fs) (13 ∷ 10 ∷ [])) in
+    let fs = request_fields_sent r in
+    let tail : List ℕ = field_lines_text fs ++ 13 ∷ 10 ∷ [] in
+    let at : ℕ = 0 + length (no_stream r) + 1 in
+    let size : at + 1 + length (field_lines_text fs) + 2 ≡ length (whole r)
+    = omega (arith, length-append (no_stream r) (13 ∷ 10 ∷ tail), length-append (field_lines_text fs) (13 ∷ 10 ∷ [])) in
     let found : head_end_from 0 (whole r) ≡ Some (length (whole r))
-    = run (start r) (13 ∷ 10 ∷ tail) 0 (start_inside r writable) ∙ step 13 (10 ∷ tail) (0 + length (start r)) refl
+    = run (no_stream r) (13 ∷ 10 ∷ tail) 0 (start_inside r writable) ∙ step 13 (10 ∷ tail) (0 + length (no_stream r)) refl
     ∙ lines_end fs [] at (sent_writable r writable) ∙ ap Some size in
     let zero : empty_lines_length (whole r) ≡ 0 = empty_lines_none (whole r) (start_stops r (13 ∷ 10 ∷ tail) writable) in
     subst (λ k. head_end_from k (drop k (whole r)) ≡ Some (length (whole r))) (sym zero) found
 
 -- where the head ends in what is written, whatever follows
-pub head_ends : (r : Request) → IsWritable r → (rest : List ℕ)
-    → head_length (take most_head_bytes (request_text r ++ rest)) ≡ Some (length (head_text r))
+pub head_ends : (r : Request) → RequestIsWritable r → (rest : List ℕ)
+    → head_length (take most_head_bytes (request_text r ++ rest)) ≡ Some (length (request_head_text r))
 head_ends r writable rest =
-    let n = length (head_text r) in
-    let own : head_length (head_text r) ≡ Some n = subst (λ t. head_length t ≡ Some (length t)) (sym (whole-is r)) (whole_end r writable) in
-    let within : head_length (take most_head_bytes (head_text r)) ≡ Some n = ap head_length (take_all most_head_bytes (head_text r) writable.short) ∙ own in
-    ap (λ t. head_length (take most_head_bytes t)) (append_assoc (head_text r) (content_bytes r.content) rest)
-    ∙ front_stable most_head_bytes n (head_text r) (content_bytes r.content ++ rest) within
+    let n = length (request_head_text r) in
+    let own : head_length (request_head_text r) ≡ Some n = subst (λ t. head_length t ≡ Some (length t)) (sym (whole-is r)) (whole_end r writable) in
+    let within : head_length (take most_head_bytes (request_head_text r)) ≡ Some n = ap head_length (take_all most_head_bytes (request_head_text r) writable.short) ∙ own in
+    ap (λ t. head_length (take most_head_bytes t)) (append_assoc (request_head_text r) (content_bytes r.content) rest)
+    ∙ front_stable most_head_bytes n (request_head_text r) (content_bytes r.content ++ rest) within

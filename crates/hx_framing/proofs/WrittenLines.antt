@@ -17,10 +17,10 @@ use Rattle.httparse.specs.Grammar.{crlf, print_field, print_end, print_version, 
 use Rattle.httparse.proofs.GrammarLemmas.{print_request-append}
 use Rattle.hx_fields.specs.declared.field_line.Field.{Field}
 use Rattle.hx_framing.specs.declared.messages.Request.{Request}
-use Rattle.hx_framing.specs.Head.{field_of, head_of, IsHead}
+use Rattle.hx_framing.specs.Head.{field_of_grammar, head_of_grammar, IsHeadOfRequest}
 use Rattle.hx_framing.specs.Text as text
-use Rattle.hx_framing.specs.Text.{field_line, field_lines, length_line, close_line, content_length, content_bytes, request_line, request_text}
-use Rattle.hx_framing.specs.Written.{head_text, length_fields, close_field, sent_fields, sent_head, IsWritableField, IsWritable}
+use Rattle.hx_framing.specs.Text.{field_line_text, field_lines_text, content_length_line, connection_close_line, length_of_content, content_bytes, request_line_text, request_text}
+use Rattle.hx_framing.specs.Written.{request_head_text, content_length_fields, connection_close_field, request_fields_sent, request_head_sent, FieldIsWritable, RequestIsWritable}
 
 -- a field as a line of the grammar: a space stands before its value
 abbrev pub written_field : Field → grammar.Field
@@ -34,43 +34,43 @@ written_head r = record {
   target = r.target;
   minor = 1;
   line_end = crlf;
-  fields = map written_field (sent_fields r);
+  fields = map written_field (request_fields_sent r);
   last = crlf;
 }
 
 -- a head's text and its content
-pub text_split : (r : Request) → request_text r ≡ head_text r ++ content_bytes r.content
+pub text_split : (r : Request) → request_text r ≡ request_head_text r ++ content_bytes r.content
 text_split r = refl
 
-pub length_lines : (n : Option ℕ) → field_lines (length_fields n) ≡ length_line n
+pub length_lines : (n : Option ℕ) → field_lines_text (content_length_fields n) ≡ content_length_line n
 length_lines None = refl
 length_lines (Some n) = append-nil _
 
 -- the lines of the head are those of the fields as they are sent
-pub sent_lines : (r : Request) → head_text r ≡ request_line r ++ (field_lines (sent_fields r) ++ text.crlf)
+pub sent_lines : (r : Request) → request_head_text r ≡ request_line_text r ++ (field_lines_text (request_fields_sent r) ++ text.crlf)
 sent_lines r =
-    let own = content_length r.content in
-    let all = flat_map-append field_line (r.fields ++ length_fields own) (close_field ∷ []) ∙ ap (λ t. t ++ close_line true) (flat_map-append field_line r.fields (length_fields own) ∙ ap (λ t. field_lines r.fields ++ t) (length_lines own)) in
-    regroup (request_line r) (field_lines r.fields) (length_line own) (close_line true) text.crlf ∙ ap (λ t. request_line r ++ (t ++ text.crlf)) (sym all)
+    let own = length_of_content r.content in
+    let all = flat_map-append field_line_text (r.fields ++ content_length_fields own) (connection_close_field ∷ []) ∙ ap (λ t. t ++ connection_close_line true) (flat_map-append field_line_text r.fields (content_length_fields own) ∙ ap (λ t. field_lines_text r.fields ++ t) (length_lines own)) in
+    regroup (request_line_text r) (field_lines_text r.fields) (content_length_line own) (connection_close_line true) text.crlf ∙ ap (λ t. request_line_text r ++ (t ++ text.crlf)) (sym all)
   where
     regroup : (a b c d e : List ℕ) → a ++ b ++ c ++ d ++ e ≡ a ++ (((b ++ c) ++ d) ++ e)
     regroup a b c d e = simp append_assoc refl
 
-same_line : (f : Field) → print_field (written_field f) ≡ field_line f
+same_line : (f : Field) → print_field (written_field f) ≡ field_line_text f
 same_line f = regroup f.name f.value
   where
     regroup : (a b : List ℕ) → (a ++ 58 ∷ 32 ∷ b) ++ 13 ∷ 10 ∷ [] ≡ ((a ++ 58 ∷ 32 ∷ []) ++ b) ++ 13 ∷ 10 ∷ []
     regroup a b = simp append_assoc refl
 
-pub print_lines : (fs : List Field) → flat_map print_field (map written_field fs) ≡ field_lines fs
-print_lines [] = refl
-print_lines (f ∷ fs) = ap (λ t. t ++ flat_map print_field (map written_field fs)) (same_line f) ∙ ap (λ t. field_line f ++ t) (print_lines fs)
+pub trailer_lines_text : (fs : List Field) → flat_map print_field (map written_field fs) ≡ field_lines_text fs
+trailer_lines_text [] = refl
+trailer_lines_text (f ∷ fs) = ap (λ t. t ++ flat_map print_field (map written_field fs)) (same_line f) ∙ ap (λ t. field_line_text f ++ t) (trailer_lines_text fs)
 
 -- the head that is written, and nothing behind it
-pub head_printed : (r : Request) → head_text r ≡ print_request (written_head r) ++ []
+pub head_printed : (r : Request) → request_head_text r ≡ print_request (written_head r) ++ []
 head_printed r =
-    sent_lines r ∙ regroup r.method r.target (field_lines (sent_fields r))
-    ∙ ap (λ t. r.method ++ 32 ∷ (r.target ++ 32 ∷ (print_version 1 ++ (print_end crlf ++ ((t ++ print_end crlf) ++ []))))) (sym (print_lines (sent_fields r)))
+    sent_lines r ∙ regroup r.method r.target (field_lines_text (request_fields_sent r))
+    ∙ ap (λ t. r.method ++ 32 ∷ (r.target ++ 32 ∷ (print_version 1 ++ (print_end crlf ++ ((t ++ print_end crlf) ++ []))))) (sym (trailer_lines_text (request_fields_sent r)))
     ∙ sym (print_request-append (written_head r) [])
   where
     regroup : (m t l : List ℕ) → ((((m ++ 32 ∷ []) ++ t) ++ codes " HTTP/1.1") ++ text.crlf) ++ (l ++ text.crlf) ≡ m ++ 32 ∷ (t ++ 32 ∷ (print_version 1 ++ (print_end crlf ++ ((l ++ print_end crlf) ++ []))))
@@ -125,21 +125,21 @@ unfolding trim_ows
 trim_space v trimmed = trimmed
 
 -- what a written line gives back
-line_back : (f : Field) → IsWritableField f → field_of (written_field f) ≡ f
+line_back : (f : Field) → FieldIsWritable f → field_of_grammar (written_field f) ≡ f
 line_back f writable = λ i. record { name = f.name; value = trim_space f.value writable.trimmed i }
 
-pub lines_back : (fs : List Field) → All IsWritableField fs → map field_of (map written_field fs) ≡ fs
+pub lines_back : (fs : List Field) → All FieldIsWritable fs → map field_of_grammar (map written_field fs) ≡ fs
 lines_back [] all = refl
 lines_back (f ∷ fs) all =
-    ap (λ g. g ∷ map field_of (map written_field fs)) (line_back f (All-head IsWritableField f fs all))
-    ∙ ap (λ gs. f ∷ gs) (lines_back fs (All-tail IsWritableField f fs all))
+    ap (λ g. g ∷ map field_of_grammar (map written_field fs)) (line_back f (All-head FieldIsWritable f fs all))
+    ∙ ap (λ gs. f ∷ gs) (lines_back fs (All-tail FieldIsWritable f fs all))
 
 -- it is a line of the grammar
-line_is_field : (f : Field) → IsWritableField f → IsField (written_field f)
+line_is_field : (f : Field) → FieldIsWritable f → IsField (written_field f)
 line_is_field f writable = record { name = writable.name; raw = All-cons (λ b. is_value_byte b ≡ true) 32 f.value refl writable.value }
 
-pub lines_are_fields : (fs : List Field) → All IsWritableField fs → All IsField (map written_field fs)
-lines_are_fields fs all = All-map IsField written_field fs (All-weaker IsWritableField (λ f. IsField (written_field f)) line_is_field fs all)
+pub lines_are_fields : (fs : List Field) → All FieldIsWritable fs → All IsField (map written_field fs)
+lines_are_fields fs all = All-map IsField written_field fs (All-weaker FieldIsWritable (λ f. IsField (written_field f)) line_is_field fs all)
 
 length_name : list_all is_token_byte (codes "Content-Length") ≡ true
 unfolding is_token_byte
@@ -150,7 +150,7 @@ unfolding is_token_byte
 close_name = refl
 
 -- the lines that the writer adds
-length_writable : (n : ℕ) → n < 2 ^ 64 → IsWritableField (record { name = codes "Content-Length"; value = decimal n })
+length_writable : (n : ℕ) → n < 2 ^ 64 → FieldIsWritable (record { name = codes "Content-Length"; value = decimal n })
 length_writable n small =
     let digits = (decimal_is_IsNumeral n small).0.1 in record {
       name = (omega arith, AllPass-from_test is_token_byte (codes "Content-Length") length_name);
@@ -158,7 +158,7 @@ length_writable n small =
       trimmed = trim_none (decimal n) (by_digits (λ b. not (is_ows b)) digit_is_seen (decimal n) digits);
     }
 
-pub close_writable : IsWritableField close_field
+pub close_writable : FieldIsWritable connection_close_field
 unfolding trim_ows
 close_writable = record {
   name = (omega arith, AllPass-from_test is_token_byte (codes "Connection") close_name);
@@ -166,23 +166,23 @@ close_writable = record {
   trimmed = refl;
 }
 
-pub length_fields_writable : (n : Option ℕ) → IfSome n (λ m. m < 2 ^ 64) → All IsWritableField (length_fields n)
-length_fields_writable None small = All-nil IsWritableField
-length_fields_writable (Some n) small = All-cons IsWritableField _ [] (length_writable n small) (All-nil IsWritableField)
+pub length_fields_writable : (n : Option ℕ) → IfSome n (λ m. m < 2 ^ 64) → All FieldIsWritable (content_length_fields n)
+length_fields_writable None small = All-nil FieldIsWritable
+length_fields_writable (Some n) small = All-cons FieldIsWritable _ [] (length_writable n small) (All-nil FieldIsWritable)
 
-content_small : (c : Option (List ℕ)) → length (content_bytes c) < 2 ^ 64 → IfSome (content_length c) (λ m. m < 2 ^ 64)
+content_small : (c : Option (List ℕ)) → length (content_bytes c) < 2 ^ 64 → IfSome (length_of_content c) (λ m. m < 2 ^ 64)
 content_small None small = tt
 content_small (Some c) small = small
 
-pub sent_writable : (r : Request) → IsWritable r → All IsWritableField (sent_fields r)
+pub sent_writable : (r : Request) → RequestIsWritable r → All FieldIsWritable (request_fields_sent r)
 sent_writable r writable =
-    All-push IsWritableField (r.fields ++ length_fields (content_length r.content)) close_field
-    (All-append IsWritableField r.fields (length_fields (content_length r.content)) writable.fields
-    (length_fields_writable (content_length r.content) (content_small r.content writable.content)))
+    All-push FieldIsWritable (r.fields ++ content_length_fields (length_of_content r.content)) connection_close_field
+    (All-append FieldIsWritable r.fields (content_length_fields (length_of_content r.content)) writable.fields
+    (length_fields_writable (length_of_content r.content) (content_small r.content writable.content)))
     close_writable
 
 -- the head that is written is one of the grammar, within its limits, and gives what was sent
-pub head_written : (r : Request) → IsWritable r → IsHead (head_text r) (written_head r) × (head_of (written_head r) ≡ sent_head r)
+pub head_written : (r : Request) → RequestIsWritable r → IsHeadOfRequest (request_head_text r) (written_head r) × (head_of_grammar (written_head r) ≡ request_head_sent r)
 head_written r writable =
     let all = sent_writable r writable in
     let head : IsRequestHead (written_head r) = record {
@@ -190,8 +190,8 @@ head_written r writable =
       target = writable.target;
       target_text = writable.target_text;
       minor = omega arith;
-      fields = lines_are_fields (sent_fields r) all;
+      fields = lines_are_fields (request_fields_sent r) all;
     } in (
-      ((head, head_printed r), omega (arith, length-map (sent_fields r) written_field, writable.few)),
-      λ i. record { method = r.method; target = r.target; minor = 1; fields = lines_back (sent_fields r) all i },
+      ((head, head_printed r), omega (arith, length-map (request_fields_sent r) written_field, writable.few)),
+      λ i. record { method = r.method; target = r.target; minor = 1; fields = lines_back (request_fields_sent r) all i },
     )

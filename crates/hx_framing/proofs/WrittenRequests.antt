@@ -9,22 +9,22 @@ use Rattle.std.proofs.lemmas.List.Elements.{All-nil, All-cons}
 use Rattle.std.proofs.lemmas.List.Splits.{slice_split_none}
 use Rattle.std.proofs.Math.Seq.{take-append_seam, drop-append_seam}
 use Rattle.hx_fields.specs.declared.field_line.Field.{Field}
-use Rattle.hx_fields.specs.Names.{flatten, is_nonempty, joined}
-use Rattle.hx_fields.specs.Lines.{is_named, has, values_of, without_named}
-use Rattle.hx_framing.specs.declared.fault.FrameFault.TheVariants as fault
+use Rattle.hx_fields.specs.Names.{joined_lists, is_nonempty, joined}
+use Rattle.hx_fields.specs.FieldLines.{is_named, has_field, values_of, without_named}
+use Rattle.hx_framing.specs.declared.frame_fault.FrameFault.TheVariants as fault
 use Rattle.hx_framing.specs.declared.lengths.framing.Framing.{Framing}
 use Rattle.hx_framing.specs.declared.lengths.framing.Framing.TheVariants as framing
 use Rattle.hx_framing.specs.declared.lengths.framing.RequestBody.{RequestBody}
 use Rattle.hx_framing.specs.declared.messages.Request.{Request}
-use Rattle.hx_framing.specs.Head.{Judges}
-use Rattle.hx_framing.specs.ContentLength.{comma_pieces, is_digits, length_shown, one_number}
-use Rattle.hx_framing.specs.Lengths.{transfer_encoding, expect, codings, ends_in_chunks, is_only_chunked, is_above, framing_or, expectation, framing_of_request, with_expectation, request_body_of, without_lengths}
+use Rattle.hx_framing.specs.Head.{RequestHeadIsJudged}
+use Rattle.hx_framing.specs.ContentLength.{comma_pieces, is_digits, announced_length, agreed_number}
+use Rattle.hx_framing.specs.Lengths.{transfer_encoding_name, expect_name, codings, last_coding_is_chunked, is_only_chunked, exceeds, announced_framing_or, expected_of_server, framing_of_request, with_expectation, request_body_of, without_lengths}
 use Rattle.hx_framing.specs.Body.{Short, Whole}
-use Rattle.hx_framing.specs.Contents.{body_at}
-use Rattle.hx_framing.specs.Reading.{Reading, Spelled, with_body}
-use Rattle.hx_framing.specs.RequestReading.{request_of, Reads}
-use Rattle.hx_framing.specs.Text.{content_length, content_bytes, request_text}
-use Rattle.hx_framing.specs.Written.{head_text, sent_fields, sent_head, close_field, read_back, IsWritable}
+use Rattle.hx_framing.specs.Contents.{content_at}
+use Rattle.hx_framing.specs.Reading.{StreamReading, Spelled, reading_with_content}
+use Rattle.hx_framing.specs.RequestReading.{request_of_head, Reads}
+use Rattle.hx_framing.specs.Text.{length_of_content, content_bytes, request_text}
+use Rattle.hx_framing.specs.Written.{request_head_text, request_fields_sent, request_head_sent, connection_close_field, request_as_read_back, RequestIsWritable}
 use Rattle.hx_framing.proofs.LengthShown.{values_of-absent}
 use Rattle.hx_framing.proofs.RequestProgressLemmas.{Begins, reads_content}
 use Rattle.hx_framing.proofs.WrittenLines.{written_head, head_written}
@@ -41,29 +41,29 @@ no_comma (d ∷ ds) digits =
 
 -- and a length that is told
 pub one_piece : (ds : List ℕ) (n : ℕ) → 0 < length ds → list_all is_ascii_digit ds ≡ true → digits_value 10 ds ≡ n
-    → one_number (flatten (map comma_pieces (ds ∷ []))) ≡ Some n
+    → agreed_number (joined_lists (map comma_pieces (ds ∷ []))) ≡ Some n
 one_piece ds n some digits value =
     let one : comma_pieces ds ≡ ds ∷ [] = slice_split_none (λ b. b == 44) ds (no_comma ds digits) in
     let test : is_digits ds ≡ true = and_from (is_nonempty ds) (list_all is_ascii_digit ds) (lt-ltb 0 (length ds) some) digits in
-    ap (λ ps. one_number (ps ++ [])) one ∙ ap (λ t. cond ((t && true) && true) (Some (digits_value 10 ds)) None) test ∙ ap Some value
+    ap (λ ps. agreed_number (ps ++ [])) one ∙ ap (λ t. cond ((t && true) && true) (Some (digits_value 10 ds)) None) test ∙ ap Some value
 
 -- the length that is told is the content's
-shown_sent : (r : Request) (c : Option (List ℕ)) → IsWritable r → r.content ≡ c → length_shown (sent_fields r) ≡ content_length c
-shown_sent r None writable is = ap (λ vs. one_number (flatten (map comma_pieces vs))) (lengths_none r writable is)
+shown_sent : (r : Request) (c : Option (List ℕ)) → RequestIsWritable r → r.content ≡ c → announced_length (request_fields_sent r) ≡ length_of_content c
+shown_sent r None writable is = ap (λ vs. agreed_number (joined_lists (map comma_pieces vs))) (lengths_none r writable is)
 shown_sent r (Some bytes) writable is =
     let small : length bytes < 2 ^ 64 = subst (λ c. length (content_bytes c) < 2 ^ 64) is writable.content in
     let back = decimal_back (length bytes) small in
-    ap (λ vs. one_number (flatten (map comma_pieces vs))) (lengths_some r bytes writable is)
+    ap (λ vs. agreed_number (joined_lists (map comma_pieces vs))) (lengths_some r bytes writable is)
     ∙ one_piece (decimal (length bytes)) (length bytes) back.0 back.1 back.2
 
 -- where a name has no value no line has it
-pub none_has : (fields : List Field) (name : List ℕ) → values_of fields name ≡ [] → has fields name ≡ false
+pub none_has : (fields : List Field) (name : List ℕ) → values_of fields name ≡ [] → has_field fields name ≡ false
 none_has [] name none = refl
 none_has (f ∷ fields) name none = by_test (none_has fields name) (is_named name f) none
   where
-    by_test : (values_of fields name ≡ [] → has fields name ≡ false) → (t : Bool)
+    by_test : (values_of fields name ≡ [] → has_field fields name ≡ false) → (t : Bool)
         → map (λ (g : Field). g.value) (cond t (f ∷ filter (is_named name) fields) (filter (is_named name) fields)) ≡ []
-        → (t || has fields name) ≡ false
+        → (t || has_field fields name) ≡ false
     by_test later true h = absurd cc
     by_test later false h = later h
 
@@ -72,54 +72,54 @@ and_false true = refl
 and_false false = refl
 
 -- no line announces a length that isn't one
-length_sent : (r : Request) (c : Option (List ℕ)) → IsWritable r → r.content ≡ c
-    → (has (sent_fields r) (codes "content-length") && not (is_some (length_shown (sent_fields r)))) ≡ false
+length_sent : (r : Request) (c : Option (List ℕ)) → RequestIsWritable r → r.content ≡ c
+    → (has_field (request_fields_sent r) (codes "content-length") && not (is_some (announced_length (request_fields_sent r)))) ≡ false
 length_sent r None writable is =
-    ap (λ t. t && not (is_some (length_shown (sent_fields r)))) (none_has (sent_fields r) (codes "content-length") (lengths_none r writable is))
+    ap (λ t. t && not (is_some (announced_length (request_fields_sent r)))) (none_has (request_fields_sent r) (codes "content-length") (lengths_none r writable is))
 length_sent r (Some bytes) writable is =
-    ap (λ shown. has (sent_fields r) (codes "content-length") && not (is_some shown)) (shown_sent r (Some bytes) writable is)
-    ∙ and_false (has (sent_fields r) (codes "content-length"))
+    ap (λ shown. has_field (request_fields_sent r) (codes "content-length") && not (is_some shown)) (shown_sent r (Some bytes) writable is)
+    ∙ and_false (has_field (request_fields_sent r) (codes "content-length"))
 
-within_sent : (max : ℕ) (c : Option (List ℕ)) → length (content_bytes c) ≤ max → is_above max (content_length c) ≡ false
+within_sent : (max : ℕ) (c : Option (List ℕ)) → length (content_bytes c) ≤ max → exceeds max (length_of_content c) ≡ false
 within_sent max None small = refl
 within_sent max (Some bytes) small = le-ltb max (length bytes) small
 
 -- how fields without a coding are judged
-by_fields : (max : ℕ) (coded represents zero ends only : Bool) (shown : Option ℕ) → coded ≡ false → (represents && not (is_some shown)) ≡ false → is_above max shown ≡ false
+by_fields : (max : ℕ) (coded represents zero ends only : Bool) (shown : Option ℕ) → coded ≡ false → (represents && not (is_some shown)) ≡ false → exceeds max shown ≡ false
     → cond (coded && represents) (Err fault.BothLengths)
     (cond (((coded && zero) || (represents && not (is_some shown))) || (coded && not ends)) (Err fault.Length)
     (cond (coded && not only) (Err fault.Coding)
-    (cond (is_above max shown) (Err fault.TooLarge) (Ok (cond coded framing.Chunked (framing_or framing.Nothing shown))))))
-    ≡ Ok (framing_or framing.Nothing shown)
+    (cond (exceeds max shown) (Err fault.TooLarge) (Ok (cond coded framing.Chunked (announced_framing_or framing.Nothing shown))))))
+    ≡ Ok (announced_framing_or framing.Nothing shown)
 by_fields max true represents zero ends only shown coded length within = absurd cc
 by_fields max false represents zero ends only shown coded length within = rw (length, within) refl
 
 -- what the fields tell of the content
 abbrev sent_framing : Option (List ℕ) → Framing
-sent_framing c = framing_or framing.Nothing (content_length c)
+sent_framing c = announced_framing_or framing.Nothing (length_of_content c)
 
-framing_sent : (r : Request) (c : Option (List ℕ)) (max : ℕ) → IsWritable r → r.content ≡ c → length (content_bytes c) ≤ max
-    → framing_of_request max (sent_head r) ≡ Ok (sent_framing c)
+framing_sent : (r : Request) (c : Option (List ℕ)) (max : ℕ) → RequestIsWritable r → r.content ≡ c → length (content_bytes c) ≤ max
+    → framing_of_request max (request_head_sent r) ≡ Ok (sent_framing c)
 framing_sent r c max writable is small =
-    let fields = sent_fields r in
+    let fields = request_fields_sent r in
     let shown = shown_sent r c writable is in
-    by_fields max (has fields transfer_encoding) (has fields (codes "content-length")) false (ends_in_chunks (codings fields)) (is_only_chunked (codings fields))
-    (length_shown fields) (codings_none r writable) (length_sent r c writable is) (ap (is_above max) shown ∙ within_sent max c small)
-    ∙ ap (λ n. Ok (framing_or framing.Nothing n)) shown
+    by_fields max (has_field fields transfer_encoding_name) (has_field fields (codes "content-length")) false (last_coding_is_chunked (codings fields)) (is_only_chunked (codings fields))
+    (announced_length fields) (codings_none r writable) (length_sent r c writable is) (ap (exceeds max) shown ∙ within_sent max c small)
+    ∙ ap (λ n. Ok (announced_framing_or framing.Nothing n)) shown
 
 abbrev sent_request_body : Option (List ℕ) → RequestBody
 sent_request_body c = record { framing = sent_framing c; wants_continue = false }
 
 -- no continue is wanted
-request_body_sent : (r : Request) (c : Option (List ℕ)) (max : ℕ) → IsWritable r → r.content ≡ c → length (content_bytes c) ≤ max
-    → request_body_of max (sent_head r) ≡ Ok (sent_request_body c)
+request_body_sent : (r : Request) (c : Option (List ℕ)) (max : ℕ) → RequestIsWritable r → r.content ≡ c → length (content_bytes c) ≤ max
+    → request_body_of max (request_head_sent r) ≡ Ok (sent_request_body c)
 request_body_sent r c max writable is small =
-    let none : expectation (sent_head r) ≡ None = ap joined (values_of-absent (sent_fields r) expect (expectations_none r writable)) in
-    ap (λ expected. with_expectation expected (framing_of_request max (sent_head r))) none
+    let none : expected_of_server (request_head_sent r) ≡ None = ap joined (values_of-absent (request_fields_sent r) expect_name (expectations_none r writable)) in
+    ap (λ expected. with_expectation expected (framing_of_request max (request_head_sent r))) none
     ∙ ap (with_expectation None) (framing_sent r c max writable is small)
 
 -- the content and what follows it
-body_sent : (max : ℕ) (c : Option (List ℕ)) (rest : List ℕ) → body_at max (sent_framing c) false (content_bytes c ++ rest) ≡ Whole c rest
+body_sent : (max : ℕ) (c : Option (List ℕ)) (rest : List ℕ) → content_at max (sent_framing c) false (content_bytes c ++ rest) ≡ Whole c rest
 body_sent max None rest = refl
 body_sent max (Some bytes) rest =
     let n = length bytes in
@@ -129,29 +129,29 @@ body_sent max (Some bytes) rest =
     ∙ ap (Whole (Some bytes)) (drop-append_seam bytes rest)
 
 -- the request, without its length field
-request_sent : (r : Request) → IsWritable r → request_of (sent_head r) r.content ≡ read_back r
+request_sent : (r : Request) → RequestIsWritable r → request_of_head (request_head_sent r) r.content ≡ request_as_read_back r
 request_sent r writable =
-    let fields : without_lengths (sent_fields r) ≡ r.fields ++ close_field ∷ []
-    = ap (λ fs. without_named fs transfer_encoding) (without_length r writable) ∙ without_coding r writable in
+    let fields : without_lengths (request_fields_sent r) ≡ r.fields ++ connection_close_field ∷ []
+    = ap (λ fs. without_named fs transfer_encoding_name) (without_length r writable) ∙ without_coding r writable in
     λ i. record { method = r.method; target = r.target; minor = 1; fields = fields i; content = r.content }
 
-begins_sent : (r : Request) (max : ℕ) (rest : List ℕ) → IsWritable r → length (content_bytes r.content) ≤ max
-    → Begins max (request_text r ++ rest) (length (head_text r)) (sent_head r) (sent_request_body r.content)
+begins_sent : (r : Request) (max : ℕ) (rest : List ℕ) → RequestIsWritable r → length (content_bytes r.content) ≤ max
+    → Begins max (request_text r ++ rest) (length (request_head_text r)) (request_head_sent r) (sent_request_body r.content)
 begins_sent r max rest writable small =
     let read = head_written r writable in record {
       place = head_ends r writable rest;
-      judged = subst (λ (u : List ℕ). Judges u (Ok (sent_head r))) (sym (head_front r rest)) (written_head r, read.0, sym read.1);
+      judged = subst (λ (u : List ℕ). RequestHeadIsJudged u (Ok (request_head_sent r))) (sym (head_front r rest)) (written_head r, read.0, sym read.1);
       request_body_is = request_body_sent r r.content max writable refl small;
     }
 
-pub request_back : (r : Request) (max : ℕ) (e t : Bool) (rest : List ℕ) → IsWritable r → length (content_bytes r.content) ≤ max
-    → Reads max e t (request_text r ++ rest) (Spelled (read_back r) rest)
+pub request_back : (r : Request) (max : ℕ) (e t : Bool) (rest : List ℕ) → RequestIsWritable r → length (content_bytes r.content) ≤ max
+    → Reads max e t (request_text r ++ rest) (Spelled (request_as_read_back r) rest)
 request_back r max e t rest writable small =
-    let head = sent_head r in
+    let head = request_head_sent r in
     let request_body = sent_request_body r.content in
     let bytes = request_text r ++ rest in
-    let at = length (head_text r) in
-    subst (λ (reading : Reading Request). Reads max e t bytes reading)
-    (ap (λ u. with_body e (request_of head) (body_at max request_body.framing false u)) (content_behind r rest)
-    ∙ ap (with_body e (request_of head)) (body_sent max r.content rest) ∙ ap (λ m. Spelled m rest) (request_sent r writable))
+    let at = length (request_head_text r) in
+    subst (λ (reading : StreamReading Request). Reads max e t bytes reading)
+    (ap (λ u. reading_with_content e (request_of_head head) (content_at max request_body.framing false u)) (content_behind r rest)
+    ∙ ap (reading_with_content e (request_of_head head)) (body_sent max r.content rest) ∙ ap (λ m. Spelled m rest) (request_sent r writable))
     (reads_content max e t bytes at head request_body (begins_sent r max rest writable small) refl)

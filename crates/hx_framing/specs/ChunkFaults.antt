@@ -1,20 +1,23 @@
 -- Where content in chunks deviates from its grammar (RFC 9112, section 7.1), and by which fault, without a state.
 -- own: each line is judged at its LF, or where it is too long, and the CRLF behind data byte by byte
 --
--- Deviation: what may be wrong behind whole chunks    Breaks: that it is    Deviates: the bytes deviate
+-- ChunkDeviation: what may be wrong behind whole chunks
+-- BytesDeviateAtOnce: that it is
+-- BytesDeviate: the bytes deviate
 use Rattle.std.specs.Prelude.{◌≡◌, ℕ, ◌+◌, ◌<◌, ◌≤◌, ◌&&◌, ◌==◌, Bool, true, false, not, List, [], ◌∷◌, ◌++◌, length}
 use Rattle.std.specs.List.{AllByRecursion}
-use Rattle.hx_framing.specs.declared.fault.FrameFault.{FrameFault}
-use Rattle.hx_framing.specs.declared.fault.FrameFault.TheVariants as fault
+use Rattle.hx_framing.specs.declared.frame_fault.FrameFault.{FrameFault}
+use Rattle.hx_framing.specs.declared.frame_fault.FrameFault.TheVariants as fault
 use Rattle.hx_framing.specs.SizeLine.{is_size, most_size_line_bytes}
 use Rattle.hx_framing.specs.Chunks.{most_trailer_bytes}
-use Rattle.hx_framing.specs.ChunkGrammar.{has_no_lf, IsSizeText, Chunk, IsChunk, print_chunks, content, IsTrailer}
+use Rattle.hx_framing.specs.ChunkGrammar.{has_no_lf, IsSizeLineText, Chunk, IsChunk, chunks_text, data_of_chunks}
+use Rattle.hx_framing.specs.ChunkGrammar.{IsTrailerLine}
 
 -- what begins so can't become CRLF
-abbrev pub is_no_line_end : List ℕ → Bool
-is_no_line_end [] = false
-is_no_line_end (b ∷ []) = not (b == 13)
-is_no_line_end (b ∷ c ∷ bytes) = not (b == 13 && (c == 10))
+abbrev pub cannot_become_crlf : List ℕ → Bool
+cannot_become_crlf [] = false
+cannot_become_crlf (b ∷ []) = not (b == 13)
+cannot_become_crlf (b ∷ c ∷ bytes) = not (b == 13 && (c == 10))
 
 -- chunk-size [ chunk-ext ] and CR: a size line up to its LF
 pub record IsSizeLine (line : List ℕ) : Type 0 where
@@ -23,64 +26,64 @@ pub record IsSizeLine (line : List ℕ) : Type 0 where
   pub form : is_size text ≡ true
 
 -- the line ends by CRLF
-pub record EndsInReturn (line : List ℕ) : Type 0 where
+pub record EndsWithReturn (line : List ℕ) : Type 0 where
   pub text : List ℕ
   pub ends : line ≡ text ++ 13 ∷ []
 
 -- trailer lines, and what follows them
-abbrev pub print_lines : List (List ℕ) → List ℕ → List ℕ
-print_lines [] rest = rest
-print_lines (line ∷ lines) rest = line ++ 13 ∷ 10 ∷ print_lines lines rest
+abbrev pub trailer_lines_text : List (List ℕ) → List ℕ → List ℕ
+trailer_lines_text [] rest = rest
+trailer_lines_text (line ∷ lines) rest = line ++ 13 ∷ 10 ∷ trailer_lines_text lines rest
 
-abbrev pub lines_length : List (List ℕ) → ℕ
-lines_length [] = 0
-lines_length (line ∷ lines) = length line + 2 + lines_length lines
+abbrev pub trailer_lines_length : List (List ℕ) → ℕ
+trailer_lines_length [] = 0
+trailer_lines_length (line ∷ lines) = length line + 2 + trailer_lines_length lines
 
 -- NoSize: a line where a size line has to stand    NoEnd: more bytes than a size line may have, and no LF
 -- Large: a chunk that brings the sum above the limit    BadEnd: no CRLF behind data
 -- BadTrailer: a trailer line, or the empty line, that ends by LF alone
 -- LongTrailers: more bytes than trailers may have, and no end
-pub data Deviation : Type 0 where
-  NoSize NoEnd Large BadEnd BadTrailer LongTrailers : Deviation
+pub data ChunkDeviation : Type 0 where
+  NoSize NoEnd Large BadEnd BadTrailer LongTrailers : ChunkDeviation
 
 -- the first bytes of a trailer section: whole lines, and a begun one
-pub record BeginsTrailers (bytes : List ℕ) (lines : List (List ℕ)) (line rest : List ℕ) : Type 0 where
+pub record IsBegunTrailerSection (bytes : List ℕ) (lines : List (List ℕ)) (line rest : List ℕ) : Type 0 where
   pub last : List ℕ
-  pub size : IsSizeText last 0
-  pub each : AllByRecursion IsTrailer lines
+  pub size : IsSizeLineText last 0
+  pub each : AllByRecursion IsTrailerLine lines
   pub one_line : has_no_lf line ≡ true
-  pub parts : bytes ≡ last ++ 13 ∷ 10 ∷ print_lines lines (line ++ rest)
+  pub parts : bytes ≡ last ++ 13 ∷ 10 ∷ trailer_lines_text lines (line ++ rest)
 
 -- sum: how much content stands in front; the bytes that follow deviate so
-abbrev pub Breaks : ℕ → ℕ → List ℕ → Deviation → FrameFault → Type 0
-Breaks max_body sum bytes NoSize f =
+abbrev pub BytesDeviateAtOnce : ℕ → ℕ → List ℕ → ChunkDeviation → FrameFault → Type 0
+BytesDeviateAtOnce max_body sum bytes NoSize f =
     (f ≡ fault.Chunk)
     × ((line : List ℕ) × (rest : List ℕ) × (bytes ≡ line ++ 10 ∷ rest) × (has_no_lf line ≡ true) × ¬ (IsSizeLine line))
-Breaks max_body sum bytes NoEnd f =
+BytesDeviateAtOnce max_body sum bytes NoEnd f =
     (f ≡ fault.Chunk) × ((line : List ℕ) × (rest : List ℕ) × (bytes ≡ line ++ rest) × (has_no_lf line ≡ true)
     × (most_size_line_bytes < length line))
-Breaks max_body sum bytes Large f =
+BytesDeviateAtOnce max_body sum bytes Large f =
     (f ≡ fault.TooLarge) × ((size : List ℕ) × (n : ℕ) × (rest : List ℕ) × (bytes ≡ size ++ 13 ∷ 10 ∷ rest)
-    × IsSizeText size n × (max_body < sum + n))
-Breaks max_body sum bytes BadEnd f =
+    × IsSizeLineText size n × (max_body < sum + n))
+BytesDeviateAtOnce max_body sum bytes BadEnd f =
     (f ≡ fault.Chunk)
     × ((chunk : Chunk) × (rest : List ℕ) × (bytes ≡ chunk.size ++ 13 ∷ 10 ∷ (chunk.bytes ++ rest)) × IsChunk chunk
-    × (sum + length chunk.bytes ≤ max_body) × (is_no_line_end rest ≡ true))
-Breaks max_body sum bytes BadTrailer f =
+    × (sum + length chunk.bytes ≤ max_body) × (cannot_become_crlf rest ≡ true))
+BytesDeviateAtOnce max_body sum bytes BadTrailer f =
     (f ≡ fault.Chunk)
-    × ((lines : List (List ℕ)) × (line : List ℕ) × (rest : List ℕ) × BeginsTrailers bytes lines line (10 ∷ rest)
-    × ¬ (EndsInReturn line))
-Breaks max_body sum bytes LongTrailers f =
+    × ((lines : List (List ℕ)) × (line : List ℕ) × (rest : List ℕ) × IsBegunTrailerSection bytes lines line (10 ∷ rest)
+    × ¬ (EndsWithReturn line))
+BytesDeviateAtOnce max_body sum bytes LongTrailers f =
     (f ≡ fault.Chunk) × ((lines : List (List ℕ)) × (line : List ℕ) × (b : ℕ) × (rest : List ℕ)
-    × BeginsTrailers bytes lines line (b ∷ rest)
-    × (most_trailer_bytes ≤ lines_length lines + length line))
+    × IsBegunTrailerSection bytes lines line (b ∷ rest)
+    × (most_trailer_bytes ≤ trailer_lines_length lines + length line))
 
 -- behind whole chunks, within the limit, the bytes deviate
-pub record Deviates (max_body : ℕ) (bytes : List ℕ) (f : FrameFault) : Type 0 where
+pub record BytesDeviate (max_body : ℕ) (bytes : List ℕ) (f : FrameFault) : Type 0 where
   pub chunks : List Chunk
   pub tail : List ℕ
-  pub parts : bytes ≡ print_chunks chunks tail
+  pub parts : bytes ≡ chunks_text chunks tail
   pub whole : AllByRecursion IsChunk chunks
-  pub fits : length (content chunks) ≤ max_body
-  pub kind : Deviation
-  pub breaks : Breaks max_body (length (content chunks)) tail kind f
+  pub fits : length (data_of_chunks chunks) ≤ max_body
+  pub kind : ChunkDeviation
+  pub breaks : BytesDeviateAtOnce max_body (length (data_of_chunks chunks)) tail kind f

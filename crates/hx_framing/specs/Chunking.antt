@@ -1,8 +1,8 @@
 -- How far content in chunks has come (RFC 9112, section 7.1).
 use Rattle.std.specs.Prelude.{◌≡◌, ◌<◌, ℕ, List, []}
-use Rattle.hx_framing.specs.declared.contents.tokens.Phase.{Phase}
-use Rattle.hx_framing.specs.declared.contents.tokens.Phase.TheVariants as phase
-use Rattle.hx_framing.specs.declared.contents.tokens.ChunkState.{ChunkState}
+use Rattle.hx_framing.specs.declared.contents.chunk_tokens.Phase.{Phase}
+use Rattle.hx_framing.specs.declared.contents.chunk_tokens.Phase.TheVariants as phase
+use Rattle.hx_framing.specs.declared.contents.chunk_tokens.ChunkState.{ChunkState}
 
 -- need: bytes of data still to come of this chunk; left: bytes of content that later chunks may have;
 -- used: bytes of the whole trailer lines; content: the data so far; line: the bytes of the line so
@@ -16,12 +16,12 @@ pub record Chunking : Type 0 where
   pub line : List ℕ
 
 -- in the data of a chunk, some of it is still to come
-abbrev pub NeedsData : Phase → ℕ → Type 0
-NeedsData at need = at ≡ phase.Data → 0 < need
+abbrev pub StillNeedsData : Phase → ℕ → Type 0
+StillNeedsData at need = at ≡ phase.Data → 0 < need
 
 -- with no line begun
-abbrev pub chunking_of : ChunkState → List ℕ → Chunking
-chunking_of place content = record {
+abbrev pub chunking_of_state : ChunkState → List ℕ → Chunking
+chunking_of_state place content = record {
   phase = place.phase;
   need = place.need;
   left = place.left;

@@ -3,33 +3,35 @@ use Rattle.std.specs.Prelude.{◌≡◌, ℕ, ◌<◌, ◌≤◌, ◌++◌, Bool
 use Rattle.hx_framing.specs.declared.contents.content.Content.{Content}
 use Rattle.hx_framing.specs.declared.contents.content.ContentProgress.{ContentProgress}
 use Rattle.hx_framing.specs.declared.contents.content.ContentProgress.TheVariants as content_progress
-use Rattle.hx_framing.specs.Contents.{body_from, Advances}
-use Rattle.hx_framing.specs.Reading.{Reading, Faulty, with_body}
+use Rattle.hx_framing.specs.Contents.{content_rest, ContentAdvances}
+use Rattle.hx_framing.specs.Reading.{StreamReading, Faulty, reading_with_content}
 
 -- the bytes behind what was taken
-abbrev pub behind : ContentProgress → List ℕ → List ℕ
-behind (content_progress.Incomplete n) bytes = drop n bytes
-behind (content_progress.Faulty f) bytes = bytes
-behind (content_progress.Whole c n) bytes = drop n bytes
+abbrev pub bytes_behind_content : ContentProgress → List ℕ → List ℕ
+bytes_behind_content (content_progress.Incomplete n) bytes = drop n bytes
+bytes_behind_content (content_progress.Faulty f) bytes = bytes
+bytes_behind_content (content_progress.Whole c n) bytes = drop n bytes
 
 -- ended: no more bytes come, so that a content that goes on is cut off; closed: they end a content until the close
 -- left: the bytes behind what was taken
-abbrev pub ReadsOn : Bool → Bool → List ℕ → Content → ContentProgress → Content → List ℕ → Type 0
-ReadsOn ended closed bytes old (content_progress.Incomplete n) new left =
-    (ended ≡ false) × Advances closed bytes old (content_progress.Incomplete n) new × (left ≡ drop n bytes)
-ReadsOn ended closed bytes old (content_progress.Faulty f) new left =
-    (with_body {M = Option (List ℕ)} ended (λ content. content) (body_from old closed bytes) ≡ Faulty f)
+abbrev pub ContentGoesOn : Bool → Bool → List ℕ → Content → ContentProgress → Content → List ℕ → Type 0
+ContentGoesOn ended closed bytes old (content_progress.Incomplete n) new left =
+    (ended ≡ false) × ContentAdvances closed bytes old (content_progress.Incomplete n) new × (left ≡ drop n bytes)
+ContentGoesOn ended closed bytes old (content_progress.Faulty f) new left =
+    (reading_with_content {M = Option (List ℕ)} ended (λ content. content) (content_rest old closed bytes) ≡ Faulty f)
     × (left ≡ bytes)
-ReadsOn ended closed bytes old (content_progress.Whole c n) new left =
-    Advances closed bytes old (content_progress.Whole c n) new × (left ≡ drop n bytes)
+ContentGoesOn ended closed bytes old (content_progress.Whole c n) new left =
+    ContentAdvances closed bytes old (content_progress.Whole c n) new × (left ≡ drop n bytes)
 
 -- an index behind at least one of the bytes, and within them
-abbrev pub IsBehind : List ℕ → ℕ → Type 0
-IsBehind bytes n = (0 < n) × (n ≤ length bytes)
+abbrev pub IsIndexBehindBytes : List ℕ → ℕ → Type 0
+IsIndexBehindBytes bytes n = (0 < n) × (n ≤ length bytes)
 
 -- whatever comes, the bytes read as a message with what the unread ones make of its content
 -- make: the message; closed: whether a content until the close has ended, by whether the stream has
-abbrev pub ResumesAs : {M : Type 0} → (Bool → List ℕ → Reading M → Type 0) → (Option (List ℕ) → M) → (Bool → Bool)
+abbrev pub ContentResumesAs : {M : Type 0} → (Bool → List ℕ → StreamReading M → Type 0) → (Option (List ℕ) → M) →
+    (Bool → Bool)
     → Content → List ℕ → List ℕ → Type 0
-ResumesAs reads make closed content bytes unread = (more : List ℕ) (ended : Bool)
-    → reads ended (bytes ++ more) (with_body ended make (body_from content (closed ended) (unread ++ more)))
+ContentResumesAs reads make closed content bytes unread = (more : List ℕ) (ended : Bool)
+    → reads ended (bytes ++ more) (reading_with_content ended make (content_rest content (closed ended)
+    (unread ++ more)))

@@ -9,8 +9,8 @@ line name value = record { name = name; value = value }
 abbrev pub get_request : List ℕ
 get_request = codes "GET /a HTTP/1.1\r\nHost: h\r\n\r\n"
 
-abbrev pub first_forward : Request
-first_forward = record {
+abbrev pub first_forwarded_request : Request
+first_forwarded_request = record {
   method = codes "GET";
   target = codes "/a";
   minor = 1;

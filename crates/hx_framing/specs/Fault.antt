@@ -1,17 +1,18 @@
 -- The numbers of the faults of a stream. Of several at one place the least is answered.
 use Rattle.std.specs.Prelude.{ℕ}
-use Rattle.hx_framing.specs.declared.fault.FrameFault.{FrameFault}
-use Rattle.hx_framing.specs.declared.fault.FrameFault.TheVariants.{Head, Version, BothLengths, Length, Coding, Chunk}
-use Rattle.hx_framing.specs.declared.fault.FrameFault.TheVariants.{TooLarge, Expect, Truncated, Status}
+use Rattle.hx_framing.specs.declared.frame_fault.FrameFault.{FrameFault}
+use Rattle.hx_framing.specs.declared.frame_fault.FrameFault.TheVariants.{Head, Version, BothLengths, Length, Coding}
+use Rattle.hx_framing.specs.declared.frame_fault.FrameFault.TheVariants.{Chunk}
+use Rattle.hx_framing.specs.declared.frame_fault.FrameFault.TheVariants.{TooLarge, Expect, Truncated, Status}
 
-abbrev pub number_of : FrameFault → ℕ
-number_of Head = 1
-number_of Version = 2
-number_of BothLengths = 3
-number_of Length = 4
-number_of Coding = 5
-number_of Chunk = 6
-number_of TooLarge = 7
-number_of Expect = 8
-number_of Truncated = 9
-number_of Status = 10
+abbrev pub frame_fault_number : FrameFault → ℕ
+frame_fault_number Head = 1
+frame_fault_number Version = 2
+frame_fault_number BothLengths = 3
+frame_fault_number Length = 4
+frame_fault_number Coding = 5
+frame_fault_number Chunk = 6
+frame_fault_number TooLarge = 7
+frame_fault_number Expect = 8
+frame_fault_number Truncated = 9
+frame_fault_number Status = 10

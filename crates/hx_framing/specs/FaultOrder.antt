@@ -2,46 +2,53 @@
 -- 15), one equation a fault.
 -- own: of several the one of the least number is answered
 use Rattle.std.specs.Prelude.{◌≡◌, ℕ, ◌≤◌, ◌&&◌, ◌||◌, ◌==◌, Bool, true, false, not}
-use Rattle.hx_framing.specs.declared.fault.FrameFault.{FrameFault}
-use Rattle.hx_framing.specs.declared.fault.FrameFault.TheVariants.{Head, Version, BothLengths, Length, Coding, Chunk}
-use Rattle.hx_framing.specs.declared.fault.FrameFault.TheVariants.{TooLarge, Expect, Truncated, Status}
+use Rattle.hx_framing.specs.declared.frame_fault.FrameFault.{FrameFault}
+use Rattle.hx_framing.specs.declared.frame_fault.FrameFault.TheVariants.{Head, Version, BothLengths, Length, Coding}
+use Rattle.hx_framing.specs.declared.frame_fault.FrameFault.TheVariants.{Chunk}
+use Rattle.hx_framing.specs.declared.frame_fault.FrameFault.TheVariants.{TooLarge, Expect, Truncated, Status}
 use Rattle.hx_framing.specs.declared.heads.request_head.Head.{Head as RequestHead}
 use Rattle.hx_framing.specs.declared.heads.status_head.StatusHead.{StatusHead}
-use Rattle.hx_framing.specs.Fault.{number_of}
-use Rattle.hx_framing.specs.Lengths.{has_both, has_bad_length, has_endless_coding, has_other_coding, is_too_large}
-use Rattle.hx_framing.specs.Lengths.{has_other_expectation, expectation, is_without_content, is_taken_status}
+use Rattle.hx_framing.specs.Fault.{frame_fault_number}
+use Rattle.hx_framing.specs.Lengths.{has_both_lengths, has_bad_length, has_endless_coding, has_other_coding}
+use Rattle.hx_framing.specs.Lengths.{is_too_large}
+use Rattle.hx_framing.specs.Lengths.{has_other_expectation, expected_of_server, response_has_no_content}
+use Rattle.hx_framing.specs.Lengths.{is_accepted_status}
 
 -- at the end of a request's head
-abbrev pub applies_to_request : ℕ → RequestHead → FrameFault → Bool
-applies_to_request max_body head Head = false
-applies_to_request max_body head Version = false
-applies_to_request max_body head BothLengths = has_both head.fields
-applies_to_request max_body head Length = has_bad_length head.minor head.fields || has_endless_coding head.fields
-applies_to_request max_body head Coding = has_other_coding head.fields
-applies_to_request max_body head Chunk = false
-applies_to_request max_body head TooLarge = is_too_large max_body head.fields
-applies_to_request max_body head Expect = has_other_expectation (expectation head)
-applies_to_request max_body head Truncated = false
-applies_to_request max_body head Status = false
+abbrev pub fault_applies_to_request : ℕ → RequestHead → FrameFault → Bool
+fault_applies_to_request max_body head Head = false
+fault_applies_to_request max_body head Version = false
+fault_applies_to_request max_body head BothLengths = has_both_lengths head.fields
+fault_applies_to_request max_body head Length = has_bad_length head.minor head.fields || has_endless_coding head.fields
+fault_applies_to_request max_body head Coding = has_other_coding head.fields
+fault_applies_to_request max_body head Chunk = false
+fault_applies_to_request max_body head TooLarge = is_too_large max_body head.fields
+fault_applies_to_request max_body head Expect = has_other_expectation (expected_of_server head)
+fault_applies_to_request max_body head Truncated = false
+fault_applies_to_request max_body head Status = false
 
 -- the length fields of a response are judged
-abbrev pub counts : Bool → StatusHead → Bool
-counts to_head head = not (head.status == 101 || is_without_content to_head head.status)
+abbrev pub length_fields_are_judged : Bool → StatusHead → Bool
+length_fields_are_judged to_head head = not (head.status == 101 || response_has_no_content to_head head.status)
 
 -- at the end of a response's head
-abbrev pub applies_to_response : ℕ → Bool → StatusHead → FrameFault → Bool
-applies_to_response max_body to_head head Head = false
-applies_to_response max_body to_head head Version = false
-applies_to_response max_body to_head head BothLengths = counts to_head head && has_both head.fields
-applies_to_response max_body to_head head Length = counts to_head head && has_bad_length head.minor head.fields
-applies_to_response max_body to_head head Coding = counts to_head head && has_other_coding head.fields
-applies_to_response max_body to_head head Chunk = false
-applies_to_response max_body to_head head TooLarge = counts to_head head && is_too_large max_body head.fields
-applies_to_response max_body to_head head Expect = false
-applies_to_response max_body to_head head Truncated = false
-applies_to_response max_body to_head head Status = not (is_taken_status head.status)
+abbrev pub fault_applies_to_response : ℕ → Bool → StatusHead → FrameFault → Bool
+fault_applies_to_response max_body to_head head Head = false
+fault_applies_to_response max_body to_head head Version = false
+fault_applies_to_response max_body to_head head BothLengths = length_fields_are_judged to_head head
+    && has_both_lengths head.fields
+fault_applies_to_response max_body to_head head Length = length_fields_are_judged to_head head
+    && has_bad_length head.minor head.fields
+fault_applies_to_response max_body to_head head Coding = length_fields_are_judged to_head head
+    && has_other_coding head.fields
+fault_applies_to_response max_body to_head head Chunk = false
+fault_applies_to_response max_body to_head head TooLarge = length_fields_are_judged to_head head
+    && is_too_large max_body head.fields
+fault_applies_to_response max_body to_head head Expect = false
+fault_applies_to_response max_body to_head head Truncated = false
+fault_applies_to_response max_body to_head head Status = not (is_accepted_status head.status)
 
 -- the fault stands, and no other that stands has a less number
-pub record IsLeast (applies : FrameFault → Bool) (fault : FrameFault) : Type 0 where
+pub record IsLeastFault (applies : FrameFault → Bool) (fault : FrameFault) : Type 0 where
   pub this : applies fault ≡ true
-  pub least : (other : FrameFault) → applies other ≡ true → number_of fault ≤ number_of other
+  pub least : (other : FrameFault) → applies other ≡ true → frame_fault_number fault ≤ frame_fault_number other

@@ -7,42 +7,48 @@ use Rattle.httparse.specs.declared.spans.HeaderSpan.{HeaderSpan}
 use Rattle.httparse.specs.declared.spans.RequestSpans.{RequestSpans}
 use Rattle.hx_fields.specs.declared.field_line.Field.{Field}
 use Rattle.hx_framing.specs.declared.heads.request_head.Head.{Head}
-use Rattle.hx_framing.specs.declared.fault.FrameFault.{FrameFault}
-use Rattle.hx_framing.specs.declared.fault.FrameFault.TheVariants as fault
-use Rattle.hx_framing.specs.Places.{most_field_lines}
+use Rattle.hx_framing.specs.declared.frame_fault.FrameFault.{FrameFault}
+use Rattle.hx_framing.specs.declared.frame_fault.FrameFault.TheVariants as fault
+use Rattle.hx_framing.specs.HeadEnd.{most_field_lines}
 use Rattle.hx_framing.specs.Version.{start_line, without_return, ends_with_other_version}
 
 -- a line's name, and its value without the white space around it
-abbrev pub field_of : grammar.Field → Field
-field_of f = record { name = f.name; value = field_value f }
+abbrev pub field_of_grammar : grammar.Field → Field
+field_of_grammar f = record { name = f.name; value = field_value f }
 
 -- what a head of the grammar gives
-abbrev pub head_of : RequestHead → Head
-head_of h = record { method = h.method; target = h.target; minor = h.minor; fields = map field_of h.fields }
+abbrev pub head_of_grammar : RequestHead → Head
+head_of_grammar h = record {
+  method = h.method;
+  target = h.target;
+  minor = h.minor;
+  fields = map field_of_grammar h.fields;
+}
 
 -- the line that a header's spans cover
-abbrev pub field_at : List ℕ → HeaderSpan → Field
-field_at bytes h = record { name = span_bytes bytes h.name; value = span_bytes bytes h.value }
+abbrev pub field_at_span : List ℕ → HeaderSpan → Field
+field_at_span bytes h = record { name = span_bytes bytes h.name; value = span_bytes bytes h.value }
 
 -- the head that the spans cover
-abbrev pub head_at : List ℕ → List HeaderSpan → RequestSpans → Head
-head_at bytes spans r = record {
+abbrev pub head_at_spans : List ℕ → List HeaderSpan → RequestSpans → Head
+head_at_spans bytes spans r = record {
   method = span_bytes bytes r.method;
   target = span_bytes bytes r.path;
   minor = r.version;
-  fields = map (field_at bytes) (take r.headers spans);
+  fields = map (field_at_span bytes) (take r.headers spans);
 }
 
 -- just these bytes are the head h, with the empty lines in front
-abbrev pub IsHead : List ℕ → RequestHead → Type 0
-IsHead bytes h = ReadsRequest bytes h [] × (length h.fields ≤ most_field_lines)
+abbrev pub IsHeadOfRequest : List ℕ → RequestHead → Type 0
+IsHeadOfRequest bytes h = ReadsRequest bytes h [] × (length h.fields ≤ most_field_lines)
 
 -- the fault of bytes that are no head: Version takes the place of Head where the request line ends with another version
 -- own: whatever else is wrong with the head
-abbrev pub head_fault : List ℕ → FrameFault
-head_fault bytes = if ends_with_other_version (without_return (start_line bytes)) then fault.Version else fault.Head
+abbrev pub request_head_fault : List ℕ → FrameFault
+request_head_fault bytes
+    = if ends_with_other_version (without_return (start_line bytes)) then fault.Version else fault.Head
 
 -- how the bytes of a whole head are judged
-abbrev pub Judges : List ℕ → Result Head FrameFault → Type 0
-Judges bytes (Ok head) = (h : RequestHead) × IsHead bytes h × (head ≡ head_of h)
-Judges bytes (Err f) = ((h : RequestHead) → ¬ (IsHead bytes h)) × (f ≡ head_fault bytes)
+abbrev pub RequestHeadIsJudged : List ℕ → Result Head FrameFault → Type 0
+RequestHeadIsJudged bytes (Ok head) = (h : RequestHead) × IsHeadOfRequest bytes h × (head ≡ head_of_grammar h)
+RequestHeadIsJudged bytes (Err f) = ((h : RequestHead) → ¬ (IsHeadOfRequest bytes h)) × (f ≡ request_head_fault bytes)

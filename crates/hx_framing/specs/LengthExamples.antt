@@ -2,7 +2,7 @@
 use Rattle.std.specs.Prelude.{ℕ, List, codes, true, false, Result, Ok}
 use Rattle.hx_fields.specs.declared.field_line.Field.{Field}
 use Rattle.hx_fields.specs.Examples.{line}
-use Rattle.hx_framing.specs.declared.fault.FrameFault.{FrameFault}
+use Rattle.hx_framing.specs.declared.frame_fault.FrameFault.{FrameFault}
 use Rattle.hx_framing.specs.declared.lengths.framing.Framing.{Framing}
 use Rattle.hx_framing.specs.declared.lengths.framing.Framing.TheVariants as framing
 use Rattle.hx_framing.specs.declared.lengths.framing.RequestBody.{RequestBody}
@@ -28,22 +28,22 @@ abbrev pub response_head : ℕ → ℕ → List Field → StatusHead
 response_head status minor fields = record { status = status; minor = minor; fields = fields }
 
 -- judged with at most 1000 bytes of content
-abbrev pub asks : ℕ → List Field → Result RequestBody FrameFault
-asks minor fields = request_body_of 1000 (request_head minor fields)
+abbrev pub judged_request_body : ℕ → List Field → Result RequestBody FrameFault
+judged_request_body minor fields = request_body_of 1000 (request_head minor fields)
 
-abbrev pub answers : ℕ → ℕ → List Field → Result Framing FrameFault
-answers status minor fields = framing_of_response 1000 false (response_head status minor fields)
+abbrev pub judged_framing : ℕ → ℕ → List Field → Result Framing FrameFault
+judged_framing status minor fields = framing_of_response 1000 false (response_head status minor fields)
 
-abbrev pub answers_head : ℕ → List Field → Result Framing FrameFault
-answers_head status fields = framing_of_response 1000 true (response_head status 1 fields)
+abbrev pub judged_framing_to_head : ℕ → List Field → Result Framing FrameFault
+judged_framing_to_head status fields = framing_of_response 1000 true (response_head status 1 fields)
 
 -- a content that waits for no continue
-abbrev pub plain : Framing → Result RequestBody FrameFault
-plain shown = Ok (record { framing = shown; wants_continue = false })
+abbrev pub without_continue : Framing → Result RequestBody FrameFault
+without_continue shown = Ok (record { framing = shown; wants_continue = false })
 
-abbrev pub of_length : ℕ → Result RequestBody FrameFault
-of_length n = plain (framing.Announced n)
+abbrev pub body_of_length : ℕ → Result RequestBody FrameFault
+body_of_length n = without_continue (framing.Announced n)
 
 -- a content that waits for a continue
-abbrev pub waiting : Framing → Result RequestBody FrameFault
-waiting shown = Ok (record { framing = shown; wants_continue = true })
+abbrev pub with_continue : Framing → Result RequestBody FrameFault
+with_continue shown = Ok (record { framing = shown; wants_continue = true })

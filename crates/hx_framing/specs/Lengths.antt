@@ -1,114 +1,118 @@
 -- How long the content behind a head is, by its fields (RFC 9112, section 6, and RFC 9110, section 10.1.1).
 -- A head's faults are tested in the order of their numbers.
 --
--- has_both, has_bad_length, has_endless_coding, has_other_coding, is_too_large, has_other_expectation: what is at fault
--- framing_shown: what faultless length fields say
+-- has_both_lengths, has_bad_length, has_endless_coding, has_other_coding, is_too_large, has_other_expectation: what is
+-- at fault
+-- framing_of_faultless_fields: what faultless length fields say
 -- framing_of_lengths, request_body_of, framing_of_response: how a head is judged
--- announced_of, without_lengths: what a message keeps of its length fields
--- uncoded, framing_of_codings: the judgement in steps
+-- announced_length_to_head, without_lengths: what a message keeps of its length fields
+-- framing_without_codings, framing_of_codings: the judgement in steps
 use Rattle.std.specs.Prelude.{ℕ, ◌-◌, ◌^◌, ◌&&◌, ◌||◌, Bool, true, false, cond, not, List, [], length, Option, Some}
 use Rattle.std.specs.Prelude.{None, is_some, Result, Ok, Err, nat_lt, nat_le, ◌==◌, codes, count_by, slice_index_or}
 use Rattle.std.specs.List.{list_all}
 use Rattle.hx_fields.specs.declared.field_line.Field.{Field}
 use Rattle.hx_fields.specs.Names.{is_same_name}
-use Rattle.hx_fields.specs.Lines.{has, combined_of, members_of, without_named}
-use Rattle.hx_framing.specs.declared.fault.FrameFault.{FrameFault}
-use Rattle.hx_framing.specs.declared.fault.FrameFault.TheVariants as fault
+use Rattle.hx_fields.specs.FieldLines.{has_field, combined_of, members_of, without_named}
+use Rattle.hx_framing.specs.declared.frame_fault.FrameFault.{FrameFault}
+use Rattle.hx_framing.specs.declared.frame_fault.FrameFault.TheVariants as fault
 use Rattle.hx_framing.specs.declared.lengths.framing.Framing.{Framing}
 use Rattle.hx_framing.specs.declared.lengths.framing.Framing.TheVariants as framing
 use Rattle.hx_framing.specs.declared.lengths.framing.RequestBody.{RequestBody}
 use Rattle.hx_framing.specs.declared.heads.request_head.Head.{Head}
 use Rattle.hx_framing.specs.declared.heads.status_head.StatusHead.{StatusHead}
-use Rattle.hx_framing.specs.ContentLength.{content_length, length_shown, length_up_to, announced_up_to}
+use Rattle.hx_framing.specs.ContentLength.{content_length_name, announced_length, length_up_to, announced_within}
 
-abbrev pub transfer_encoding : List ℕ
-transfer_encoding = codes "transfer-encoding"
+abbrev pub transfer_encoding_name : List ℕ
+transfer_encoding_name = codes "transfer-encoding"
 
-abbrev pub expect : List ℕ
-expect = codes "expect"
+abbrev pub expect_name : List ℕ
+expect_name = codes "expect"
 
 -- the transfer codings, in the order in which they were applied (RFC 9112, section 6.1)
 abbrev pub codings : List Field → List (List ℕ)
-codings fields = members_of fields transfer_encoding
+codings fields = members_of fields transfer_encoding_name
 
 -- transfer codings compare without ASCII case (RFC 9112, section 7)
 abbrev pub is_chunked : List ℕ → Bool
 is_chunked coding = is_same_name coding (codes "chunked")
 
 -- the last coding is chunked, and no other is
-abbrev pub ends_in_chunks : List (List ℕ) → Bool
-ends_in_chunks names = is_chunked (slice_index_or names (length names - 1) []) && (count_by is_chunked names == 1)
+abbrev pub last_coding_is_chunked : List (List ℕ) → Bool
+last_coding_is_chunked names
+    = is_chunked (slice_index_or names (length names - 1) []) && (count_by is_chunked names == 1)
 
 -- chunked is the only coding
 abbrev pub is_only_chunked : List (List ℕ) → Bool
 is_only_chunked names = length names == 1 && list_all is_chunked names
 
 -- own: where both fields stand the message is refused, and Transfer-Encoding doesn't override (RFC 9112, section 6.3)
-abbrev pub has_both : List Field → Bool
-has_both fields = has fields transfer_encoding && has fields content_length
+abbrev pub has_both_lengths : List Field → Bool
+has_both_lengths fields = has_field fields transfer_encoding_name && has_field fields content_length_name
 
 -- HTTP/1.0 knows no transfer coding, or Content-Length tells no length (RFC 9112, sections 6.1 and 6.3)
 abbrev pub has_bad_length : ℕ → List Field → Bool
 has_bad_length minor fields =
-    (has fields transfer_encoding && (minor == 0)) || (has fields content_length && not (is_some (length_shown fields)))
+    (has_field fields transfer_encoding_name && (minor == 0)) || (has_field fields content_length_name && not
+    (is_some (announced_length fields)))
 
 -- the end of a request's content can't be told from its codings, as where there is none (RFC 9112, section 6.3)
 -- own: or chunked stands twice
 abbrev pub has_endless_coding : List Field → Bool
-has_endless_coding fields = has fields transfer_encoding && not (ends_in_chunks (codings fields))
+has_endless_coding fields = has_field fields transfer_encoding_name && not (last_coding_is_chunked (codings fields))
 
 -- own: no coding but chunked is read
 abbrev pub has_other_coding : List Field → Bool
-has_other_coding fields = has fields transfer_encoding && not (is_only_chunked (codings fields))
+has_other_coding fields = has_field fields transfer_encoding_name && not (is_only_chunked (codings fields))
 
-abbrev pub is_above : ℕ → Option ℕ → Bool
-is_above most None = false
-is_above most (Some n) = nat_lt most n
+abbrev pub exceeds : ℕ → Option ℕ → Bool
+exceeds most None = false
+exceeds most (Some n) = nat_lt most n
 
 -- own: a content of more than max_body bytes is refused
 abbrev pub is_too_large : ℕ → List Field → Bool
-is_too_large max_body fields = is_above max_body (length_shown fields)
+is_too_large max_body fields = exceeds max_body (announced_length fields)
 
-abbrev pub framing_or : Framing → Option ℕ → Framing
-framing_or neither None = neither
-framing_or neither (Some n) = framing.Announced n
+abbrev pub announced_framing_or : Framing → Option ℕ → Framing
+announced_framing_or neither None = neither
+announced_framing_or neither (Some n) = framing.Announced n
 
 -- what faultless length fields say, or what holds where neither stands
-abbrev pub framing_shown : Framing → List Field → Framing
-framing_shown neither fields =
-    cond (has fields transfer_encoding) framing.Chunked (framing_or neither (length_shown fields))
+abbrev pub framing_of_faultless_fields : Framing → List Field → Framing
+framing_of_faultless_fields neither fields =
+    cond (has_field fields transfer_encoding_name) framing.Chunked (announced_framing_or neither
+    (announced_length fields))
 
 -- what is expected of a server
 -- own: in HTTP/1.0 Expect is ignored, not only 100-continue (RFC 9110, section 10.1.1)
-abbrev pub expectation : Head → Option (List ℕ)
-expectation head = cond (head.minor == 1) (combined_of head.fields expect) None
+abbrev pub expected_of_server : Head → Option (List ℕ)
+expected_of_server head = cond (head.minor == 1) (combined_of head.fields expect_name) None
 
-abbrev pub is_continue : List ℕ → Bool
-is_continue value = is_same_name value (codes "100-continue")
+abbrev pub is_100_continue : List ℕ → Bool
+is_100_continue value = is_same_name value (codes "100-continue")
 
 abbrev pub has_other_expectation : Option (List ℕ) → Bool
 has_other_expectation None = false
-has_other_expectation (Some value) = not (is_continue value)
+has_other_expectation (Some value) = not (is_100_continue value)
 
 abbrev pub expects_continue : Option (List ℕ) → Bool
 expects_continue None = false
-expects_continue (Some value) = is_continue value
+expects_continue (Some value) = is_100_continue value
 
-abbrev pub has_content : Framing → Bool
-has_content framing.Nothing = false
-has_content (framing.Announced n) = nat_lt 0 n
-has_content framing.Chunked = true
-has_content framing.UntilClose = true
+abbrev pub framing_has_content : Framing → Bool
+framing_has_content framing.Nothing = false
+framing_has_content (framing.Announced n) = nat_lt 0 n
+framing_has_content framing.Chunked = true
+framing_has_content framing.UntilClose = true
 
 -- how the length fields of a head are judged
 -- neither: what holds where neither stands; endless: the end of the content can't be told from the codings
 abbrev pub framing_of_lengths : ℕ → ℕ → Framing → Bool → List Field → Result Framing FrameFault
 framing_of_lengths max_body minor neither endless fields =
-    cond (has_both fields) (Err fault.BothLengths)
+    cond (has_both_lengths fields) (Err fault.BothLengths)
     (cond (has_bad_length minor fields || endless) (Err fault.Length)
     (cond (has_other_coding fields) (Err fault.Coding)
     (cond (is_too_large max_body fields) (Err fault.TooLarge)
-    (Ok (framing_shown neither fields)))))
+    (Ok (framing_of_faultless_fields neither fields)))))
 
 -- a request without either field has no content (RFC 9112, section 6.3)
 abbrev pub framing_of_request : ℕ → Head → Result Framing FrameFault
@@ -120,11 +124,11 @@ abbrev pub with_expectation : Option (List ℕ) → Result Framing FrameFault �
 with_expectation expected (Err f) = Err f
 with_expectation expected (Ok shown) =
     cond (has_other_expectation expected) (Err fault.Expect)
-    (Ok (record { framing = shown; wants_continue = expects_continue expected && has_content shown }))
+    (Ok (record { framing = shown; wants_continue = expects_continue expected && framing_has_content shown }))
 
 -- how the content of a request is judged by its head
 abbrev pub request_body_of : ℕ → Head → Result RequestBody FrameFault
-request_body_of max_body head = with_expectation (expectation head) (framing_of_request max_body head)
+request_body_of max_body head = with_expectation (expected_of_server head) (framing_of_request max_body head)
 
 -- an interim response (RFC 9110, section 15.2)
 -- own: 101 switches protocols and is refused
@@ -132,61 +136,62 @@ abbrev pub is_interim : ℕ → Bool
 is_interim status = nat_le 100 status && nat_lt status 200 && not (status == 101)
 
 -- a response that has no content, whatever its length fields say (RFC 9112, section 6.3)
-abbrev pub is_without_content : Bool → ℕ → Bool
-is_without_content to_head status = to_head || is_interim status || status == 204 || status == 304
+abbrev pub response_has_no_content : Bool → ℕ → Bool
+response_has_no_content to_head status = to_head || is_interim status || status == 204 || status == 304
 
 -- a status that is taken (RFC 9110, section 15)
-abbrev pub is_taken_status : ℕ → Bool
-is_taken_status status = nat_le 100 status && nat_lt status 600 && not (status == 101)
+abbrev pub is_accepted_status : ℕ → Bool
+is_accepted_status status = nat_le 100 status && nat_lt status 600 && not (status == 101)
 
 -- the content of a response without either field runs until the connection closes (RFC 9112, section 6.3)
 abbrev pub framing_of_final : ℕ → StatusHead → Result Framing FrameFault
 framing_of_final max_body head = framing_of_lengths max_body head.minor framing.UntilClose false head.fields
 
 -- a status that isn't taken is the last fault
-abbrev pub with_status : ℕ → Result Framing FrameFault → Result Framing FrameFault
-with_status status (Err f) = Err f
-with_status status (Ok shown) = cond (is_taken_status status) (Ok shown) (Err fault.Status)
+abbrev pub framing_if_accepted_status : ℕ → Result Framing FrameFault → Result Framing FrameFault
+framing_if_accepted_status status (Err f) = Err f
+framing_if_accepted_status status (Ok shown) = cond (is_accepted_status status) (Ok shown) (Err fault.Status)
 
 -- how the content of a response is judged by its head; to_head: it answers a HEAD
 -- own: no length field is judged where there is no content or protocols are switched
 abbrev pub framing_of_response : ℕ → Bool → StatusHead → Result Framing FrameFault
 framing_of_response max_body to_head head =
-    with_status head.status
-    (cond (head.status == 101 || is_without_content to_head head.status) (Ok framing.Nothing)
+    framing_if_accepted_status head.status
+    (cond (head.status == 101 || response_has_no_content to_head head.status) (Ok framing.Nothing)
     (framing_of_final max_body head))
 
 -- the length that an answer to HEAD announces for the content that it doesn't have (RFC 9110, section 8.6)
 -- own: below 2^64, and not beside Transfer-Encoding
-abbrev pub announced_of : Bool → StatusHead → Option ℕ
-announced_of to_head head =
-    cond (to_head && not (has head.fields transfer_encoding))
-    (announced_up_to (2 ^ 64 - 1) (length_shown head.fields)) None
+abbrev pub announced_length_to_head : Bool → StatusHead → Option ℕ
+announced_length_to_head to_head head =
+    cond (to_head && not (has_field head.fields transfer_encoding_name))
+    (announced_within (2 ^ 64 - 1) (announced_length head.fields)) None
 
 -- the lines that are no length fields
 abbrev pub without_lengths : List Field → List Field
-without_lengths fields = without_named (without_named fields content_length) transfer_encoding
+without_lengths fields = without_named (without_named fields content_length_name) transfer_encoding_name
 
 -- ---- the same judgement in steps: first what needs no codings
 
-abbrev pub announced : Result ℕ FrameFault → Result Framing FrameFault
-announced (Ok n) = Ok (framing.Announced n)
-announced (Err f) = Err f
+abbrev pub announced_framing : Result ℕ FrameFault → Result Framing FrameFault
+announced_framing (Ok n) = Ok (framing.Announced n)
+announced_framing (Err f) = Err f
 
 -- what Content-Length alone says, or what holds without it
-abbrev pub announced_or : ℕ → Framing → List Field → Result Framing FrameFault
-announced_or max_body neither fields =
-    cond (has fields content_length) (announced (length_up_to max_body (length_shown fields))) (Ok neither)
+abbrev pub framing_by_content_length : ℕ → Framing → List Field → Result Framing FrameFault
+framing_by_content_length max_body neither fields =
+    cond (has_field fields content_length_name) (announced_framing (length_up_to max_body (announced_length fields)))
+    (Ok neither)
 
 -- what is judged of the length fields without their codings, if that is enough
-abbrev pub uncoded : ℕ → ℕ → Framing → List Field → Option (Result Framing FrameFault)
-uncoded max_body minor neither fields =
-    cond (has_both fields) (Some (Err fault.BothLengths))
-    (cond (not (has fields transfer_encoding)) (Some (announced_or max_body neither fields))
+abbrev pub framing_without_codings : ℕ → ℕ → Framing → List Field → Option (Result Framing FrameFault)
+framing_without_codings max_body minor neither fields =
+    cond (has_both_lengths fields) (Some (Err fault.BothLengths))
+    (cond (not (has_field fields transfer_encoding_name)) (Some (framing_by_content_length max_body neither fields))
     (cond (minor == 0) (Some (Err fault.Length)) None))
 
 -- what codings say where they count; must_end: they have to tell the end of the content
 abbrev pub framing_of_codings : Bool → List (List ℕ) → Result Framing FrameFault
 framing_of_codings must_end names =
-    cond (must_end && not (ends_in_chunks names)) (Err fault.Length)
+    cond (must_end && not (last_coding_is_chunked names)) (Err fault.Length)
     (cond (is_only_chunked names) (Ok framing.Chunked) (Err fault.Coding))

@@ -1,5 +1,5 @@
 pub mod Fault
-pub mod Places
+pub mod HeadEnd
 pub mod Searching
 pub mod Reading
 pub mod Progress

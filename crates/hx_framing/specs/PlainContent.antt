@@ -7,9 +7,9 @@ pub record PlainContent : Type 0 where
   pub content : List ℕ
 
 -- before the first byte
-abbrev pub plain_start : ℕ → PlainContent
-plain_start left = record { left = left; content = [] }
+abbrev pub no_plain_content : ℕ → PlainContent
+no_plain_content left = record { left = left; content = [] }
 
 -- a run of its bytes has come
-abbrev pub grown : PlainContent → List ℕ → PlainContent
-grown s run = record { left = s.left - length run; content = s.content ++ run }
+abbrev pub plain_content_with : PlainContent → List ℕ → PlainContent
+plain_content_with s run = record { left = s.left - length run; content = s.content ++ run }

@@ -1,37 +1,37 @@
 -- What stands at the front of the bytes of a stream that no message has taken.
 use Rattle.std.specs.Prelude.{ℕ, ◌++◌, Bool, cond, List, Option}
-use Rattle.hx_framing.specs.declared.fault.FrameFault.{FrameFault}
-use Rattle.hx_framing.specs.declared.fault.FrameFault.TheVariants as fault
-use Rattle.hx_framing.specs.Body.{Body, Short, Bad, Whole}
+use Rattle.hx_framing.specs.declared.frame_fault.FrameFault.{FrameFault}
+use Rattle.hx_framing.specs.declared.frame_fault.FrameFault.TheVariants as fault
+use Rattle.hx_framing.specs.Body.{ContentFound, Short, Bad, Whole}
 
 -- nothing is due yet, a continue, the end, a message and what follows it, or a fault
-pub data Reading (M : Type 0) : Type 0 where
-  Incomplete Continue Over : Reading M
-  Spelled : M → List ℕ → Reading M
-  Faulty : FrameFault → Reading M
+pub data StreamReading (M : Type 0) : Type 0 where
+  Incomplete Continue Over : StreamReading M
+  Spelled : M → List ℕ → StreamReading M
+  Faulty : FrameFault → StreamReading M
 
 -- where the stream ends here, a message is cut off (RFC 9112, section 8)
-abbrev pub cut_off : {M : Type 0} → Bool → Reading M
-cut_off ended = cond ended (Faulty fault.Truncated) Incomplete
+abbrev pub reading_cut_off : {M : Type 0} → Bool → StreamReading M
+reading_cut_off ended = cond ended (Faulty fault.Truncated) Incomplete
 
 -- behind a head whose message with a content is make
-abbrev pub with_body : {M : Type 0} → Bool → (Option (List ℕ) → M) → Body → Reading M
-with_body ended make Short = cut_off ended
-with_body ended make (Bad f) = Faulty f
-with_body ended make (Whole content rest) = Spelled (make content) rest
+abbrev pub reading_with_content : {M : Type 0} → Bool → (Option (List ℕ) → M) → ContentFound → StreamReading M
+reading_with_content ended make Short = reading_cut_off ended
+reading_with_content ended make (Bad f) = Faulty f
+reading_with_content ended make (Whole content rest) = Spelled (make content) rest
 
 -- something is due, whatever follows
-abbrev pub IsSettled : {M : Type 0} → Reading M → Type 0
-IsSettled Incomplete = ⊥
-IsSettled Continue = Unit {0}
-IsSettled Over = ⊥
-IsSettled (Spelled m rest) = Unit {0}
-IsSettled (Faulty f) = Unit {0}
+abbrev pub ReadingIsSettled : {M : Type 0} → StreamReading M → Type 0
+ReadingIsSettled Incomplete = ⊥
+ReadingIsSettled Continue = Unit {0}
+ReadingIsSettled Over = ⊥
+ReadingIsSettled (Spelled m rest) = Unit {0}
+ReadingIsSettled (Faulty f) = Unit {0}
 
 -- the same with more bytes behind it
-abbrev pub extended : {M : Type 0} → Reading M → List ℕ → Reading M
-extended Incomplete w = Incomplete
-extended Continue w = Continue
-extended Over w = Over
-extended (Spelled m rest) w = Spelled m (rest ++ w)
-extended (Faulty f) w = Faulty f
+abbrev pub reading_with_more : {M : Type 0} → StreamReading M → List ℕ → StreamReading M
+reading_with_more Incomplete w = Incomplete
+reading_with_more Continue w = Continue
+reading_with_more Over w = Over
+reading_with_more (Spelled m rest) w = Spelled m (rest ++ w)
+reading_with_more (Faulty f) w = Faulty f

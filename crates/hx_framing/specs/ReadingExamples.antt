@@ -5,30 +5,30 @@ use Rattle.hx_fields.specs.declared.field_line.Field.{Field}
 use Rattle.hx_fields.specs.Examples.{line}
 use Rattle.hx_framing.specs.declared.messages.Request.{Request}
 use Rattle.hx_framing.specs.declared.messages.Response.{Response}
-use Rattle.hx_framing.specs.Reading.{Reading}
+use Rattle.hx_framing.specs.Reading.{StreamReading}
 use Rattle.hx_framing.specs.Progress.{Progress}
 use Rattle.hx_framing.specs.RequestReading as request
 use Rattle.hx_framing.specs.ResponseReading as response
 
 -- a request stream that goes on, one that ends, and one whose continue was given
-abbrev pub asks : List ℕ → Reading Request → Type 0
-asks bytes reading = request.Reads 1000 false false bytes reading
+abbrev pub request_stream_reads : List ℕ → StreamReading Request → Type 0
+request_stream_reads bytes reading = request.Reads 1000 false false bytes reading
 
-abbrev pub asks_last : List ℕ → Reading Request → Type 0
-asks_last bytes reading = request.Reads 1000 true false bytes reading
+abbrev pub ended_request_stream_reads : List ℕ → StreamReading Request → Type 0
+ended_request_stream_reads bytes reading = request.Reads 1000 true false bytes reading
 
-abbrev pub asks_continue_sent : List ℕ → Reading Request → Type 0
-asks_continue_sent bytes reading = request.Reads 1000 false true bytes reading
+abbrev pub continued_request_stream_reads : List ℕ → StreamReading Request → Type 0
+continued_request_stream_reads bytes reading = request.Reads 1000 false true bytes reading
 
 -- a response stream that goes on, one that ends, and one that answers a HEAD
-abbrev pub answers : List ℕ → Reading Response → Type 0
-answers bytes reading = response.Reads 1000 false false bytes reading
+abbrev pub response_stream_reads : List ℕ → StreamReading Response → Type 0
+response_stream_reads bytes reading = response.Reads 1000 false false bytes reading
 
-abbrev pub answers_last : List ℕ → Reading Response → Type 0
-answers_last bytes reading = response.Reads 1000 false true bytes reading
+abbrev pub ended_response_stream_reads : List ℕ → StreamReading Response → Type 0
+ended_response_stream_reads bytes reading = response.Reads 1000 false true bytes reading
 
-abbrev pub answers_head : List ℕ → Reading Response → Type 0
-answers_head bytes reading = response.Reads 1000 true false bytes reading
+abbrev pub head_response_stream_reads : List ℕ → StreamReading Response → Type 0
+head_response_stream_reads bytes reading = response.Reads 1000 true false bytes reading
 
 -- ---- RFC 9110, section 3.9
 
@@ -69,16 +69,16 @@ hello_answered = record {
 -- ---- other messages
 
 -- a request for /a with these lines, of HTTP/1.1
-abbrev pub put : List ℕ → List ℕ
-put lines = codes "PUT /a HTTP/1.1\r\n" ++ lines ++ codes "\r\n"
+abbrev pub put_request_with : List ℕ → List ℕ
+put_request_with lines = codes "PUT /a HTTP/1.1\r\n" ++ lines ++ codes "\r\n"
 
-abbrev pub put_with : List Field → Option (List ℕ) → Request
-put_with fields content =
+abbrev pub put_request_read : List Field → Option (List ℕ) → Request
+put_request_read fields content =
     record { method = codes "PUT"; target = codes "/a"; minor = 1; fields = fields; content = content }
 
 -- a response with these lines
-abbrev pub ok : List ℕ → List ℕ
-ok lines = codes "HTTP/1.1 200 OK\r\n" ++ lines ++ codes "\r\n"
+abbrev pub ok_response_with : List ℕ → List ℕ
+ok_response_with lines = codes "HTTP/1.1 200 OK\r\n" ++ lines ++ codes "\r\n"
 
 abbrev pub response_with : ℕ → List Field → List ℕ → Option ℕ → Response
 response_with status fields content announced =
@@ -87,19 +87,27 @@ response_with status fields content announced =
 -- ---- streams
 
 -- two requests and the beginning of a third
-abbrev pub in_a_row : List ℕ
-in_a_row =
-    put (codes "Content-Length: 2\r\n") ++ codes "hi" ++ put (codes "Transfer-Encoding: chunked\r\n")
+abbrev pub requests_in_a_row : List ℕ
+requests_in_a_row =
+    put_request_with (codes "Content-Length: 2\r\n") ++ codes "hi" ++ put_request_with (codes "Transfer-Encoding: chunked\r\n")
     ++ codes "3\r\nabc\r\n0\r\n\r\nPUT"
 
 -- how far its reader has come
-abbrev pub behind : Bool → List Request → Progress Request
-behind ended given =
-    record { max_body = 1000; to_head = false; stream = in_a_row; ended = ended; given = given; continue_sent = false }
+abbrev pub progress_behind_requests : Bool → List Request → Progress Request
+progress_behind_requests ended given =
+    record {
+      max_body = 1000;
+      to_head = false;
+      stream = requests_in_a_row;
+      ended = ended;
+      given = given;
+      continue_sent
+          = false;
+    }
 
 -- how far a reader of the response has come
-abbrev pub hello_behind : Bool → List Response → Progress Response
-hello_behind ended given =
+abbrev pub progress_behind_hello : Bool → List Response → Progress Response
+progress_behind_hello ended given =
     record {
       max_body = 1000;
       to_head = false;
@@ -109,12 +117,12 @@ hello_behind ended given =
       continue_sent = false;
     }
 
-abbrev pub hi : Request
-hi = put_with [] (Some (codes "hi"))
+abbrev pub put_request_hi : Request
+put_request_hi = put_request_read [] (Some (codes "hi"))
 
 -- a stream of requests, whether it has ended, what was given of it, and whether the next continue was
-abbrev pub waiting : Bool → List ℕ → Bool → List Request → Bool → Progress Request
-waiting to_head stream ended given continue_sent =
+abbrev pub request_progress : Bool → List ℕ → Bool → List Request → Bool → Progress Request
+request_progress to_head stream ended given continue_sent =
     record {
       max_body = 1000;
       to_head = to_head;

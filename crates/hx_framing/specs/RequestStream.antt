@@ -2,9 +2,9 @@
 use Rattle.std.specs.Prelude.{◌≡◌, ℕ, true, false, List, [], ◌∷◌}
 use Rattle.hx_framing.specs.declared.messages.Request.{Request}
 use Rattle.hx_framing.specs.declared.messages.Next.{Next}
-use Rattle.hx_framing.specs.Reading.{Reading, Spelled}
+use Rattle.hx_framing.specs.Reading.{StreamReading, Spelled}
 use Rattle.hx_framing.specs.RequestReading.{Reads}
-use Rattle.hx_framing.specs.Progress.{Progress, next_of, needs_memory}
+use Rattle.hx_framing.specs.Progress.{Progress, next_of_reading, answer_needs_memory}
 
 -- the bytes begin with this request; what follows is rest
 abbrev pub SpellsRequest : ℕ → List ℕ → Request → List ℕ → Type 0
@@ -19,11 +19,11 @@ StreamSpells max_body stream (message ∷ messages) rest =
 -- the answer is the one that the stream has behind the requests given
 pub record Answers (p : Progress Request) (answer : Next Request) : Type 0 where
   pub rest : List ℕ
-  pub reading : Reading Request
+  pub reading : StreamReading Request
   pub spells : StreamSpells p.max_body p.stream p.given rest
   pub reads : Reads p.max_body p.ended p.continue_sent rest reading
-  pub answer_is : answer ≡ next_of reading
+  pub answer_is : answer ≡ next_of_reading reading
 
 -- out of memory may stand in place of the answer
 abbrev pub NeedsMemory : Progress Request → Type 0
-NeedsMemory p = (answer : Next Request) → Answers p answer → needs_memory answer ≡ true
+NeedsMemory p = (answer : Next Request) → Answers p answer → answer_needs_memory answer ≡ true

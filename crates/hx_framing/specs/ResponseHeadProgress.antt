@@ -8,30 +8,31 @@ use Rattle.hx_framing.specs.declared.readers.progress.HeadProgress.{HeadProgress
 use Rattle.hx_framing.specs.declared.readers.progress.HeadProgress.TheVariants as head_progress
 use Rattle.hx_framing.specs.declared.readers.response_reading.FinalHead.{FinalHead}
 use Rattle.hx_framing.specs.declared.readers.response_reading.FinalHead.TheVariants as final_head
-use Rattle.hx_framing.specs.Places.{head_length, most_head_bytes, IsOpenHead}
-use Rattle.hx_framing.specs.StatusHead.{Judges}
+use Rattle.hx_framing.specs.HeadEnd.{head_length, most_head_bytes, IsOpenHead}
+use Rattle.hx_framing.specs.StatusHead.{ResponseHeadIsJudged}
 use Rattle.hx_framing.specs.Lengths.{is_interim}
-use Rattle.hx_framing.specs.Contents.{IsOpen}
-use Rattle.hx_framing.specs.ContentReading.{IsBehind, ResumesAs}
+use Rattle.hx_framing.specs.Contents.{IsUnfinishedContent}
+use Rattle.hx_framing.specs.ContentReading.{IsIndexBehindBytes, ContentResumesAs}
 use Rattle.hx_framing.specs.Reading.{Incomplete, Spelled, Faulty}
-use Rattle.hx_framing.specs.ResponseReading.{response_of, Passes, Reads}
+use Rattle.hx_framing.specs.ResponseReading.{response_of_head, PassesInterimResponses, Reads}
 
 -- whatever comes, the bytes read as this head with what the unread ones make of its content
-abbrev pub Resumes : ℕ → Bool → StatusHead → Content → List ℕ → List ℕ → Type 0
-Resumes max_body to_head head content bytes unread = ResumesAs {M = Response}
-    (λ ended. Reads max_body to_head ended) (response_of to_head head) (λ ended. ended) content bytes unread
+abbrev pub ResponseContentResumes : ℕ → Bool → StatusHead → Content → List ℕ → List ℕ → Type 0
+ResponseContentResumes max_body to_head head content bytes unread = ContentResumesAs {M = Response}
+    (λ ended. Reads max_body to_head ended) (response_of_head to_head head) (λ ended. ended) content bytes unread
 
 -- what stands behind the interim responses in front; a head ends behind some bytes and within them
-abbrev pub IsFinalHead : List ℕ → FinalHead → Type 0
-IsFinalHead bytes (final_head.Incomplete at) =
-    (at ≤ length bytes) × ((sizes : List ℕ) × Passes bytes sizes (drop at bytes))
+abbrev pub FinalHeadIsFound : List ℕ → FinalHead → Type 0
+FinalHeadIsFound bytes (final_head.Incomplete at) =
+    (at ≤ length bytes) × ((sizes : List ℕ) × PassesInterimResponses bytes sizes (drop at bytes))
     × (head_length (take most_head_bytes (drop at bytes)) ≡ None)
-IsFinalHead bytes (final_head.Faulty f) =
-    (0 < length bytes) × ((sizes : List ℕ) × (rest : List ℕ) × (n : ℕ) × Passes bytes sizes rest
-    × (head_length (take most_head_bytes rest) ≡ Some n) × Judges (take n rest) (Err f))
-IsFinalHead bytes (final_head.Complete head at) =
-    IsBehind bytes at × ((sizes : List ℕ) × (rest : List ℕ) × (n : ℕ) × Passes bytes sizes rest
-    × (head_length (take most_head_bytes rest) ≡ Some n) × Judges (take n rest) (Ok head)
+FinalHeadIsFound bytes (final_head.Faulty f) =
+    (0 < length bytes) × ((sizes : List ℕ) × (rest : List ℕ) × (n : ℕ) × PassesInterimResponses bytes sizes rest
+    × (head_length (take most_head_bytes rest) ≡ Some n) × ResponseHeadIsJudged (take n rest) (Err f))
+FinalHeadIsFound bytes (final_head.Complete head at) =
+    IsIndexBehindBytes bytes at × ((sizes : List ℕ) × (rest : List ℕ) × (n : ℕ)
+    × PassesInterimResponses bytes sizes rest
+    × (head_length (take most_head_bytes rest) ≡ Some n) × ResponseHeadIsJudged (take n rest) (Ok head)
     × (is_interim head.status ≡ false)
     × (drop n rest ≡ drop at bytes))
 
@@ -39,19 +40,19 @@ IsFinalHead bytes (final_head.Complete head at) =
 abbrev pub IsHeadProgress : ℕ → Bool → Bool → List ℕ → HeadProgress StatusHead Response → Type 0
 IsHeadProgress max_body to_head ended bytes (head_progress.Incomplete n) =
     (n ≤ length bytes) × Reads max_body to_head ended bytes Incomplete
-    × ((sizes : List ℕ) × Passes bytes sizes (drop n bytes))
+    × ((sizes : List ℕ) × PassesInterimResponses bytes sizes (drop n bytes))
     × IsOpenHead (drop n bytes)
 IsHeadProgress max_body to_head ended bytes (head_progress.NeedsContinue head content n) = ⊥
 IsHeadProgress max_body to_head ended bytes (head_progress.InContent head content n) =
-    IsBehind bytes n × Reads max_body to_head ended bytes Incomplete
-    × Resumes max_body to_head head content bytes (drop n bytes)
-    × IsOpen content (drop n bytes)
+    IsIndexBehindBytes bytes n × Reads max_body to_head ended bytes Incomplete
+    × ResponseContentResumes max_body to_head head content bytes (drop n bytes)
+    × IsUnfinishedContent content (drop n bytes)
 IsHeadProgress max_body to_head ended bytes (head_progress.Message m n) =
-    IsBehind bytes n × Reads max_body to_head ended bytes (Spelled m (drop n bytes))
+    IsIndexBehindBytes bytes n × Reads max_body to_head ended bytes (Spelled m (drop n bytes))
 IsHeadProgress max_body to_head ended bytes (head_progress.Faulty f) =
     (1 ≤ length bytes + cond ended 1 0) × Reads max_body to_head ended bytes (Faulty f)
 IsHeadProgress max_body to_head ended bytes head_progress.Ended = ⊥
 
 -- the head of a final response stands behind the interim ones, so that what is due is told behind it
-abbrev pub HasFinalHead : List ℕ → Type 0
-HasFinalHead bytes = (head : StatusHead) × (at : ℕ) × IsFinalHead bytes (final_head.Complete head at)
+abbrev pub FinalHeadStands : List ℕ → Type 0
+FinalHeadStands bytes = (head : StatusHead) × (at : ℕ) × FinalHeadIsFound bytes (final_head.Complete head at)

@@ -3,30 +3,32 @@ use Rattle.std.specs.Prelude.{◌≡◌, ℕ, Bool, true, List, [], ◌∷◌}
 use Rattle.hx_framing.specs.declared.messages.Response.{Response}
 use Rattle.hx_framing.specs.declared.messages.Next.{Next}
 use Rattle.hx_framing.specs.declared.messages.Next.TheVariants.{End}
-use Rattle.hx_framing.specs.Reading.{Reading, Spelled}
+use Rattle.hx_framing.specs.Reading.{StreamReading, Spelled}
 use Rattle.hx_framing.specs.ResponseReading.{Reads}
-use Rattle.hx_framing.specs.Progress.{Progress, next_of, needs_memory}
+use Rattle.hx_framing.specs.Progress.{Progress, next_of_reading, answer_needs_memory}
 
 -- the bytes, of which no more come where ended holds, begin with this response; what follows is rest
 abbrev pub SpellsResponse : ℕ → Bool → Bool → List ℕ → Response → List ℕ → Type 0
 SpellsResponse max_body to_head ended bytes message rest = Reads max_body to_head ended bytes (Spelled message rest)
 
 -- none was given, or the one that the stream spells
-abbrev pub IsGiven : Progress Response → List Response → Type 0
-IsGiven p [] = Unit {0}
-IsGiven p (message ∷ []) = (rest : List ℕ) × SpellsResponse p.max_body p.to_head p.ended p.stream message rest
-IsGiven p (message ∷ other ∷ more) = ⊥
+abbrev pub OneResponseIsGiven : Progress Response → List Response → Type 0
+OneResponseIsGiven p [] = Unit {0}
+OneResponseIsGiven p (message ∷ []) = (rest : List ℕ)
+    × SpellsResponse p.max_body p.to_head p.ended p.stream message rest
+OneResponseIsGiven p (message ∷ other ∷ more) = ⊥
 
 -- before the message what the stream reads as, and then the end, whatever follows
-abbrev pub AnswersBy : Progress Response → List Response → Next Response → Type 0
-AnswersBy p [] answer =
-    (reading : Reading Response) × Reads p.max_body p.to_head p.ended p.stream reading × (answer ≡ next_of reading)
-AnswersBy p (message ∷ more) answer = answer ≡ End
+abbrev pub AnswersAfterGiven : Progress Response → List Response → Next Response → Type 0
+AnswersAfterGiven p [] answer =
+    (reading : StreamReading Response)
+    × Reads p.max_body p.to_head p.ended p.stream reading × (answer ≡ next_of_reading reading)
+AnswersAfterGiven p (message ∷ more) answer = answer ≡ End
 
 pub record Answers (p : Progress Response) (answer : Next Response) : Type 0 where
-  pub spells : IsGiven p p.given
-  pub by : AnswersBy p p.given answer
+  pub spells : OneResponseIsGiven p p.given
+  pub by : AnswersAfterGiven p p.given answer
 
 -- out of memory may stand in place of the answer
 abbrev pub NeedsMemory : Progress Response → Type 0
-NeedsMemory p = (answer : Next Response) → Answers p answer → needs_memory answer ≡ true
+NeedsMemory p = (answer : Next Response) → Answers p answer → answer_needs_memory answer ≡ true

@@ -3,10 +3,10 @@ use Rattle.std.specs.Prelude.{◌≡◌, ℕ, ◌+◌, ◌≤◌, ◌++◌, true
 use Rattle.hx_framing.specs.declared.heads.head_end.HeadSearch.{HeadSearch}
 use Rattle.hx_framing.specs.declared.heads.head_end.Searched.{Searched}
 use Rattle.hx_framing.specs.declared.heads.head_end.Searched.TheVariants as searched
-use Rattle.hx_framing.specs.Places.{empty_lines_from, empty_lines_length, head_end_from, head_length}
+use Rattle.hx_framing.specs.HeadEnd.{empty_lines_from, empty_lines_length, head_end_from, head_length}
 
 -- no end of a head lies where the search has been: whatever bytes follow, it is found by going on from there
-pub record Reaches (bytes : List ℕ) (search : HeadSearch) : Type 0 where
+pub record SearchReaches (bytes : List ℕ) (search : HeadSearch) : Type 0 where
   pub within : search.at ≤ length bytes
   pub empty_lines : search.in_lines ≡ false → (more : List ℕ)
       → empty_lines_length (bytes ++ more) ≡ empty_lines_from search.at (drop search.at (bytes ++ more))
@@ -14,6 +14,6 @@ pub record Reaches (bytes : List ℕ) (search : HeadSearch) : Type 0 where
   pub lines : search.in_lines ≡ true → (more : List ℕ)
       → head_length (bytes ++ more) ≡ head_end_from search.at (drop search.at (bytes ++ more))
 
-abbrev pub IsSearched : List ℕ → Searched → Type 0
-IsSearched bytes (searched.Ended n) = head_length bytes ≡ Some n
-IsSearched bytes (searched.Open search) = (head_length bytes ≡ None) × Reaches bytes search
+abbrev pub IsSearchResult : List ℕ → Searched → Type 0
+IsSearchResult bytes (searched.Ended n) = head_length bytes ≡ Some n
+IsSearchResult bytes (searched.Open search) = (head_length bytes ≡ None) × SearchReaches bytes search

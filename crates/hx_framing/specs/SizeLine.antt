@@ -4,8 +4,8 @@ use Rattle.std.specs.Prelude.{nat_lt, nat_le, slice_index, Option, Some, None, R
 use Rattle.std.specs.List.{list_all, prefix_len}
 use Rattle.std.specs.Char.{is_ascii_hexdigit}
 use Rattle.std.specs.Str.Parse.{digits_value}
-use Rattle.hx_framing.specs.declared.fault.FrameFault.{FrameFault}
-use Rattle.hx_framing.specs.declared.fault.FrameFault.TheVariants as fault
+use Rattle.hx_framing.specs.declared.frame_fault.FrameFault.{FrameFault}
+use Rattle.hx_framing.specs.declared.frame_fault.FrameFault.TheVariants as fault
 
 -- own: a size of more digits is refused, leading zeros counted
 abbrev pub most_size_digits : ℕ
@@ -21,9 +21,9 @@ most_size_line_bytes = most_size_digits + most_extension_bytes + 2
 
 -- behind blanks a semicolon, or nothing: [ BWS ";" .. ]
 -- own: what follows the semicolon isn't judged further; blanks with no semicolon are taken
-abbrev pub starts_well : List ℕ → Bool
-starts_well [] = true
-starts_well (b ∷ bytes) = cond (b == 32 || b == 9) (starts_well bytes) (b == 59)
+abbrev pub begins_with_extension : List ℕ → Bool
+begins_with_extension [] = true
+begins_with_extension (b ∷ bytes) = cond (b == 32 || b == 9) (begins_with_extension bytes) (b == 59)
 
 -- own: no control but the tab
 abbrev pub is_line_byte : ℕ → Bool
@@ -31,7 +31,8 @@ is_line_byte b = (b == 9 || nat_le 32 b) && not (b == 127)
 
 -- what may stand behind the digits
 abbrev pub is_extension : List ℕ → Bool
-is_extension text = nat_le (length text) most_extension_bytes && list_all is_line_byte text && starts_well text
+is_extension text = nat_le (length text) most_extension_bytes && list_all is_line_byte text
+    && begins_with_extension text
 
 -- how many hexadecimal digits stand at the front
 abbrev pub hex_length : List ℕ → ℕ
@@ -52,17 +53,17 @@ abbrev pub ends_in_cr : List ℕ → Bool
 ends_in_cr line = slice_index line (length line - 1) == 13
 
 -- the bytes without the last
-abbrev pub but_last : List ℕ → List ℕ
-but_last line = take (length line - 1) line
+abbrev pub without_last_byte : List ℕ → List ℕ
+without_last_byte line = take (length line - 1) line
 
 -- the number, where it is at most most
-abbrev pub capped : ℕ → ℕ → Option ℕ
-capped most n = cond (nat_le n most) (Some n) None
+abbrev pub number_at_most : ℕ → ℕ → Option ℕ
+number_at_most most n = cond (nat_le n most) (Some n) None
 
 -- the size that a line without its LF spells, or its fault
 -- own: a size above left, what is left of max_body, is refused
-abbrev pub size_at : List ℕ → ℕ → Result ℕ FrameFault
-size_at line left =
-    cond (ends_in_cr line && is_size (but_last line))
-    (ok_or (capped left (size_of (but_last line))) fault.TooLarge)
+abbrev pub size_of_line : List ℕ → ℕ → Result ℕ FrameFault
+size_of_line line left =
+    cond (ends_in_cr line && is_size (without_last_byte line))
+    (ok_or (number_at_most left (size_of (without_last_byte line))) fault.TooLarge)
     (Err fault.Chunk)

@@ -6,21 +6,21 @@ use Rattle.httparse.specs.declared.spans.ResponseSpans.{ResponseSpans}
 use Rattle.hx_framing.specs.declared.heads.status_head.StatusHead.{StatusHead}
 use Rattle.hx_framing.specs.declared.heads.status_head.Judged.{Judged}
 use Rattle.hx_framing.specs.declared.heads.status_head.Judged.TheVariants as judged
-use Rattle.hx_framing.specs.declared.fault.FrameFault.{FrameFault}
-use Rattle.hx_framing.specs.declared.fault.FrameFault.TheVariants as fault
-use Rattle.hx_framing.specs.Places.{most_field_lines}
+use Rattle.hx_framing.specs.declared.frame_fault.FrameFault.{FrameFault}
+use Rattle.hx_framing.specs.declared.frame_fault.FrameFault.TheVariants as fault
+use Rattle.hx_framing.specs.HeadEnd.{most_field_lines}
 use Rattle.hx_framing.specs.Version.{start_line, begins_with_other_version}
-use Rattle.hx_framing.specs.Head.{field_of, field_at}
+use Rattle.hx_framing.specs.Head.{field_of_grammar, field_at_span}
 use Rattle.hx_framing.specs.Lengths.{is_interim}
 
 -- what a head of the grammar gives; its reason phrase is dropped
 abbrev pub status_head_of : ResponseHead → StatusHead
-status_head_of h = record { status = status_code h; minor = h.minor; fields = map field_of h.fields }
+status_head_of h = record { status = status_code h; minor = h.minor; fields = map field_of_grammar h.fields }
 
 -- the head that the spans cover
 abbrev pub status_head_at : List ℕ → List HeaderSpan → ResponseSpans → StatusHead
 status_head_at bytes spans r =
-    record { status = r.code; minor = r.version; fields = map (field_at bytes) (take r.headers spans) }
+    record { status = r.code; minor = r.version; fields = map (field_at_span bytes) (take r.headers spans) }
 
 -- just these bytes are the head h, with the empty lines in front
 abbrev pub IsStatusHead : List ℕ → ResponseHead → Type 0
@@ -33,12 +33,14 @@ abbrev pub status_head_fault : List ℕ → FrameFault
 status_head_fault bytes = if begins_with_other_version (start_line bytes) then fault.Version else fault.Head
 
 -- how the bytes of a whole head are judged
-abbrev pub Judges : List ℕ → Result StatusHead FrameFault → Type 0
-Judges bytes (Ok head) = (h : ResponseHead) × IsStatusHead bytes h × (head ≡ status_head_of h)
-Judges bytes (Err f) = ((h : ResponseHead) → ¬ (IsStatusHead bytes h)) × (f ≡ status_head_fault bytes)
+abbrev pub ResponseHeadIsJudged : List ℕ → Result StatusHead FrameFault → Type 0
+ResponseHeadIsJudged bytes (Ok head) = (h : ResponseHead) × IsStatusHead bytes h × (head ≡ status_head_of h)
+ResponseHeadIsJudged bytes (Err f) = ((h : ResponseHead) → ¬ (IsStatusHead bytes h)) × (f ≡ status_head_fault bytes)
 
 -- the same, where the head of an interim response is only told (RFC 9110, section 15.2)
-abbrev pub JudgesAs : List ℕ → Judged → Type 0
-JudgesAs bytes judged.Interim = (head : StatusHead) × Judges bytes (Ok head) × (is_interim head.status ≡ true)
-JudgesAs bytes (judged.Final head) = Judges bytes (Ok head) × (is_interim head.status ≡ false)
-JudgesAs bytes (judged.Faulty f) = Judges bytes (Err f)
+abbrev pub ResponseHeadIsJudgedAs : List ℕ → Judged → Type 0
+ResponseHeadIsJudgedAs bytes judged.Interim = (head : StatusHead) × ResponseHeadIsJudged bytes (Ok head) ×
+    (is_interim head.status ≡ true)
+ResponseHeadIsJudgedAs bytes (judged.Final head) = ResponseHeadIsJudged bytes (Ok head) ×
+    (is_interim head.status ≡ false)
+ResponseHeadIsJudgedAs bytes (judged.Faulty f) = ResponseHeadIsJudged bytes (Err f)

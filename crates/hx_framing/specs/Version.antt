@@ -3,7 +3,7 @@ use Rattle.std.specs.Prelude.{ℕ, ◌-◌, ◌&&◌, Bool, cond, not, List, ◌
 use Rattle.std.specs.Prelude.{slice_index}
 use Rattle.std.specs.List.{starts_with, before_first}
 use Rattle.std.specs.Char.{is_ascii_digit}
-use Rattle.hx_framing.specs.Places.{empty_lines_length}
+use Rattle.hx_framing.specs.HeadEnd.{empty_lines_length}
 
 -- the start line: what stands behind the empty lines in front, up to the first LF
 abbrev pub start_line : List ℕ → List ℕ

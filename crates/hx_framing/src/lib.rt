@@ -12,34 +12,34 @@
 //! | | and the one answer that is due behind them | |
 //! | `ResponseStream` | the same of a response, and the end behind it | 9112, 4, 6 and 9.3 |
 //! | `Progress` | a stream so far, what was given of it, and which answers out of memory may hide | |
-//! | `Reading`, `Body` | what may stand at the front of bytes, and behind a head | 9112, 8 |
+//! | `Reading`, `ContentFound` | what may stand at the front of bytes, and behind a head | 9112, 8 |
 //! | `RequestReading` | a head, what it says of its content, its content: | 9112, 2 and 6 |
 //! | | what stands at the front of requests | |
 //! | `ResponseReading` | the same of a response, behind the interim ones | 9112, 4 and 6; 9110, 15.2 |
-//! | `Places` | where a head ends, and its limits in bytes and lines | 9112, 2.2 |
+//! | `HeadEnd` | where a head ends, and its limits in bytes and lines | 9112, 2.2 |
 //! | `Head` | which bytes are a request's head, what it gives, its fault | 9112, 2 to 5 |
 //! | `StatusHead` | the same of a response's head | 9112, 2, 4 and 5 |
 //! | `Version` | which start lines name another version | 9112, 2.3 |
 //! | `Lengths` | how long the content is by the fields, each fault, the continue | 9112, 6; 9110, 10.1.1 |
 //! | `ContentLength` | which length Content-Length lines tell | 9110, 8.6; 9112, 6.3 |
-//! | `Contents` | the content by its framing (`body_at`) | 9112, 6 |
+//! | `Contents` | the content by its framing (`content_at`) | 9112, 6 |
 //! | `Chunks`, `Chunking` | content in chunks, a byte at a time, each fault at its byte | 9112, 7.1 |
 //! | `SizeLine` | which lines are sizes of chunks, and their limits | 9112, 7.1 and 7.1.1 |
 //! | `Fault` | the faults' numbers | |
 //! | `RequestState`, `ResponseState` | what `kept` and `weight` count, | |
-//! | | and what is unfinished (`IsUnfinished`), by `IsOpen` of `Contents` and `IsOpenLine` of `ChunkTokens` | |
+//! | | and what is unfinished (`IsUnfinished`), by `IsOpen` of `Contents` and `IsUnfinishedLine` of `ChunkTokens` | |
 //! | `Text` | the bytes of messages that are sent | 9112, 3 to 7 |
 //!
 //! The laws' own words are in `ChunkGrammar` (chunks as trees), `ChunkFaults`, `HeadLines`,
 //! `GivenFields`, `FaultOrder`, `Written`, `WrittenResponse`, `Examples`, `LengthExamples` and
 //! `ReadingExamples`. The rest serves the proofs alone and needs no trust: `RequestHeadProgress`,
-//! `ResponseHeadProgress`, `ContentReading`, `Decoding`, `PlainContent`, `Queue`, `Searching`, what
+//! `ResponseHeadProgress`, `ContentReading`, `Decoding`, `PlainContent`, `ByteQueue`, `Searching`, what
 //! else is in `ChunkTokens`; and so does `RepresentsStream`, which may be any relation that holds of a new
 //! reader and that each call keeps.
 #![tactic(auto)]
 
 mod contents;
-mod fault;
+mod frame_fault;
 mod heads;
 pub mod laws;
 mod lengths;
@@ -49,7 +49,7 @@ mod readers;
 mod slices;
 mod writing;
 
-pub use crate::fault::FrameFault;
+pub use crate::frame_fault::FrameFault;
 pub use crate::messages::{Next, Request, Response};
 pub use crate::readers::request_reader::RequestReader;
 pub use crate::readers::response_reader::ResponseReader;

@@ -1,5 +1,5 @@
 //! The limits of what is read, and what past each is answered. The definitions have the same in
-//! `specs/Places.antt`, `specs/SizeLine.antt`, `specs/Chunks.antt` and `specs/Lengths.antt`. How
+//! `specs/HeadEnd.antt`, `specs/SizeLine.antt`, `specs/Chunks.antt` and `specs/Lengths.antt`. How
 //! long a content may be is the reader's caller to say.
 
 /// Bytes of a head, with the empty lines in front of it. Each interim head has as many. A longer head is refused as

@@ -1,6 +1,6 @@
 //! Messages as they are read, and what is due on a stream of them.
 
-use crate::fault::FrameFault;
+use crate::frame_fault::FrameFault;
 use http::Method;
 use hx_fields::{Bytes, Fields};
 

@@ -13,7 +13,7 @@ pub(crate) fn rest_from(bytes: &[u8], at: usize) -> &[u8]
 }
 
 /// The first bytes, at most so many.
-pub(crate) fn first(bytes: &[u8], limit: usize) -> &[u8]
+pub(crate) fn first_bytes(bytes: &[u8], limit: usize) -> &[u8]
     ensures value { result.now ≡ take limit bytes.now }
     ensures len { length result.now ≤ length bytes.now }
 {
@@ -25,7 +25,7 @@ pub(crate) fn first(bytes: &[u8], limit: usize) -> &[u8]
 }
 
 /// Where a byte stands first, or the length.
-fn place_of(text: &[u8], byte: u8) -> usize
+fn index_of_byte(text: &[u8], byte: u8) -> usize
     ensures place { result ≡ position_or_len (λ b. b == byte) text.now }
     ensures within { result ≤ length text.now }
 {
@@ -39,5 +39,5 @@ fn place_of(text: &[u8], byte: u8) -> usize
 pub(crate) fn before_byte(text: &[u8], byte: u8) -> &[u8]
     ensures { result.now ≡ before_first (λ b. b == byte) text.now }
 {
-    first(text, place_of(text, byte))
+    first_bytes(text, index_of_byte(text, byte))
 }

@@ -1,7 +1,8 @@
 //! Messages as they are sent. Their bytes are in `specs/Text.antt` (RFC 9112, sections 3 to 7).
 ghost use Rattle.std.specs.Prelude.{◌≡◌, ◌++◌, map, Option, OnOk, IfOk};
-ghost use Rattle.hx_framing.specs.Text.{field_line, field_lines, line_of, length_line, close_line, request_line};
-ghost use Rattle.hx_framing.specs.Text.{status_line, request_text, response_text};
+ghost use Rattle.hx_framing.specs.Text.{field_line_text, field_lines_text, field_of_added_line, content_length_line};
+ghost use Rattle.hx_framing.specs.Text.{connection_close_line, request_line_text};
+ghost use Rattle.hx_framing.specs.Text.{status_line_text, request_text, response_text};
 
 use crate::messages::Request;
 use hx_fields::{Bytes, Field, Fields};
@@ -28,7 +29,7 @@ pub struct ResponseLines<'a> {
 
 fn write_line(text: &mut Vec<u8>, name: &[u8], value: &[u8]) -> Result<(), AllocError>
     ensures { OnOk result (text.new.items
-        ≡ text.old.items ++ field_line (record { name = name.now; value = value.now })) }
+        ≡ text.old.items ++ field_line_text (record { name = name.now; value = value.now })) }
 {
     text.extend_from_slice(name)?;
     text.extend_from_slice(b": ")?;
@@ -38,7 +39,7 @@ fn write_line(text: &mut Vec<u8>, name: &[u8], value: &[u8]) -> Result<(), Alloc
 }
 
 fn write_lines(text: &mut Vec<u8>, lines: &[Field]) -> Result<(), AllocError>
-    ensures { OnOk result (text.new.items ≡ text.old.items ++ field_lines lines.now) }
+    ensures { OnOk result (text.new.items ≡ text.old.items ++ field_lines_text lines.now) }
 {
     for line in lines {
         write_line(text, line.name.as_slice(), line.value.as_slice())?;
@@ -47,7 +48,7 @@ fn write_lines(text: &mut Vec<u8>, lines: &[Field]) -> Result<(), AllocError>
 }
 
 fn write_added(text: &mut Vec<u8>, lines: &[AddedLine<'_>]) -> Result<(), AllocError>
-    ensures { OnOk result (text.new.items ≡ text.old.items ++ field_lines (map line_of lines.now)) }
+    ensures { OnOk result (text.new.items ≡ text.old.items ++ field_lines_text (map field_of_added_line lines.now)) }
 {
     for line in lines {
         write_line(text, line.name, line.value)?;
@@ -56,7 +57,7 @@ fn write_added(text: &mut Vec<u8>, lines: &[AddedLine<'_>]) -> Result<(), AllocE
 }
 
 fn write_length(text: &mut Vec<u8>, length: Option<u64>) -> Result<(), AllocError>
-    ensures { OnOk result (text.new.items ≡ text.old.items ++ length_line length) }
+    ensures { OnOk result (text.new.items ≡ text.old.items ++ content_length_line length) }
 {
     if let Some(n) = length {
         let mut digits = Buffer::new();
@@ -68,7 +69,7 @@ fn write_length(text: &mut Vec<u8>, length: Option<u64>) -> Result<(), AllocErro
 }
 
 fn write_close(text: &mut Vec<u8>, close: bool) -> Result<(), AllocError>
-    ensures { OnOk result (text.new.items ≡ text.old.items ++ close_line close) }
+    ensures { OnOk result (text.new.items ≡ text.old.items ++ connection_close_line close) }
 {
     if close {
         text.extend_from_slice(b"Connection: close\r\n")?;
@@ -77,7 +78,7 @@ fn write_close(text: &mut Vec<u8>, close: bool) -> Result<(), AllocError>
 }
 
 fn write_request_line(text: &mut Vec<u8>, request: &Request) -> Result<(), AllocError>
-    ensures { OnOk result (text.new.items ≡ text.old.items ++ request_line request.now) }
+    ensures { OnOk result (text.new.items ≡ text.old.items ++ request_line_text request.now) }
 {
     text.extend_from_slice(request.method.as_str().as_bytes())?;
     text.extend_from_slice(b" ")?;
@@ -87,7 +88,7 @@ fn write_request_line(text: &mut Vec<u8>, request: &Request) -> Result<(), Alloc
 }
 
 fn write_status_line(text: &mut Vec<u8>, status: u16) -> Result<(), AllocError>
-    ensures { OnOk result (text.new.items ≡ text.old.items ++ status_line status) }
+    ensures { OnOk result (text.new.items ≡ text.old.items ++ status_line_text status) }
 {
     let mut digits = Buffer::new();
     text.extend_from_slice(b"HTTP/1.1 ")?;
@@ -106,7 +107,10 @@ pub fn write_request(alloc: Global, request: &Request) -> Result<Bytes, AllocErr
         None => None,
     };
     let length = content.map(|content| content.len());
-    let mut text = Vec::with_capacity(alloc, room_for(&request.fields, length.unwrap_or(0)))?;
+    let mut text = Vec::with_capacity(
+        alloc,
+        length_bound_of_message(&request.fields, length.unwrap_or(0)),
+    )?;
     write_request_line(&mut text, request)?;
     write_lines(&mut text, request.fields.as_slice())?;
     write_length(&mut text, content.map(|content| content.len() as u64))?;
@@ -120,7 +124,7 @@ pub fn write_request(alloc: Global, request: &Request) -> Result<Bytes, AllocErr
 
 /// How many bytes these lines and a content take, with some more for a status line and a length:
 /// room for a message, so that its memory is asked for once. No clause speaks of it.
-fn room_for(fields: &Fields, content: usize) -> usize {
+fn length_bound_of_message(fields: &Fields, content: usize) -> usize {
     let mut room = content.saturating_add(256);
     for line in fields.as_slice() {
         room = room
@@ -162,9 +166,9 @@ pub fn write_response_with(
 ) -> Result<Bytes, AllocError>
     ensures { IfOk result (λ text. text
         ≡ response_text status (lines.now.fields.now
-        ++ map line_of lines.now.added.now) lines.now.length lines.now.close content.now) }
+        ++ map field_of_added_line lines.now.added.now) lines.now.length lines.now.close content.now) }
 {
-    let mut text = Vec::with_capacity(alloc, room_for(lines.fields, content.len()))?;
+    let mut text = Vec::with_capacity(alloc, length_bound_of_message(lines.fields, content.len()))?;
     write_status_line(&mut text, status)?;
     write_lines(&mut text, lines.fields.as_slice())?;
     write_added(&mut text, lines.added)?;

@@ -4,15 +4,15 @@ use Rattle.std.specs.Prelude.{is_some}
 use Rattle.std.proofs.lemmas.List.Elements.{filter-append}
 use Rattle.hx_fields.specs.declared.limits.TheConstants.{END_OF_TIME}
 use Rattle.hx_fields.specs.declared.field_line.Field.{Field}
-use Rattle.hx_fields.specs.Lines.{is_named, values_of, without_named}
+use Rattle.hx_fields.specs.FieldLines.{is_named, values_of, without_named}
 use Rattle.hx_hop.specs.Answering.{dated_of, has_one_date, is_one_date}
 use Rattle.hx_hop.specs.Forwarding.{line}
-use Rattle.hx_hop.specs.Meaning.{HasOneDate, DatesOnce, ShowsTheMoment}
+use Rattle.hx_hop.specs.PassedOnFields.{DatedHasOneDate, DatingTwiceIsOnce, DateShowsTheMoment}
 use Rattle.hx_hop.specs.Moments.{date_text_of}
 use Rattle.hx_hop.proofs.Lines.{filter_none, not_true}
 use Rattle.hx_hop.proofs.Moments.{parse_secs-date_text_of}
 
-pub shows_the_moment : ShowsTheMoment
+pub shows_the_moment : DateShowsTheMoment
 shows_the_moment now early = parse_secs-date_text_of now early
 
 -- the one Date that is added is the only one
@@ -30,10 +30,10 @@ by_date : (fields : List Field) (now : ℕ) → now < END_OF_TIME → (t : Bool)
 by_date fields now early true e = e
 by_date fields now early false e = replaced fields now early
 
-pub has_one : HasOneDate
+pub has_one : DatedHasOneDate
 has_one fields now early = by_date fields now early (has_one_date fields) refl
 
-pub dates_once : DatesOnce
+pub dates_once : DatingTwiceIsOnce
 dates_once fields now later early =
     ap (λ t. cond t (dated_of fields now) (without_named (dated_of fields now) (codes "Date") ++ line (codes "Date") (date_text_of later) ∷ []))
     (has_one fields now early)

@@ -2,10 +2,10 @@
 use Rattle.std.proofs.Common.{◌≡◌, Bool, true, false, not, ◌||◌, List, [], ◌∷◌, cond, refl, ap, sym, ◌∙◌, codes}
 use Rattle.std.specs.Prelude.{filter, ◌&&◌}
 use Rattle.hx_fields.specs.declared.field_line.Field.{Field}
-use Rattle.hx_fields.specs.Lines.{is_named, members_of}
+use Rattle.hx_fields.specs.FieldLines.{is_named, members_of}
 use Rattle.hx_hop.specs.Stripping.{connection_names, is_hop_line, is_hop_name}
-use Rattle.hx_hop.specs.Asking.{kept_fields}
-use Rattle.hx_hop.specs.Kept.{is_kept}
+use Rattle.hx_hop.specs.Asking.{fields_that_go_on_of}
+use Rattle.hx_hop.specs.LinesThatGoOn.{line_goes_on}
 
 module _ {X : Type 0} (p q : X → Bool) where
   both_at : (t u : Bool) (x : X) (rest more : List X) → q x ≡ u → filter q rest ≡ more
@@ -37,7 +37,7 @@ order false false true false = refl
 order false false false true = refl
 order false false false false = refl
 
-pub kept_at_once : (fields : List Field) → filter (is_kept (members_of fields (codes "Connection"))) fields ≡ kept_fields fields
+pub kept_at_once : (fields : List Field) → filter (line_goes_on (members_of fields (codes "Connection"))) fields ≡ fields_that_go_on_of fields
 kept_at_once fields =
     let goes : Field → Bool = λ line. not (is_hop_line fields line) in
     let host : Field → Bool = λ line. not (is_named (codes "Host") line) in

@@ -5,7 +5,7 @@ use Rattle.std.specs.List.{list_any}
 use Rattle.std.specs.Str.{str_to_ascii_lowercase}
 use Rattle.std.proofs.lemmas.Slice.Eq.{bytes_eq-Decides}
 use Rattle.hx_fields.specs.Names.{is_same_name}
-use Rattle.hx_hop.specs.Stripping.{is_among}
+use Rattle.hx_hop.specs.Stripping.{name_is_among}
 
 module _ {X : Type 0} (p q : X → Bool) where
   again_at : (t : Bool) (x : X) (rest : List X) → (t ≡ true → q x ≡ true) → filter q rest ≡ rest → filter q (cond t (x ∷ rest) rest) ≡ cond t (x ∷ rest) rest
@@ -77,5 +77,5 @@ pub same_lower : (a b : List ℕ) → is_same_name a b ≡ true → str_to_ascii
 same_lower a b h = (bytes_eq-Decides _ _).0 h
 
 -- and among the same names
-pub is_among-same : (names : List (List ℕ)) (a b : List ℕ) → is_same_name a b ≡ true → is_among names a ≡ is_among names b
+pub is_among-same : (names : List (List ℕ)) (a b : List ℕ) → is_same_name a b ≡ true → name_is_among names a ≡ name_is_among names b
 is_among-same names a b h = ap (λ low. list_any (λ n. bytes_eq (str_to_ascii_lowercase n) low) names) (same_lower a b h)

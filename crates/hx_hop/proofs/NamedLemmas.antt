@@ -7,11 +7,11 @@ use Rattle.std.proofs.lemmas.Bool.{false≢true, or_left, or_right}
 use Rattle.std.proofs.lemmas.List.Folds.{list_any-append}
 use Rattle.std.proofs.lemmas.Slice.Eq.{bytes_eq-Decides}
 use Rattle.hx_fields.specs.Folded.{folded, folded_cmp, folded_ties}
-use Rattle.hx_fields.specs.Lines.{members_of}
+use Rattle.hx_fields.specs.FieldLines.{members_of}
 use Rattle.hx_fields.specs.Names.{is_same_name}
 use Rattle.hx_fields.specs.declared.field_line.Field.{Field}
-use Rattle.hx_hop.specs.Stripping.{cache_names, connection_names, is_among, is_hop_line, is_hop_name, lists_cache_field, stripped}
-use Rattle.hx_hop.specs.NamedLines.{AreLineNames, AreMarkedBy, gives, is_marked, is_unmarked, marked_too, marks_of_members, is_present}
+use Rattle.hx_hop.specs.Stripping.{cache_names, connection_names, name_is_among, is_hop_line, is_hop_name, lists_cache_field, stripped}
+use Rattle.hx_hop.specs.NamedLines.{AreUnmarkedLineNames, NamesAreMarkedBy, gives_name, is_present_and_marked, is_present_and_unmarked, mark_after_naming, names_in_connection, name_is_present}
 
 abbrev pub Marked : Type 0
 Marked = BTreeMap (List ℕ) Bool
@@ -36,10 +36,10 @@ either_of : {X : Type 0} (p q : X → Bool) (xs : List X) → list_any (λ x. p 
 either_of p q [] = refl
 either_of p q (x ∷ xs) = ap (λ b. (p x || q x) || b) (either_of p q xs) ∙ either_way (p x) (q x) (list_any p xs) (list_any q xs)
 
-swapped : (names members : List (List ℕ)) → list_any (λ name. is_among members name) names ≡ list_any (λ member. list_any (is_same_name member) names) members
+swapped : (names members : List (List ℕ)) → list_any (λ name. name_is_among members name) names ≡ list_any (λ member. list_any (is_same_name member) names) members
 swapped names [] = none_of_all names
 swapped names (member ∷ members) =
-    either_of (is_same_name member) (λ name. is_among members name) names ∙ ap (λ b. list_any (is_same_name member) names || b) (swapped names members)
+    either_of (is_same_name member) (λ name. name_is_among members name) names ∙ ap (λ b. list_any (is_same_name member) names || b) (swapped names members)
 
 pub lists_by_members : (fields : List Field) → any_is_cache_name (members_of fields (codes "Connection")) ≡ lists_cache_field fields
 lists_by_members fields = sym (swapped cache_names (members_of fields (codes "Connection")))
@@ -62,60 +62,60 @@ by_put false false g h = h
 
 pub one_name_more : (done : List Field) (line : Field) (old new : Marked) →
     ((q : List ℕ) → get folded_cmp new q ≡ cond (is_at (folded_cmp (folded line.name)) q) (Some false) (get folded_cmp old q)) →
-    AreLineNames done old → AreLineNames (done ++ line ∷ []) new
+    AreUnmarkedLineNames done old → AreUnmarkedLineNames (done ++ line ∷ []) new
 one_name_more done line old new u h q =
     at_name (folded line.name) false old new u q
-    ∙ by_put (is_present done q) (bytes_eq (folded line.name) q) (get folded_cmp old q) (h q)
+    ∙ by_put (name_is_present done q) (bytes_eq (folded line.name) q) (get folded_cmp old q) (h q)
     ∙ sym (ap (λ b. cond b (Some false) None) (list_any-append (λ (l : Field). bytes_eq (folded l.name) q) done (line ∷ [])))
 
 -- ---- marks
 
 -- what members that are left mark of what there is, is what all mark of what there was
 abbrev pub MarksOn : (List ℕ → Bool) → Marked → (List ℕ → Bool) → Marked → Type 0
-MarksOn left now all start = (q : List ℕ) → marked_too (left q) (get folded_cmp now q) ≡ marked_too (all q) (get folded_cmp start q)
+MarksOn left now all start = (q : List ℕ) → mark_after_naming (left q) (get folded_cmp now q) ≡ mark_after_naming (all q) (get folded_cmp start q)
 
-marks_once : (n b : Bool) (g : Option Bool) → (n ≡ true → g ≡ Some false) → marked_too b (cond n (Some true) g) ≡ marked_too (n || b) g
-marks_once true b g h = sym (ap (marked_too true) (h refl))
+marks_once : (n b : Bool) (g : Option Bool) → (n ≡ true → g ≡ Some false) → mark_after_naming b (cond n (Some true) g) ≡ mark_after_naming (n || b) g
+marks_once true b g h = sym (ap (mark_after_naming true) (h refl))
 marks_once false b g h = refl
 
-marks_none : (n b : Bool) (g : Option Bool) → (n ≡ true → is_unmarked g ≡ false) → marked_too b g ≡ marked_too (n || b) g
+marks_none : (n b : Bool) (g : Option Bool) → (n ≡ true → is_present_and_unmarked g ≡ false) → mark_after_naming b g ≡ mark_after_naming (n || b) g
 marks_none true b None h = refl
 marks_none true b (Some true) h = refl
 marks_none true b (Some false) h = absurd (false≢true (sym (h refl)))
 marks_none false b g h = refl
 
-unmarked_is : (g : Option Bool) → is_unmarked g ≡ true → g ≡ Some false
+unmarked_is : (g : Option Bool) → is_present_and_unmarked g ≡ true → g ≡ Some false
 unmarked_is None h = absurd (false≢true h)
 unmarked_is (Some true) h = absurd (false≢true h)
 unmarked_is (Some false) h = refl
 
 -- a member marks the name that it is
-pub member_marks : (member : List ℕ) (behind : List (List ℕ)) (all : List ℕ → Bool) (start old new : Marked) → is_unmarked (get folded_cmp old (folded member)) ≡ true →
+pub member_marks : (member : List ℕ) (behind : List (List ℕ)) (all : List ℕ → Bool) (start old new : Marked) → is_present_and_unmarked (get folded_cmp old (folded member)) ≡ true →
     ((q : List ℕ) → get folded_cmp new q ≡ cond (is_at (folded_cmp (folded member)) q) (Some true) (get folded_cmp old q)) →
-    MarksOn (gives (member ∷ behind)) old all start → MarksOn (gives behind) new all start
+    MarksOn (gives_name (member ∷ behind)) old all start → MarksOn (gives_name behind) new all start
 member_marks member behind all start old new un u h q =
-    ap (marked_too (gives behind q)) (at_name (folded member) true old new u q)
-    ∙ marks_once (bytes_eq (folded member) q) (gives behind q) (get folded_cmp old q)
+    ap (mark_after_naming (gives_name behind q)) (at_name (folded member) true old new u q)
+    ∙ marks_once (bytes_eq (folded member) q) (gives_name behind q) (get folded_cmp old q)
     (λ n. ap (get folded_cmp old) (sym (one (folded member) q n)) ∙ unmarked_is (get folded_cmp old (folded member)) un)
     ∙ h q
 
 -- one that is no line's name, or was marked, changes nothing
-pub member_passes : (member : List ℕ) (behind : List (List ℕ)) (all : List ℕ → Bool) (start old : Marked) → is_unmarked (get folded_cmp old (folded member)) ≡ false →
-    MarksOn (gives (member ∷ behind)) old all start → MarksOn (gives behind) old all start
+pub member_passes : (member : List ℕ) (behind : List (List ℕ)) (all : List ℕ → Bool) (start old : Marked) → is_present_and_unmarked (get folded_cmp old (folded member)) ≡ false →
+    MarksOn (gives_name (member ∷ behind)) old all start → MarksOn (gives_name behind) old all start
 member_passes member behind all start old un h q =
-    marks_none (bytes_eq (folded member) q) (gives behind q) (get folded_cmp old q)
-    (λ n. ap (λ z. is_unmarked (get folded_cmp old z)) (sym (one (folded member) q n)) ∙ un)
+    marks_none (bytes_eq (folded member) q) (gives_name behind q) (get folded_cmp old q)
+    (λ n. ap (λ z. is_present_and_unmarked (get folded_cmp old z)) (sym (one (folded member) q n)) ∙ un)
     ∙ h q
 
-nothing_marks : (g : Option Bool) → marked_too false g ≡ g
+nothing_marks : (g : Option Bool) → mark_after_naming false g ≡ g
 nothing_marks None = refl
 nothing_marks (Some true) = refl
 nothing_marks (Some false) = refl
 
-pub all_marked : (all : List ℕ → Bool) (start now : Marked) → MarksOn (gives []) now all start → AreMarkedBy all start now
+pub all_marked : (all : List ℕ → Bool) (start now : Marked) → MarksOn (gives_name []) now all start → NamesAreMarkedBy all start now
 all_marked all start now h q = sym (nothing_marks (get folded_cmp now q)) ∙ h q
 
-twice : (a b : Bool) (g : Option Bool) → marked_too b (marked_too a g) ≡ marked_too (a || b) g
+twice : (a b : Bool) (g : Option Bool) → mark_after_naming b (mark_after_naming a g) ≡ mark_after_naming (a || b) g
 twice a b None = refl
 twice true b (Some true) = refl
 twice true b (Some false) = refl
@@ -123,33 +123,33 @@ twice false b (Some true) = refl
 twice false b (Some false) = refl
 
 -- the members of a line mark before those behind it
-pub line_marks : (members behind : List (List ℕ)) (all : List ℕ → Bool) (start old new : Marked) → AreMarkedBy (gives members) old new →
-    MarksOn (gives (members ++ behind)) old all start → MarksOn (gives behind) new all start
+pub line_marks : (members behind : List (List ℕ)) (all : List ℕ → Bool) (start old new : Marked) → NamesAreMarkedBy (gives_name members) old new →
+    MarksOn (gives_name (members ++ behind)) old all start → MarksOn (gives_name behind) new all start
 line_marks members behind all start old new m h q =
-    ap (marked_too (gives behind q)) (m q)
-    ∙ twice (gives members q) (gives behind q) (get folded_cmp old q)
-    ∙ ap (λ b. marked_too b (get folded_cmp old q)) (sym (list_any-append (λ (n : List ℕ). bytes_eq (folded n) q) members behind))
+    ap (mark_after_naming (gives_name behind q)) (m q)
+    ∙ twice (gives_name members q) (gives_name behind q) (get folded_cmp old q)
+    ∙ ap (λ b. mark_after_naming b (get folded_cmp old q)) (sym (list_any-append (λ (n : List ℕ). bytes_eq (folded n) q) members behind))
     ∙ h q
 
 -- ---- what is kept
 
-marked_line : (there given : Bool) → there ≡ true → is_marked (marked_too given (cond there (Some false) None)) ≡ given
+marked_line : (there given : Bool) → there ≡ true → is_present_and_marked (mark_after_naming given (cond there (Some false) None)) ≡ given
 marked_line true given h = refl
 marked_line false given h = absurd (false≢true h)
 
-kept_alike : (all rest : List Field) (names : Marked) → ((q : List ℕ) → get folded_cmp names q ≡ marked_too (marks_of_members all q) (cond (is_present all q) (Some false) None)) →
-    ((q : List ℕ) → is_present rest q ≡ true → is_present all q ≡ true) →
-    filter (λ (line : Field). not (is_hop_name line.name || is_marked (get folded_cmp names (folded line.name)))) rest ≡ filter (λ line. not (is_hop_line all line)) rest
+kept_alike : (all rest : List Field) (names : Marked) → ((q : List ℕ) → get folded_cmp names q ≡ mark_after_naming (names_in_connection all q) (cond (name_is_present all q) (Some false) None)) →
+    ((q : List ℕ) → name_is_present rest q ≡ true → name_is_present all q ≡ true) →
+    filter (λ (line : Field). not (is_hop_name line.name || is_present_and_marked (get folded_cmp names (folded line.name)))) rest ≡ filter (λ line. not (is_hop_line all line)) rest
 kept_alike all [] names h within = refl
 kept_alike all (line ∷ lines) names h within =
     let q = folded line.name in
-    let p : Field → Bool = λ l. not (is_hop_name l.name || is_marked (get folded_cmp names (folded l.name))) in
-    let more = kept_alike all lines names h (λ z e. within z (or_right (bytes_eq (folded line.name) z) (is_present lines z) e)) in
-    let there = within q (or_left (bytes_eq q q) (is_present lines q) ((bytes_eq-Decides q q).1 refl)) in
-    let same : is_marked (get folded_cmp names q) ≡ connection_names all line.name = ap is_marked (h q) ∙ marked_line (is_present all q) (marks_of_members all q) there in
+    let p : Field → Bool = λ l. not (is_hop_name l.name || is_present_and_marked (get folded_cmp names (folded l.name))) in
+    let more = kept_alike all lines names h (λ z e. within z (or_right (bytes_eq (folded line.name) z) (name_is_present lines z) e)) in
+    let there = within q (or_left (bytes_eq q q) (name_is_present lines q) ((bytes_eq-Decides q q).1 refl)) in
+    let same : is_present_and_marked (get folded_cmp names q) ≡ connection_names all line.name = ap is_present_and_marked (h q) ∙ marked_line (name_is_present all q) (names_in_connection all q) there in
     ap (λ b. cond (not (is_hop_name line.name || b)) (line ∷ filter p lines) (filter p lines)) same
     ∙ ap (λ zs. cond (not (is_hop_line all line)) (line ∷ zs) zs) more
 
-pub keeps_stripped : (fields : List Field) (start names : Marked) → AreLineNames fields start → AreMarkedBy (marks_of_members fields) start names →
-    filter (λ (line : Field). not (is_hop_name line.name || is_marked (get folded_cmp names (folded line.name)))) fields ≡ stripped fields
-keeps_stripped fields start names l m = kept_alike fields fields names (λ q. m q ∙ ap (marked_too (marks_of_members fields q)) (l q)) (λ q e. e)
+pub keeps_stripped : (fields : List Field) (start names : Marked) → AreUnmarkedLineNames fields start → NamesAreMarkedBy (names_in_connection fields) start names →
+    filter (λ (line : Field). not (is_hop_name line.name || is_present_and_marked (get folded_cmp names (folded line.name)))) fields ≡ stripped fields
+keeps_stripped fields start names l m = kept_alike fields fields names (λ q. m q ∙ ap (mark_after_naming (names_in_connection fields q)) (l q)) (λ q e. e)

@@ -4,12 +4,12 @@ use Rattle.std.specs.Prelude.{Option, Some, None, is_some}
 use Rattle.std.specs.List.{list_any}
 use Rattle.std.proofs.lemmas.List.Folds.{list_any-append}
 use Rattle.hx_fields.specs.declared.field_line.Field.{Field}
-use Rattle.hx_fields.specs.Lines.{is_named, without_named}
+use Rattle.hx_fields.specs.FieldLines.{is_named, without_named}
 use Rattle.hx_fields.specs.Names.{is_same_name}
-use Rattle.hx_hop.specs.declared.validators.Conditions.{Conditions}
-use Rattle.hx_hop.specs.Asking.{kept_fields}
-use Rattle.hx_hop.specs.Forwarding.{client_lines, condition_lines, forwarded_of, host_text, is_condition, line, opt_line, via_text}
-use Rattle.hx_hop.specs.Meaning.{ClosesWhereAsked, KeepsTheStatus, LeavesOutTheDefaultPort, SendsNoExpect, SendsNoHopField, SendsNoLength, SendsWhatWasAsked, StaysOpen, ShowsTheVersion, WritesOtherPorts}
+use Rattle.hx_hop.specs.declared.conditions.Conditions.{Conditions}
+use Rattle.hx_hop.specs.Asking.{fields_that_go_on_of}
+use Rattle.hx_hop.specs.Forwarding.{client_lines, condition_lines, forwarded_of, host_text, is_condition, line, line_if_present, via_text}
+use Rattle.hx_hop.specs.PassedOnFields.{ConnectionClosesWhereAsked, StatusIsKept, DefaultPortIsLeftOut, NoExpectIsForwarded, NoHopFieldIsForwarded, NoLengthFieldIsForwarded, WhatWasAskedIsForwarded, ConnectionStaysOpen, ViaShowsTheVersion, OtherPortsAreWritten}
 use Rattle.hx_hop.specs.Stripping.{connection_names, hop_names, is_hop_line, is_hop_name, stripped}
 use Rattle.hx_hop.proofs.Lines.{is_among-same, list_any_fewer, list_any_none_left, not_true}
 use Rattle.hx_hop.proofs.Stripped.{takes_out_theirs}
@@ -30,15 +30,15 @@ listed_last true b h = refl
 listed_last false b h = h
 
 module _ (q : Field → Bool) where
-  client_none : (conditional : Bool) (fields : List Field) → list_any q (kept_fields fields) ≡ false → list_any q (client_lines conditional (kept_fields fields)) ≡ false
-  client_none conditional fields h = list_any_fewer (λ f. not (conditional && is_condition f)) q (kept_fields fields) h
+  client_none : (conditional : Bool) (fields : List Field) → list_any q (fields_that_go_on_of fields) ≡ false → list_any q (client_lines conditional (fields_that_go_on_of fields)) ≡ false
+  client_none conditional fields h = list_any_fewer (λ f. not (conditional && is_condition f)) q (fields_that_go_on_of fields) h
 
-  kept_none : (fields : List Field) → list_any q (stripped fields) ≡ false → list_any q (kept_fields fields) ≡ false
+  kept_none : (fields : List Field) → list_any q (stripped fields) ≡ false → list_any q (fields_that_go_on_of fields) ≡ false
   kept_none fields h =
       list_any_fewer (λ f. not (is_named (codes "Expect") f)) q (without_named (stripped fields) (codes "Host"))
       (list_any_fewer (λ f. not (is_named (codes "Host") f)) q (stripped fields) h)
 
-  one_none : (name : List ℕ) (value : Option (List ℕ)) → ((v : List ℕ) → q (line name v) ≡ false) → list_any q (opt_line name value) ≡ false
+  one_none : (name : List ℕ) (value : Option (List ℕ)) → ((v : List ℕ) → q (line name v) ≡ false) → list_any q (line_if_present name value) ≡ false
   one_none name None h = refl
   one_none name (Some v) h = rw (h v) refl
 
@@ -46,55 +46,55 @@ module _ (q : Field → Bool) where
       → ((v : List ℕ) → q (line (codes "If-Modified-Since") v) ≡ false) → list_any q (condition_lines conditions) ≡ false
   conditions_none None tag date = refl
   conditions_none (Some c) tag date =
-      rw (list_any-append q (opt_line (codes "If-None-Match") c.etag) (opt_line (codes "If-Modified-Since") c.modified), one_none (codes "If-None-Match") c.etag tag, one_none (codes "If-Modified-Since") c.modified date) refl
+      rw (list_any-append q (line_if_present (codes "If-None-Match") c.etag) (line_if_present (codes "If-Modified-Since") c.modified), one_none (codes "If-None-Match") c.etag tag, one_none (codes "If-Modified-Since") c.modified date) refl
 
   -- none of the four parts has it
   sends_none : (host via : Field) (client conditions : List Field) → q host ≡ false → list_any q client ≡ false → list_any q conditions ≡ false → q via ≡ false
       → list_any q (host ∷ (client ++ conditions ++ via ∷ [])) ≡ false
   sends_none host via client conditions h c d v = rw (h, list_any-append q (client ++ conditions) (via ∷ []), list_any-append q client conditions, c, d, v) refl
 
-pub sends_no_hop_field : SendsNoHopField
+pub sends_no_hop_field : NoHopFieldIsForwarded
 sends_no_hop_field request target name conditions field hop =
     let q = is_named field in
     let out = takes_out_theirs request.fields field (listed (is_hop_name field) (connection_names request.fields field) hop) in
-    sends_none q (line (codes "Host") (host_text target.key)) (line (codes "Via") (via_text request.minor name)) (client_lines (is_some conditions) (kept_fields request.fields)) (condition_lines conditions)
+    sends_none q (line (codes "Host") (host_text target.key)) (line (codes "Via") (via_text request.minor name)) (client_lines (is_some conditions) (fields_that_go_on_of request.fields)) (condition_lines conditions)
     (own_name (codes "Host") field refl hop) (client_none q (is_some conditions) request.fields (kept_none q request.fields out))
     (conditions_none q conditions (λ v. own_name (codes "If-None-Match") field refl hop) (λ v. own_name (codes "If-Modified-Since") field refl hop))
     (own_name (codes "Via") field refl hop)
 
-pub sends_no_expect : SendsNoExpect
+pub sends_no_expect : NoExpectIsForwarded
 sends_no_expect request target name conditions =
     let q = is_named (codes "Expect") in
     let out = list_any_none_left (λ f. not (q f)) q (λ f e. not_true _ e) (without_named (stripped request.fields) (codes "Host")) in
-    sends_none q (line (codes "Host") (host_text target.key)) (line (codes "Via") (via_text request.minor name)) (client_lines (is_some conditions) (kept_fields request.fields)) (condition_lines conditions)
+    sends_none q (line (codes "Host") (host_text target.key)) (line (codes "Via") (via_text request.minor name)) (client_lines (is_some conditions) (fields_that_go_on_of request.fields)) (condition_lines conditions)
     refl (client_none q (is_some conditions) request.fields out) (conditions_none q conditions (λ v. refl) (λ v. refl)) refl
 
-pub sends_no_length : SendsNoLength
+pub sends_no_length : NoLengthFieldIsForwarded
 sends_no_length request target name conditions none =
     let q = is_named (codes "Content-Length") in
     let out = list_any_fewer (λ f. not (is_hop_line request.fields f)) q request.fields none in
-    sends_none q (line (codes "Host") (host_text target.key)) (line (codes "Via") (via_text request.minor name)) (client_lines (is_some conditions) (kept_fields request.fields)) (condition_lines conditions)
+    sends_none q (line (codes "Host") (host_text target.key)) (line (codes "Via") (via_text request.minor name)) (client_lines (is_some conditions) (fields_that_go_on_of request.fields)) (condition_lines conditions)
     refl (client_none q (is_some conditions) request.fields (kept_none q request.fields out)) (conditions_none q conditions (λ v. refl) (λ v. refl)) refl
 
-pub sends_what_was_asked : SendsWhatWasAsked
+pub sends_what_was_asked : WhatWasAskedIsForwarded
 unfolding forwarded_of
 sends_what_was_asked request target name conditions = (refl, refl, refl, refl)
 
-pub leaves_out_the_default_port : LeavesOutTheDefaultPort
+pub leaves_out_the_default_port : DefaultPortIsLeftOut
 leaves_out_the_default_port key h = rw h refl
 
-pub writes_other_ports : WritesOtherPorts
+pub writes_other_ports : OtherPortsAreWritten
 writes_other_ports key h = rw h refl
 
-pub shows_the_version : ShowsTheVersion
+pub shows_the_version : ViaShowsTheVersion
 shows_the_version name = (refl, refl)
 
-pub closes_where_asked : ClosesWhereAsked
+pub closes_where_asked : ConnectionClosesWhereAsked
 closes_where_asked request target (inl old) = rw old refl
 closes_where_asked request target (inr close) = listed_last _ _ close
 
-pub stays_open : StaysOpen
+pub stays_open : ConnectionStaysOpen
 stays_open request target new absent = rw (new, absent) refl
 
-pub keeps_the_status : KeepsTheStatus
+pub keeps_the_status : StatusIsKept
 keeps_the_status response now = refl

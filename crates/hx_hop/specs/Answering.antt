@@ -2,7 +2,7 @@
 use Rattle.std.specs.Prelude.{ℕ, if◌then◌else◌, Bool, false, List, [], ◌∷◌, ◌++◌, codes, is_some}
 use Rattle.httpdate.specs.Date.{parse_secs}
 use Rattle.hx_fields.specs.declared.field_line.Field.{Field}
-use Rattle.hx_fields.specs.Lines.{values_of, without_named}
+use Rattle.hx_fields.specs.FieldLines.{values_of, without_named}
 use Rattle.hx_framing.specs.declared.messages.Response.{Response}
 use Rattle.hx_hop.specs.declared.response_view.Answered.{Answered}
 use Rattle.hx_hop.specs.Forwarding.{line}
@@ -11,13 +11,13 @@ use Rattle.hx_hop.specs.Stripping.{stripped}
 
 -- HTTP-date = IMF-fixdate / obs-date (RFC 9110, section 5.6.7)
 -- own: of the years 1970 to 9999, two digits from 70 on being 19xx ("Which dates are read")
-abbrev pub is_date : List ℕ → Bool
-is_date text = is_some (parse_secs text)
+abbrev pub is_http_date : List ℕ → Bool
+is_http_date text = is_some (parse_secs text)
 
 -- one line, and it is a date
 abbrev pub is_one_date : List (List ℕ) → Bool
 is_one_date [] = false
-is_one_date (value ∷ []) = is_date value
+is_one_date (value ∷ []) = is_http_date value
 is_one_date (value ∷ other ∷ more) = false
 
 abbrev pub has_one_date : List Field → Bool

@@ -5,7 +5,7 @@ use Rattle.hx_framing.specs.declared.messages.Request.{Request}
 use Rattle.hx_framing.specs.declared.messages.Response.{Response}
 use Rattle.hx_target.specs.declared.targets.Target.{Target}
 use Rattle.hx_hop.specs.declared.request_view.Asked.{Asked}
-use Rattle.hx_hop.specs.declared.validators.Conditions.{Conditions}
+use Rattle.hx_hop.specs.declared.conditions.Conditions.{Conditions}
 use Rattle.hx_hop.specs.Forwarding.{line}
 
 abbrev pub first_asked : Asked
@@ -49,8 +49,8 @@ abbrev pub absolute_target : Target
 absolute_target = record { key = record { host = codes "h"; port = 80; path_query = codes "/" }; table_path = codes "/" }
 
 -- a response of these lines
-abbrev pub response_of : List Field → Response
-response_of fields = record { status = 200; fields = fields; content = []; announced = None }
+abbrev pub response_with_fields : List Field → Response
+response_with_fields fields = record { status = 200; fields = fields; content = []; announced = None }
 
 abbrev pub date_line : List ℕ → Field
 date_line text = line (codes "Date") text
@@ -63,15 +63,15 @@ mixed_fields =
     ∷ line (codes "Keep-Alive") (codes "5") ∷ line (codes "B") (codes "3") ∷ []
 
 -- a request with one line more than the first
-abbrev pub asked_with : List ℕ → List ℕ → Asked
-asked_with name value = record first_asked { fields = line name value ∷ [] }
+abbrev pub first_asked_with_line : List ℕ → List ℕ → Asked
+first_asked_with_line name value = record first_asked { fields = line name value ∷ [] }
 
 abbrev pub asked_of_content : Option (List ℕ) → Asked
 asked_of_content content = record first_asked { content = content }
 
 -- a Connection line that names this
-abbrev pub connected : List ℕ → List Field
-connected member = line (codes "Connection") member ∷ []
+abbrev pub connection_line : List ℕ → List Field
+connection_line member = line (codes "Connection") member ∷ []
 
 abbrev pub both_conditions : Conditions
 both_conditions = record { etag = Some (codes "\"v1\""); modified = Some (codes "Thu, 01 Jan 1970 00:00:05 GMT") }

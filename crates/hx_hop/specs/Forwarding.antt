@@ -2,11 +2,11 @@
 use Rattle.std.specs.Prelude.{ℕ, ◌==◌, Bool, not, ◌&&◌, ◌||◌, if◌then◌else◌, List, [], ◌∷◌, ◌++◌, filter, codes}
 use Rattle.std.specs.Prelude.{decimal, Option, Some, None, is_some}
 use Rattle.hx_fields.specs.declared.field_line.Field.{Field}
-use Rattle.hx_fields.specs.Lines.{is_named}
+use Rattle.hx_fields.specs.FieldLines.{is_named}
 use Rattle.hx_framing.specs.declared.messages.Request.{Request}
 use Rattle.hx_target.specs.declared.keys.Key.{Key}
 use Rattle.hx_hop.specs.declared.request_view.Asked.{Asked}
-use Rattle.hx_hop.specs.declared.validators.Conditions.{Conditions}
+use Rattle.hx_hop.specs.declared.conditions.Conditions.{Conditions}
 
 abbrev pub line : List ℕ → List ℕ → Field
 line name value = record { name = name; value = value }
@@ -27,15 +27,15 @@ is_condition f = is_named (codes "If-None-Match") f || is_named (codes "If-Modif
 abbrev pub client_lines : Bool → List Field → List Field
 client_lines conditional fields = filter (λ f. not (conditional && is_condition f)) fields
 
-abbrev pub opt_line : List ℕ → Option (List ℕ) → List Field
-opt_line name None = []
-opt_line name (Some value) = line name value ∷ []
+abbrev pub line_if_present : List ℕ → Option (List ℕ) → List Field
+line_if_present name None = []
+line_if_present name (Some value) = line name value ∷ []
 
 -- the proxy's conditions (RFC 9110, sections 13.1.2 and 13.1.3)
 abbrev pub condition_lines : Option Conditions → List Field
 condition_lines None = []
 condition_lines (Some conditions) =
-    opt_line (codes "If-None-Match") conditions.etag ++ opt_line (codes "If-Modified-Since") conditions.modified
+    line_if_present (codes "If-None-Match") conditions.etag ++ line_if_present (codes "If-Modified-Since") conditions.modified
 
 -- in order: Host, the client's lines, the proxy's conditions, Via
 abbrev pub forwarded_lines : Asked → List ℕ → Option Conditions → List Field

@@ -1,10 +1,10 @@
 pub mod Answering
 pub mod Asking
-pub mod Kept
+pub mod LinesThatGoOn
 pub mod Bypass
 pub mod Examples
 pub mod Forwarding
-pub mod Meaning
+pub mod PassedOnFields
 pub mod Moments
 pub mod Stripping
 pub mod NamedLines

@@ -4,7 +4,7 @@ use Rattle.std.specs.Prelude.{bytes_eq, Option, Some, None}
 use Rattle.std.specs.List.{list_any}
 use Rattle.std.specs.BTreeMap.{BTreeMap, get}
 use Rattle.hx_fields.specs.Folded.{folded, folded_cmp}
-use Rattle.hx_fields.specs.Lines.{count_of, is_named, members_of}
+use Rattle.hx_fields.specs.FieldLines.{count_of, is_named, members_of}
 use Rattle.hx_fields.specs.Names.{members_of_value}
 use Rattle.hx_fields.specs.declared.field_line.Field.{Field}
 
@@ -15,35 +15,37 @@ has_many_members fields =
     || list_any (λ (line : Field). nat_lt 64 (length line.value) && is_named (codes "Connection") line) fields
 
 -- a line has this folded name
-abbrev pub is_present : List Field → List ℕ → Bool
-is_present lines q = list_any (λ (line : Field). bytes_eq (folded line.name) q) lines
+abbrev pub name_is_present : List Field → List ℕ → Bool
+name_is_present lines q = list_any (λ (line : Field). bytes_eq (folded line.name) q) lines
 
 -- one of these is this folded name
-abbrev pub gives : List (List ℕ) → List ℕ → Bool
-gives members q = list_any (λ member. bytes_eq (folded member) q) members
+abbrev pub gives_name : List (List ℕ) → List ℕ → Bool
+gives_name members q = list_any (λ member. bytes_eq (folded member) q) members
 
-abbrev pub marks_of_value : List ℕ → List ℕ → Bool
-marks_of_value value q = gives (members_of_value value) q
+abbrev pub names_in_value : List ℕ → List ℕ → Bool
+names_in_value value q = gives_name (members_of_value value) q
 
-abbrev pub marks_of_members : List Field → List ℕ → Bool
-marks_of_members fields q = gives (members_of fields (codes "Connection")) q
+abbrev pub names_in_connection : List Field → List ℕ → Bool
+names_in_connection fields q = gives_name (members_of fields (codes "Connection")) q
 
 -- the names of the lines, none of them marked
-abbrev pub AreLineNames : List Field → BTreeMap (List ℕ) Bool → Type 0
-AreLineNames fields names = (q : List ℕ) → get folded_cmp names q ≡ (if is_present fields q then Some false else None)
+abbrev pub AreUnmarkedLineNames : List Field → BTreeMap (List ℕ) Bool → Type 0
+AreUnmarkedLineNames fields names = (q : List ℕ) → get folded_cmp names q ≡
+    (if name_is_present fields q then Some false else None)
 
 -- a name that is there is marked where it was, or is marked now
-abbrev pub marked_too : Bool → Option Bool → Option Bool
-marked_too now None = None
-marked_too now (Some before) = Some (before || now)
+abbrev pub mark_after_naming : Bool → Option Bool → Option Bool
+mark_after_naming now None = None
+mark_after_naming now (Some before) = Some (before || now)
 
-abbrev pub AreMarkedBy : (List ℕ → Bool) → BTreeMap (List ℕ) Bool → BTreeMap (List ℕ) Bool → Type 0
-AreMarkedBy marks old new = (q : List ℕ) → get folded_cmp new q ≡ marked_too (marks q) (get folded_cmp old q)
+abbrev pub NamesAreMarkedBy : (List ℕ → Bool) → BTreeMap (List ℕ) Bool → BTreeMap (List ℕ) Bool → Type 0
+NamesAreMarkedBy marks old new = (q : List ℕ) → get folded_cmp new q ≡ mark_after_naming (marks q)
+    (get folded_cmp old q)
 
-abbrev pub is_unmarked : Option Bool → Bool
-is_unmarked None = false
-is_unmarked (Some marked) = not marked
+abbrev pub is_present_and_unmarked : Option Bool → Bool
+is_present_and_unmarked None = false
+is_present_and_unmarked (Some marked) = not marked
 
-abbrev pub is_marked : Option Bool → Bool
-is_marked None = false
-is_marked (Some marked) = marked
+abbrev pub is_present_and_marked : Option Bool → Bool
+is_present_and_marked None = false
+is_present_and_marked (Some marked) = marked

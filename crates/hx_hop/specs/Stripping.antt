@@ -6,16 +6,16 @@
 use Rattle.std.specs.Prelude.{ℕ, Bool, not, ◌||◌, List, [], ◌∷◌, filter, codes}
 use Rattle.std.specs.List.{list_any}
 use Rattle.hx_fields.specs.declared.field_line.Field.{Field}
-use Rattle.hx_fields.specs.Lines.{members_of}
+use Rattle.hx_fields.specs.FieldLines.{members_of}
 use Rattle.hx_fields.specs.Names.{is_same_name}
 
 -- a name is one of these
-abbrev pub is_among : List (List ℕ) → List ℕ → Bool
-is_among names name = list_any (λ n. is_same_name n name) names
+abbrev pub name_is_among : List (List ℕ) → List ℕ → Bool
+name_is_among names name = list_any (λ n. is_same_name n name) names
 
 -- Connection = #connection-option: a field name or `close`, without case (RFC 9110, section 7.6.1)
 abbrev pub connection_names : List Field → List ℕ → Bool
-connection_names fields name = is_among (members_of fields (codes "Connection")) name
+connection_names fields name = name_is_among (members_of fields (codes "Connection")) name
 
 -- a field of one connection, whether Connection names it or not
 -- own: Trailer and the three of proxy authentication, of which the standard leaves the choice
@@ -27,7 +27,7 @@ hop_names =
     ∷ codes "Proxy-Authorization" ∷ []
 
 abbrev pub is_hop_name : List ℕ → Bool
-is_hop_name name = is_among hop_names name
+is_hop_name name = name_is_among hop_names name
 
 -- a line that concerns the connection on which the fields came
 abbrev pub is_hop_line : List Field → Field → Bool

@@ -1,22 +1,23 @@
 //! From a request that was read to one that rules see.
 ghost use Rattle.std.specs.Prelude.{◌≡◌, codes, filter, Err, false, IfErr, IfOk};
-ghost use Rattle.hx_fields.specs.Lines.{values_of};
+ghost use Rattle.hx_fields.specs.FieldLines.{values_of};
 ghost use Rattle.hx_target.specs.Judgement.{is_malformed};
-ghost use Rattle.hx_hop.specs.Asking.{kept_fields, closes, asked_of, asked_by, IsAsked};
-ghost use Rattle.hx_hop.specs.Kept.{is_kept};
+ghost use Rattle.hx_hop.specs.Asking.{fields_that_go_on_of, client_connection_closes, asked_with_target};
+ghost use Rattle.hx_hop.specs.Asking.{asked_with_judged_target, IsAsked};
+ghost use Rattle.hx_hop.specs.LinesThatGoOn.{line_goes_on};
 
 use crate::Asked;
 use crate::named_lines::{has_many_members, strip_many};
 use crate::request_view::copy_content;
-use crate::stripping::{connection_names, is_among, is_hop_name};
+use crate::stripping::{connection_names, is_hop_name, name_is_among};
 use hx_fields::{Field, Fields, Members, is_same_name};
 use hx_framing::Request;
 use hx_target::{Target, TargetFault, read_target};
 use std::alloc::{AllocError, Global};
 
 /// The lines that go on.
-fn kept_fields(alloc: Global, fields: &Fields) -> Result<Fields, AllocError>
-    ensures { IfOk result (λ kept. kept ≡ kept_fields fields.now) }
+fn fields_that_go_on_of(alloc: Global, fields: &Fields) -> Result<Fields, AllocError>
+    ensures { IfOk result (λ kept. kept ≡ fields_that_go_on_of fields.now) }
 {
     if has_many_members(fields) {
         return kept_beside_many(alloc, fields);
@@ -27,7 +28,7 @@ fn kept_fields(alloc: Global, fields: &Fields) -> Result<Fields, AllocError>
 
 /// The same where Connection has many members.
 fn kept_beside_many(alloc: Global, fields: &Fields) -> Result<Fields, AllocError>
-    ensures { IfOk result (λ kept. kept ≡ kept_fields fields.now) }
+    ensures { IfOk result (λ kept. kept ≡ fields_that_go_on_of fields.now) }
 {
     let mut kept = strip_many(alloc, fields)?;
     kept.remove_named(b"Host");
@@ -37,11 +38,11 @@ fn kept_beside_many(alloc: Global, fields: &Fields) -> Result<Fields, AllocError
 
 /// The lines that go on beside these members of Connection, in one walk over them.
 fn keep_few(alloc: Global, fields: &Fields, named: &Members) -> Result<Fields, AllocError>
-    ensures { IfOk result (λ kept. kept ≡ filter (is_kept named.now) fields.now) }
+    ensures { IfOk result (λ kept. kept ≡ filter (line_goes_on named.now) fields.now) }
 {
     let mut kept = Fields::with_capacity(alloc, fields.len())?;
     for line in fields.as_slice() {
-        if is_kept(named, line) {
+        if line_goes_on(named, line) {
             kept.push_line(line.copy(alloc)?)?;
         }
     }
@@ -49,48 +50,48 @@ fn keep_few(alloc: Global, fields: &Fields, named: &Members) -> Result<Fields, A
 }
 
 /// Whether a line goes on.
-fn is_kept(named: &Members, line: &Field) -> bool
-    ensures { result ≡ is_kept named.now line.now }
+fn line_goes_on(named: &Members, line: &Field) -> bool
+    ensures { result ≡ line_goes_on named.now line.now }
 {
     let name = line.name.as_slice();
     !is_same_name(name, b"Host")
         && !is_same_name(name, b"Expect")
         && !is_hop_name(name)
-        && !is_among(named, name)
+        && !name_is_among(named, name)
 }
 
 /// Whether the client's connection closes after the answer.
-fn closes(request: &Request) -> bool
-    ensures { result ≡ closes request.now }
+fn client_connection_closes(request: &Request) -> bool
+    ensures { result ≡ client_connection_closes request.now }
 {
     request.minor == 0 || connection_names(&request.fields, b"close")
 }
 
-fn asked_of(alloc: Global, request: &Request, target: Target) -> Result<Asked, AllocError>
-    ensures { IfOk result (λ asked. asked ≡ asked_of request.now target) }
+fn asked_with_target(alloc: Global, request: &Request, target: Target) -> Result<Asked, AllocError>
+    ensures { IfOk result (λ asked. asked ≡ asked_with_target request.now target) }
 {
     Ok(Asked {
         method: request.method.clone()?,
         minor: request.minor,
         target,
-        fields: kept_fields(alloc, &request.fields)?,
+        fields: fields_that_go_on_of(alloc, &request.fields)?,
         content: copy_content(alloc, request.content.as_ref())?,
-        close: closes(request),
+        close: client_connection_closes(request),
     })
 }
 
 /// The request with its target, or the fault of its target. That it ran out of memory itself is
 /// told only where the target has none.
-fn asked_by(
+fn asked_with_judged_target(
     alloc: Global,
     request: &Request,
     target: Result<Target, TargetFault>,
 ) -> Result<Asked, TargetFault>
-    ensures asked { ¬ (result ≡ Err TargetFault.OutOfMemory) → result ≡ asked_by request.now target }
+    ensures asked { ¬ (result ≡ Err TargetFault.OutOfMemory) → result ≡ asked_with_judged_target request.now target }
     ensures refused { IfErr target (λ fault. result ≡ Err fault) }
 {
     match target {
-        Ok(target) => Ok(asked_of(alloc, request, target)?),
+        Ok(target) => Ok(asked_with_target(alloc, request, target)?),
         Err(fault) => Err(fault),
     }
 }
@@ -102,7 +103,7 @@ pub fn ask(alloc: Global, request: &Request) -> Result<Asked, TargetFault>
     // A target that is malformed is told so without memory.
     ensures memory_last { result ≡ Err TargetFault.OutOfMemory → is_malformed request.now.target ≡ false }
 {
-    asked_by(
+    asked_with_judged_target(
         alloc,
         request,
         read_target(alloc, &request.target, &request.fields),

@@ -1,7 +1,8 @@
 //! From a request that rules saw to the one that goes to the origin.
 ghost use Rattle.std.specs.Prelude.{◌≡◌, ◌++◌, ◌∷◌, [], IfOk, OnOk, codes, is_some};
 ghost use Rattle.std.specs.Option.{option_copied};
-ghost use Rattle.hx_hop.specs.Forwarding.{host_text, via_text, is_condition, client_lines, opt_line, condition_lines};
+ghost use Rattle.hx_hop.specs.Forwarding.{host_text, via_text, is_condition, client_lines, line_if_present};
+ghost use Rattle.hx_hop.specs.Forwarding.{condition_lines};
 ghost use Rattle.hx_hop.specs.Forwarding.{forwarded_lines, forwarded_of};
 
 use crate::request_view::copy_content;
@@ -69,7 +70,7 @@ fn push_client_lines(
 }
 
 fn push_line(fields: &mut Fields, name: &[u8], value: Option<&Bytes>) -> Result<(), AllocError>
-    ensures { OnOk result (fields.new ≡ fields.old ++ opt_line name.now (option_copied value.entry)) }
+    ensures { OnOk result (fields.new ≡ fields.old ++ line_if_present name.now (option_copied value.entry)) }
 {
     match value {
         Some(value) => fields.push(name, value.as_slice()),

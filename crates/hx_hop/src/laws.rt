@@ -3,21 +3,26 @@
 ghost use Rattle.std.specs.Prelude.{◌≡◌, Result, None, Some, [], ◌∷◌, codes, length, true, false, decimal, ◌++◌};
 ghost use Rattle.hx_framing.specs.declared.messages.Request.{Request};
 ghost use Rattle.hx_framing.specs.Text.{request_text};
-ghost use Rattle.hx_target.specs.declared.faults.TargetFault.{TargetFault};
+ghost use Rattle.hx_target.specs.declared.target_fault.TargetFault.{TargetFault};
 ghost use Rattle.hx_hop.specs.declared.request_view.Asked.{Asked as AskedFor};
 ghost use Rattle.hx_hop.specs.Answering.{answered_of, dated_of};
-ghost use Rattle.hx_hop.specs.Bypass.{asks_for_range, has_content, has_precondition};
-ghost use Rattle.hx_hop.specs.Asking.{IsAsked, asked_of, closes, kept_fields};
-ghost use Rattle.hx_hop.specs.Examples.{absolute_request, absolute_target, asked_of_content, asked_to_port, asked_with};
-ghost use Rattle.hx_hop.specs.Examples.{both_conditions, connected, date_line, first_asked, first_conditions};
-ghost use Rattle.hx_hop.specs.Examples.{mixed_fields, response_of};
+ghost use Rattle.hx_hop.specs.Bypass.{asks_for_range, request_has_content, has_precondition};
+ghost use Rattle.hx_hop.specs.Asking.{IsAsked, asked_with_target, client_connection_closes, fields_that_go_on_of};
+ghost use Rattle.hx_hop.specs.Examples.{absolute_request, absolute_target, asked_of_content, asked_to_port};
+ghost use Rattle.hx_hop.specs.Examples.{first_asked_with_line};
+ghost use Rattle.hx_hop.specs.Examples.{both_conditions, connection_line, date_line, first_asked, first_conditions};
+ghost use Rattle.hx_hop.specs.Examples.{mixed_fields, response_with_fields};
 ghost use Rattle.hx_hop.specs.Forwarding.{line, host_text, client_lines, via_text, forwarded_lines, forwarded_of};
 ghost use Rattle.hx_hop.specs.Moments.{date_text_of};
 ghost use Rattle.hx_hop.specs.Stripping.{connection_names, is_hop_name, lists_cache_field, stripped};
-ghost use Rattle.hx_hop.specs.Meaning.{TakesOutTheirs, KeepsTheOthers, StripsAtOnce, ShowsTheMoment, HasOneDate};
-ghost use Rattle.hx_hop.specs.Meaning.{DatesOnce, SendsOneHost, EndsWithVia, SendsNoHopField, SendsNoExpect};
-ghost use Rattle.hx_hop.specs.Meaning.{SendsNoLength, SendsWhatWasAsked, LeavesOutTheDefaultPort, WritesOtherPorts};
-ghost use Rattle.hx_hop.specs.Meaning.{ShowsTheVersion, ClosesWhereAsked, StaysOpen, KeepsTheStatus};
+ghost use Rattle.hx_hop.specs.PassedOnFields.{HopFieldsAreTakenOut, OtherFieldsAreKept, StrippingTwiceIsOnce};
+ghost use Rattle.hx_hop.specs.PassedOnFields.{DateShowsTheMoment, DatedHasOneDate};
+ghost use Rattle.hx_hop.specs.PassedOnFields.{DatingTwiceIsOnce, OneHostIsForwarded, ForwardEndsWithVia};
+ghost use Rattle.hx_hop.specs.PassedOnFields.{NoHopFieldIsForwarded, NoExpectIsForwarded};
+ghost use Rattle.hx_hop.specs.PassedOnFields.{NoLengthFieldIsForwarded, WhatWasAskedIsForwarded, DefaultPortIsLeftOut};
+ghost use Rattle.hx_hop.specs.PassedOnFields.{OtherPortsAreWritten};
+ghost use Rattle.hx_hop.specs.PassedOnFields.{ViaShowsTheVersion, ConnectionClosesWhereAsked, ConnectionStaysOpen};
+ghost use Rattle.hx_hop.specs.PassedOnFields.{StatusIsKept};
 
 use hx_target::a_target_is_judged_in_one_way;
 
@@ -42,34 +47,35 @@ pub fn the_first_request_is_forwarded()
 {}
 
 /// What goes on is what concerns no connection, and with that nothing is left to take out.
-pub fn the_rest_goes_on()
-    ensures theirs { TakesOutTheirs }
-    ensures others { KeepsTheOthers }
-    ensures once { StripsAtOnce }
+pub fn what_is_not_hop_goes_on()
+    ensures theirs { HopFieldsAreTakenOut }
+    ensures others { OtherFieldsAreKept }
+    ensures once { StrippingTwiceIsOnce }
 {}
 
 /// A response gets one valid Date, and keeps it.
 pub fn one_date_is_present()
-    ensures moment { ShowsTheMoment }
-    ensures one { HasOneDate }
-    ensures once { DatesOnce }
+    ensures moment { DateShowsTheMoment }
+    ensures one { DatedHasOneDate }
+    ensures once { DatingTwiceIsOnce }
 {}
 
 /// A request goes forward with one Host line, and ends with Via.
 pub fn one_host_goes_forward()
-    ensures host { SendsOneHost }
-    ensures via { EndsWithVia }
+    ensures host { OneHostIsForwarded }
+    ensures via { ForwardEndsWithVia }
 {}
 
 /// A target in absolute form replaces Host, and a member of Connection takes its field with it.
 #[tactic(auto, unfolding(crate::specs::Forwarding::forwarded_of))]
 pub fn absolute_form_is_rewritten()
-    ensures kept { kept_fields absolute_request.fields ≡ line (codes "X-B") (codes "2") ∷ [] }
-    ensures text { request_text (forwarded_of (asked_of absolute_request absolute_target) (codes "edge") None)
+    ensures kept { fields_that_go_on_of absolute_request.fields ≡ line (codes "X-B") (codes "2") ∷ [] }
+    ensures text { request_text (forwarded_of (asked_with_target absolute_request absolute_target) (codes "edge") None)
         ≡ codes "GET / HTTP/1.1\r\nHost: h\r\nX-B: 2\r\nVia: 1.1 edge\r\nConnection: close\r\n\r\n" }
-    ensures size { length (request_text (forwarded_of (asked_of absolute_request absolute_target) (codes "edge") None))
+    ensures size { length (request_text (forwarded_of (asked_with_target absolute_request absolute_target)
+        (codes "edge") None))
         ≡ 69 }
-    ensures open { closes absolute_request ≡ false }
+    ensures open { client_connection_closes absolute_request ≡ false }
 {}
 
 /// Names go without case and whole; several Connection lines count; a comma in quotes separates nothing.
@@ -82,9 +88,9 @@ pub fn members_of_connection_are_taken_out()
 {}
 
 /// A response received at 101 without Date, with two, with one that is none, and with one.
-#[tactic(auto, unfolding(httpdate::proofs::OnLiterals::httpdate_on_literals, crate::specs::Moments::split_off))]
+#[tactic(auto, unfolding(httpdate::proofs::OnLiterals::httpdate_on_literals, crate::specs::Moments::part_holding_day))]
 pub fn missing_date_is_added()
-    ensures missing { answered_of (response_of (line (codes "X") (codes "1") ∷ [])) 101
+    ensures missing { answered_of (response_with_fields (line (codes "X") (codes "1") ∷ [])) 101
         ≡ record { status = 200; fields = line (codes "X") (codes "1") ∷ date_line (codes "Thu, 01 Jan 1970 00:01:41 GMT") ∷ [] } }
     ensures twice { dated_of (date_line (codes "Thu, 01 Jan 1970 00:00:00 GMT") ∷ date_line (codes "Thu, 01 Jan 1970 00:00:00 GMT") ∷ []) 101
         ≡ date_line (codes "Thu, 01 Jan 1970 00:01:41 GMT") ∷ [] }
@@ -95,7 +101,7 @@ pub fn missing_date_is_added()
 {}
 
 /// The standard's date, a leap day, and the last second of the year 9999.
-#[tactic(auto, unfolding(httpdate::proofs::OnLiterals::httpdate_on_literals, crate::specs::Moments::split_off))]
+#[tactic(auto, unfolding(httpdate::proofs::OnLiterals::httpdate_on_literals, crate::specs::Moments::part_holding_day))]
 pub fn moments_are_shown()
     ensures standard { date_text_of 784111777 ≡ codes "Sun, 06 Nov 1994 08:49:37 GMT" }
     ensures leap_day { date_text_of 951782400 ≡ codes "Tue, 29 Feb 2000 00:00:00 GMT" }
@@ -105,28 +111,28 @@ pub fn moments_are_shown()
 /// What concerns the client's connection doesn't go forward, nor do Expect and the client's length;
 /// what was asked does.
 pub fn only_what_was_asked_goes_forward()
-    ensures hop { SendsNoHopField }
-    ensures expect { SendsNoExpect }
-    ensures length { SendsNoLength }
-    ensures asked { SendsWhatWasAsked }
+    ensures hop { NoHopFieldIsForwarded }
+    ensures expect { NoExpectIsForwarded }
+    ensures length { NoLengthFieldIsForwarded }
+    ensures asked { WhatWasAskedIsForwarded }
 {}
 
 /// Host has the port unless it is 80, and Via the version that was received.
 pub fn host_and_via_show_port_and_version()
-    ensures default_port { LeavesOutTheDefaultPort }
-    ensures other_port { WritesOtherPorts }
-    ensures version { ShowsTheVersion }
+    ensures default_port { DefaultPortIsLeftOut }
+    ensures other_port { OtherPortsAreWritten }
+    ensures version { ViaShowsTheVersion }
 {}
 
 /// A client's connection closes where the client is of HTTP/1.0 or says close, and not else.
 pub fn connections_close_where_asked()
-    ensures closes { ClosesWhereAsked }
-    ensures stays { StaysOpen }
+    ensures closes { ConnectionClosesWhereAsked }
+    ensures stays { ConnectionStaysOpen }
 {}
 
 /// An answer keeps its status.
 pub fn an_answer_keeps_its_status()
-    ensures { KeepsTheStatus }
+    ensures { StatusIsKept }
 {}
 
 /// The fields of one connection (RFC 9110, section 7.6.1), and the four that this proxy adds to them.
@@ -170,35 +176,35 @@ pub fn fields_that_go_on()
 
 /// The fields by which a cache decides (RFC 9111, sections 3 and 4), and others, named by Connection.
 pub fn cache_fields_are_seen_in_connection()
-    ensures age { lists_cache_field (connected (codes "Age")) ≡ true }
-    ensures cache_control { lists_cache_field (connected (codes "Cache-Control")) ≡ true }
-    ensures date { lists_cache_field (connected (codes "Date")) ≡ true }
-    ensures etag { lists_cache_field (connected (codes "ETag")) ≡ true }
-    ensures expires { lists_cache_field (connected (codes "Expires")) ≡ true }
-    ensures last_modified { lists_cache_field (connected (codes "Last-Modified")) ≡ true }
-    ensures set_cookie { lists_cache_field (connected (codes "Set-Cookie")) ≡ true }
-    ensures vary { lists_cache_field (connected (codes "Vary")) ≡ true }
-    ensures not_cookie { lists_cache_field (connected (codes "Cookie")) ≡ false }
-    ensures not_content_type { lists_cache_field (connected (codes "Content-Type")) ≡ false }
-    ensures not_content_length { lists_cache_field (connected (codes "Content-Length")) ≡ false }
-    ensures not_via { lists_cache_field (connected (codes "Via")) ≡ false }
-    ensures not_accept { lists_cache_field (connected (codes "Accept")) ≡ false }
-    ensures not_close { lists_cache_field (connected (codes "close")) ≡ false }
+    ensures age { lists_cache_field (connection_line (codes "Age")) ≡ true }
+    ensures cache_control { lists_cache_field (connection_line (codes "Cache-Control")) ≡ true }
+    ensures date { lists_cache_field (connection_line (codes "Date")) ≡ true }
+    ensures etag { lists_cache_field (connection_line (codes "ETag")) ≡ true }
+    ensures expires { lists_cache_field (connection_line (codes "Expires")) ≡ true }
+    ensures last_modified { lists_cache_field (connection_line (codes "Last-Modified")) ≡ true }
+    ensures set_cookie { lists_cache_field (connection_line (codes "Set-Cookie")) ≡ true }
+    ensures vary { lists_cache_field (connection_line (codes "Vary")) ≡ true }
+    ensures not_cookie { lists_cache_field (connection_line (codes "Cookie")) ≡ false }
+    ensures not_content_type { lists_cache_field (connection_line (codes "Content-Type")) ≡ false }
+    ensures not_content_length { lists_cache_field (connection_line (codes "Content-Length")) ≡ false }
+    ensures not_via { lists_cache_field (connection_line (codes "Via")) ≡ false }
+    ensures not_accept { lists_cache_field (connection_line (codes "Accept")) ≡ false }
+    ensures not_close { lists_cache_field (connection_line (codes "close")) ≡ false }
 {}
 
 /// Content, ranges and the preconditions that only the origin can judge (RFC 9110, sections 13.1.1,
 /// 13.1.4, 13.1.5 and 14.2); the two that a cache judges aren't among them.
 pub fn what_goes_past_the_cache()
-    ensures range { asks_for_range (asked_with (codes "Range") (codes "bytes=0-1")) ≡ true }
-    ensures if_range { asks_for_range (asked_with (codes "If-Range") (codes "\"e\"")) ≡ true }
-    ensures no_range { asks_for_range (asked_with (codes "Accept-Ranges") (codes "bytes")) ≡ false }
-    ensures if_match { has_precondition (asked_with (codes "If-Match") (codes "*")) ≡ true }
-    ensures if_unmodified_since { has_precondition (asked_with (codes "If-Unmodified-Since") (codes "x")) ≡ true }
-    ensures if_none_match { has_precondition (asked_with (codes "If-None-Match") (codes "*")) ≡ false }
-    ensures if_modified_since { has_precondition (asked_with (codes "If-Modified-Since") (codes "x")) ≡ false }
-    ensures content { has_content (asked_of_content (Some (codes "x"))) ≡ true }
-    ensures empty { has_content (asked_of_content (Some [])) ≡ false }
-    ensures none { has_content (asked_of_content None) ≡ false }
+    ensures range { asks_for_range (first_asked_with_line (codes "Range") (codes "bytes=0-1")) ≡ true }
+    ensures if_range { asks_for_range (first_asked_with_line (codes "If-Range") (codes "\"e\"")) ≡ true }
+    ensures no_range { asks_for_range (first_asked_with_line (codes "Accept-Ranges") (codes "bytes")) ≡ false }
+    ensures if_match { has_precondition (first_asked_with_line (codes "If-Match") (codes "*")) ≡ true }
+    ensures if_unmodified_since { has_precondition (first_asked_with_line (codes "If-Unmodified-Since") (codes "x")) ≡ true }
+    ensures if_none_match { has_precondition (first_asked_with_line (codes "If-None-Match") (codes "*")) ≡ false }
+    ensures if_modified_since { has_precondition (first_asked_with_line (codes "If-Modified-Since") (codes "x")) ≡ false }
+    ensures content { request_has_content (asked_of_content (Some (codes "x"))) ≡ true }
+    ensures empty { request_has_content (asked_of_content (Some [])) ≡ false }
+    ensures none { request_has_content (asked_of_content None) ≡ false }
 {}
 
 /// The proxy's conditions stand behind the client's lines, the tag first (RFC 9110, sections 13.1.2
@@ -211,11 +217,12 @@ pub fn conditions_go_forward()
 {}
 
 /// A response is stripped, and dated once Connection's names are gone.
-#[tactic(auto, unfolding(httpdate::proofs::OnLiterals::httpdate_on_literals, crate::specs::Moments::split_off))]
+#[tactic(auto, unfolding(httpdate::proofs::OnLiterals::httpdate_on_literals, crate::specs::Moments::part_holding_day))]
 pub fn stripped_before_it_is_dated()
-    ensures stripped { (answered_of (response_of (line (codes "Connection") (codes "X-A")
+    ensures stripped { (answered_of (response_with_fields (line (codes "Connection") (codes "X-A")
         ∷ line (codes "X-A") (codes "1") ∷ date_line (codes "Sun, 06 Nov 1994 08:49:37 GMT") ∷ [])) 101).fields
         ≡ date_line (codes "Sun, 06 Nov 1994 08:49:37 GMT") ∷ [] }
-    ensures named { (answered_of (response_of (line (codes "Connection") (codes "date") ∷ date_line (codes "Sun, 06 Nov 1994 08:49:37 GMT") ∷ [])) 101).fields
+    ensures named { (answered_of (response_with_fields (line (codes "Connection") (codes "date") ∷ date_line
+        (codes "Sun, 06 Nov 1994 08:49:37 GMT") ∷ [])) 101).fields
         ≡ date_line (codes "Thu, 01 Jan 1970 00:01:41 GMT") ∷ [] }
 {}

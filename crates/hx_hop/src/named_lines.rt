@@ -5,11 +5,12 @@ ghost use Rattle.std.specs.Prelude.{◌≡◌, ◌==◌, ◌||◌, not, ◌&&◌
 ghost use Rattle.std.specs.List.{list_any};
 ghost use Rattle.std.specs.BTreeMap.{get};
 ghost use Rattle.hx_fields.specs.Folded.{folded, folded_cmp};
-ghost use Rattle.hx_fields.specs.Lines.{count_of, is_named};
+ghost use Rattle.hx_fields.specs.FieldLines.{count_of, is_named};
 ghost use Rattle.hx_fields.specs.Names.{members_of_value};
 ghost use Rattle.hx_hop.specs.Stripping.{is_hop_name, stripped};
-ghost use Rattle.hx_hop.specs.NamedLines.{AreLineNames, AreMarkedBy, is_marked, is_unmarked, has_many_members};
-ghost use Rattle.hx_hop.specs.NamedLines.{marks_of_members, marks_of_value};
+ghost use Rattle.hx_hop.specs.NamedLines.{AreUnmarkedLineNames, NamesAreMarkedBy, is_present_and_marked};
+ghost use Rattle.hx_hop.specs.NamedLines.{is_present_and_unmarked, has_many_members};
+ghost use Rattle.hx_hop.specs.NamedLines.{names_in_connection, names_in_value};
 
 use crate::stripping::is_hop_name;
 use hx_fields::{Field, Fields, FoldedName, is_same_name, next_member};
@@ -17,7 +18,7 @@ use std::alloc::{AllocError, Global};
 use std::collections::BTreeMap;
 
 /// A longer value of Connection, in bytes, has many members.
-const MANY: usize = 64;
+const MANY_BYTES: usize = 64;
 
 /// Whether Connection may have so many members that they are to be looked up.
 pub(crate) fn has_many_members(fields: &Fields) -> bool
@@ -29,7 +30,7 @@ pub(crate) fn has_many_members(fields: &Fields) -> bool
 fn has_long_line(lines: &[Field]) -> bool
     ensures { result ≡ list_any (λ line. nat_lt 64 (length line.value) && is_named (codes "Connection") line) lines.now }
 {
-    lines.iter().any(|line| line.value.len() > MANY
+    lines.iter().any(|line| line.value.len() > MANY_BYTES
         && is_same_name(line.name.as_slice(), b"Connection"))
 }
 
@@ -44,7 +45,7 @@ pub(crate) fn strip_many(alloc: Global, fields: &Fields) -> Result<Fields, Alloc
 
 /// The names of the lines, none of them marked yet.
 fn line_names(alloc: Global, fields: &Fields) -> Result<BTreeMap<FoldedName, bool>, AllocError>
-    ensures { IfOk result (λ names. AreLineNames fields.now names) }
+    ensures { IfOk result (λ names. AreUnmarkedLineNames fields.now names) }
 {
     let mut names = BTreeMap::new(alloc);
     for line in fields.as_slice() {
@@ -59,7 +60,7 @@ fn mark_members(
     names: &mut BTreeMap<FoldedName, bool>,
     fields: &Fields,
 ) -> Result<(), AllocError>
-    ensures { OnOk result (AreMarkedBy (marks_of_members fields.now) names.old names.new) }
+    ensures { OnOk result (NamesAreMarkedBy (names_in_connection fields.now) names.old names.new) }
 {
     let mut name = FoldedName::new(alloc);
     for line in fields.as_slice() {
@@ -77,12 +78,12 @@ fn mark_value(
     name: &mut FoldedName,
     value: &[u8],
 ) -> Result<(), AllocError>
-    ensures { OnOk result (AreMarkedBy (marks_of_value value.now) names.old names.new) }
+    ensures { OnOk result (NamesAreMarkedBy (names_in_value value.now) names.old names.new) }
 {
     let mut rest = value;
     while let Some((member, behind)) = next_member(rest) {
         name.set(member)?;
-        if is_unmarked(names, name) {
+        if is_present_and_unmarked(names, name) {
             names.insert(FoldedName::of(alloc, member)?, true)?;
         }
         rest = behind;
@@ -91,8 +92,8 @@ fn mark_value(
 }
 
 /// Whether a name is here and not marked.
-fn is_unmarked(names: &BTreeMap<FoldedName, bool>, name: &FoldedName) -> bool
-    ensures { result ≡ is_unmarked (get folded_cmp names.now name.now) }
+fn is_present_and_unmarked(names: &BTreeMap<FoldedName, bool>, name: &FoldedName) -> bool
+    ensures { result ≡ is_present_and_unmarked (get folded_cmp names.now name.now) }
 {
     match names.get(name) {
         Some(is_marked) => !*is_marked,
@@ -101,8 +102,8 @@ fn is_unmarked(names: &BTreeMap<FoldedName, bool>, name: &FoldedName) -> bool
 }
 
 /// Whether a name is here and marked.
-fn is_marked(names: &BTreeMap<FoldedName, bool>, name: &FoldedName) -> bool
-    ensures { result ≡ is_marked (get folded_cmp names.now name.now) }
+fn is_present_and_marked(names: &BTreeMap<FoldedName, bool>, name: &FoldedName) -> bool
+    ensures { result ≡ is_present_and_marked (get folded_cmp names.now name.now) }
 {
     match names.get(name) {
         Some(is_marked) => *is_marked,
@@ -117,7 +118,8 @@ fn keep_unmarked(
     fields: &Fields,
 ) -> Result<Fields, AllocError>
     ensures { IfOk result (λ kept. kept
-        ≡ filter (λ line. not (is_hop_name line.name || is_marked (get folded_cmp names.now (folded line.name))))
+        ≡ filter (λ line. not (is_hop_name line.name || is_present_and_marked
+        (get folded_cmp names.now (folded line.name))))
         fields.now) }
 {
     let mut kept = Fields::with_capacity(alloc, fields.len())?;
@@ -133,7 +135,7 @@ fn keep_unmarked(
 
 /// Whether a line of this folded name goes on.
 fn goes_on(names: &BTreeMap<FoldedName, bool>, name: &FoldedName, line: &Field) -> bool
-    ensures { result ≡ not (is_hop_name line.now.name || is_marked (get folded_cmp names.now name.now)) }
+    ensures { result ≡ not (is_hop_name line.now.name || is_present_and_marked (get folded_cmp names.now name.now)) }
 {
-    !is_hop_name(line.name.as_slice()) && !is_marked(names, name)
+    !is_hop_name(line.name.as_slice()) && !is_present_and_marked(names, name)
 }

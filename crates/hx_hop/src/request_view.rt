@@ -1,7 +1,7 @@
 //! A request as every later rule sees it.
 ghost use Rattle.std.specs.Prelude.{◌≡◌, IfOk, codes};
 ghost use Rattle.std.specs.Option.{option_copied};
-ghost use Rattle.hx_hop.specs.Bypass.{has_content, asks_for_range, has_precondition};
+ghost use Rattle.hx_hop.specs.Bypass.{request_has_content, asks_for_range, has_precondition};
 
 use http::Method;
 use hx_fields::{Bytes, Fields};
@@ -69,7 +69,7 @@ impl Asked {
 
     /// Whether the content has a byte at least.
     pub fn has_content(&self) -> bool
-        ensures { result ≡ has_content self.now }
+        ensures { result ≡ request_has_content self.now }
     {
         match &self.content {
             Some(content) => !content.is_empty(),

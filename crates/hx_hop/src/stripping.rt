@@ -4,7 +4,7 @@
 ghost use Rattle.std.specs.Prelude.{◌≡◌, codes, IfOk};
 ghost use Rattle.std.specs.List.{list_any};
 ghost use Rattle.hx_fields.specs.Names.{is_same_name, members_of_value};
-ghost use Rattle.hx_hop.specs.Stripping.{cache_names, connection_names, is_among, is_hop_name, lists_cache_field};
+ghost use Rattle.hx_hop.specs.Stripping.{cache_names, connection_names, name_is_among, is_hop_name, lists_cache_field};
 ghost use Rattle.hx_hop.specs.Stripping.{stripped};
 
 use crate::named_lines::{has_many_members, strip_many};
@@ -13,7 +13,7 @@ use std::alloc::{AllocError, Global};
 
 /// Whether a member of this value is a name.
 fn value_names(value: &[u8], name: &[u8]) -> bool
-    ensures { result ≡ is_among (members_of_value value.now) name.now }
+    ensures { result ≡ name_is_among (members_of_value value.now) name.now }
 {
     let mut rest = value;
     while let Some((member, behind)) = next_member(rest) {
@@ -56,8 +56,8 @@ pub(crate) fn is_hop_name(name: &[u8]) -> bool
 }
 
 /// Whether one of these is the name.
-pub(crate) fn is_among(names: &Members, name: &[u8]) -> bool
-    ensures { result ≡ is_among names.now name.now }
+pub(crate) fn name_is_among(names: &Members, name: &[u8]) -> bool
+    ensures { result ≡ name_is_among names.now name.now }
 {
     names
         .as_slice()
@@ -83,7 +83,7 @@ fn strip_few(alloc: Global, fields: &Fields) -> Result<Fields, AllocError>
     let named = fields.members(alloc, b"Connection")?;
     let mut kept = Fields::with_capacity(alloc, fields.len())?;
     for line in fields.as_slice() {
-        if !is_hop_name(line.name.as_slice()) && !is_among(&named, line.name.as_slice()) {
+        if !is_hop_name(line.name.as_slice()) && !name_is_among(&named, line.name.as_slice()) {
             kept.push_line(line.copy(alloc)?)?;
         }
     }

@@ -10,7 +10,7 @@ use Rattle.httpdate.specs.Text.{day_name, four_digits, imf_fixdate, month_name, 
 use Rattle.httpdate.specs.Valid.{IsValid}
 use Rattle.httpdate.specs.declared.parts.Parts.{Parts}
 use Rattle.hx_fields.specs.declared.limits.TheConstants.{END_OF_TIME}
-use Rattle.hx_hop.specs.Moments.{civil_of, date_text_of}
+use Rattle.hx_hop.specs.Moments.{date_parts_of, date_text_of}
 use Rattle.hx_hop.proofs.Moments.{civil_of_is}
 use Rattle.hx_hop_laws.specs.OneMessage.{IsFieldValue}
 use Rattle.hx_hop_laws.proofs.ReadTargets.{IsVisible}
@@ -140,4 +140,4 @@ days_few y m = by_tests (m == 2) (is_leap_year y) ((m == 4) || (m == 6) || (m ==
 pub date_value : (now : ℕ) → now < END_OF_TIME → IsFieldValue (date_text_of now)
 date_value now early =
     let civil = civil_of_is now early in
-    text_value (civil_of now) civil.0 _ (days_few (civil_of now).year (civil_of now).mon) civil.0.0.2.1
+    text_value (date_parts_of now) civil.0 _ (days_few (date_parts_of now).year (date_parts_of now).mon) civil.0.0.2.1

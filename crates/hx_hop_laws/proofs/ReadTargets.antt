@@ -10,11 +10,11 @@ use Rattle.std.proofs.lemmas.List.Elements.{All-nil, All-cons, All-tail, All-tak
 use Rattle.http_uri.specs.ByteClasses.{hash_sign, index_of, left_bracket, slash}
 use Rattle.http_uri.specs.Grammar.{IsForm, IsTail}
 use Rattle.http_uri.specs.Uri.{uri_authority, uri_data, uri_scheme}
-use Rattle.hx_target.specs.declared.faults.TargetFault.{TargetFault}
-use Rattle.hx_target.specs.declared.faults.TargetFault.TheVariants.{Form, Scheme, Host, Port, Userinfo, Escape, DotSegment, TooLong}
+use Rattle.hx_target.specs.declared.target_fault.TargetFault.{TargetFault}
+use Rattle.hx_target.specs.declared.target_fault.TargetFault.TheVariants.{Form, Scheme, Host, Port, Userinfo, Escape, DotSegment, TooLong}
 use Rattle.hx_target.specs.declared.targets.Target.{Target}
-use Rattle.hx_target.specs.Hosts.{host_part, if_port, is_address, is_address_byte, is_host, is_name, is_name_byte, lowercase, port_of, short_number}
-use Rattle.hx_target.specs.Judgement.{Judged, Question, fault_or_target, first_fault, is_bad_byte, is_malformed, judged_of, named, path_query_of, question_of, applies, target_of}
+use Rattle.hx_target.specs.Hosts.{host_part, port_if_valid, is_address, is_address_byte, is_host, is_name, is_name_byte, lowercase, port_of, short_number}
+use Rattle.hx_target.specs.Judgement.{TargetIsJudged, Question, fault_or_target, first_fault, is_bad_byte, is_malformed, judged_of, host_and_port_text, path_query_of, question_of, target_fault_applies, target_of}
 use Rattle.hx_target.proofs.Judgements.{none_applies}
 
 -- a byte from `!` to `~`
@@ -136,11 +136,11 @@ port_small text = by_test (length text == 0)
     by_bounds n true false low high = omega arith
     by_bounds n false u low high = omega arith
 
-    by_number : (o : Option ℕ) → unwrap_or (option_and_then if_port o) 80 ≤ 65535
+    by_number : (o : Option ℕ) → unwrap_or (option_and_then port_if_valid o) 80 ≤ 65535
     by_number None = omega arith
     by_number (Some n) = by_bounds n (nat_le 1 n) (nat_le n 65535) refl refl
 
-    by_test : (t : Bool) → unwrap_or (cond t (Some 80) (option_and_then if_port (short_number text))) 80 ≤ 65535
+    by_test : (t : Bool) → unwrap_or (cond t (Some 80) (option_and_then port_if_valid (short_number text))) 80 ≤ 65535
     by_test true = omega arith
     by_test false = by_number (short_number text)
 
@@ -151,11 +151,11 @@ pub record IsCleanTarget (target : Target) : Type 0 where
   pub host : All IsVisible target.key.host
   pub port : target.key.port ≤ 65535
 
-valid_host : (q : Question) → first_fault q ≡ None → is_host (host_part (named q)) ≡ true
+valid_host : (q : Question) → first_fault q ≡ None → is_host (host_part (host_and_port_text q)) ≡ true
 valid_host q none =
-    let form = none_applies (applies Form q) (find (λ fault. applies fault q) (Scheme ∷ Host ∷ Port ∷ Userinfo ∷ Escape ∷ DotSegment ∷ TooLong ∷ [])) Form none in
-    let scheme = none_applies (applies Scheme q) (find (λ fault. applies fault q) (Host ∷ Port ∷ Userinfo ∷ Escape ∷ DotSegment ∷ TooLong ∷ [])) Scheme form.1 in
-    let host = none_applies (applies Host q) (find (λ fault. applies fault q) (Port ∷ Userinfo ∷ Escape ∷ DotSegment ∷ TooLong ∷ [])) Host scheme.1 in
+    let form = none_applies (target_fault_applies Form q) (find (λ fault. target_fault_applies fault q) (Scheme ∷ Host ∷ Port ∷ Userinfo ∷ Escape ∷ DotSegment ∷ TooLong ∷ [])) Form none in
+    let scheme = none_applies (target_fault_applies Scheme q) (find (λ fault. target_fault_applies fault q) (Host ∷ Port ∷ Userinfo ∷ Escape ∷ DotSegment ∷ TooLong ∷ [])) Scheme form.1 in
+    let host = none_applies (target_fault_applies Host q) (find (λ fault. target_fault_applies fault q) (Port ∷ Userinfo ∷ Escape ∷ DotSegment ∷ TooLong ∷ [])) Host scheme.1 in
     (both _ _ (last_not _ _ host.0)).0
   where
     last_not : (a b : Bool) → a || not b ≡ false → b ≡ true
@@ -169,11 +169,11 @@ of_fault q None target none all is =
     let same : target ≡ target_of q = cc in
     subst IsCleanTarget (sym same) (record {
       path = path_visible q.kept all;
-      host = lower_visible (host_part (named q)) (host_visible (host_part (named q)) (valid_host q none));
+      host = lower_visible (host_part (host_and_port_text q)) (host_visible (host_part (host_and_port_text q)) (valid_host q none));
       port = port_small _;
     })
 
-pub target_is_clean : (text : List ℕ) (hosts : List (List ℕ)) (target : Target) → Judged text hosts (Ok target) → IsCleanTarget target
+pub target_is_clean : (text : List ℕ) (hosts : List (List ℕ)) (target : Target) → TargetIsJudged text hosts (Ok target) → IsCleanTarget target
 unfolding judged_of is_malformed
 target_is_clean text hosts target (inl h) = let e = h.1 in absurd cc
 target_is_clean text hosts target (inr (inl h)) = let e = h.1 in absurd cc

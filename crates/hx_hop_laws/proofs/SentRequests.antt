@@ -13,19 +13,19 @@ use Rattle.std.proofs.lemmas.List.Elements.{All-nil, All-cons, All-append, All-f
 use Rattle.http_header.proofs.TokenLemmas.{AllPass-from_test}
 use Rattle.httparse.specs.Grammar.{AllPass, IsToken, is_ows, is_token_byte, is_uri_byte, is_value_byte}
 use Rattle.hx_fields.specs.declared.field_line.Field.{Field}
-use Rattle.hx_fields.specs.Lines.{is_named, values_of, without_named}
+use Rattle.hx_fields.specs.FieldLines.{is_named, values_of, without_named}
 use Rattle.hx_framing.specs.declared.messages.Request.{Request}
-use Rattle.hx_framing.specs.Written.{IsWritableField}
+use Rattle.hx_framing.specs.Written.{FieldIsWritable}
 use Rattle.hx_framing.proofs.WrittenLines.{digit_bytes}
 use Rattle.hx_framing.proofs.WrittenRequests.{request_back}
 use Rattle.hx_target.specs.declared.keys.Key.{Key}
 use Rattle.hx_target.specs.declared.targets.Target.{Target}
-use Rattle.hx_hop.specs.declared.validators.Conditions.{Conditions}
-use Rattle.hx_hop.specs.Asking.{asked_of, kept_fields}
-use Rattle.hx_hop.specs.Forwarding.{client_lines, condition_lines, forwarded_lines, forwarded_of, host_text, is_condition, line, opt_line, via_text}
+use Rattle.hx_hop.specs.declared.conditions.Conditions.{Conditions}
+use Rattle.hx_hop.specs.Asking.{asked_with_target, fields_that_go_on_of}
+use Rattle.hx_hop.specs.Forwarding.{client_lines, condition_lines, forwarded_lines, forwarded_of, host_text, is_condition, line, line_if_present, via_text}
 use Rattle.hx_hop.specs.Stripping.{is_hop_line, stripped}
 use Rattle.hx_hop.proofs.SentLines.{sends_no_expect, sends_no_hop_field, sends_no_length}
-use Rattle.hx_hop_laws.specs.OneMessage.{AreFieldValues, ForwardsOneRequest, IsClean, IsFieldValue, SendsPartsAsTheyAre}
+use Rattle.hx_hop_laws.specs.OneMessage.{ConditionsAreFieldValues, OneRequestIsForwarded, RequestIsClean, IsFieldValue, PartsAreForwardedAsTheyAre}
 use Rattle.hx_hop_laws.proofs.ReadRequests.{read_is_clean}
 use Rattle.hx_hop_laws.proofs.ReadTargets.{IsCleanTarget, IsVisible, pass_visible, target_is_clean}
 use Rattle.hx_hop_laws.proofs.Values.{trim_word, trim_words}
@@ -63,7 +63,7 @@ visible_ascii text all i = by_place (cases_lt i (length text))
 
 -- ---- the lines that the proxy adds
 
-pub line_of : (name value : List ℕ) → list_all is_token_byte name ≡ true → 0 < length name → IsFieldValue value → IsWritableField (line name value)
+pub line_of : (name value : List ℕ) → list_all is_token_byte name ≡ true → 0 < length name → IsFieldValue value → FieldIsWritable (line name value)
 line_of name value token some is = record {
   name = (some, AllPass-from_test is_token_byte name token);
   value = is.0;
@@ -117,41 +117,41 @@ date_token : list_all is_token_byte (codes "If-Modified-Since") ≡ true
 unfolding is_token_byte
 date_token = refl
 
-opt_line_fits : (name : List ℕ) (value : Option (List ℕ)) → list_all is_token_byte name ≡ true → 0 < length name → IfSome value IsFieldValue → All IsWritableField (opt_line name value)
-opt_line_fits name None token some is = All-nil IsWritableField
-opt_line_fits name (Some value) token some is = All-cons IsWritableField (line name value) [] (line_of name value token some is) (All-nil IsWritableField)
+opt_line_fits : (name : List ℕ) (value : Option (List ℕ)) → list_all is_token_byte name ≡ true → 0 < length name → IfSome value IsFieldValue → All FieldIsWritable (line_if_present name value)
+opt_line_fits name None token some is = All-nil FieldIsWritable
+opt_line_fits name (Some value) token some is = All-cons FieldIsWritable (line name value) [] (line_of name value token some is) (All-nil FieldIsWritable)
 
-conditions_fit : (conditions : Option Conditions) → IfSome conditions AreFieldValues → All IsWritableField (condition_lines conditions)
-conditions_fit None are = All-nil IsWritableField
+conditions_fit : (conditions : Option Conditions) → IfSome conditions ConditionsAreFieldValues → All FieldIsWritable (condition_lines conditions)
+conditions_fit None are = All-nil FieldIsWritable
 conditions_fit (Some c) are =
-    All-append IsWritableField (opt_line (codes "If-None-Match") c.etag) (opt_line (codes "If-Modified-Since") c.modified)
+    All-append FieldIsWritable (line_if_present (codes "If-None-Match") c.etag) (line_if_present (codes "If-Modified-Since") c.modified)
     (opt_line_fits (codes "If-None-Match") c.etag tag_token (omega arith) are.etag)
     (opt_line_fits (codes "If-Modified-Since") c.modified date_token (omega arith) are.modified)
 
 -- ---- all lines
 
-client_fits : (conditional : Bool) (fields : List Field) → All IsWritableField fields → All IsWritableField (client_lines conditional (kept_fields fields))
+client_fits : (conditional : Bool) (fields : List Field) → All FieldIsWritable fields → All FieldIsWritable (client_lines conditional (fields_that_go_on_of fields))
 client_fits conditional fields all =
-    All-filter (λ f. not (conditional && is_condition f)) IsWritableField (kept_fields fields)
-    (All-filter (λ f. not (is_named (codes "Expect") f)) IsWritableField (without_named (stripped fields) (codes "Host"))
-    (All-filter (λ f. not (is_named (codes "Host") f)) IsWritableField (stripped fields)
-    (All-filter (λ f. not (is_hop_line fields f)) IsWritableField fields all)))
+    All-filter (λ f. not (conditional && is_condition f)) FieldIsWritable (fields_that_go_on_of fields)
+    (All-filter (λ f. not (is_named (codes "Expect") f)) FieldIsWritable (without_named (stripped fields) (codes "Host"))
+    (All-filter (λ f. not (is_named (codes "Host") f)) FieldIsWritable (stripped fields)
+    (All-filter (λ f. not (is_hop_line fields f)) FieldIsWritable fields all)))
 
-lines_fit : (request : Request) (target : Target) (name : List ℕ) (conditions : Option Conditions) → IsClean request → IsCleanTarget target → IsToken name → IfSome conditions AreFieldValues
-    → All IsWritableField (forwarded_lines (asked_of request target) name conditions)
+lines_fit : (request : Request) (target : Target) (name : List ℕ) (conditions : Option Conditions) → RequestIsClean request → IsCleanTarget target → IsToken name → IfSome conditions ConditionsAreFieldValues
+    → All FieldIsWritable (forwarded_lines (asked_with_target request target) name conditions)
 lines_fit request target name conditions clean aim token are =
-    let client : List Field = client_lines (is_some conditions) (kept_fields request.fields) in
+    let client : List Field = client_lines (is_some conditions) (fields_that_go_on_of request.fields) in
     let via : Field = line (codes "Via") (via_text request.minor name) in
     let host : Field = line (codes "Host") (host_text target.key) in
-    All-cons IsWritableField host (client ++ condition_lines conditions ++ via ∷ [])
+    All-cons FieldIsWritable host (client ++ condition_lines conditions ++ via ∷ [])
     (line_of (codes "Host") (host_text target.key) host_token (omega arith) (visible_field_value (host_text target.key) (host_visible target.key aim.host aim.port)))
-    (All-append IsWritableField (client ++ condition_lines conditions) (via ∷ [])
-    (All-append IsWritableField client (condition_lines conditions) (client_fits (is_some conditions) request.fields clean.fields) (conditions_fit conditions are))
-    (All-cons IsWritableField via [] (line_of (codes "Via") (via_text request.minor name) via_token (omega arith) (via_value request.minor name token)) (All-nil IsWritableField)))
+    (All-append FieldIsWritable (client ++ condition_lines conditions) (via ∷ [])
+    (All-append FieldIsWritable client (condition_lines conditions) (client_fits (is_some conditions) request.fields clean.fields) (conditions_fit conditions are))
+    (All-cons FieldIsWritable via [] (line_of (codes "Via") (via_text request.minor name) via_token (omega arith) (via_value request.minor name token)) (All-nil FieldIsWritable)))
 
 -- ---- the laws
 
-pub sends_parts_as_they_are : SendsPartsAsTheyAre
+pub sends_parts_as_they_are : PartsAreForwardedAsTheyAre
 unfolding forwarded_of
 sends_parts_as_they_are max_body most ended continue_sent bytes rest request target name conditions reads judged token are small limits =
     let clean = read_is_clean max_body ended continue_sent bytes request rest reads in
@@ -169,7 +169,7 @@ sends_parts_as_they_are max_body most ended continue_sent bytes rest request tar
       content = omega (arith, small, limits.content);
     }
 
-pub forwards_one_request : ForwardsOneRequest
+pub forwards_one_request : OneRequestIsForwarded
 forwards_one_request max_body most ended continue_sent bytes rest request target name conditions reads judged token are small limits over continued behind =
-    request_back (forwarded_of (asked_of request target) name conditions) most over continued behind
+    request_back (forwarded_of (asked_with_target request target) name conditions) most over continued behind
     (sends_parts_as_they_are max_body most ended continue_sent bytes rest request target name conditions reads judged token are small limits) limits.content

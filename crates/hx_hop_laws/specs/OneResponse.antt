@@ -4,20 +4,21 @@ use Rattle.std.specs.Prelude.{◌≡◌, ℕ, ◌<◌, ◌≤◌, ◌^◌, ◌==
 use Rattle.std.specs.Prelude.{codes, All, None, Some}
 use Rattle.hx_fields.specs.declared.limits.TheConstants.{END_OF_TIME}
 use Rattle.hx_fields.specs.declared.field_line.Field.{Field}
-use Rattle.hx_fields.specs.Lines.{has}
+use Rattle.hx_fields.specs.FieldLines.{has_field}
 use Rattle.hx_framing.specs.declared.messages.Response.{Response}
-use Rattle.hx_framing.specs.Places.{most_field_lines, most_head_bytes}
+use Rattle.hx_framing.specs.HeadEnd.{most_field_lines, most_head_bytes}
 use Rattle.hx_framing.specs.Reading.{Spelled}
 use Rattle.hx_framing.specs.ResponseReading.{Reads}
-use Rattle.hx_framing.specs.Written.{IsWritableField}
-use Rattle.hx_framing.specs.WrittenResponse.{SentResponse, response_back, response_fields, sent_head_text, sent_text}
+use Rattle.hx_framing.specs.Written.{FieldIsWritable}
+use Rattle.hx_framing.specs.WrittenResponse.{SentResponse, response_as_read_back, response_fields_sent}
+use Rattle.hx_framing.specs.WrittenResponse.{sent_response_head_text, sent_response_text}
 use Rattle.hx_hop.specs.Answering.{answered_of}
 
 -- What goes on of an answer, with lines of the proxy's behind its own. No length is told where the
 -- status has none (RFC 9110, section 8.6); to HEAD the one that the origin announced is (section
 -- 9.3.2), and no content goes on.
-abbrev pub sent_on : Bool → Response → ℕ → List Field → Bool → SentResponse
-sent_on to_head r now added close = record {
+abbrev pub response_passed_on : Bool → Response → ℕ → List Field → Bool → SentResponse
+response_passed_on to_head r now added close = record {
   status = r.status;
   fields = (answered_of r now).fields ++ added;
   shown = if (r.status == 204) || (r.status == 304) then None
@@ -27,24 +28,24 @@ sent_on to_head r now added close = record {
 }
 
 -- lines that stand in a text as they are, and don't speak of a content
-pub record AreAdded (added : List Field) : Type 0 where
-  pub fields : All IsWritableField added
-  pub lengths : has added (codes "content-length") ≡ false
-  pub codings : has added (codes "transfer-encoding") ≡ false
+pub record LinesMayBeAdded (added : List Field) : Type 0 where
+  pub fields : All FieldIsWritable added
+  pub lengths : has_field added (codes "content-length") ≡ false
+  pub codings : has_field added (codes "transfer-encoding") ≡ false
 
 -- Within the limits of a reader as this proxy's: 100 field lines, a head of 32,768 bytes, and so much content.
-pub record FitsAReader (most : ℕ) (sent : SentResponse) : Type 0 where
-  pub few : length (response_fields sent) ≤ most_field_lines
-  pub short : length (sent_head_text sent) ≤ most_head_bytes
+pub record ResponseFitsAReader (most : ℕ) (sent : SentResponse) : Type 0 where
+  pub few : length (response_fields_sent sent) ≤ most_field_lines
+  pub short : length (sent_response_head_text sent) ≤ most_head_bytes
   pub content : length sent.content ≤ most
 
 -- whatever the client's reader knows of the stream and whatever stands behind the response: it is
 -- read back as it was sent, and what stands behind it is left
-abbrev pub SendsOneResponse : Type 0
-SendsOneResponse =
+abbrev pub OneResponseGoesOn : Type 0
+OneResponseGoesOn =
     (max_body most now : ℕ) (to_head ended close : Bool) (bytes rest : List ℕ) (r : Response) (added : List Field)
-    → Reads max_body to_head ended bytes (Spelled r rest) → now < END_OF_TIME → AreAdded added
-    → let sent = sent_on to_head r now added close in
-    most < 2 ^ 64 → FitsAReader most sent
+    → Reads max_body to_head ended bytes (Spelled r rest) → now < END_OF_TIME → LinesMayBeAdded added
+    → let sent = response_passed_on to_head r now added close in
+    most < 2 ^ 64 → ResponseFitsAReader most sent
     → (over : Bool) (behind : List ℕ)
-    → Reads most to_head over (sent_text sent ++ behind) (Spelled (response_back to_head sent) behind)
+    → Reads most to_head over (sent_response_text sent ++ behind) (Spelled (response_as_read_back to_head sent) behind)

@@ -1,6 +1,6 @@
 //! The statuses that are heuristically cacheable.
 ghost use Rattle.std.specs.Prelude.{◌≡◌};
-ghost use Rattle.hx_policy.specs.Words.{is_heuristic};
+ghost use Rattle.hx_policy.specs.Policies.{is_heuristic};
 
 /// Whether a status is heuristically cacheable (RFC 9110, section 15.1).
 pub fn is_heuristic(status: u16) -> bool

@@ -1,7 +1,7 @@
 //! What the definitions say of policies and statuses: each function's contract is a law or worked
 //! cases, and its body is empty.
 ghost use Rattle.std.specs.Prelude.{◌≡◌, ℕ, Bool, Some, None, true, false};
-ghost use Rattle.hx_policy.specs.Words.{plain, is_heuristic, given_lifetime};
+ghost use Rattle.hx_policy.specs.Policies.{plain, is_heuristic, given_lifetime};
 ghost use Rattle.hx_policy.specs.declared.words.Policy.{Policy as Words};
 
 /// A line that has no word of version 3 gives no lifetime and no stale-if-error, stores and heeds

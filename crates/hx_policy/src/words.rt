@@ -1,6 +1,6 @@
 //! The words of a line.
 ghost use Rattle.std.specs.Prelude.{◌≡◌};
-ghost use Rattle.hx_policy.specs.Words.{plain, given_lifetime};
+ghost use Rattle.hx_policy.specs.Policies.{plain, given_lifetime};
 
 use crate::heuristics::is_heuristic;
 

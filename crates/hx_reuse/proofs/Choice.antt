@@ -10,8 +10,8 @@ use Rattle.hx_hop.specs.declared.request_view.Asked.{Asked}
 use Rattle.hx_store.specs.Stored.{Stored}
 use Rattle.hx_store.specs.Serials.{Distinct}
 use Rattle.hx_store.specs.Shelf.{serials, find_entry}
-use Rattle.hx_reuse.specs.Chosen.{comes_later, of_key, matching, latest, chosen_of}
-use Rattle.hx_reuse.specs.Meaning.{IsCandidate, IsChosen}
+use Rattle.hx_reuse.specs.Chosen.{is_more_recent, entries_of_key, entries_that_match, most_recent, chosen_of}
+use Rattle.hx_reuse.specs.ChosenAndNamed.{ResponseIsCandidate, ResponseIsChosen}
 use Rattle.hx_fields.proofs.FirstThat.{IsMember}
 use Rattle.hx_reuse.proofs.Members.{distinct_entries}
 use Rattle.hx_reuse.proofs.Latest.{fold_latest, fold_some, same_serial, filter_member, member_filter, find_member, member_find, find_entry-find, nat_eq_true, nat_eq_same}
@@ -45,20 +45,20 @@ found_by_serial held distinct e c =
     let f = find_member (λ x. nat_eq x.serial e.serial) held r.0 r.1 in
     find_entry-find e.serial held ∙ (r.1 ∙ ap Some (distinct_entries held distinct r.0 e f.0 in_held (nat_eq_true r.0.serial e.serial f.1)))
 
-by_numbers : (e f : Stored) → comes_later e f ≡ false → (e.times.date ≤ f.times.date) × (e.times.date ≡ f.times.date → e.serial ≤ f.serial)
+by_numbers : (e f : Stored) → is_more_recent e f ≡ false → (e.times.date ≤ f.times.date) × (e.times.date ≡ f.times.date → e.serial ≤ f.serial)
 by_numbers e f h = (grind (arith, nat_tests), λ same. grind (arith, nat_tests))
 
 module _ (held : List Stored) (asked : Asked) where
   -- the responses that match are the candidates
-  candidate : (e : Stored) → IsMember e (matching held asked) → IsCandidate held asked e
+  candidate : (e : Stored) → IsMember e (entries_that_match held asked) → ResponseIsCandidate held asked e
   candidate e m =
-      let by_values = filter_member (λ e. vary_matches e.nominated asked.fields) (of_key held asked) e m in
+      let by_values = filter_member (λ e. vary_matches e.nominated asked.fields) (entries_of_key held asked) e m in
       let by_key = filter_member (λ e. same_key e.key asked.target.key) held e by_values.0 in
       record { is_held = contains_member held e by_key.0; has_the_key = by_key.1; has_the_values = by_values.1 }
 
-  matches : (e : Stored) → IsCandidate held asked e → IsMember e (matching held asked)
+  matches : (e : Stored) → ResponseIsCandidate held asked e → IsMember e (entries_that_match held asked)
   matches e c =
-      member_filter (λ e. vary_matches e.nominated asked.fields) (of_key held asked) e c.has_the_values
+      member_filter (λ e. vary_matches e.nominated asked.fields) (entries_of_key held asked) e c.has_the_values
       (member_filter (λ e. same_key e.key asked.target.key) held e c.has_the_key (member_contained held e c.is_held))
 
   taken_member : (e : Stored) (es : List Stored) → (None ≡ Some e) ⊎ IsMember e es → IsMember e es
@@ -68,29 +68,29 @@ module _ (held : List Stored) (asked : Asked) where
       never f k = cc
   taken_member e es (inr m) = m
 
-  pub chosen_is_latest : (e : Stored) → chosen_of held asked ≡ Some e → IsChosen held asked e
+  pub chosen_is_latest : (e : Stored) → chosen_of held asked ≡ Some e → ResponseIsChosen held asked e
   chosen_is_latest e h =
-      let r = fold_latest (matching held asked) None e h in
-      record { is_candidate = candidate e (taken_member e (matching held asked) r.taken); none_later = λ other c. r.above other (matches other c) }
+      let r = fold_latest (entries_that_match held asked) None e h in
+      record { is_candidate = candidate e (taken_member e (entries_that_match held asked) r.taken); none_later = λ other c. r.above other (matches other c) }
 
-  pub chosen_by_date : (e f : Stored) → chosen_of held asked ≡ Some e → IsCandidate held asked f →
+  pub chosen_by_date : (e f : Stored) → chosen_of held asked ≡ Some e → ResponseIsCandidate held asked f →
       (f.times.date ≤ e.times.date) × (f.times.date ≡ e.times.date → f.serial ≤ e.serial)
   chosen_by_date e f h c = by_numbers f e ((chosen_is_latest e h).none_later f c)
 
   pub chosen_is_held : (e : Stored) → chosen_of held asked ≡ Some e → Contains held e
   chosen_is_held e h = let is = chosen_is_latest e h in is.is_candidate.is_held
 
-  none_of : (es : List Stored) (e : Stored) → latest es ≡ None → IsMember e es → ⊥
+  none_of : (es : List Stored) (e : Stored) → most_recent es ≡ None → IsMember e es → ⊥
   none_of [] e h m = m
   none_of (x ∷ xs) e h m = let some = fold_some xs x in never some.0 (sym h ∙ some.1)
     where
       never : (f : Stored) → ◌≡◌ {A = Option Stored} None (Some f) → ⊥
       never f k = cc
 
-  pub none_is_candidate : (e : Stored) → chosen_of held asked ≡ None → IsCandidate held asked e → ⊥
-  none_is_candidate e h c = none_of (matching held asked) e h (matches e c)
+  pub none_is_candidate : (e : Stored) → chosen_of held asked ≡ None → ResponseIsCandidate held asked e → ⊥
+  none_is_candidate e h c = none_of (entries_that_match held asked) e h (matches e c)
 
-  pub latest_is_the_chosen : (e : Stored) → Distinct (serials held) → IsChosen held asked e → chosen_of held asked ≡ Some e
+  pub latest_is_the_chosen : (e : Stored) → Distinct (serials held) → ResponseIsChosen held asked e → chosen_of held asked ≡ Some e
   latest_is_the_chosen e distinct is = at (chosen_of held asked) refl
     where
       at : (o : Option Stored) → chosen_of held asked ≡ o → chosen_of held asked ≡ Some e

@@ -9,29 +9,29 @@ use Rattle.hx_store.specs.Stored.{Stored}
 use Rattle.hx_target.specs.Keys.{same_key}
 use Rattle.hx_fields.specs.declared.field_line.Field.{Field}
 use Rattle.hx_store.specs.Serials.{Distinct}
-use Rattle.hx_store.specs.Shelf.{find_entry, is_match, matching_serials, serials as serials_held, serials_of}
-use Rattle.hx_reuse.specs.Chosen.{of_key, comes_later, later, latest, chosen_of}
+use Rattle.hx_store.specs.Shelf.{find_entry, entry_matches, matching_serials, serials as serials_held, serials_of}
+use Rattle.hx_reuse.specs.Chosen.{entries_of_key, is_more_recent, more_recent_of, most_recent, chosen_of}
 use Rattle.hx_fields.proofs.FirstThat.{IsMember}
 use Rattle.hx_reuse.proofs.Members.{HasDistinctSerials, AreSerialsOf, are_serials, distinct_entries}
 
 -- an order on entries by two numbers each
-not_later_trans : (e f g : Stored) → comes_later e f ≡ false → comes_later f g ≡ false → comes_later e g ≡ false
+not_later_trans : (e f g : Stored) → is_more_recent e f ≡ false → is_more_recent f g ≡ false → is_more_recent e g ≡ false
 not_later_trans e f g h k = grind (arith, nat_tests)
 
-later_one_way : (e f : Stored) → comes_later e f ≡ true → comes_later f e ≡ false
+later_one_way : (e f : Stored) → is_more_recent e f ≡ true → is_more_recent f e ≡ false
 later_one_way e f h = grind (arith, nat_tests)
 
-not_later_itself : (e : Stored) → comes_later e e ≡ false
+not_later_itself : (e : Stored) → is_more_recent e e ≡ false
 not_later_itself e = grind (arith, nat_tests)
 
-pub same_serial : (e f : Stored) → comes_later e f ≡ false → comes_later f e ≡ false → e.serial ≡ f.serial
+pub same_serial : (e f : Stored) → is_more_recent e f ≡ false → is_more_recent f e ≡ false → e.serial ≡ f.serial
 same_serial e f h k = grind (arith, nat_tests)
 
 -- what the latest of some entries after a best so far is
 pub record IsLatestAfter (best : Option Stored) (es : List Stored) (e : Stored) : Type 0 where
   pub taken : (best ≡ Some e) ⊎ IsMember e es
-  pub above_best : (f : Stored) → best ≡ Some f → comes_later f e ≡ false
-  pub above : (f : Stored) → IsMember f es → comes_later f e ≡ false
+  pub above_best : (f : Stored) → best ≡ Some f → is_more_recent f e ≡ false
+  pub above : (f : Stored) → IsMember f es → is_more_recent f e ≡ false
 
 same_inside : (e f : Stored) → ◌≡◌ {A = Option Stored} (Some e) (Some f) → e ≡ f
 same_inside e f h = cc
@@ -40,47 +40,47 @@ taken_first : (x e : Stored) (xs : List Stored) → (Some x ≡ Some e) ⊎ IsMe
 taken_first x e xs (inl h) = inl (same_inside x e h)
 taken_first x e xs (inr m) = inr m
 
-not_later_at : (e f g : Stored) → f ≡ g → comes_later f e ≡ false → comes_later g e ≡ false
+not_later_at : (e f g : Stored) → f ≡ g → is_more_recent f e ≡ false → is_more_recent g e ≡ false
 not_later_at e f g h k = rw (← h) k
 
-over_member : (x e : Stored) (xs : List Stored) → comes_later x e ≡ false → ((f : Stored) → IsMember f xs → comes_later f e ≡ false)
-    → (f : Stored) → IsMember f (x ∷ xs) → comes_later f e ≡ false
+over_member : (x e : Stored) (xs : List Stored) → is_more_recent x e ≡ false → ((f : Stored) → IsMember f xs → is_more_recent f e ≡ false)
+    → (f : Stored) → IsMember f (x ∷ xs) → is_more_recent f e ≡ false
 over_member x e xs first rest f (inl h) = not_later_at e x f h first
 over_member x e xs first rest f (inr m) = rest f m
 
-after_some : (b x e : Stored) (xs : List Stored) (t : Bool) → comes_later x b ≡ t → IsLatestAfter (cond t (Some x) (Some b)) xs e → IsLatestAfter (Some b) (x ∷ xs) e
+after_some : (b x e : Stored) (xs : List Stored) (t : Bool) → is_more_recent x b ≡ t → IsLatestAfter (cond t (Some x) (Some b)) xs e → IsLatestAfter (Some b) (x ∷ xs) e
 after_some b x e xs true h r =
-    let above_x : comes_later x e ≡ false = r.above_best x refl in
-    let above_b : comes_later b e ≡ false = not_later_trans b x e (later_one_way x b h) above_x in
+    let above_x : is_more_recent x e ≡ false = r.above_best x refl in
+    let above_b : is_more_recent b e ≡ false = not_later_trans b x e (later_one_way x b h) above_x in
     record { taken = inr (taken_first x e xs r.taken); above_best = λ f k. not_later_at e b f (same_inside b f k) above_b; above = over_member x e xs above_x r.above }
 after_some b x e xs false h r =
-    let above_b : comes_later b e ≡ false = r.above_best b refl in
+    let above_b : is_more_recent b e ≡ false = r.above_best b refl in
     record { taken = taken_kept r.taken; above_best = r.above_best; above = over_member x e xs (not_later_trans x b e h above_b) r.above }
   where
     taken_kept : (Some b ≡ Some e) ⊎ IsMember e xs → (Some b ≡ Some e) ⊎ IsMember e (x ∷ xs)
     taken_kept (inl k) = inl k
     taken_kept (inr m) = inr (inr m)
 
-after_one : (best : Option Stored) (x e : Stored) (xs : List Stored) → IsLatestAfter (later best x) xs e → IsLatestAfter best (x ∷ xs) e
+after_one : (best : Option Stored) (x e : Stored) (xs : List Stored) → IsLatestAfter (more_recent_of best x) xs e → IsLatestAfter best (x ∷ xs) e
 after_one None x e xs r =
     record { taken = inr (taken_first x e xs r.taken); above_best = λ f k. absurd (none_is_some f k); above = over_member x e xs (r.above_best x refl) r.above }
   where
     none_is_some : (f : Stored) → ◌≡◌ {A = Option Stored} None (Some f) → ⊥
     none_is_some f k = cc
-after_one (Some b) x e xs r = after_some b x e xs (comes_later x b) refl r
+after_one (Some b) x e xs r = after_some b x e xs (is_more_recent x b) refl r
 
-pub fold_latest : (es : List Stored) (best : Option Stored) (e : Stored) → fold later best es ≡ Some e → IsLatestAfter best es e
+pub fold_latest : (es : List Stored) (best : Option Stored) (e : Stored) → fold more_recent_of best es ≡ Some e → IsLatestAfter best es e
 fold_latest [] best e h =
     record { taken = inl h; above_best = λ f k. not_later_at e e f (same_inside e f (sym h ∙ k)) (not_later_itself e); above = λ f m. absurd m }
-fold_latest (x ∷ xs) best e h = after_one best x e xs (fold_latest xs (later best x) e h)
+fold_latest (x ∷ xs) best e h = after_one best x e xs (fold_latest xs (more_recent_of best x) e h)
 
-pub fold_some : (es : List Stored) (b : Stored) → (e : Stored) × (fold later (Some b) es ≡ Some e)
+pub fold_some : (es : List Stored) (b : Stored) → (e : Stored) × (fold more_recent_of (Some b) es ≡ Some e)
 fold_some [] b = (b, refl)
 fold_some (x ∷ xs) b =
-    elim (comes_later x b) as (λ t. (e : Stored) × (fold later (cond t (Some x) (Some b)) xs ≡ Some e)) [ true ↦ fold_some xs x | false ↦ fold_some xs b ]
+    elim (is_more_recent x b) as (λ t. (e : Stored) × (fold more_recent_of (cond t (Some x) (Some b)) xs ≡ Some e)) [ true ↦ fold_some xs x | false ↦ fold_some xs b ]
 
 module _ (held : List Stored) (distinct : HasDistinctSerials held) where
-  same_latest : (xs ys : List Stored) → ((e : Stored) → IsMember e xs → IsMember e held) → ((e : Stored) → IsMember e xs → IsMember e ys) → ((e : Stored) → IsMember e ys → IsMember e xs) → latest xs ≡ latest ys
+  same_latest : (xs ys : List Stored) → ((e : Stored) → IsMember e xs → IsMember e held) → ((e : Stored) → IsMember e xs → IsMember e ys) → ((e : Stored) → IsMember e ys → IsMember e xs) → most_recent xs ≡ most_recent ys
   same_latest [] [] inside there back = refl
   same_latest [] (y ∷ ys) inside there back = absurd (back y (inl refl))
   same_latest (x ∷ xs) [] inside there back = absurd (there x (inl refl))
@@ -178,7 +178,7 @@ nat_eq_same m = grind (arith, nat_tests)
 
 module _ (held : List Stored) (asked : Asked) (serials : List ℕ) (distinct : HasDistinctSerials held) (are : AreSerialsOf held asked serials) where
   -- what the serials look up is what is held for the key
-  found_is : (e : Stored) → IsMember e (filter_map (λ s. find_entry s held) serials) → IsMember e (of_key held asked)
+  found_is : (e : Stored) → IsMember e (filter_map (λ s. find_entry s held) serials) → IsMember e (entries_of_key held asked)
   found_is e m =
       let r = found_member (λ s. find_entry s held) serials e m in
       let k = are.each_held r.0 r.1 in
@@ -187,7 +187,7 @@ module _ (held : List Stored) (asked : Asked) (serials : List ℕ) (distinct : H
       let same : k.0 ≡ e = distinct k.0 e other.0 in_held.0 (k.2 ∙ sym (nat_eq_true e.serial r.0 in_held.1)) in
       rw (← same) k.1
 
-  found_all : (e : Stored) → IsMember e (of_key held asked) → IsMember e (filter_map (λ s. find_entry s held) serials)
+  found_all : (e : Stored) → IsMember e (entries_of_key held asked) → IsMember e (filter_map (λ s. find_entry s held) serials)
   found_all e m =
       let in_held : IsMember e held = (filter_member (λ x. same_key x.key asked.target.key) held e m).0 in
       let r = member_find (λ x. nat_eq x.serial e.serial) held e in_held (nat_eq_same e.serial) in
@@ -196,14 +196,14 @@ module _ (held : List Stored) (asked : Asked) (serials : List ℕ) (distinct : H
       member_found (λ s. find_entry s held) serials e.serial e (are.none_missing e m) (find_entry-find e.serial held ∙ (r.1 ∙ ap Some same))
 
   -- the latest of the entries with the key's serials is the chosen one
-  latest_is_chosen : latest (filter (λ e. vary_matches e.nominated asked.fields) (filter_map (λ s. find_entry s held) serials)) ≡ chosen_of held asked
+  latest_is_chosen : most_recent (filter (λ e. vary_matches e.nominated asked.fields) (filter_map (λ s. find_entry s held) serials)) ≡ chosen_of held asked
   latest_is_chosen =
       let here : Stored → Bool = λ e. vary_matches e.nominated asked.fields in
       let found : List Stored = filter_map (λ s. find_entry s held) serials in
-      same_latest held distinct (filter here found) (filter here (of_key held asked))
+      same_latest held distinct (filter here found) (filter here (entries_of_key held asked))
       (λ e m. (filter_member (λ x. same_key x.key asked.target.key) held e (found_is e (filter_member here found e m).0)).0)
-      (λ e m. let r = filter_member here found e m in member_filter here (of_key held asked) e r.1 (found_is e r.0))
-      (λ e m. let r = filter_member here (of_key held asked) e m in member_filter here found e r.1 (found_all e r.0))
+      (λ e m. let r = filter_member here found e m in member_filter here (entries_of_key held asked) e r.1 (found_is e r.0))
+      (λ e m. let r = filter_member here (entries_of_key held asked) e m in member_filter here found e r.1 (found_all e r.0))
 
 abbrev cons_option_if : Bool → Option Stored → List Stored → List Stored
 cons_option_if true o es = cons_option o es
@@ -211,16 +211,16 @@ cons_option_if false o es = es
 
 -- the entries of the serials that match are those that match of the entries of the serials
 matching_found : (held : List Stored) (request : List Field) (ss : List ℕ) →
-    filter_map (λ s. find_entry s held) (filter (λ s. is_match request (find_entry s held)) ss)
+    filter_map (λ s. find_entry s held) (filter (λ s. entry_matches request (find_entry s held)) ss)
     ≡ filter (λ e. vary_matches e.nominated request) (filter_map (λ s. find_entry s held) ss)
 matching_found held request [] = refl
 matching_found held request (s ∷ ss) =
     let found : List ℕ → List Stored = λ rs. filter_map (λ r. find_entry r held) rs in
-    let rest = filter (λ r. is_match request (find_entry r held)) ss in
+    let rest = filter (λ r. entry_matches request (find_entry r held)) ss in
     let here : Stored → Bool = λ e. vary_matches e.nominated request in
     let more : found rest ≡ filter here (found ss) = matching_found held request ss in
-    let Same : Option Stored → Type 0 = λ o. cons_option_if (is_match request o) o (found rest) ≡ filter here (cons_option o (found ss)) in
-    kept s (is_match request (find_entry s held)) rest
+    let Same : Option Stored → Type 0 = λ o. cons_option_if (entry_matches request o) o (found rest) ≡ filter here (cons_option o (found ss)) in
+    kept s (entry_matches request (find_entry s held)) rest
     ∙ (elim (find_entry s held) as Same [
       | None ↦ more
       | Some e ↦ elim (here e) as (λ b. cons_option_if b (Some e) (found rest) ≡ cond b (e ∷ filter here (found ss)) (filter here (found ss))) [
@@ -235,8 +235,8 @@ matching_found held request (s ∷ ss) =
 
 -- the latest of those that match by the shelf's word is the chosen one
 pub latest_is_the_chosen : (held : List Stored) (asked : Asked) → Distinct (serials_held held) →
-    latest (filter_map (λ s. find_entry s held) (matching_serials asked.target.key asked.fields held)) ≡ chosen_of held asked
+    most_recent (filter_map (λ s. find_entry s held) (matching_serials asked.target.key asked.fields held)) ≡ chosen_of held asked
 latest_is_the_chosen held asked distinct =
     let serials = serials_of asked.target.key held in
-    ap latest (matching_found held asked.fields serials)
+    ap most_recent (matching_found held asked.fields serials)
     ∙ latest_is_chosen held asked serials (distinct_entries held distinct) (are_serials held asked serials refl)

@@ -3,7 +3,7 @@ use Rattle.std.proofs.Common.{◌≡◌, ℕ, ◌≤◌, ◌<◌, ◌-◌, ◌�
 use Rattle.std.specs.Prelude.{not, ◌&&◌, ◌||◌, ◌==◌, nat_lt, bytes_eq, codes, length, find, filter, is_none, Option, Some, None, option_map}
 use Rattle.hx_fields.specs.declared.field_line.Field.{Field}
 use Rattle.hx_directives.specs.Occurrences.{occurrences_of}
-use Rattle.hx_directives.specs.Answers.{is_same_directive, has, seconds, first_valid, max_stale}
+use Rattle.hx_directives.specs.Answers.{is_same_directive, directive_occurs, seconds_of_directive, first_valid, max_stale}
 use Rattle.hx_directives.specs.declared.names.Directive.{Directive}
 use Rattle.hx_directives.specs.declared.names.Directive.TheVariants.{StaleIfError}
 use Rattle.hx_directives.specs.declared.occurrences.Occurrence.{Occurrence}
@@ -16,18 +16,18 @@ use Rattle.hx_age.specs.Age.{age_of}
 use Rattle.hx_hop.specs.declared.request_view.Asked.{Asked}
 use Rattle.hx_store.specs.Stored.{Stored}
 use Rattle.hx_policy.specs.declared.words.Policy.{Policy}
-use Rattle.hx_policy.specs.Words.{plain, is_heuristic, given_lifetime}
+use Rattle.hx_policy.specs.Policies.{plain, is_heuristic, given_lifetime}
 use Rattle.hx_reuse.specs.declared.rule.ReuseRule.{ReuseRule}
 use Rattle.hx_reuse.specs.declared.rule.ReuseRule.TheVariants.{Operator, Method, Content, Range, Precondition, UriMiss, VaryMiss, ResponseNoCache, RequestNoCache, AboveMaxAge, BelowMinFresh, MustRevalidate, NoLifetime, StaleNoCache, NoMaxStale, PastMaxStale, StaleMaxAge, StaleMinFresh}
 use Rattle.hx_reuse.specs.declared.rule.ErrorRule.{ErrorRule}
 use Rattle.hx_reuse.specs.declared.rule.ErrorRule.TheVariants as on_error
 use Rattle.hx_reuse.specs.Chosen.{chosen_of}
-use Rattle.hx_reuse.specs.Lifetimes.{given, lifetime_under}
-use Rattle.hx_reuse.specs.Rules.{Situation, situation_at, situation, fresh, asks_to_validate, above_max_age, below_min_fresh, asks_for_freshness, accepts_stale, past_limit, is_some_and, against, applies, reuse_rules, reuse_rule_of, decided, decision_of}
-use Rattle.hx_reuse.specs.ErrorRules.{stated_once, response_limit, request_limit, operator_limit, is_past, against_on_error, error_rules, situation_on, error_rule_on, leave_of, leave_on_error}
+use Rattle.hx_reuse.specs.Lifetimes.{lifetime_with_given, lifetime_under}
+use Rattle.hx_reuse.specs.Rules.{Situation, situation_at, situation_of_request, is_fresh_situation, asks_to_validate, is_above_max_age_limit, is_below_min_fresh_limit, asks_for_freshness, accepts_stale, is_past_max_stale, is_some_and, rule_condition, reuse_rule_applies, reuse_rules, reuse_rule_of, decision_by_rule, decision_of}
+use Rattle.hx_reuse.specs.ErrorRules.{seconds_stated_once, stale_limit_of_response, stale_limit_of_request, stale_limit_of_operator, is_past_stale_limit, error_rule_condition, error_rules, situation_of_stored, error_rule_on, permission_of_rule, permission_on_error}
 use Rattle.hx_reuse.specs.OnError.{staleness_at}
-use Rattle.hx_reuse.specs.PlainLines.{plain_against, plain_against_chosen, plain_applies, plain_decision_of, plain_against_on_error, plain_leave_on_error}
-use Rattle.hx_reuse.specs.LineWords.{asks_advice, AsksTheSame, SaysNoLimit, without_limit}
+use Rattle.hx_reuse.specs.PlainLines.{plain_rule_condition, plain_condition_on_chosen, plain_applies, plain_decision_of, plain_error_rule_condition, plain_permission_on_error}
+use Rattle.hx_reuse.specs.LineWordsInReuse.{is_rule_on_advice, RequestsAskTheSame, StatesNoStaleLimit, policy_without_stale_limit}
 use Rattle.hx_fields.proofs.JoinedTests.{never, first_absent, last_absent, neither, or_right, has_value, is_below, is_not_below}
 use Rattle.hx_reuse.proofs.OnErrorLemmas.{is_given}
 
@@ -43,26 +43,26 @@ same_of_some p q (Some x) all = all x
 
 -- ---- a lifetime
 
-stays : (l : Lifetime) (o : Option ℕ) (b : Bool) → l.explicit ≡ b → b ≡ true → cond l.explicit l (given o l) ≡ l
+stays : (l : Lifetime) (o : Option ℕ) (b : Bool) → l.explicit ≡ b → b ≡ true → cond l.explicit l (lifetime_with_given o l) ≡ l
 stays l o true e h = rw e refl
 stays l o false e h = absurd (never (sym h))
 
 pub stated_stays : (policy : Policy) (status : ℕ) (fields : List Field) → (lifetime_of fields).explicit ≡ true → lifetime_under policy status fields ≡ lifetime_of fields
 stated_stays policy status fields h = stays (lifetime_of fields) (given_lifetime policy status) true h refl
 
-none_given : (l : Lifetime) (o : Option ℕ) (b : Bool) → o ≡ None → cond b l (given o l) ≡ l
+none_given : (l : Lifetime) (o : Option ℕ) (b : Bool) → o ≡ None → cond b l (lifetime_with_given o l) ≡ l
 none_given l o true h = refl
-none_given l o false h = ap (λ (n : Option ℕ). given n l) h
+none_given l o false h = ap (λ (n : Option ℕ). lifetime_with_given n l) h
 
 pub others_stay : (policy : Policy) (status : ℕ) (fields : List Field) → is_heuristic status ≡ false → lifetime_under policy status fields ≡ lifetime_of fields
 others_stay policy status fields h =
     none_given (lifetime_of fields) (given_lifetime policy status) (lifetime_of fields).explicit (ap (λ (b : Bool). cond b policy.lifetime None) h)
 
-is_some_given : (l : Lifetime) (o : Option ℕ) (n : ℕ) (b : Bool) → b ≡ false → o ≡ Some n → cond b l (given o l) ≡ given (Some n) l
+is_some_given : (l : Lifetime) (o : Option ℕ) (n : ℕ) (b : Bool) → b ≡ false → o ≡ Some n → cond b l (lifetime_with_given o l) ≡ lifetime_with_given (Some n) l
 is_some_given l o n b h k = rw (h, k) refl
 
 pub given_counts : (policy : Policy) (status : ℕ) (fields : List Field) (n : ℕ) → (lifetime_of fields).explicit ≡ false → is_heuristic status ≡ true → policy.lifetime ≡ Some n
-    → lifetime_under policy status fields ≡ given (Some n) (lifetime_of fields)
+    → lifetime_under policy status fields ≡ lifetime_with_given (Some n) (lifetime_of fields)
 given_counts policy status fields n none heuristic word =
     is_some_given (lifetime_of fields) (given_lifetime policy status) n (lifetime_of fields).explicit none (ap (λ (b : Bool). cond b policy.lifetime None) heuristic ∙ word)
 
@@ -77,7 +77,7 @@ plain_lifetime caches status fields =
 -- ---- a line without words
 
 pub plain_rule : (caches : Bool) (which : ReuseRule) (lifetime : Lifetime) (age : ℕ) (response request : List Occurrence) →
-    against which (situation_at (plain caches) lifetime age response request) ≡ plain_against which lifetime age response request
+    rule_condition which (situation_at (plain caches) lifetime age response request) ≡ plain_rule_condition which lifetime age response request
 plain_rule caches Operator lifetime age response request = refl
 plain_rule caches Method lifetime age response request = refl
 plain_rule caches Content lifetime age response request = refl
@@ -105,29 +105,29 @@ last_false : (a b : Bool) → b ≡ false → a || b ≡ a
 last_false true b h = refl
 last_false false b h = h
 
-no_limit : (caches : Bool) (lifetime : Lifetime) (age : ℕ) (response request : List Occurrence) → operator_limit (situation_at (plain caches) lifetime age response request) ≡ None
-no_limit caches lifetime age response request = same_none (has response StaleIfError || has request StaleIfError)
+no_limit : (caches : Bool) (lifetime : Lifetime) (age : ℕ) (response request : List Occurrence) → stale_limit_of_operator (situation_at (plain caches) lifetime age response request) ≡ None
+no_limit caches lifetime age response request = same_none (directive_occurs response StaleIfError || directive_occurs request StaleIfError)
 
 pub plain_error_rule : (caches : Bool) (which : ErrorRule) (lifetime : Lifetime) (age : ℕ) (response request : List Occurrence) →
-    against_on_error which (situation_at (plain caches) lifetime age response request) ≡ plain_against_on_error which lifetime age response request
+    error_rule_condition which (situation_at (plain caches) lifetime age response request) ≡ plain_error_rule_condition which lifetime age response request
 plain_error_rule caches on_error.NoCache lifetime age response request = refl
 plain_error_rule caches on_error.MustRevalidate lifetime age response request = refl
 plain_error_rule caches on_error.NoLifetime lifetime age response request = refl
 plain_error_rule caches on_error.RequestNoCache lifetime age response request = refl
 plain_error_rule caches on_error.NoDirective lifetime age response request =
     let s : Situation = situation_at (plain caches) lifetime age response request in
-    last_none (is_none (response_limit s) && is_none (request_limit s)) (is_none (operator_limit s)) (ap is_none (no_limit caches lifetime age response request))
+    last_none (is_none (stale_limit_of_response s) && is_none (stale_limit_of_request s)) (is_none (stale_limit_of_operator s)) (ap is_none (no_limit caches lifetime age response request))
 plain_error_rule caches on_error.TooStale lifetime age response request =
     let s : Situation = situation_at (plain caches) lifetime age response request in
-    last_false (is_past s (response_limit s) || is_past s (request_limit s)) (is_past s (operator_limit s)) (ap (is_past s) (no_limit caches lifetime age response request))
+    last_false (is_past_stale_limit s (stale_limit_of_response s) || is_past_stale_limit s (stale_limit_of_request s)) (is_past_stale_limit s (stale_limit_of_operator s)) (ap (is_past_stale_limit s) (no_limit caches lifetime age response request))
 
-plain_chosen : (caches : Bool) (which : ReuseRule) (e : Stored) (asked : Asked) (now : ℕ) → against which (situation (plain caches) e asked now) ≡ plain_against_chosen which e asked now
+plain_chosen : (caches : Bool) (which : ReuseRule) (e : Stored) (asked : Asked) (now : ℕ) → rule_condition which (situation_of_request (plain caches) e asked now) ≡ plain_condition_on_chosen which e asked now
 plain_chosen caches which e asked now =
-    ap (λ (l : Lifetime). against which (situation_at (plain caches) l (age_of e.times now) (occurrences_of e.fields) (occurrences_of asked.fields))) (plain_lifetime caches e.status e.fields)
+    ap (λ (l : Lifetime). rule_condition which (situation_at (plain caches) l (age_of e.times now) (occurrences_of e.fields) (occurrences_of asked.fields))) (plain_lifetime caches e.status e.fields)
     ∙ plain_rule caches which (lifetime_of e.fields) (age_of e.times now) (occurrences_of e.fields) (occurrences_of asked.fields)
 
 module _ (caches : Bool) (held : List Stored) (asked : Asked) (now : ℕ) where
-  plain_apply : (which : ReuseRule) → applies which (plain caches) held asked now ≡ plain_applies which caches held asked now
+  plain_apply : (which : ReuseRule) → reuse_rule_applies which (plain caches) held asked now ≡ plain_applies which caches held asked now
   plain_apply Operator = refl
   plain_apply Method = refl
   plain_apply Content = refl
@@ -136,22 +136,22 @@ module _ (caches : Bool) (held : List Stored) (asked : Asked) (now : ℕ) where
   plain_apply UriMiss = refl
   plain_apply VaryMiss = refl
   plain_apply which =
-      same_of_some (λ e. against which (situation (plain caches) e asked now)) (λ e. plain_against_chosen which e asked now) (chosen_of held asked)
+      same_of_some (λ e. rule_condition which (situation_of_request (plain caches) e asked now)) (λ e. plain_condition_on_chosen which e asked now) (chosen_of held asked)
       (λ e. plain_chosen caches which e asked now)
 
   pub plain_decides : decision_of (plain caches) held asked now ≡ plain_decision_of caches held asked now
   unfolding decision_of reuse_rule_of plain_decision_of
   plain_decides =
-      ap (λ (o : Option ReuseRule). decided o (option_map (λ e. e.serial) (chosen_of held asked)))
-      (same_found (λ which. applies which (plain caches) held asked now) (λ which. plain_applies which caches held asked now) reuse_rules plain_apply)
+      ap (λ (o : Option ReuseRule). decision_by_rule o (option_map (λ e. e.serial) (chosen_of held asked)))
+      (same_found (λ which. reuse_rule_applies which (plain caches) held asked now) (λ which. plain_applies which caches held asked now) reuse_rules plain_apply)
 
-pub plain_leaves : (caches : Bool) (response : Stored) (request : List Occurrence) (now : ℕ) → leave_on_error (plain caches) response request now ≡ plain_leave_on_error response request now
-unfolding error_rule_on plain_leave_on_error
+pub plain_leaves : (caches : Bool) (response : Stored) (request : List Occurrence) (now : ℕ) → permission_on_error (plain caches) response request now ≡ plain_permission_on_error response request now
+unfolding error_rule_on plain_permission_on_error
 plain_leaves caches response request now =
     let age = age_of response.times now in
     let directives = occurrences_of response.fields in
-    ap leave_of (same_found (λ which. against_on_error which (situation_on (plain caches) response request now)) (λ which. plain_against_on_error which (lifetime_of response.fields) age directives request) error_rules
-    (λ which. ap (λ (l : Lifetime). against_on_error which (situation_at (plain caches) l age directives request)) (plain_lifetime caches response.status response.fields)
+    ap permission_of_rule (same_found (λ which. error_rule_condition which (situation_of_stored (plain caches) response request now)) (λ which. plain_error_rule_condition which (lifetime_of response.fields) age directives request) error_rules
+    (λ which. ap (λ (l : Lifetime). error_rule_condition which (situation_at (plain caches) l age directives request)) (plain_lifetime caches response.status response.fields)
     ∙ plain_error_rule caches which (lifetime_of response.fields) age directives request))
 
 -- ---- a request's advice
@@ -159,16 +159,16 @@ plain_leaves caches response request now =
 unheeded : (word test : Bool) → word ≡ false → word && test ≡ false
 unheeded word test h = first_absent word test h
 
-pub advice_never_applies : (which : ReuseRule) (s : Situation) → s.policy.heeds_requests ≡ false → asks_advice which ≡ true → against which s ≡ false
-advice_never_applies RequestNoCache s h is = last_absent (fresh s) (asks_to_validate s) (unheeded s.policy.heeds_requests _ h)
-advice_never_applies AboveMaxAge s h is = last_absent (fresh s) (above_max_age s) (unheeded s.policy.heeds_requests _ h)
-advice_never_applies BelowMinFresh s h is = last_absent (fresh s) (below_min_fresh s) (unheeded s.policy.heeds_requests _ h)
-advice_never_applies StaleNoCache s h is = last_absent (not (fresh s)) (asks_to_validate s) (unheeded s.policy.heeds_requests _ h)
-advice_never_applies StaleMaxAge s h is = last_absent (not (fresh s)) (above_max_age s) (unheeded s.policy.heeds_requests _ h)
-advice_never_applies StaleMinFresh s h is = last_absent (not (fresh s)) (asks_for_freshness s) (unheeded s.policy.heeds_requests _ h)
+pub advice_never_applies : (which : ReuseRule) (s : Situation) → s.policy.heeds_requests ≡ false → is_rule_on_advice which ≡ true → rule_condition which s ≡ false
+advice_never_applies RequestNoCache s h is = last_absent (is_fresh_situation s) (asks_to_validate s) (unheeded s.policy.heeds_requests _ h)
+advice_never_applies AboveMaxAge s h is = last_absent (is_fresh_situation s) (is_above_max_age_limit s) (unheeded s.policy.heeds_requests _ h)
+advice_never_applies BelowMinFresh s h is = last_absent (is_fresh_situation s) (is_below_min_fresh_limit s) (unheeded s.policy.heeds_requests _ h)
+advice_never_applies StaleNoCache s h is = last_absent (not (is_fresh_situation s)) (asks_to_validate s) (unheeded s.policy.heeds_requests _ h)
+advice_never_applies StaleMaxAge s h is = last_absent (not (is_fresh_situation s)) (is_above_max_age_limit s) (unheeded s.policy.heeds_requests _ h)
+advice_never_applies StaleMinFresh s h is = last_absent (not (is_fresh_situation s)) (asks_for_freshness s) (unheeded s.policy.heeds_requests _ h)
 advice_never_applies which s h is = absurd (never (sym is))
 
-pub advice_never_on_error : (s : Situation) → s.policy.heeds_requests ≡ false → against_on_error on_error.RequestNoCache s ≡ false
+pub advice_never_on_error : (s : Situation) → s.policy.heeds_requests ≡ false → error_rule_condition on_error.RequestNoCache s ≡ false
 advice_never_on_error s h = unheeded s.policy.heeds_requests _ h
 
 module _ (policy : Policy) (off : policy.heeds_requests ≡ false) (lifetime : Lifetime) (age : ℕ) (response one two : List Occurrence) (same : max_stale one ≡ max_stale two) where
@@ -179,19 +179,19 @@ module _ (policy : Policy) (off : policy.heeds_requests ≡ false) (lifetime : L
   there = situation_at policy lifetime age response two
 
   -- of the request's directives nothing counts but max-stale
-  advice_is_none : (which : ReuseRule) → against which here ≡ against which there
+  advice_is_none : (which : ReuseRule) → rule_condition which here ≡ rule_condition which there
   advice_is_none RequestNoCache = advice_never_applies RequestNoCache here off refl ∙ sym (advice_never_applies RequestNoCache there off refl)
   advice_is_none AboveMaxAge = advice_never_applies AboveMaxAge here off refl ∙ sym (advice_never_applies AboveMaxAge there off refl)
   advice_is_none BelowMinFresh = advice_never_applies BelowMinFresh here off refl ∙ sym (advice_never_applies BelowMinFresh there off refl)
   advice_is_none StaleNoCache = advice_never_applies StaleNoCache here off refl ∙ sym (advice_never_applies StaleNoCache there off refl)
   advice_is_none StaleMaxAge = advice_never_applies StaleMaxAge here off refl ∙ sym (advice_never_applies StaleMaxAge there off refl)
   advice_is_none StaleMinFresh = advice_never_applies StaleMinFresh here off refl ∙ sym (advice_never_applies StaleMinFresh there off refl)
-  advice_is_none NoMaxStale = ap (λ (m : MaxStale). not (fresh here) && not (accepts_stale m)) same
-  advice_is_none PastMaxStale = ap (λ (m : MaxStale). not (fresh here) && past_limit (age - lifetime.seconds) m) same
+  advice_is_none NoMaxStale = ap (λ (m : MaxStale). not (is_fresh_situation here) && not (accepts_stale m)) same
+  advice_is_none PastMaxStale = ap (λ (m : MaxStale). not (is_fresh_situation here) && is_past_max_stale (age - lifetime.seconds) m) same
   advice_is_none which = refl
 
-module _ (policy : Policy) (held : List Stored) (asked other : Asked) (now : ℕ) (off : policy.heeds_requests ≡ false) (like : AsksTheSame held asked other) where
-  same_apply : (which : ReuseRule) → applies which policy held asked now ≡ applies which policy held other now
+module _ (policy : Policy) (held : List Stored) (asked other : Asked) (now : ℕ) (off : policy.heeds_requests ≡ false) (like : RequestsAskTheSame held asked other) where
+  same_apply : (which : ReuseRule) → reuse_rule_applies which policy held asked now ≡ reuse_rule_applies which policy held other now
   same_apply Operator = refl
   same_apply Method = ap (λ (m : List ℕ). not (bytes_eq m (codes "GET") || bytes_eq m (codes "HEAD"))) like.same_method
   same_apply Content = like.same_content
@@ -200,64 +200,64 @@ module _ (policy : Policy) (held : List Stored) (asked other : Asked) (now : ℕ
   same_apply UriMiss = ap (λ (k : Key). length (filter (λ e. same_key e.key k) held) == 0) like.one_key
   same_apply VaryMiss = ap is_none like.same_choice
   same_apply which =
-      same_of_some (λ e. against which (situation policy e asked now)) (λ e. against which (situation policy e other now)) (chosen_of held asked)
+      same_of_some (λ e. rule_condition which (situation_of_request policy e asked now)) (λ e. rule_condition which (situation_of_request policy e other now)) (chosen_of held asked)
       (λ e. advice_is_none policy off (lifetime_under policy e.status e.fields) (age_of e.times now) (occurrences_of e.fields) (occurrences_of asked.fields) (occurrences_of other.fields) like.same_max_stale which)
-      ∙ ap (is_some_and (λ e. against which (situation policy e other now))) like.same_choice
+      ∙ ap (is_some_and (λ e. rule_condition which (situation_of_request policy e other now))) like.same_choice
 
   pub advice_decides_nothing : decision_of policy held asked now ≡ decision_of policy held other now
   unfolding decision_of reuse_rule_of
   advice_decides_nothing =
-      let rule = same_found (λ which. applies which policy held asked now) (λ which. applies which policy held other now) reuse_rules same_apply in
-      ap (λ (o : Option ReuseRule). decided o (option_map (λ e. e.serial) (chosen_of held asked))) rule
-      ∙ ap (λ (c : Option Stored). decided (find (λ which. applies which policy held other now) reuse_rules) (option_map (λ e. e.serial) c)) like.same_choice
+      let rule = same_found (λ which. reuse_rule_applies which policy held asked now) (λ which. reuse_rule_applies which policy held other now) reuse_rules same_apply in
+      ap (λ (o : Option ReuseRule). decision_by_rule o (option_map (λ e. e.serial) (chosen_of held asked))) rule
+      ∙ ap (λ (c : Option Stored). decision_by_rule (find (λ which. reuse_rule_applies which policy held other now) reuse_rules) (option_map (λ e. e.serial) c)) like.same_choice
 
 -- ---- a staleness after an error
 
 -- a directive that doesn't occur has no argument
-none_occurs : (found : List Occurrence) (d : Directive) → has found d ≡ false → filter (λ o. is_same_directive o.directive d) found ≡ []
+none_occurs : (found : List Occurrence) (d : Directive) → directive_occurs found d ≡ false → filter (λ o. is_same_directive o.directive d) found ≡ []
 none_occurs [] d h = refl
 none_occurs (o ∷ more) d h = at (is_same_directive o.directive d) h (none_occurs more d)
   where
-    at : (t : Bool) → t || has more d ≡ false → (has more d ≡ false → filter (λ x. is_same_directive x.directive d) more ≡ []) → cond t (o ∷ filter (λ x. is_same_directive x.directive d) more) (filter (λ x. is_same_directive x.directive d) more) ≡ []
+    at : (t : Bool) → t || directive_occurs more d ≡ false → (directive_occurs more d ≡ false → filter (λ x. is_same_directive x.directive d) more ≡ []) → cond t (o ∷ filter (λ x. is_same_directive x.directive d) more) (filter (λ x. is_same_directive x.directive d) more) ≡ []
     at true k rest = absurd (never k)
     at false k rest = rest k
 
-none_stated : (found : List Occurrence) → has found StaleIfError ≡ false → stated_once (seconds found StaleIfError) ≡ None
+none_stated : (found : List Occurrence) → directive_occurs found StaleIfError ≡ false → seconds_stated_once (seconds_of_directive found StaleIfError) ≡ None
 none_stated found h = rw (none_occurs found StaleIfError h) refl
 
-none_valid : (found : List Occurrence) → has found StaleIfError ≡ false → first_valid found StaleIfError ≡ None
+none_valid : (found : List Occurrence) → directive_occurs found StaleIfError ≡ false → first_valid found StaleIfError ≡ None
 none_valid found h = rw (none_occurs found StaleIfError h) refl
 
-module _ (policy : Policy) (response : Stored) (request : List Occurrence) (now most : ℕ) (silent : SaysNoLimit response request) (word : policy.stale_if_error ≡ Some most) where
+module _ (policy : Policy) (response : Stored) (request : List Occurrence) (now most : ℕ) (silent : StatesNoStaleLimit response request) (word : policy.stale_if_error ≡ Some most) where
   abbrev s : Situation
-  s = situation_on policy response request now
+  s = situation_of_stored policy response request now
 
-  limit_is : operator_limit s ≡ Some most
+  limit_is : stale_limit_of_operator s ≡ Some most
   limit_is =
       is_given policy response request now most (record { line_has = word; response_has_none = silent.response_has_none; request_has_none = silent.request_has_none })
 
-  past_by : (o : Option ℕ) (t : Bool) → o ≡ Some most → nat_lt most (staleness_at policy response now) ≡ t → is_past s o ≡ t
-  past_by o t h k = ap (is_past s) h ∙ k
+  past_by : (o : Option ℕ) (t : Bool) → o ≡ Some most → nat_lt most (staleness_at policy response now) ≡ t → is_past_stale_limit s o ≡ t
+  past_by o t h k = ap (is_past_stale_limit s) h ∙ k
 
-  pub limit_allows : staleness_at policy response now ≤ most → (against_on_error on_error.NoDirective s ≡ false) × (against_on_error on_error.TooStale s ≡ false)
+  pub limit_allows : staleness_at policy response now ≤ most → (error_rule_condition on_error.NoDirective s ≡ false) × (error_rule_condition on_error.TooStale s ≡ false)
   limit_allows within = (
-    last_absent (is_none (response_limit s) && is_none (request_limit s)) (is_none (operator_limit s)) (has_value (operator_limit s) most limit_is),
-    neither (is_past s (response_limit s) || is_past s (request_limit s)) (is_past s (operator_limit s))
-        (neither (is_past s (response_limit s)) (is_past s (request_limit s)) (ap (is_past s) (none_stated s.response silent.response_has_none)) (ap (is_past s) (none_valid s.request silent.request_has_none)))
-        (past_by (operator_limit s) false limit_is (is_not_below most (staleness_at policy response now) within)),
+    last_absent (is_none (stale_limit_of_response s) && is_none (stale_limit_of_request s)) (is_none (stale_limit_of_operator s)) (has_value (stale_limit_of_operator s) most limit_is),
+    neither (is_past_stale_limit s (stale_limit_of_response s) || is_past_stale_limit s (stale_limit_of_request s)) (is_past_stale_limit s (stale_limit_of_operator s))
+        (neither (is_past_stale_limit s (stale_limit_of_response s)) (is_past_stale_limit s (stale_limit_of_request s)) (ap (is_past_stale_limit s) (none_stated s.response silent.response_has_none)) (ap (is_past_stale_limit s) (none_valid s.request silent.request_has_none)))
+        (past_by (stale_limit_of_operator s) false limit_is (is_not_below most (staleness_at policy response now) within)),
   )
 
-  pub limit_ends : most < staleness_at policy response now → against_on_error on_error.TooStale s ≡ true
+  pub limit_ends : most < staleness_at policy response now → error_rule_condition on_error.TooStale s ≡ true
   limit_ends past =
-      or_right (is_past s (response_limit s) || is_past s (request_limit s)) (is_past s (operator_limit s))
-      (past_by (operator_limit s) true limit_is (is_below most (staleness_at policy response now) past))
+      or_right (is_past_stale_limit s (stale_limit_of_response s) || is_past_stale_limit s (stale_limit_of_request s)) (is_past_stale_limit s (stale_limit_of_operator s))
+      (past_by (stale_limit_of_operator s) true limit_is (is_below most (staleness_at policy response now) past))
 
 module _ (policy : Policy) (response : Stored) (request : List Occurrence) (now : ℕ) where
   abbrev with : Situation
-  with = situation_on policy response request now
+  with = situation_of_stored policy response request now
 
   abbrev without : Situation
-  without = situation_on (without_limit policy) response request now
+  without = situation_of_stored (policy_without_stale_limit policy) response request now
 
   one_says : (a b : Bool) (o p : Option ℕ) → (a ≡ true) ⊎ (b ≡ true) → cond (a || b) None o ≡ cond (a || b) None p
   one_says true b o p h = refl
@@ -265,14 +265,14 @@ module _ (policy : Policy) (response : Stored) (request : List Occurrence) (now 
   one_says false false o p (inl h) = absurd (never (sym h))
   one_says false false o p (inr h) = absurd (never (sym h))
 
-  same_limit : (has (occurrences_of response.fields) StaleIfError ≡ true) ⊎ (has request StaleIfError ≡ true) → operator_limit with ≡ operator_limit without
-  same_limit h = one_says (has (occurrences_of response.fields) StaleIfError) (has request StaleIfError) policy.stale_if_error None h
+  same_limit : (directive_occurs (occurrences_of response.fields) StaleIfError ≡ true) ⊎ (directive_occurs request StaleIfError ≡ true) → stale_limit_of_operator with ≡ stale_limit_of_operator without
+  same_limit h = one_says (directive_occurs (occurrences_of response.fields) StaleIfError) (directive_occurs request StaleIfError) policy.stale_if_error None h
 
-  same_error_rule : operator_limit with ≡ operator_limit without → (which : ErrorRule) → against_on_error which with ≡ against_on_error which without
-  same_error_rule h on_error.NoDirective = ap (λ (o : Option ℕ). (is_none (response_limit with) && is_none (request_limit with)) && is_none o) h
-  same_error_rule h on_error.TooStale = ap (λ (o : Option ℕ). (is_past with (response_limit with) || is_past with (request_limit with)) || is_past with o) h
+  same_error_rule : stale_limit_of_operator with ≡ stale_limit_of_operator without → (which : ErrorRule) → error_rule_condition which with ≡ error_rule_condition which without
+  same_error_rule h on_error.NoDirective = ap (λ (o : Option ℕ). (is_none (stale_limit_of_response with) && is_none (stale_limit_of_request with)) && is_none o) h
+  same_error_rule h on_error.TooStale = ap (λ (o : Option ℕ). (is_past_stale_limit with (stale_limit_of_response with) || is_past_stale_limit with (stale_limit_of_request with)) || is_past_stale_limit with o) h
   same_error_rule h which = refl
 
-  pub stated_limit_stays : (has (occurrences_of response.fields) StaleIfError ≡ true) ⊎ (has request StaleIfError ≡ true) → error_rule_on policy response request now ≡ error_rule_on (without_limit policy) response request now
+  pub stated_limit_stays : (directive_occurs (occurrences_of response.fields) StaleIfError ≡ true) ⊎ (directive_occurs request StaleIfError ≡ true) → error_rule_on policy response request now ≡ error_rule_on (policy_without_stale_limit policy) response request now
   unfolding error_rule_on
-  stated_limit_stays h = same_found (λ which. against_on_error which with) (λ which. against_on_error which without) error_rules (same_error_rule (same_limit h))
+  stated_limit_stays h = same_found (λ which. error_rule_condition which with) (λ which. error_rule_condition which without) error_rules (same_error_rule (same_limit h))

@@ -3,9 +3,9 @@ use Rattle.std.proofs.Common.{◌≡◌, ℕ, ◌<◌, ◌⊎◌, inl, inr, Bool
 use Rattle.std.specs.Prelude.{◌&&◌, Option, Some, None}
 use Rattle.std.specs.List.{Contains, list_all}
 use Rattle.std.proofs.lemmas.Slice.Eq.{bytes_eq-Decides}
-use Rattle.hx_fields.specs.Lines.{combined_of}
+use Rattle.hx_fields.specs.FieldLines.{combined_of}
 use Rattle.hx_directives.specs.Occurrences.{occurrences_of}
-use Rattle.hx_directives.specs.Answers.{has}
+use Rattle.hx_directives.specs.Answers.{directive_occurs}
 use Rattle.hx_directives.specs.declared.occurrences.Occurrence.{Occurrence}
 use Rattle.hx_directives.specs.declared.names.Directive.TheVariants.{NoCache}
 use Rattle.hx_age.specs.declared.lifetimes.Lifetime.{Lifetime}
@@ -18,8 +18,8 @@ use Rattle.hx_store.specs.Stored.{Stored}
 use Rattle.hx_policy.specs.declared.words.Policy.{Policy}
 use Rattle.hx_reuse.specs.Lifetimes.{lifetime_under}
 use Rattle.hx_reuse.specs.ErrorRules.{error_rule_on}
-use Rattle.hx_reuse.specs.Reusable.{MayBeReused, IsSentFresh, IsSentStale}
-use Rattle.hx_reuse.specs.Promises.{ForbidsStale, IsSent}
+use Rattle.hx_reuse.specs.Reusable.{ResponseMayBeReused, MayBeSentFresh, MayBeSentStale}
+use Rattle.hx_reuse.specs.Promises.{ResponseForbidsStale, ResponseIsSent}
 use Rattle.hx_fields.proofs.FirstThat.{IsMember}
 use Rattle.hx_reuse.proofs.Members.{distinct_entries}
 use Rattle.hx_fields.proofs.JoinedTests.{never}
@@ -48,12 +48,12 @@ passed p [] x h m = absurd m
 passed p (y ∷ ys) x h (inl same) = rw (← same) (left_true (p y) (list_all p ys) h)
 passed p (y ∷ ys) x h (inr m) = passed p ys x (right_true (p y) (list_all p ys) h) m
 
-module _ (policy : Policy) (held : List Stored) (asked : Asked) (now : ℕ) (response : Stored) (sent : IsSent policy held asked now response) where
-  reused : MayBeReused policy held asked now response
+module _ (policy : Policy) (held : List Stored) (asked : Asked) (now : ℕ) (response : Stored) (sent : ResponseIsSent policy held asked now response) where
+  reused : ResponseMayBeReused policy held asked now response
   reused =
       let r = reused_is_allowed policy held asked now response.serial sent.is_the_hit in
       let same : r.0 ≡ response = distinct_entries held sent.names_one r.0 response (member_contained held r.0 r.1.is_chosen.is_candidate.is_held) (member_contained held response sent.is_held) r.2 in
-      subst (λ (e : Stored). MayBeReused policy held asked now e) same r.1
+      subst (λ (e : Stored). ResponseMayBeReused policy held asked now e) same r.1
 
   pub same_values : (kept : NominatedValue) → Contains response.nominated kept → kept.value ≡ combined_of asked.fields kept.name
   same_values kept c =
@@ -63,24 +63,24 @@ module _ (policy : Policy) (held : List Stored) (asked : Asked) (now : ℕ) (res
   pub matches_the_kept : vary_matches response.nominated asked.fields ≡ true
   matches_the_kept = reused.is_chosen.is_candidate.has_the_values
 
-  fresh_of : IsSentFresh policy response asked now ⊎ IsSentStale policy response asked now → ForbidsStale response → age_of response.times now < (lifetime_under policy response.status response.fields).seconds
+  fresh_of : MayBeSentFresh policy response asked now ⊎ MayBeSentStale policy response asked now → ResponseForbidsStale response → age_of response.times now < (lifetime_under policy response.status response.fields).seconds
   fresh_of (inl fresh) forbids = fresh.is_fresh
   fresh_of (inr stale) (inl must) = absurd (never (sym must ∙ stale.no_must_revalidate))
   fresh_of (inr stale) (inr (inl proxy)) = absurd (never (sym proxy ∙ stale.no_proxy_revalidate))
   fresh_of (inr stale) (inr (inr shared)) = absurd (never (sym shared ∙ stale.no_s_maxage))
 
-  pub is_fresh : ForbidsStale response → age_of response.times now < (lifetime_under policy response.status response.fields).seconds
+  pub is_fresh : ResponseForbidsStale response → age_of response.times now < (lifetime_under policy response.status response.fields).seconds
   is_fresh forbids = fresh_of reused.fresh_or_stale forbids
 
-  pub keeps_its_own : ForbidsStale response → (lifetime_of response.fields).explicit ≡ true → age_of response.times now < (lifetime_of response.fields).seconds
+  pub keeps_its_own : ResponseForbidsStale response → (lifetime_of response.fields).explicit ≡ true → age_of response.times now < (lifetime_of response.fields).seconds
   keeps_its_own forbids stated =
       subst (λ (l : Lifetime). age_of response.times now < l.seconds) (stated_stays policy response.status response.fields stated) (is_fresh forbids)
 
-  pub has_no_no_cache : has (occurrences_of response.fields) NoCache ≡ true → ⊥
+  pub has_no_no_cache : directive_occurs (occurrences_of response.fields) NoCache ≡ true → ⊥
   has_no_no_cache h = never (sym h ∙ reused.no_no_cache)
 
 module _ (policy : Policy) (response : Stored) (request : List Occurrence) (now : ℕ) where
-  pub never_on_error : error_rule_on policy response request now ≡ None → (has (occurrences_of response.fields) NoCache ≡ true) ⊎ ForbidsStale response → ⊥
+  pub never_on_error : error_rule_on policy response request now ≡ None → (directive_occurs (occurrences_of response.fields) NoCache ≡ true) ⊎ ResponseForbidsStale response → ⊥
   never_on_error h (inl no_cache) = let may = sent_may_be policy response request now h in never (sym no_cache ∙ may.no_no_cache)
   never_on_error h (inr (inl must)) = let may = sent_may_be policy response request now h in never (sym must ∙ may.no_must_revalidate)
   never_on_error h (inr (inr (inl proxy))) = let may = sent_may_be policy response request now h in never (sym proxy ∙ may.no_proxy_revalidate)

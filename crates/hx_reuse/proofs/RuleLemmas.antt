@@ -11,8 +11,8 @@ use Rattle.hx_store.specs.Shelf.{serials_of}
 use Rattle.hx_reuse.specs.declared.decision.Decision.TheVariants.{Hit, Forward}
 use Rattle.hx_reuse.specs.declared.rule.ReuseRule.{ReuseRule}
 use Rattle.hx_reuse.specs.declared.rule.ReuseRule.TheVariants.{Operator, UriMiss, VaryMiss, ResponseNoCache, RequestNoCache, AboveMaxAge, BelowMinFresh, MustRevalidate, NoLifetime, StaleNoCache, NoMaxStale, PastMaxStale, StaleMaxAge, StaleMinFresh}
-use Rattle.hx_reuse.specs.Chosen.{of_key, chosen_of, latest}
-use Rattle.hx_reuse.specs.Rules.{against, situation, applies, is_some_and, request_rules, entry_rules, reuse_rule_of, names_entry, decided, decision_of}
+use Rattle.hx_reuse.specs.Chosen.{entries_of_key, chosen_of, most_recent}
+use Rattle.hx_reuse.specs.Rules.{rule_condition, situation_of_request, reuse_rule_applies, is_some_and, request_rules, rules_on_chosen, reuse_rule_of, names_chosen, decision_by_rule, decision_of}
 use Rattle.hx_fields.proofs.FirstThat.{IsMember}
 use Rattle.hx_reuse.proofs.Members.{AreSerialsOf, are_serials}
 
@@ -65,19 +65,19 @@ some_there [] e m = absurd m
 some_there (x ∷ xs) e m = grind (arith, common_steps)
 
 -- the serials of a key, none or some, and its entries
-pub none_of_key : (held : List Stored) (asked : Asked) (serials : List ℕ) → AreSerialsOf held asked serials → (length serials == 0) ≡ true → of_key held asked ≡ []
-none_of_key held asked [] are h = none_there (of_key held asked) are.none_missing
+pub none_of_key : (held : List Stored) (asked : Asked) (serials : List ℕ) → AreSerialsOf held asked serials → (length serials == 0) ≡ true → entries_of_key held asked ≡ []
+none_of_key held asked [] are h = none_there (entries_of_key held asked) are.none_missing
 none_of_key held asked (s ∷ ss) are h = absurd (not_empty s ss h)
   where
     not_empty : (s : ℕ) (ss : List ℕ) → (length (s ∷ ss) == 0) ≡ true → ⊥
     not_empty s ss h = grind (arith, common_steps)
 
-pub some_of_key : (held : List Stored) (asked : Asked) (serials : List ℕ) → AreSerialsOf held asked serials → (length serials == 0) ≡ false → (length (of_key held asked) == 0) ≡ false
+pub some_of_key : (held : List Stored) (asked : Asked) (serials : List ℕ) → AreSerialsOf held asked serials → (length serials == 0) ≡ false → (length (entries_of_key held asked) == 0) ≡ false
 some_of_key held asked [] are h = absurd cc
-some_of_key held asked (s ∷ ss) are h = let e = are.each_held s (inl refl) in some_there (of_key held asked) e.0 e.1
+some_of_key held asked (s ∷ ss) are h = let e = are.each_held s (inl refl) in some_there (entries_of_key held asked) e.0 e.1
 
 -- the same by the shelf's word, whether the key is held
-pub unheld : (held : List Stored) (asked : Asked) → not (length (serials_of asked.target.key held) == 0) ≡ false → of_key held asked ≡ []
+pub unheld : (held : List Stored) (asked : Asked) → not (length (serials_of asked.target.key held) == 0) ≡ false → entries_of_key held asked ≡ []
 unheld held asked h =
     let ss = serials_of asked.target.key held in
     none_of_key held asked ss (are_serials held asked ss refl) (turned (length ss == 0) h)
@@ -86,7 +86,7 @@ unheld held asked h =
     turned true h = refl
     turned false h = sym h
 
-pub key_held : (held : List Stored) (asked : Asked) → not (length (serials_of asked.target.key held) == 0) ≡ true → (length (of_key held asked) == 0) ≡ false
+pub key_held : (held : List Stored) (asked : Asked) → not (length (serials_of asked.target.key held) == 0) ≡ true → (length (entries_of_key held asked) == 0) ≡ false
 key_held held asked h =
     let ss = serials_of asked.target.key held in
     some_of_key held asked ss (are_serials held asked ss refl) (turned (length ss == 0) h)
@@ -96,21 +96,21 @@ key_held held asked h =
     turned false h = refl
 
 -- where a response is chosen the key is held
-pub chosen_key : (held : List Stored) (asked : Asked) (e : Stored) → chosen_of held asked ≡ Some e → (length (of_key held asked) == 0) ≡ false
-chosen_key held asked e h = at (of_key held asked) h
+pub chosen_key : (held : List Stored) (asked : Asked) (e : Stored) → chosen_of held asked ≡ Some e → (length (entries_of_key held asked) == 0) ≡ false
+chosen_key held asked e h = at (entries_of_key held asked) h
   where
-    at : (xs : List Stored) → latest (filter (λ x. vary_matches x.nominated asked.fields) xs) ≡ Some e → (length xs == 0) ≡ false
+    at : (xs : List Stored) → most_recent (filter (λ x. vary_matches x.nominated asked.fields) xs) ≡ Some e → (length xs == 0) ≡ false
     at [] k = absurd cc
     at (x ∷ xs) k = grind (arith, common_steps)
 
 -- the outcome at a rule below 7, at one from 7 on, and at none
-forward_low : (o : Option ReuseRule) (s : Option ℕ) (r : ReuseRule) → o ≡ Some r → names_entry r ≡ false → Forward r None ≡ decided o s
+forward_low : (o : Option ReuseRule) (s : Option ℕ) (r : ReuseRule) → o ≡ Some r → names_chosen r ≡ false → Forward r None ≡ decision_by_rule o s
 forward_low o s r h k = rw (h, k) refl
 
-forward_high : (o : Option ReuseRule) (s : Option ℕ) (r : ReuseRule) (n : ℕ) → o ≡ Some r → names_entry r ≡ true → s ≡ Some n → Forward r (Some n) ≡ decided o s
+forward_high : (o : Option ReuseRule) (s : Option ℕ) (r : ReuseRule) (n : ℕ) → o ≡ Some r → names_chosen r ≡ true → s ≡ Some n → Forward r (Some n) ≡ decision_by_rule o s
 forward_high o s r n h k l = rw (h, k, l) refl
 
-hit : (o : Option ReuseRule) (s : Option ℕ) (n : ℕ) → o ≡ None → s ≡ Some n → Hit n ≡ decided o s
+hit : (o : Option ReuseRule) (s : Option ℕ) (n : ℕ) → o ≡ None → s ≡ Some n → Hit n ≡ decision_by_rule o s
 hit o s n h k = rw (h, k) refl
 
 -- where the operator keeps the request from the store
@@ -118,7 +118,7 @@ pub by_operator : (policy : Policy) (held : List Stored) (asked : Asked) (now : 
 unfolding reuse_rule_of decision_of
 by_operator policy held asked now h =
     forward_low (reuse_rule_of policy held asked now) (option_map (λ e. e.serial) (chosen_of held asked)) Operator
-    (find_head (λ r. applies r policy held asked now) Operator (request_rules ++ (UriMiss ∷ VaryMiss ∷ entry_rules)) (ap not h)) refl
+    (find_head (λ r. reuse_rule_applies r policy held asked now) Operator (request_rules ++ (UriMiss ∷ VaryMiss ∷ rules_on_chosen)) (ap not h)) refl
 
 -- where the operator doesn't
 module _ (policy : Policy) (caches : policy.caches ≡ true) (held : List Stored) (asked : Asked) (now : ℕ) where
@@ -126,49 +126,49 @@ module _ (policy : Policy) (caches : policy.caches ≡ true) (held : List Stored
   serial_of = option_map (λ e. e.serial) (chosen_of held asked)
 
   -- the operator's rule doesn't stand
-  after_operator : reuse_rule_of policy held asked now ≡ find (λ r. applies r policy held asked now) (request_rules ++ (UriMiss ∷ VaryMiss ∷ entry_rules))
+  after_operator : reuse_rule_of policy held asked now ≡ find (λ r. reuse_rule_applies r policy held asked now) (request_rules ++ (UriMiss ∷ VaryMiss ∷ rules_on_chosen))
   unfolding reuse_rule_of
-  after_operator = find_skip (λ r. applies r policy held asked now) Operator (request_rules ++ (UriMiss ∷ VaryMiss ∷ entry_rules)) (ap not caches)
+  after_operator = find_skip (λ r. reuse_rule_applies r policy held asked now) Operator (request_rules ++ (UriMiss ∷ VaryMiss ∷ rules_on_chosen)) (ap not caches)
 
   -- a rule on the request alone
-  pub by_request : (rule : ReuseRule) → find (λ r. applies r policy held asked now) request_rules ≡ Some rule → Forward rule None ≡ decision_of policy held asked now
+  pub by_request : (rule : ReuseRule) → find (λ r. reuse_rule_applies r policy held asked now) request_rules ≡ Some rule → Forward rule None ≡ decision_of policy held asked now
   unfolding serial_of reuse_rule_of decision_of
   by_request rule h =
       forward_low (reuse_rule_of policy held asked now) serial_of rule
-      (after_operator ∙ find_front (λ r. applies r policy held asked now) request_rules (UriMiss ∷ VaryMiss ∷ entry_rules) rule h)
-      (find_each (λ r. names_entry r ≡ false) (λ r. applies r policy held asked now) request_rules rule (refl, (refl, (refl, (refl, tt)))) h)
+      (after_operator ∙ find_front (λ r. reuse_rule_applies r policy held asked now) request_rules (UriMiss ∷ VaryMiss ∷ rules_on_chosen) rule h)
+      (find_each (λ r. names_chosen r ≡ false) (λ r. reuse_rule_applies r policy held asked now) request_rules rule (refl, (refl, (refl, (refl, tt)))) h)
 
-  module _ (free : find (λ r. applies r policy held asked now) request_rules ≡ None) where
-    after_request : reuse_rule_of policy held asked now ≡ find (λ r. applies r policy held asked now) (UriMiss ∷ VaryMiss ∷ entry_rules)
+  module _ (free : find (λ r. reuse_rule_applies r policy held asked now) request_rules ≡ None) where
+    after_request : reuse_rule_of policy held asked now ≡ find (λ r. reuse_rule_applies r policy held asked now) (UriMiss ∷ VaryMiss ∷ rules_on_chosen)
     unfolding reuse_rule_of
-    after_request = after_operator ∙ find_rest (λ r. applies r policy held asked now) request_rules (UriMiss ∷ VaryMiss ∷ entry_rules) free
+    after_request = after_operator ∙ find_rest (λ r. reuse_rule_applies r policy held asked now) request_rules (UriMiss ∷ VaryMiss ∷ rules_on_chosen) free
 
     -- no entry of the key
-    pub by_uri : of_key held asked ≡ [] → Forward UriMiss None ≡ decision_of policy held asked now
+    pub by_uri : entries_of_key held asked ≡ [] → Forward UriMiss None ≡ decision_of policy held asked now
     unfolding serial_of reuse_rule_of decision_of
     by_uri h =
         forward_low (reuse_rule_of policy held asked now) serial_of UriMiss
-        (after_request ∙ find_head (λ r. applies r policy held asked now) UriMiss (VaryMiss ∷ entry_rules) (ap (λ xs. length xs == 0) h)) refl
+        (after_request ∙ find_head (λ r. reuse_rule_applies r policy held asked now) UriMiss (VaryMiss ∷ rules_on_chosen) (ap (λ xs. length xs == 0) h)) refl
 
-    module _ (some : (length (of_key held asked) == 0) ≡ false) where
-      after_uri : reuse_rule_of policy held asked now ≡ find (λ r. applies r policy held asked now) (VaryMiss ∷ entry_rules)
+    module _ (some : (length (entries_of_key held asked) == 0) ≡ false) where
+      after_uri : reuse_rule_of policy held asked now ≡ find (λ r. reuse_rule_applies r policy held asked now) (VaryMiss ∷ rules_on_chosen)
       unfolding reuse_rule_of
-      after_uri = after_request ∙ find_skip (λ r. applies r policy held asked now) UriMiss (VaryMiss ∷ entry_rules) some
+      after_uri = after_request ∙ find_skip (λ r. reuse_rule_applies r policy held asked now) UriMiss (VaryMiss ∷ rules_on_chosen) some
 
       -- none matches by Vary
       pub by_vary : chosen_of held asked ≡ None → Forward VaryMiss None ≡ decision_of policy held asked now
       unfolding serial_of reuse_rule_of decision_of
       by_vary h =
           forward_low (reuse_rule_of policy held asked now) serial_of VaryMiss
-          (after_uri ∙ find_head (λ r. applies r policy held asked now) VaryMiss entry_rules (ap is_none h)) refl
+          (after_uri ∙ find_head (λ r. reuse_rule_applies r policy held asked now) VaryMiss rules_on_chosen (ap is_none h)) refl
 
       module _ (e : Stored) (is : chosen_of held asked ≡ Some e) where
         -- the rules on the chosen entry
-        by_entry : reuse_rule_of policy held asked now ≡ find (λ r. against r (situation policy e asked now)) entry_rules
+        by_entry : reuse_rule_of policy held asked now ≡ find (λ r. rule_condition r (situation_of_request policy e asked now)) rules_on_chosen
         unfolding reuse_rule_of
         by_entry =
-            after_uri ∙ find_skip (λ r. applies r policy held asked now) VaryMiss entry_rules (ap is_none is)
-            ∙ find_same (λ r. applies r policy held asked now) (λ r. against r (situation policy e asked now)) entry_rules (
+            after_uri ∙ find_skip (λ r. reuse_rule_applies r policy held asked now) VaryMiss rules_on_chosen (ap is_none is)
+            ∙ find_same (λ r. reuse_rule_applies r policy held asked now) (λ r. rule_condition r (situation_of_request policy e asked now)) rules_on_chosen (
               at ResponseNoCache,
               (
                 at RequestNoCache,
@@ -191,17 +191,17 @@ module _ (policy : Policy) (caches : policy.caches ≡ true) (held : List Stored
               ),
             )
           where
-            at : (r : ReuseRule) → is_some_and (λ x. against r (situation policy x asked now)) (chosen_of held asked) ≡ against r (situation policy e asked now)
-            at r = ap (is_some_and (λ x. against r (situation policy x asked now))) is
+            at : (r : ReuseRule) → is_some_and (λ x. rule_condition r (situation_of_request policy x asked now)) (chosen_of held asked) ≡ rule_condition r (situation_of_request policy e asked now)
+            at r = ap (is_some_and (λ x. rule_condition r (situation_of_request policy x asked now))) is
 
-        pub by_rule : (rule : ReuseRule) → find (λ r. against r (situation policy e asked now)) entry_rules ≡ Some rule → Forward rule (Some e.serial) ≡ decision_of policy held asked now
+        pub by_rule : (rule : ReuseRule) → find (λ r. rule_condition r (situation_of_request policy e asked now)) rules_on_chosen ≡ Some rule → Forward rule (Some e.serial) ≡ decision_of policy held asked now
         unfolding serial_of reuse_rule_of decision_of
         by_rule rule h =
             forward_high (reuse_rule_of policy held asked now) serial_of rule e.serial (by_entry ∙ h)
-            (find_each (λ r. names_entry r ≡ true) (λ r. against r (situation policy e asked now)) entry_rules rule
+            (find_each (λ r. names_chosen r ≡ true) (λ r. rule_condition r (situation_of_request policy e asked now)) rules_on_chosen rule
             (refl, (refl, (refl, (refl, (refl, (refl, (refl, (refl, (refl, (refl, (refl, tt))))))))))) h)
             (ap (option_map (λ x. x.serial)) is)
 
-        pub by_none : find (λ r. against r (situation policy e asked now)) entry_rules ≡ None → Hit e.serial ≡ decision_of policy held asked now
+        pub by_none : find (λ r. rule_condition r (situation_of_request policy e asked now)) rules_on_chosen ≡ None → Hit e.serial ≡ decision_of policy held asked now
         unfolding serial_of reuse_rule_of decision_of
         by_none h = hit (reuse_rule_of policy held asked now) serial_of e.serial (by_entry ∙ h) (ap (option_map (λ x. x.serial)) is)

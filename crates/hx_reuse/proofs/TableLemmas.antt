@@ -8,12 +8,12 @@ use Rattle.hx_reuse.specs.declared.rule.ReuseRule.{ReuseRule}
 use Rattle.hx_reuse.specs.declared.rule.ReuseRule.TheVariants.{Operator, Method, Content, Range, Precondition, UriMiss, VaryMiss, ResponseNoCache, RequestNoCache, AboveMaxAge, BelowMinFresh, MustRevalidate, NoLifetime, StaleNoCache, NoMaxStale, PastMaxStale, StaleMaxAge, StaleMinFresh}
 use Rattle.hx_reuse.specs.declared.rule.ErrorRule.{ErrorRule}
 use Rattle.hx_reuse.specs.declared.rule.ErrorRule.TheVariants as on_error
-use Rattle.hx_reuse.specs.Words.{number_of, error_number_of}
-use Rattle.hx_reuse.specs.Rules.{Situation, against, applies_to_chosen, applies, reuse_rules, names_entry}
+use Rattle.hx_reuse.specs.RuleNames.{reuse_rule_number, error_rule_number}
+use Rattle.hx_reuse.specs.Rules.{Situation, rule_condition, rule_applies_to_chosen, reuse_rule_applies, reuse_rules, names_chosen}
 use Rattle.hx_reuse.specs.ErrorRules.{error_rules}
 use Rattle.hx_fields.proofs.JoinedTests.{never}
 
-pub each_is_listed : (rule : ReuseRule) → find (λ other. number_of other == number_of rule) reuse_rules ≡ Some rule
+pub each_is_listed : (rule : ReuseRule) → find (λ other. reuse_rule_number other == reuse_rule_number rule) reuse_rules ≡ Some rule
 each_is_listed Operator = refl
 each_is_listed Method = refl
 each_is_listed Content = refl
@@ -33,7 +33,7 @@ each_is_listed PastMaxStale = refl
 each_is_listed StaleMaxAge = refl
 each_is_listed StaleMinFresh = refl
 
-pub on_the_chosen : (rule : ReuseRule) (policy : Policy) (held : List Stored) (asked : Asked) (now : ℕ) → names_entry rule ≡ true → applies rule policy held asked now ≡ applies_to_chosen rule policy held asked now
+pub on_the_chosen : (rule : ReuseRule) (policy : Policy) (held : List Stored) (asked : Asked) (now : ℕ) → names_chosen rule ≡ true → reuse_rule_applies rule policy held asked now ≡ rule_applies_to_chosen rule policy held asked now
 on_the_chosen Operator policy held asked now h = absurd (never (sym h))
 on_the_chosen Method policy held asked now h = absurd (never (sym h))
 on_the_chosen Content policy held asked now h = absurd (never (sym h))
@@ -43,7 +43,7 @@ on_the_chosen UriMiss policy held asked now h = absurd (never (sym h))
 on_the_chosen VaryMiss policy held asked now h = absurd (never (sym h))
 on_the_chosen rule policy held asked now h = refl
 
-pub against_none : (rule : ReuseRule) (s : Situation) → names_entry rule ≡ false → against rule s ≡ false
+pub against_none : (rule : ReuseRule) (s : Situation) → names_chosen rule ≡ false → rule_condition rule s ≡ false
 against_none Operator s h = refl
 against_none Method s h = refl
 against_none Content s h = refl
@@ -53,7 +53,7 @@ against_none UriMiss s h = refl
 against_none VaryMiss s h = refl
 against_none rule s h = absurd (never h)
 
-pub each_error_rule_is_listed : (rule : ErrorRule) → find (λ other. error_number_of other == error_number_of rule) error_rules ≡ Some rule
+pub each_error_rule_is_listed : (rule : ErrorRule) → find (λ other. error_rule_number other == error_rule_number rule) error_rules ≡ Some rule
 each_error_rule_is_listed on_error.NoCache = refl
 each_error_rule_is_listed on_error.MustRevalidate = refl
 each_error_rule_is_listed on_error.NoLifetime = refl

@@ -9,21 +9,21 @@ use Rattle.hx_vary.specs.Vary.{kept_values}
 use Rattle.hx_hop.specs.declared.request_view.Asked.{Asked}
 use Rattle.hx_store.specs.Stored.{Stored}
 use Rattle.hx_policy.specs.declared.words.Policy.{Policy}
-use Rattle.hx_policy.specs.Words.{plain}
+use Rattle.hx_policy.specs.Policies.{plain}
 
 -- one Cache-Control line
-abbrev pub control : List ℕ → List Field
-control value = line (codes "Cache-Control") value ∷ []
+abbrev pub cache_control_fields : List ℕ → List Field
+cache_control_fields value = line (codes "Cache-Control") value ∷ []
 
-abbrev pub speaks : List ℕ → Field
-speaks value = line (codes "Accept-Language") value
+abbrev pub accept_language : List ℕ → Field
+accept_language value = line (codes "Accept-Language") value
 
 abbrev pub key_a : Key
 key_a = record { host = codes "h"; port = 80; path_query = codes "/a" }
 
 -- a GET of /a with these lines
-abbrev pub get : List Field → Asked
-get fields = record {
+abbrev pub get_a_with : List Field → Asked
+get_a_with fields = record {
   method = codes "GET";
   minor = 1;
   target = record { key = key_a; table_path = codes "/a" };
@@ -34,13 +34,13 @@ get fields = record {
 
 -- a GET of /b in German
 abbrev pub get_b : Asked
-get_b = record (get (speaks (codes "de") ∷ [])) {
+get_b = record (get_a_with (accept_language (codes "de") ∷ [])) {
   target = record { key = record { host = codes "h"; port = 80; path_query = codes "/b" }; table_path = codes "/b" };
 }
 
 -- a GET of /a with content
-abbrev pub get_with : List ℕ → List Field → Asked
-get_with content fields = record {
+abbrev pub get_a_with_content : List ℕ → List Field → Asked
+get_a_with_content content fields = record {
   method = codes "GET";
   minor = 1;
   target = record { key = key_a; table_path = codes "/a" };
@@ -62,39 +62,40 @@ stored_at moment request fields = record {
 }
 
 -- the one response that is held, stored at 0, with one Cache-Control line
-abbrev pub controlled : List ℕ → Stored
-controlled value = stored_at 0 [] (control value)
+abbrev pub stored_with_cache_control : List ℕ → Stored
+stored_with_cache_control value = stored_at 0 [] (cache_control_fields value)
 
-abbrev pub held : List ℕ → List Stored
-held value = controlled value ∷ []
+abbrev pub one_held_with_cache_control : List ℕ → List Stored
+one_held_with_cache_control value = stored_with_cache_control value ∷ []
 
 -- the one response that is held, of a minute, in German
-abbrev pub held_in_german : List Stored
-held_in_german = stored_at 0 (speaks (codes "de") ∷ []) (line (codes "Vary") (codes "Accept-Language") ∷ control (codes "max-age=60")) ∷ []
+abbrev pub one_held_in_german : List Stored
+one_held_in_german = stored_at 0 (accept_language (codes "de") ∷ []) (line (codes "Vary") (codes "Accept-Language")
+    ∷ cache_control_fields (codes "max-age=60")) ∷ []
 
 -- the one response that is held, with an entity tag alone
-abbrev pub held_with_tag : List Field → List Stored
-held_with_tag more = stored_at 0 [] (line (codes "ETag") (codes "\"e\"") ∷ more) ∷ []
+abbrev pub one_held_with_etag : List Field → List Stored
+one_held_with_etag more = stored_at 0 [] (line (codes "ETag") (codes "\"e\"") ∷ more) ∷ []
 
 -- the directives of a request with one Cache-Control line
-abbrev pub asks : List ℕ → List Occurrence
-asks value = occurrences_of (control value)
+abbrev pub request_directives : List ℕ → List Occurrence
+request_directives value = occurrences_of (cache_control_fields value)
 
 -- a line that caches and gives a lifetime, one that allows a staleness after an error, and one that
 -- heeds no advice of a request
-abbrev pub lasting : ℕ → Policy
-lasting n = record (plain true) { lifetime = Some n }
+abbrev pub lifetime_policy : ℕ → Policy
+lifetime_policy n = record (plain true) { lifetime = Some n }
 
-abbrev pub lenient : ℕ → Policy
-lenient n = record (plain true) { stale_if_error = Some n }
+abbrev pub stale_if_error_policy : ℕ → Policy
+stale_if_error_policy n = record (plain true) { stale_if_error = Some n }
 
-abbrev pub heedless : Policy
-heedless = record (plain true) { heeds_requests = false }
+abbrev pub ignore_directives_policy : Policy
+ignore_directives_policy = record (plain true) { heeds_requests = false }
 
 -- what is stored at 0 with these lines, of another status
-abbrev pub of_status : ℕ → List Field → Stored
-of_status status fields = record (stored_at 0 [] fields) { status = status }
+abbrev pub stored_with_status : ℕ → List Field → Stored
+stored_with_status status fields = record (stored_at 0 [] fields) { status = status }
 
 -- the one response that is held, of a status, without lines
-abbrev pub bare : ℕ → List Stored
-bare status = of_status status [] ∷ []
+abbrev pub one_held_of_status : ℕ → List Stored
+one_held_of_status status = stored_with_status status [] ∷ []

@@ -1,13 +1,13 @@
-pub mod Words
+pub mod RuleNames
 pub mod Chosen
 pub mod Lifetimes
 pub mod Rules
 pub mod ErrorRules
-pub mod Meaning
+pub mod ChosenAndNamed
 pub mod Reusable
 pub mod OnError
 pub mod Promises
 pub mod PlainLines
-pub mod LineWords
-pub mod Tables
+pub mod LineWordsInReuse
+pub mod RuleTables
 pub mod Cases

@@ -1,22 +1,23 @@
 -- How long a response is fresh under the words of the operator's line (RFC 9111, sections 4.2.1 and 4.2.2).
 --
--- given: what the operator gives a response that states none     lifetime_under: the lifetime under a policy
+-- lifetime_with_given: what the operator gives a response that states none
+-- lifetime_under: the lifetime under a policy
 use Rattle.std.specs.Prelude.{ℕ, if◌then◌else◌, true, List, Option, Some, None}
 use Rattle.hx_fields.specs.declared.field_line.Field.{Field}
 use Rattle.hx_directives.specs.Seconds.{capped}
 use Rattle.hx_age.specs.declared.lifetimes.Lifetime.{Lifetime}
 use Rattle.hx_age.specs.Lifetime.{lifetime_of}
 use Rattle.hx_policy.specs.declared.words.Policy.{Policy}
-use Rattle.hx_policy.specs.Words.{given_lifetime}
+use Rattle.hx_policy.specs.Policies.{given_lifetime}
 
 -- own: what the operator gives counts as if the response stated it, with the cap of all seconds
 -- (RFC 9111, section 1.2.2)
-abbrev pub given : Option ℕ → Lifetime → Lifetime
-given None lifetime = lifetime
-given (Some n) lifetime = record { explicit = true; seconds = capped n }
+abbrev pub lifetime_with_given : Option ℕ → Lifetime → Lifetime
+lifetime_with_given None lifetime = lifetime
+lifetime_with_given (Some n) lifetime = record { explicit = true; seconds = capped n }
 
 -- "a cache MAY assign a heuristic expiration time when an explicit time is not specified" (RFC 9111, section 4.2.2)
 abbrev pub lifetime_under : Policy → ℕ → List Field → Lifetime
 lifetime_under policy status fields =
     if (lifetime_of fields).explicit then lifetime_of fields
-    else given (given_lifetime policy status) (lifetime_of fields)
+    else lifetime_with_given (given_lifetime policy status) (lifetime_of fields)

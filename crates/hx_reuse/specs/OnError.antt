@@ -2,12 +2,13 @@
 -- other in place of an error, without the rules and their numbers (RFC 5861, section 4, and what
 -- RFC 9111, sections 4.2.4, 5.2.2.2, 5.2.2.4, 5.2.2.8 and 5.2.2.10 forbid to send stale).
 --
--- StatesLimit, AsksForLimit, GivesLimit: the staleness that each allows    MayBeSentOnError: all that is asked
--- IsLeastOnError: a rule that stands, and none before it
+-- ResponseStatesStaleLimit, RequestStatesStaleLimit, OperatorGivesStaleLimit: the staleness that each allows
+-- ResponseMayBeSentOnError: all that is asked
+-- IsLeastErrorRule: a rule that stands, and none before it
 -- Below them are the statements that the laws of `src/laws.rt` prove.
 use Rattle.std.specs.Prelude.{◌≡◌, ℕ, ◌-◌, ◌<◌, ◌≤◌, ◌⊎◌, true, false, List, Some, None}
 use Rattle.hx_directives.specs.Occurrences.{occurrences_of}
-use Rattle.hx_directives.specs.Answers.{has, seconds, first_valid}
+use Rattle.hx_directives.specs.Answers.{directive_occurs, seconds_of_directive, first_valid}
 use Rattle.hx_directives.specs.declared.occurrences.Occurrence.{Occurrence}
 use Rattle.hx_directives.specs.declared.names.Directive.TheVariants.{NoCache, MustRevalidate, ProxyRevalidate, SMaxage}
 use Rattle.hx_directives.specs.declared.names.Directive.TheVariants.{StaleIfError}
@@ -16,23 +17,24 @@ use Rattle.hx_age.specs.Age.{age_of}
 use Rattle.hx_store.specs.Stored.{Stored}
 use Rattle.hx_policy.specs.declared.words.Policy.{Policy}
 use Rattle.hx_reuse.specs.Lifetimes.{lifetime_under}
-use Rattle.hx_reuse.specs.Words.{error_number_of}
-use Rattle.hx_reuse.specs.ErrorRules.{situation_on, against_on_error, error_rule_on}
+use Rattle.hx_reuse.specs.RuleNames.{error_rule_number}
+use Rattle.hx_reuse.specs.ErrorRules.{situation_of_stored, error_rule_condition, error_rule_on}
 use Rattle.hx_reuse.specs.declared.rule.ErrorRule.{ErrorRule}
 
 -- the response has one stale-if-error, of so many seconds
-abbrev pub StatesLimit : Stored → ℕ → Type 0
-StatesLimit response most = seconds (occurrences_of response.fields) StaleIfError ≡ Value most
+abbrev pub ResponseStatesStaleLimit : Stored → ℕ → Type 0
+ResponseStatesStaleLimit response most = seconds_of_directive (occurrences_of response.fields) StaleIfError ≡ Value most
 
 -- the request's first valid stale-if-error has so many seconds
-abbrev pub AsksForLimit : List Occurrence → ℕ → Type 0
-AsksForLimit request most = first_valid request StaleIfError ≡ Some most
+abbrev pub RequestStatesStaleLimit : List Occurrence → ℕ → Type 0
+RequestStatesStaleLimit request most = first_valid request StaleIfError ≡ Some most
 
 -- own: the operator's line has so many seconds, and neither the response nor the request has a stale-if-error
-pub record GivesLimit (policy : Policy) (response : Stored) (request : List Occurrence) (most : ℕ) : Type 0 where
+pub record OperatorGivesStaleLimit (policy : Policy) (response : Stored) (request : List Occurrence)
+    (most : ℕ) : Type 0 where
   pub line_has : policy.stale_if_error ≡ Some most
-  pub response_has_none : has (occurrences_of response.fields) StaleIfError ≡ false
-  pub request_has_none : has request StaleIfError ≡ false
+  pub response_has_none : directive_occurs (occurrences_of response.fields) StaleIfError ≡ false
+  pub request_has_none : directive_occurs request StaleIfError ≡ false
 
 -- by how much the response is past its lifetime (RFC 9111, section 4.2)
 abbrev pub staleness_at : Policy → Stored → ℕ → ℕ
@@ -41,42 +43,45 @@ staleness_at policy response now =
 
 -- own: its lifetime is stated, or the operator gives it one; the request has no no-cache that is heeded; and each limit
 -- counts
-pub record MayBeSentOnError (policy : Policy) (response : Stored) (request : List Occurrence) (now : ℕ) : Type 0 where
-  pub no_no_cache : has (occurrences_of response.fields) NoCache ≡ false
-  pub no_must_revalidate : has (occurrences_of response.fields) MustRevalidate ≡ false
-  pub no_proxy_revalidate : has (occurrences_of response.fields) ProxyRevalidate ≡ false
-  pub no_s_maxage : has (occurrences_of response.fields) SMaxage ≡ false
+pub record ResponseMayBeSentOnError (policy : Policy) (response : Stored) (request : List Occurrence)
+    (now : ℕ) : Type 0 where
+  pub no_no_cache : directive_occurs (occurrences_of response.fields) NoCache ≡ false
+  pub no_must_revalidate : directive_occurs (occurrences_of response.fields) MustRevalidate ≡ false
+  pub no_proxy_revalidate : directive_occurs (occurrences_of response.fields) ProxyRevalidate ≡ false
+  pub no_s_maxage : directive_occurs (occurrences_of response.fields) SMaxage ≡ false
   pub has_a_lifetime : (lifetime_under policy response.status response.fields).explicit ≡ true
-  pub not_to_be_validated : policy.heeds_requests ≡ true → has request NoCache ≡ false
-  pub is_allowed : ((most : ℕ) × StatesLimit response most)
-      ⊎ (((most : ℕ) × AsksForLimit request most) ⊎ ((most : ℕ) × GivesLimit policy response request most))
-  pub within_its_limit : (most : ℕ) → StatesLimit response most → staleness_at policy response now ≤ most
-  pub within_the_requests : (most : ℕ) → AsksForLimit request most → staleness_at policy response now ≤ most
-  pub within_the_operators : (most : ℕ) → GivesLimit policy response request most
+  pub not_to_be_validated : policy.heeds_requests ≡ true → directive_occurs request NoCache ≡ false
+  pub is_allowed : ((most : ℕ) × ResponseStatesStaleLimit response most)
+      ⊎ (((most : ℕ) × RequestStatesStaleLimit request most) ⊎
+      ((most : ℕ) × OperatorGivesStaleLimit policy response request most))
+  pub within_its_limit : (most : ℕ) → ResponseStatesStaleLimit response most → staleness_at policy response now ≤ most
+  pub within_the_requests : (most : ℕ) → RequestStatesStaleLimit request most → staleness_at policy response now ≤ most
+  pub within_the_operators : (most : ℕ) → OperatorGivesStaleLimit policy response request most
       → staleness_at policy response now ≤ most
 
 -- the rule stands, and none of a smaller number does
-pub record IsLeastOnError (policy : Policy) (response : Stored) (request : List Occurrence) (now : ℕ)
+pub record IsLeastErrorRule (policy : Policy) (response : Stored) (request : List Occurrence) (now : ℕ)
     (least : ErrorRule) : Type 0 where
-  pub it_applies : against_on_error least (situation_on policy response request now) ≡ true
-  pub none_before : (other : ErrorRule) → error_number_of other < error_number_of least
-      → against_on_error other (situation_on policy response request now) ≡ false
+  pub it_applies : error_rule_condition least (situation_of_stored policy response request now) ≡ true
+  pub none_before : (other : ErrorRule) → error_rule_number other < error_rule_number least
+      → error_rule_condition other (situation_of_stored policy response request now) ≡ false
 
 -- ---- the statements
 
-abbrev pub SendsOnErrorWhatMayBeSent : Type 0
-SendsOnErrorWhatMayBeSent = (policy : Policy) (response : Stored) (request : List Occurrence) (now : ℕ) →
-    MayBeSentOnError policy response request now → error_rule_on policy response request now ≡ None
+abbrev pub WhatMayBeSentOnErrorIsSent : Type 0
+WhatMayBeSentOnErrorIsSent = (policy : Policy) (response : Stored) (request : List Occurrence) (now : ℕ) →
+    ResponseMayBeSentOnError policy response request now → error_rule_on policy response request now ≡ None
 
-abbrev pub SendsOnErrorNothingElse : Type 0
-SendsOnErrorNothingElse = (policy : Policy) (response : Stored) (request : List Occurrence) (now : ℕ) →
-    error_rule_on policy response request now ≡ None → MayBeSentOnError policy response request now
+abbrev pub NothingElseIsSentOnError : Type 0
+NothingElseIsSentOnError = (policy : Policy) (response : Stored) (request : List Occurrence) (now : ℕ) →
+    error_rule_on policy response request now ≡ None → ResponseMayBeSentOnError policy response request now
 
-abbrev pub NamesTheLeastOnError : Type 0
-NamesTheLeastOnError = (policy : Policy) (response : Stored) (request : List Occurrence) (now : ℕ) (least : ErrorRule) →
-    error_rule_on policy response request now ≡ Some least → IsLeastOnError policy response request now least
+abbrev pub LeastErrorRuleIsNamed : Type 0
+LeastErrorRuleIsNamed = (policy : Policy) (response : Stored) (request : List Occurrence) (now : ℕ)
+    (least : ErrorRule) →
+    error_rule_on policy response request now ≡ Some least → IsLeastErrorRule policy response request now least
 
-abbrev pub NamesOneThatAppliesOnError : Type 0
-NamesOneThatAppliesOnError =
+abbrev pub NamedErrorRuleApplies : Type 0
+NamedErrorRuleApplies =
     (policy : Policy) (response : Stored) (request : List Occurrence) (now : ℕ) (least : ErrorRule) →
-    IsLeastOnError policy response request now least → error_rule_on policy response request now ≡ Some least
+    IsLeastErrorRule policy response request now least → error_rule_on policy response request now ≡ Some least

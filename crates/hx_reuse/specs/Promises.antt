@@ -1,20 +1,20 @@
 -- What an origin can rely on once its response is stored, whatever the requests and the operator's
 -- line say: it follows from the rules.
 --
--- ForbidsStale: the response may not be sent stale    IsSent: it is the one that answers
+-- ResponseForbidsStale: the response may not be sent stale    ResponseIsSent: it is the one that answers
 -- Below them are the statements that the laws of `src/laws.rt` prove.
 use Rattle.std.specs.Prelude.{◌≡◌, ℕ, ◌<◌, ◌⊎◌, true, List, None}
 use Rattle.std.specs.List.{Contains}
-use Rattle.hx_fields.specs.Lines.{combined_of}
+use Rattle.hx_fields.specs.FieldLines.{combined_of}
 use Rattle.hx_fields.specs.declared.field_line.Field.{Field}
 use Rattle.hx_directives.specs.Occurrences.{occurrences_of}
-use Rattle.hx_directives.specs.Answers.{has}
+use Rattle.hx_directives.specs.Answers.{directive_occurs}
 use Rattle.hx_directives.specs.declared.occurrences.Occurrence.{Occurrence}
 use Rattle.hx_directives.specs.declared.names.Directive.TheVariants.{NoCache, MustRevalidate, ProxyRevalidate, SMaxage}
 use Rattle.hx_age.specs.Lifetime.{lifetime_of}
 use Rattle.hx_age.specs.Age.{age_of}
 use Rattle.hx_vary.specs.declared.nominated_values.NominatedValue.{NominatedValue}
-use Rattle.hx_vary.specs.Vary.{kept_values, selects_both}
+use Rattle.hx_vary.specs.Vary.{kept_values, both_select_alike}
 use Rattle.hx_hop.specs.declared.request_view.Asked.{Asked}
 use Rattle.hx_store.specs.Stored.{Stored}
 use Rattle.hx_policy.specs.declared.words.Policy.{Policy}
@@ -26,14 +26,15 @@ use Rattle.hx_reuse.specs.ErrorRules.{error_rule_on}
 use Rattle.hx_reuse.specs.declared.decision.Decision.TheVariants.{Hit}
 
 -- must-revalidate, proxy-revalidate or s-maxage (RFC 9111, sections 5.2.2.2, 5.2.2.8 and 5.2.2.10)
-abbrev pub ForbidsStale : Stored → Type 0
-ForbidsStale response =
-    (has (occurrences_of response.fields) MustRevalidate ≡ true)
-    ⊎ ((has (occurrences_of response.fields) ProxyRevalidate ≡ true)
-    ⊎ (has (occurrences_of response.fields) SMaxage ≡ true))
+abbrev pub ResponseForbidsStale : Stored → Type 0
+ResponseForbidsStale response =
+    (directive_occurs (occurrences_of response.fields) MustRevalidate ≡ true)
+    ⊎ ((directive_occurs (occurrences_of response.fields) ProxyRevalidate ≡ true)
+    ⊎ (directive_occurs (occurrences_of response.fields) SMaxage ≡ true))
 
 -- a held response answers the request without the origin; each serial names one response
-pub record IsSent (policy : Policy) (held : List Stored) (asked : Asked) (now : ℕ) (response : Stored) : Type 0 where
+pub record ResponseIsSent (policy : Policy) (held : List Stored) (asked : Asked) (now : ℕ)
+    (response : Stored) : Type 0 where
   pub names_one : Distinct (serials held)
   pub is_held : Contains held response
   pub is_the_hit : decision_of policy held asked now ≡ Hit response.serial
@@ -41,38 +42,39 @@ pub record IsSent (policy : Policy) (held : List Stored) (asked : Asked) (now : 
 -- ---- the statements
 
 -- the request has of each nominated field the value that the response was asked for with (RFC 9111, section 4.1)
-abbrev pub SendsNoOtherVariant : Type 0
-SendsNoOtherVariant = (policy : Policy) (held : List Stored) (asked : Asked) (now : ℕ) (response : Stored) →
-    IsSent policy held asked now response → (kept : NominatedValue) → Contains response.nominated kept →
+abbrev pub NoOtherVariantIsSent : Type 0
+NoOtherVariantIsSent = (policy : Policy) (held : List Stored) (asked : Asked) (now : ℕ) (response : Stored) →
+    ResponseIsSent policy held asked now response → (kept : NominatedValue) → Contains response.nominated kept →
     kept.value ≡ combined_of asked.fields kept.name
 
 -- so of a response that was stored with what its own request had, only a request gets it that has
 -- the same values of all that it nominates (RFC 9111, section 4.1)
-abbrev pub SendsNoOtherRequestsVariant : Type 0
-SendsNoOtherRequestsVariant =
+abbrev pub NoVariantOfAnotherRequestIsSent : Type 0
+NoVariantOfAnotherRequestIsSent =
     (policy : Policy) (held : List Stored) (asked : Asked) (now : ℕ) (response : Stored) (fields earlier : List Field) →
-    IsSent policy held asked now response → response.nominated ≡ kept_values fields earlier
-    → selects_both fields earlier asked.fields ≡ true
+    ResponseIsSent policy held asked now response → response.nominated ≡ kept_values fields earlier
+    → both_select_alike fields earlier asked.fields ≡ true
 
 -- one that forbids to be sent stale is fresh, for as long as it states or the operator gives it
-abbrev pub NeverSendsStaleAgainst : Type 0
-NeverSendsStaleAgainst = (policy : Policy) (held : List Stored) (asked : Asked) (now : ℕ) (response : Stored) →
-    IsSent policy held asked now response → ForbidsStale response
+abbrev pub NeverSentStaleWhereForbidden : Type 0
+NeverSentStaleWhereForbidden = (policy : Policy) (held : List Stored) (asked : Asked) (now : ℕ) (response : Stored) →
+    ResponseIsSent policy held asked now response → ResponseForbidsStale response
     → age_of response.times now < (lifetime_under policy response.status response.fields).seconds
 
 -- and where it states its lifetime no word of the operator's line lengthens that
-abbrev pub NeverOutlastsWhatItStates : Type 0
-NeverOutlastsWhatItStates = (policy : Policy) (held : List Stored) (asked : Asked) (now : ℕ) (response : Stored) →
-    IsSent policy held asked now response → ForbidsStale response → (lifetime_of response.fields).explicit ≡ true →
+abbrev pub NeverOutlastsItsStatedLifetime : Type 0
+NeverOutlastsItsStatedLifetime = (policy : Policy) (held : List Stored) (asked : Asked) (now : ℕ) (response : Stored) →
+    ResponseIsSent policy held asked now response → ResponseForbidsStale response →
+    (lifetime_of response.fields).explicit ≡ true →
     age_of response.times now < (lifetime_of response.fields).seconds
 
 -- one with no-cache is sent only once it was validated (RFC 9111, section 5.2.2.4)
-abbrev pub NeverSendsUnvalidated : Type 0
-NeverSendsUnvalidated = (policy : Policy) (held : List Stored) (asked : Asked) (now : ℕ) (response : Stored) →
-    IsSent policy held asked now response → has (occurrences_of response.fields) NoCache ≡ true → ⊥
+abbrev pub NeverSentUnvalidatedWithNoCache : Type 0
+NeverSentUnvalidatedWithNoCache = (policy : Policy) (held : List Stored) (asked : Asked) (now : ℕ) (response : Stored) →
+    ResponseIsSent policy held asked now response → directive_occurs (occurrences_of response.fields) NoCache ≡ true → ⊥
 
 -- nor is one of either kind sent in place of an error
-abbrev pub NeverSendsOnError : Type 0
-NeverSendsOnError = (policy : Policy) (response : Stored) (request : List Occurrence) (now : ℕ) →
+abbrev pub NeverSentOnErrorWhereForbidden : Type 0
+NeverSentOnErrorWhereForbidden = (policy : Policy) (response : Stored) (request : List Occurrence) (now : ℕ) →
     error_rule_on policy response request now ≡ None
-    → (has (occurrences_of response.fields) NoCache ≡ true) ⊎ ForbidsStale response → ⊥
+    → (directive_occurs (occurrences_of response.fields) NoCache ≡ true) ⊎ ResponseForbidsStale response → ⊥

@@ -1,93 +1,97 @@
 -- What a stored response and a request have to be, that the one may answer the other, in the order
 -- of the standard's list and without the rules and their numbers (RFC 9111, section 4).
 --
--- IsForTheCache: the request     IsSentFresh, IsSentStale: the two ways to be sent     MayBeReused: all of the list
+-- RequestIsForTheCache: the request
+-- MayBeSentFresh, MayBeSentStale: the two ways to be sent
+-- ResponseMayBeReused: all of the list
 use Rattle.std.specs.Prelude.{◌≡◌, ℕ, ◌+◌, ◌-◌, ◌<◌, ◌≤◌, ◌⊎◌, true, false, List, codes, Some, None}
 use Rattle.hx_directives.specs.Occurrences.{occurrences_of}
-use Rattle.hx_directives.specs.Answers.{has, first_valid, max_stale}
+use Rattle.hx_directives.specs.Answers.{directive_occurs, first_valid, max_stale}
 use Rattle.hx_directives.specs.declared.names.Directive.TheVariants.{NoCache, MaxAge, MinFresh, MustRevalidate}
 use Rattle.hx_directives.specs.declared.names.Directive.TheVariants.{ProxyRevalidate, SMaxage}
 use Rattle.hx_directives.specs.declared.answers.MaxStale.{MaxStale}
 use Rattle.hx_directives.specs.declared.answers.MaxStale.TheVariants.{Absent, Any, UpTo}
 use Rattle.hx_age.specs.Age.{age_of}
 use Rattle.hx_hop.specs.declared.request_view.Asked.{Asked}
-use Rattle.hx_hop.specs.Bypass.{has_content, asks_for_range, has_precondition}
+use Rattle.hx_hop.specs.Bypass.{request_has_content, asks_for_range, has_precondition}
 use Rattle.hx_store.specs.Stored.{Stored}
 use Rattle.hx_policy.specs.declared.words.Policy.{Policy}
 use Rattle.hx_store.specs.Serials.{Distinct}
 use Rattle.hx_store.specs.Shelf.{serials}
 use Rattle.hx_reuse.specs.Lifetimes.{lifetime_under}
-use Rattle.hx_reuse.specs.Meaning.{IsChosen}
+use Rattle.hx_reuse.specs.ChosenAndNamed.{ResponseIsChosen}
 use Rattle.hx_reuse.specs.Rules.{decision_of}
 use Rattle.hx_reuse.specs.declared.decision.Decision.TheVariants.{Hit}
 
 -- the request takes an answer from the store
 -- own: one with content, a range or a precondition that only the origin can judge takes none
-pub record IsForTheCache (asked : Asked) : Type 0 where
+pub record RequestIsForTheCache (asked : Asked) : Type 0 where
   pub method_allows : (asked.method ≡ codes "GET") ⊎ (asked.method ≡ codes "HEAD")
-  pub no_content : has_content asked ≡ false
+  pub no_content : request_has_content asked ≡ false
   pub no_range : asks_for_range asked ≡ false
   pub no_precondition : has_precondition asked ≡ false
 
 -- the response isn't older than the request's max-age allows (RFC 9111, section 5.2.1.1)
-abbrev pub IsWithinMaxAge : Stored → Asked → ℕ → Type 0
-IsWithinMaxAge response asked now =
+abbrev pub ResponseIsWithinMaxAge : Stored → Asked → ℕ → Type 0
+ResponseIsWithinMaxAge response asked now =
     (most : ℕ) → first_valid (occurrences_of asked.fields) MaxAge ≡ Some most → age_of response.times now ≤ most
 
 -- it stays fresh for as long as the request's min-fresh wants (RFC 9111, section 5.2.1.3)
-abbrev pub IsFreshForMinFresh : Policy → Stored → Asked → ℕ → Type 0
-IsFreshForMinFresh policy response asked now =
+abbrev pub ResponseIsFreshForMinFresh : Policy → Stored → Asked → ℕ → Type 0
+ResponseIsFreshForMinFresh policy response asked now =
     (least : ℕ) → first_valid (occurrences_of asked.fields) MinFresh ≡ Some least
     → age_of response.times now + least ≤ (lifetime_under policy response.status response.fields).seconds
 
 -- it is fresh, and the request takes it so (RFC 9111, sections 4.2 and 5.2.1)
 -- own: its no-cache, max-age and min-fresh count where the operator's line heeds them
-pub record IsSentFresh (policy : Policy) (response : Stored) (asked : Asked) (now : ℕ) : Type 0 where
+pub record MayBeSentFresh (policy : Policy) (response : Stored) (asked : Asked) (now : ℕ) : Type 0 where
   pub is_fresh : age_of response.times now < (lifetime_under policy response.status response.fields).seconds
-  pub not_to_be_validated : policy.heeds_requests ≡ true → has (occurrences_of asked.fields) NoCache ≡ false
-  pub within_max_age : policy.heeds_requests ≡ true → IsWithinMaxAge response asked now
-  pub fresh_for_min_fresh : policy.heeds_requests ≡ true → IsFreshForMinFresh policy response asked now
+  pub not_to_be_validated : policy.heeds_requests ≡ true → directive_occurs (occurrences_of asked.fields) NoCache
+      ≡ false
+  pub within_max_age : policy.heeds_requests ≡ true → ResponseIsWithinMaxAge response asked now
+  pub fresh_for_min_fresh : policy.heeds_requests ≡ true → ResponseIsFreshForMinFresh policy response asked now
 
 -- a request's max-stale takes a response that is so many seconds past its lifetime (RFC 9111, section 5.2.1.2)
-abbrev pub TakesStaleness : MaxStale → ℕ → Type 0
-TakesStaleness Absent n = ⊥
-TakesStaleness Any n = Unit {0}
-TakesStaleness (UpTo limit) n = n ≤ limit
+abbrev pub MaxStaleTakesStaleness : MaxStale → ℕ → Type 0
+MaxStaleTakesStaleness Absent n = ⊥
+MaxStaleTakesStaleness Any n = Unit {0}
+MaxStaleTakesStaleness (UpTo limit) n = n ≤ limit
 
 -- it is stale, doesn't forbid to be sent so, and the request takes it so (RFC 9111, sections 4.2.4, 5.2.1, 5.2.2.2,
 -- 5.2.2.8 and 5.2.2.10)
 -- own: its lifetime is stated, or the operator gives it one; none is guessed
-pub record IsSentStale (policy : Policy) (response : Stored) (asked : Asked) (now : ℕ) : Type 0 where
+pub record MayBeSentStale (policy : Policy) (response : Stored) (asked : Asked) (now : ℕ) : Type 0 where
   pub is_stale : (lifetime_under policy response.status response.fields).seconds ≤ age_of response.times now
-  pub no_must_revalidate : has (occurrences_of response.fields) MustRevalidate ≡ false
-  pub no_proxy_revalidate : has (occurrences_of response.fields) ProxyRevalidate ≡ false
-  pub no_s_maxage : has (occurrences_of response.fields) SMaxage ≡ false
+  pub no_must_revalidate : directive_occurs (occurrences_of response.fields) MustRevalidate ≡ false
+  pub no_proxy_revalidate : directive_occurs (occurrences_of response.fields) ProxyRevalidate ≡ false
+  pub no_s_maxage : directive_occurs (occurrences_of response.fields) SMaxage ≡ false
   pub has_a_lifetime : (lifetime_under policy response.status response.fields).explicit ≡ true
-  pub not_to_be_validated : policy.heeds_requests ≡ true → has (occurrences_of asked.fields) NoCache ≡ false
-  pub within_max_stale : TakesStaleness (max_stale (occurrences_of asked.fields))
+  pub not_to_be_validated : policy.heeds_requests ≡ true → directive_occurs (occurrences_of asked.fields) NoCache
+      ≡ false
+  pub within_max_stale : MaxStaleTakesStaleness (max_stale (occurrences_of asked.fields))
       (age_of response.times now - (lifetime_under policy response.status response.fields).seconds)
-  pub within_max_age : policy.heeds_requests ≡ true → IsWithinMaxAge response asked now
+  pub within_max_age : policy.heeds_requests ≡ true → ResponseIsWithinMaxAge response asked now
   pub no_min_fresh : policy.heeds_requests ≡ true → first_valid (occurrences_of asked.fields) MinFresh ≡ None
 
 -- all that is asked of a response which isn't validated first (RFC 9111, sections 4 and 5.2.2.4)
 -- own: the operator lets the request be answered from the store
-pub record MayBeReused (policy : Policy) (held : List Stored) (asked : Asked) (now : ℕ)
+pub record ResponseMayBeReused (policy : Policy) (held : List Stored) (asked : Asked) (now : ℕ)
     (response : Stored) : Type 0 where
   pub operator_allows : policy.caches ≡ true
-  pub is_chosen : IsChosen held asked response
-  pub request_allows : IsForTheCache asked
-  pub no_no_cache : has (occurrences_of response.fields) NoCache ≡ false
-  pub fresh_or_stale : IsSentFresh policy response asked now ⊎ IsSentStale policy response asked now
+  pub is_chosen : ResponseIsChosen held asked response
+  pub request_allows : RequestIsForTheCache asked
+  pub no_no_cache : directive_occurs (occurrences_of response.fields) NoCache ≡ false
+  pub fresh_or_stale : MayBeSentFresh policy response asked now ⊎ MayBeSentStale policy response asked now
 
 -- ---- the statements
 
-abbrev pub ReusesNothingElse : Type 0
-ReusesNothingElse = (policy : Policy) (held : List Stored) (asked : Asked) (now serial : ℕ) →
+abbrev pub NothingElseIsReused : Type 0
+NothingElseIsReused = (policy : Policy) (held : List Stored) (asked : Asked) (now serial : ℕ) →
     decision_of policy held asked now ≡ Hit serial
-    → (response : Stored) × MayBeReused policy held asked now response × (response.serial ≡ serial)
+    → (response : Stored) × ResponseMayBeReused policy held asked now response × (response.serial ≡ serial)
 
 -- where each serial names one response
-abbrev pub ReusesWhatMayBeReused : Type 0
-ReusesWhatMayBeReused = (policy : Policy) (held : List Stored) (asked : Asked) (now : ℕ) (response : Stored) →
-    Distinct (serials held) → MayBeReused policy held asked now response
+abbrev pub WhatMayBeReusedIsReused : Type 0
+WhatMayBeReusedIsReused = (policy : Policy) (held : List Stored) (asked : Asked) (now : ℕ) (response : Stored) →
+    Distinct (serials held) → ResponseMayBeReused policy held asked now response
     → decision_of policy held asked now ≡ Hit response.serial

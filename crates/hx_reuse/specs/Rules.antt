@@ -1,13 +1,13 @@
 -- Which rules keep a stored response from being sent (RFC 9111, sections 4 and 5.2.1), and which is the first.
 --
 -- Situation: what the rules on a chosen response read     asks_to_validate, above_max_age, below_min_fresh,
--- asks_for_freshness: what a request wants                against: the condition of each of these rules
--- applies: the condition of each rule                     reuse_rules: the rules by their numbers
+-- asks_for_freshness: what a request wants                rule_condition: the condition of each of these rules
+-- reuse_rule_applies: the condition of each rule                     reuse_rules: the rules by their numbers
 -- reuse_rule_of: the least that stands                   decision_of: what is done with a request
 use Rattle.std.specs.Prelude.{ℕ, ◌+◌, ◌==◌, nat_lt, if◌then◌else◌, Bool, true, false, not, ◌&&◌, ◌||◌, List, [], ◌∷◌}
 use Rattle.std.specs.Prelude.{length, find, codes, bytes_eq, Option, Some, None, is_some, is_none, option_map}
 use Rattle.hx_directives.specs.Occurrences.{occurrences_of}
-use Rattle.hx_directives.specs.Answers.{has, first_valid, max_stale}
+use Rattle.hx_directives.specs.Answers.{directive_occurs, first_valid, max_stale}
 use Rattle.hx_directives.specs.declared.occurrences.Occurrence.{Occurrence}
 use Rattle.hx_directives.specs.declared.names.Directive.TheVariants as directive
 use Rattle.hx_directives.specs.declared.answers.MaxStale.{MaxStale}
@@ -15,11 +15,11 @@ use Rattle.hx_directives.specs.declared.answers.MaxStale.TheVariants.{Absent, Up
 use Rattle.hx_age.specs.declared.lifetimes.Lifetime.{Lifetime}
 use Rattle.hx_age.specs.Age.{age_of, is_fresh_of, staleness_of}
 use Rattle.hx_hop.specs.declared.request_view.Asked.{Asked}
-use Rattle.hx_hop.specs.Bypass.{has_content, asks_for_range, has_precondition}
+use Rattle.hx_hop.specs.Bypass.{request_has_content, asks_for_range, has_precondition}
 use Rattle.hx_store.specs.Stored.{Stored}
 use Rattle.hx_policy.specs.declared.words.Policy.{Policy}
 use Rattle.hx_reuse.specs.Lifetimes.{lifetime_under}
-use Rattle.hx_reuse.specs.Chosen.{of_key, chosen_of}
+use Rattle.hx_reuse.specs.Chosen.{entries_of_key, chosen_of}
 use Rattle.hx_reuse.specs.declared.rule.ReuseRule.{ReuseRule}
 use Rattle.hx_reuse.specs.declared.rule.ReuseRule.TheVariants.{Operator, Method, Content, Range, Precondition, UriMiss}
 use Rattle.hx_reuse.specs.declared.rule.ReuseRule.TheVariants.{VaryMiss, ResponseNoCache, RequestNoCache, AboveMaxAge}
@@ -45,35 +45,35 @@ abbrev pub situation_at : Policy → Lifetime → ℕ → List Occurrence → Li
 situation_at policy lifetime age response request =
     record { policy = policy; lifetime = lifetime; age = age; response = response; request = request }
 
-abbrev pub situation : Policy → Stored → Asked → ℕ → Situation
-situation policy e asked now =
+abbrev pub situation_of_request : Policy → Stored → Asked → ℕ → Situation
+situation_of_request policy e asked now =
     situation_at policy (lifetime_under policy e.status e.fields) (age_of e.times now) (occurrences_of e.fields)
     (occurrences_of asked.fields)
 
-abbrev pub fresh : Situation → Bool
-fresh s = is_fresh_of s.lifetime s.age
+abbrev pub is_fresh_situation : Situation → Bool
+is_fresh_situation s = is_fresh_of s.lifetime s.age
 
 -- the response may not be sent stale (RFC 9111, sections 5.2.2.2, 5.2.2.8 and 5.2.2.10)
-abbrev pub must_revalidate : Situation → Bool
-must_revalidate s =
-    (has s.response directive.MustRevalidate || has s.response directive.ProxyRevalidate)
-    || has s.response directive.SMaxage
+abbrev pub may_not_be_sent_stale : Situation → Bool
+may_not_be_sent_stale s =
+    (directive_occurs s.response directive.MustRevalidate || directive_occurs s.response directive.ProxyRevalidate)
+    || directive_occurs s.response directive.SMaxage
 
 -- the request has no-cache (RFC 9111, section 5.2.1.4). That a request's directives count is own,
 -- and of no-cache, max-age and min-fresh the operator's to say: the standard calls them advisory
 -- (RFC 9111, section 5.2.1). Its max-stale, only-if-cached, no-store and stale-if-error count
 -- whatever the line says.
 abbrev pub asks_to_validate : Situation → Bool
-asks_to_validate s = s.policy.heeds_requests && has s.request directive.NoCache
+asks_to_validate s = s.policy.heeds_requests && directive_occurs s.request directive.NoCache
 
 -- the age is above the request's max-age (RFC 9111, section 5.2.1.1)
-abbrev pub above_max_age : Situation → Bool
-above_max_age s =
+abbrev pub is_above_max_age_limit : Situation → Bool
+is_above_max_age_limit s =
     s.policy.heeds_requests && is_some_and (λ most. nat_lt most s.age) (first_valid s.request directive.MaxAge)
 
 -- fresh for less than the request's min-fresh (RFC 9111, section 5.2.1.3)
-abbrev pub below_min_fresh : Situation → Bool
-below_min_fresh s =
+abbrev pub is_below_min_fresh_limit : Situation → Bool
+is_below_min_fresh_limit s =
     s.policy.heeds_requests && is_some_and (λ least. nat_lt s.lifetime.seconds (s.age + least))
     (first_valid s.request directive.MinFresh)
 
@@ -86,83 +86,85 @@ abbrev pub accepts_stale : MaxStale → Bool
 accepts_stale Absent = false
 accepts_stale _ = true
 
-abbrev pub past_limit : ℕ → MaxStale → Bool
-past_limit n (UpTo limit) = nat_lt limit n
-past_limit n _ = false
+abbrev pub is_past_max_stale : ℕ → MaxStale → Bool
+is_past_max_stale n (UpTo limit) = nat_lt limit n
+is_past_max_stale n _ = false
 
 -- the conditions of the rules on the chosen response
-abbrev pub against : ReuseRule → Situation → Bool
+abbrev pub rule_condition : ReuseRule → Situation → Bool
 -- RFC 9111, section 5.2.2.4
-against ResponseNoCache s = has s.response directive.NoCache
+rule_condition ResponseNoCache s = directive_occurs s.response directive.NoCache
 -- RFC 9111, section 5.2.1.4
-against RequestNoCache s = fresh s && asks_to_validate s
+rule_condition RequestNoCache s = is_fresh_situation s && asks_to_validate s
 -- RFC 9111, section 5.2.1.1
-against AboveMaxAge s = fresh s && above_max_age s
+rule_condition AboveMaxAge s = is_fresh_situation s && is_above_max_age_limit s
 -- RFC 9111, section 5.2.1.3
-against BelowMinFresh s = fresh s && below_min_fresh s
+rule_condition BelowMinFresh s = is_fresh_situation s && is_below_min_fresh_limit s
 -- RFC 9111, sections 5.2.2.2, 5.2.2.8 and 5.2.2.10
-against MustRevalidate s = not (fresh s) && must_revalidate s
+rule_condition MustRevalidate s = not (is_fresh_situation s) && may_not_be_sent_stale s
 -- own: what states no lifetime is never sent stale (RFC 9111, section 4.2.4 lets a cache send what isn't forbidden)
-against NoLifetime s = not (fresh s) && not s.lifetime.explicit
+rule_condition NoLifetime s = not (is_fresh_situation s) && not s.lifetime.explicit
 -- RFC 9111, section 5.2.1.4
-against StaleNoCache s = not (fresh s) && asks_to_validate s
+rule_condition StaleNoCache s = not (is_fresh_situation s) && asks_to_validate s
 -- RFC 9111, section 4.2.4
-against NoMaxStale s = not (fresh s) && not (accepts_stale (max_stale s.request))
+rule_condition NoMaxStale s = not (is_fresh_situation s) && not (accepts_stale (max_stale s.request))
 -- RFC 9111, section 5.2.1.2
-against PastMaxStale s = not (fresh s) && past_limit (staleness_of s.lifetime s.age) (max_stale s.request)
+rule_condition PastMaxStale s = not (is_fresh_situation s) && is_past_max_stale (staleness_of s.lifetime s.age)
+    (max_stale s.request)
 -- RFC 9111, section 5.2.1.1
-against StaleMaxAge s = not (fresh s) && above_max_age s
+rule_condition StaleMaxAge s = not (is_fresh_situation s) && is_above_max_age_limit s
 -- RFC 9111, section 5.2.1.3: what is stale isn't fresh for any time
-against StaleMinFresh s = not (fresh s) && asks_for_freshness s
+rule_condition StaleMinFresh s = not (is_fresh_situation s) && asks_for_freshness s
 -- these speak of no response
-against Operator s = false
-against Method s = false
-against Content s = false
-against Range s = false
-against Precondition s = false
-against UriMiss s = false
-against VaryMiss s = false
+rule_condition Operator s = false
+rule_condition Method s = false
+rule_condition Content s = false
+rule_condition Range s = false
+rule_condition Precondition s = false
+rule_condition UriMiss s = false
+rule_condition VaryMiss s = false
 
 -- a rule on the chosen response: one is chosen, and the condition of the rule holds of it
-abbrev pub applies_to_chosen : ReuseRule → Policy → List Stored → Asked → ℕ → Bool
-applies_to_chosen rule policy held asked now =
-    is_some_and (λ e. against rule (situation policy e asked now)) (chosen_of held asked)
+abbrev pub rule_applies_to_chosen : ReuseRule → Policy → List Stored → Asked → ℕ → Bool
+rule_applies_to_chosen rule policy held asked now =
+    is_some_and (λ e. rule_condition rule (situation_of_request policy e asked now)) (chosen_of held asked)
 
 -- the condition of each rule, under what the operator's line says of caching
-abbrev pub applies : ReuseRule → Policy → List Stored → Asked → ℕ → Bool
+abbrev pub reuse_rule_applies : ReuseRule → Policy → List Stored → Asked → ℕ → Bool
 -- own: what the operator keeps from the store
-applies Operator policy held asked now = not policy.caches
+reuse_rule_applies Operator policy held asked now = not policy.caches
 -- RFC 9111, section 4: the method of the request has to let a stored response answer it
-applies Method policy held asked now = not (bytes_eq asked.method (codes "GET") || bytes_eq asked.method (codes "HEAD"))
+reuse_rule_applies Method policy held asked now
+    = not (bytes_eq asked.method (codes "GET") || bytes_eq asked.method (codes "HEAD"))
 -- own: content of a GET or HEAD may change what it asks for
-applies Content policy held asked now = has_content asked
+reuse_rule_applies Content policy held asked now = request_has_content asked
 -- own: ranges are the origin's matter (RFC 9111, section 3.3 lets a cache be without them)
-applies Range policy held asked now = asks_for_range asked
+reuse_rule_applies Range policy held asked now = asks_for_range asked
 -- own: conditions of RFC 9111, section 4.3.2 that only the origin judges here
-applies Precondition policy held asked now = has_precondition asked
+reuse_rule_applies Precondition policy held asked now = has_precondition asked
 -- RFC 9111, sections 2 and 4
-applies UriMiss policy held asked now = length (of_key held asked) == 0
+reuse_rule_applies UriMiss policy held asked now = length (entries_of_key held asked) == 0
 -- RFC 9111, section 4.1
-applies VaryMiss policy held asked now = is_none (chosen_of held asked)
+reuse_rule_applies VaryMiss policy held asked now = is_none (chosen_of held asked)
 -- those on the chosen response
-applies ResponseNoCache policy held asked now = applies_to_chosen ResponseNoCache policy held asked now
-applies RequestNoCache policy held asked now = applies_to_chosen RequestNoCache policy held asked now
-applies AboveMaxAge policy held asked now = applies_to_chosen AboveMaxAge policy held asked now
-applies BelowMinFresh policy held asked now = applies_to_chosen BelowMinFresh policy held asked now
-applies MustRevalidate policy held asked now = applies_to_chosen MustRevalidate policy held asked now
-applies NoLifetime policy held asked now = applies_to_chosen NoLifetime policy held asked now
-applies StaleNoCache policy held asked now = applies_to_chosen StaleNoCache policy held asked now
-applies NoMaxStale policy held asked now = applies_to_chosen NoMaxStale policy held asked now
-applies PastMaxStale policy held asked now = applies_to_chosen PastMaxStale policy held asked now
-applies StaleMaxAge policy held asked now = applies_to_chosen StaleMaxAge policy held asked now
-applies StaleMinFresh policy held asked now = applies_to_chosen StaleMinFresh policy held asked now
+reuse_rule_applies ResponseNoCache policy held asked now = rule_applies_to_chosen ResponseNoCache policy held asked now
+reuse_rule_applies RequestNoCache policy held asked now = rule_applies_to_chosen RequestNoCache policy held asked now
+reuse_rule_applies AboveMaxAge policy held asked now = rule_applies_to_chosen AboveMaxAge policy held asked now
+reuse_rule_applies BelowMinFresh policy held asked now = rule_applies_to_chosen BelowMinFresh policy held asked now
+reuse_rule_applies MustRevalidate policy held asked now = rule_applies_to_chosen MustRevalidate policy held asked now
+reuse_rule_applies NoLifetime policy held asked now = rule_applies_to_chosen NoLifetime policy held asked now
+reuse_rule_applies StaleNoCache policy held asked now = rule_applies_to_chosen StaleNoCache policy held asked now
+reuse_rule_applies NoMaxStale policy held asked now = rule_applies_to_chosen NoMaxStale policy held asked now
+reuse_rule_applies PastMaxStale policy held asked now = rule_applies_to_chosen PastMaxStale policy held asked now
+reuse_rule_applies StaleMaxAge policy held asked now = rule_applies_to_chosen StaleMaxAge policy held asked now
+reuse_rule_applies StaleMinFresh policy held asked now = rule_applies_to_chosen StaleMinFresh policy held asked now
 
 -- the rules by their numbers
 abbrev pub request_rules : List ReuseRule
 request_rules = Method ∷ Content ∷ Range ∷ Precondition ∷ []
 
-abbrev pub entry_rules : List ReuseRule
-entry_rules =
+abbrev pub rules_on_chosen : List ReuseRule
+rules_on_chosen =
     ResponseNoCache ∷ RequestNoCache ∷ AboveMaxAge ∷ BelowMinFresh ∷ MustRevalidate ∷ NoLifetime ∷ StaleNoCache
     ∷ NoMaxStale ∷ PastMaxStale ∷ StaleMaxAge ∷ StaleMinFresh ∷ []
 
@@ -174,36 +176,36 @@ reuse_rules =
 
 -- the least rule that stands
 unfoldable pub reuse_rule_of : Policy → List Stored → Asked → ℕ → Option ReuseRule
-reuse_rule_of policy held asked now = find (λ rule. applies rule policy held asked now) reuse_rules
+reuse_rule_of policy held asked now = find (λ rule. reuse_rule_applies rule policy held asked now) reuse_rules
 
 -- the rule speaks of the chosen response
-abbrev pub names_entry : ReuseRule → Bool
-names_entry Operator = false
-names_entry Method = false
-names_entry Content = false
-names_entry Range = false
-names_entry Precondition = false
-names_entry UriMiss = false
-names_entry VaryMiss = false
-names_entry ResponseNoCache = true
-names_entry RequestNoCache = true
-names_entry AboveMaxAge = true
-names_entry BelowMinFresh = true
-names_entry MustRevalidate = true
-names_entry NoLifetime = true
-names_entry StaleNoCache = true
-names_entry NoMaxStale = true
-names_entry PastMaxStale = true
-names_entry StaleMaxAge = true
-names_entry StaleMinFresh = true
+abbrev pub names_chosen : ReuseRule → Bool
+names_chosen Operator = false
+names_chosen Method = false
+names_chosen Content = false
+names_chosen Range = false
+names_chosen Precondition = false
+names_chosen UriMiss = false
+names_chosen VaryMiss = false
+names_chosen ResponseNoCache = true
+names_chosen RequestNoCache = true
+names_chosen AboveMaxAge = true
+names_chosen BelowMinFresh = true
+names_chosen MustRevalidate = true
+names_chosen NoLifetime = true
+names_chosen StaleNoCache = true
+names_chosen NoMaxStale = true
+names_chosen PastMaxStale = true
+names_chosen StaleMaxAge = true
+names_chosen StaleMinFresh = true
 
 -- where no rule stands a response is chosen, so the last case never comes (law `a_hit_is_held`)
-abbrev pub decided : Option ReuseRule → Option ℕ → Decision
-decided (Some rule) serial = Forward rule (if names_entry rule then serial else None)
-decided None (Some serial) = Hit serial
-decided None None = Hit 0
+abbrev pub decision_by_rule : Option ReuseRule → Option ℕ → Decision
+decision_by_rule (Some rule) serial = Forward rule (if names_chosen rule then serial else None)
+decision_by_rule None (Some serial) = Hit serial
+decision_by_rule None None = Hit 0
 
 -- the chosen response is sent, or the request goes forward by the least rule; a rule on the chosen response names it
 unfoldable pub decision_of : Policy → List Stored → Asked → ℕ → Decision
 decision_of policy held asked now =
-    decided (reuse_rule_of policy held asked now) (option_map (λ e. e.serial) (chosen_of held asked))
+    decision_by_rule (reuse_rule_of policy held asked now) (option_map (λ e. e.serial) (chosen_of held asked))

@@ -2,23 +2,23 @@
 ghost use Rattle.std.specs.Prelude.{◌≡◌, option_copied};
 ghost use Rattle.std.specs.List.{filter_map};
 ghost use Rattle.hx_store.specs.Shelf.{find_entry};
-ghost use Rattle.hx_reuse.specs.Chosen.{comes_later, later, latest};
+ghost use Rattle.hx_reuse.specs.Chosen.{is_more_recent, more_recent_of, most_recent};
 
 use hx_store::{Entry, Shelf};
 
-fn comes_later(a: &Entry, b: &Entry) -> bool
-    ensures { result ≡ comes_later a.now b.now }
+fn is_more_recent(a: &Entry, b: &Entry) -> bool
+    ensures { result ≡ is_more_recent a.now b.now }
 {
     b.times.date < a.times.date || (b.times.date == a.times.date && b.serial < a.serial)
 }
 
-fn later<'a>(best: Option<&'a Entry>, entry: &'a Entry) -> Option<&'a Entry>
-    ensures { option_copied result ≡ later (option_copied best.entry) entry.now }
+fn more_recent_of<'a>(best: Option<&'a Entry>, entry: &'a Entry) -> Option<&'a Entry>
+    ensures { option_copied result ≡ more_recent_of (option_copied best.entry) entry.now }
 {
     match best {
         None => Some(entry),
         Some(best) => {
-            if comes_later(entry, best) {
+            if is_more_recent(entry, best) {
                 Some(entry)
             } else {
                 Some(best)
@@ -28,13 +28,13 @@ fn later<'a>(best: Option<&'a Entry>, entry: &'a Entry) -> Option<&'a Entry>
 }
 
 /// The latest of the held responses with these serials.
-pub(crate) fn latest_of<'a, S: Shelf>(shelf: &'a S, serials: &[u64]) -> Option<&'a Entry>
-    ensures { option_copied result ≡ latest (filter_map (λ s. find_entry s (S.entries shelf.now)) serials.now) }
+pub(crate) fn most_recent_of<'a, S: Shelf>(shelf: &'a S, serials: &[u64]) -> Option<&'a Entry>
+    ensures { option_copied result ≡ most_recent (filter_map (λ s. find_entry s (S.entries shelf.now)) serials.now) }
 {
     let mut best = None;
     for serial in serials {
         if let Some(entry) = shelf.peek(*serial) {
-            best = later(best, entry);
+            best = more_recent_of(best, entry);
         }
     }
     best

@@ -2,9 +2,9 @@
 //! 9111, section 4), under what the request's line of the operator's table says of caching.
 //!
 //! The rules and their order stand in `specs/Rules.antt`, those after an error in
-//! `specs/ErrorRules.antt`, their words in `specs/Words.antt`. What they come to, in the standards'
+//! `specs/ErrorRules.antt`, their words in `specs/RuleNames.antt`. What they come to, in the standards'
 //! own lists, is `specs/Reusable.antt` and `specs/OnError.antt`, what an origin can rely on
-//! `specs/Promises.antt`, and what the words of a line change `specs/LineWords.antt`; `laws` proves
+//! `specs/Promises.antt`, and what the words of a line change `specs/LineWordsInReuse.antt`; `laws` proves
 //! it. Nothing here reads a clock or changes a store.
 #![tactic(auto)]
 

@@ -3,13 +3,14 @@
 //! The rules and their order stand in `specs/ErrorRules.antt`. Which response is asked about, and that no rule stands
 //! that asks of the request alone, is the caller's matter.
 ghost use Rattle.std.specs.Prelude.{◌≡◌, ◌||◌, ◌&&◌, nat_lt, if◌then◌else◌, find, None, is_none};
-ghost use Rattle.hx_directives.specs.Answers.{has, seconds, first_valid};
+ghost use Rattle.hx_directives.specs.Answers.{directive_occurs, seconds_of_directive, first_valid};
 ghost use Rattle.hx_directives.specs.declared.names.Directive.TheVariants.{StaleIfError};
 ghost use Rattle.hx_reuse.specs.Rules.{is_some_and, situation_at};
-ghost use Rattle.hx_reuse.specs.ErrorRules.{stated_once, error_rules, against_on_error, error_rule_on, leave_on_error};
+ghost use Rattle.hx_reuse.specs.ErrorRules.{seconds_stated_once, error_rules, error_rule_condition, error_rule_on};
+ghost use Rattle.hx_reuse.specs.ErrorRules.{permission_on_error};
 
 use crate::lifetimes::lifetime_under;
-use crate::reuse_rules::{asks_to_validate, must_revalidate};
+use crate::reuse_rules::{asks_to_validate, may_not_be_sent_stale};
 use crate::rule::ErrorRule;
 use hx_age::{Lifetime, current_age, staleness};
 use hx_directives::{Directive, Directives, Seconds};
@@ -17,8 +18,8 @@ use hx_policy::Policy;
 use hx_store::Entry;
 
 /// The staleness that a response allows, in seconds.
-fn response_limit(response: &Directives) -> Option<u32>
-    ensures { result ≡ stated_once (seconds response.now StaleIfError) }
+fn stale_limit_of_response(response: &Directives) -> Option<u32>
+    ensures { result ≡ seconds_stated_once (seconds_of_directive response.now StaleIfError) }
 {
     match response.seconds(Directive::StaleIfError) {
         Seconds::Value(most) => Some(most),
@@ -27,9 +28,14 @@ fn response_limit(response: &Directives) -> Option<u32>
 }
 
 /// The staleness that the operator's line allows, in seconds, where neither the response nor the request says any.
-fn operator_limit(policy: Policy, response: &Directives, request: &Directives) -> Option<u32>
+fn stale_limit_of_operator(
+    policy: Policy,
+    response: &Directives,
+    request: &Directives,
+) -> Option<u32>
     ensures { result
-        ≡ (if has response.now StaleIfError || has request.now StaleIfError then None else policy.stale_if_error) }
+        ≡ (if directive_occurs response.now StaleIfError || directive_occurs request.now StaleIfError then None
+        else policy.stale_if_error) }
 {
     if response.has(Directive::StaleIfError) || request.has(Directive::StaleIfError) {
         None
@@ -38,7 +44,7 @@ fn operator_limit(policy: Policy, response: &Directives, request: &Directives) -
     }
 }
 
-fn is_past(stale_by: u32, limit: Option<u32>) -> bool
+fn is_past_stale_limit(stale_by: u32, limit: Option<u32>) -> bool
     ensures { result ≡ is_some_and (λ most. nat_lt most stale_by) limit }
 {
     match limit {
@@ -49,25 +55,29 @@ fn is_past(stale_by: u32, limit: Option<u32>) -> bool
 
 fn allows_no_staleness(policy: Policy, response: &Directives, request: &Directives) -> bool
     ensures { result
-        ≡ ((is_none (stated_once (seconds response.now StaleIfError)) && is_none (first_valid request.now StaleIfError))
-        && is_none (if has response.now StaleIfError || has request.now StaleIfError then None
+        ≡ ((is_none (seconds_stated_once (seconds_of_directive response.now StaleIfError)) && is_none
+        (first_valid request.now StaleIfError))
+        && is_none (if directive_occurs response.now StaleIfError || directive_occurs request.now StaleIfError then None
         else policy.stale_if_error)) }
 {
-    response_limit(response).is_none()
+    stale_limit_of_response(response).is_none()
         && request.first_valid(Directive::StaleIfError).is_none()
-        && operator_limit(policy, response, request).is_none()
+        && stale_limit_of_operator(policy, response, request).is_none()
 }
 
 /// Whether a response is staler than itself, the request or the operator's line allows.
 fn is_too_stale(policy: Policy, stale_by: u32, response: &Directives, request: &Directives) -> bool
-    ensures { result ≡ ((is_some_and (λ most. nat_lt most stale_by) (stated_once (seconds response.now StaleIfError))
+    ensures { result ≡
+        ((is_some_and (λ most. nat_lt most stale_by)
+        (seconds_stated_once (seconds_of_directive response.now StaleIfError))
         || is_some_and (λ most. nat_lt most stale_by) (first_valid request.now StaleIfError))
-        || is_some_and (λ most. nat_lt most stale_by) (if has response.now StaleIfError || has request.now StaleIfError
+        || is_some_and (λ most. nat_lt most stale_by) (if directive_occurs response.now StaleIfError
+        || directive_occurs request.now StaleIfError
         then None else policy.stale_if_error)) }
 {
-    is_past(stale_by, response_limit(response))
-        || is_past(stale_by, request.first_valid(Directive::StaleIfError))
-        || is_past(stale_by, operator_limit(policy, response, request))
+    is_past_stale_limit(stale_by, stale_limit_of_response(response))
+        || is_past_stale_limit(stale_by, request.first_valid(Directive::StaleIfError))
+        || is_past_stale_limit(stale_by, stale_limit_of_operator(policy, response, request))
 }
 
 /// The least rule on a response that would be sent in place of an error.
@@ -79,11 +89,11 @@ fn rule_on_error(
     request: &Directives,
 ) -> Option<ErrorRule>
     ensures { result
-        ≡ find (λ r. against_on_error r (situation_at policy lifetime age response.now request.now)) error_rules }
+        ≡ find (λ r. error_rule_condition r (situation_at policy lifetime age response.now request.now)) error_rules }
 {
     if response.has(Directive::NoCache) {
         Some(ErrorRule::NoCache)
-    } else if must_revalidate(response) {
+    } else if may_not_be_sent_stale(response) {
         Some(ErrorRule::MustRevalidate)
     } else if !lifetime.explicit {
         Some(ErrorRule::NoLifetime)
@@ -122,7 +132,7 @@ pub fn may_serve_on_error(
     now: u64,
     policy: Policy,
 ) -> Result<(), ErrorRule>
-    ensures { result ≡ leave_on_error policy entry.now asked_directives.now now }
+    ensures { result ≡ permission_on_error policy entry.now asked_directives.now now }
 {
     match rule_on(asked_directives, entry, now, policy) {
         Some(rule) => Err(rule),

@@ -1,15 +1,16 @@
 //! The least rule against a request, and against the response that was chosen for it.
 ghost use Rattle.std.specs.Prelude.{◌≡◌, ℕ, List, false, find, ◌&&◌, ◌||◌, nat_lt, ◌+◌, is_some};
 ghost use Rattle.hx_directives.specs.Occurrences.{occurrences_of};
-ghost use Rattle.hx_directives.specs.Answers.{first_valid, has, max_stale};
+ghost use Rattle.hx_directives.specs.Answers.{first_valid, directive_occurs, max_stale};
 ghost use Rattle.hx_directives.specs.declared.names.Directive.TheVariants.{MaxAge, MinFresh, NoCache, MustRevalidate};
 ghost use Rattle.hx_directives.specs.declared.names.Directive.TheVariants.{ProxyRevalidate, SMaxage};
 ghost use Rattle.hx_age.specs.Age.{is_fresh_of, staleness_of};
 ghost use Rattle.hx_store.specs.Stored.{Stored};
 ghost use Rattle.hx_policy.specs.declared.words.Policy.{Policy as Words};
-ghost use Rattle.hx_reuse.specs.Rules.{is_some_and, against, applies, past_limit, accepts_stale, situation_at};
-ghost use Rattle.hx_reuse.specs.Rules.{situation};
-ghost use Rattle.hx_reuse.specs.Rules.{request_rules, entry_rules};
+ghost use Rattle.hx_reuse.specs.Rules.{is_some_and, rule_condition, reuse_rule_applies, is_past_max_stale};
+ghost use Rattle.hx_reuse.specs.Rules.{accepts_stale, situation_at};
+ghost use Rattle.hx_reuse.specs.Rules.{situation_of_request};
+ghost use Rattle.hx_reuse.specs.Rules.{request_rules, rules_on_chosen};
 
 use crate::lifetimes::lifetime_under;
 use crate::rule::ReuseRule;
@@ -22,7 +23,7 @@ use hx_store::Entry;
 /// The least rule on the request alone.
 pub(crate) fn request_rule(asked: &Asked) -> Option<ReuseRule>
     ensures { (policy : Words) (held : List Stored) (now : ℕ)
-        → result ≡ find (λ r. applies r policy held asked.now now) request_rules }
+        → result ≡ find (λ r. reuse_rule_applies r policy held asked.now now) request_rules }
 {
     if asked.method.as_str() != "GET" && asked.method.as_str() != "HEAD" {
         return Some(ReuseRule::Method);
@@ -41,7 +42,7 @@ pub(crate) fn request_rule(asked: &Asked) -> Option<ReuseRule>
 
 /// Whether a request has no-cache, where the operator's line heeds it.
 pub(crate) fn asks_to_validate(policy: Policy, request: &Directives) -> bool
-    ensures { result ≡ (policy.heeds_requests && has request.now NoCache) }
+    ensures { result ≡ (policy.heeds_requests && directive_occurs request.now NoCache) }
 {
     policy.heeds_requests && request.has(Directive::NoCache)
 }
@@ -51,10 +52,10 @@ fn is_above_max_age(policy: Policy, age: u32, request: &Directives) -> bool
     ensures { result
         ≡ (policy.heeds_requests && is_some_and (λ most. nat_lt most age) (first_valid request.now MaxAge)) }
 {
-    policy.heeds_requests && is_above(age, request)
+    policy.heeds_requests && is_above_max_age_of(age, request)
 }
 
-fn is_above(age: u32, request: &Directives) -> bool
+fn is_above_max_age_of(age: u32, request: &Directives) -> bool
     ensures { result ≡ is_some_and (λ most. nat_lt most age) (first_valid request.now MaxAge) }
 {
     match request.first_valid(Directive::MaxAge) {
@@ -68,10 +69,10 @@ fn is_below_min_fresh(policy: Policy, lifetime: Lifetime, age: u32, request: &Di
     ensures { result ≡ (policy.heeds_requests
         && is_some_and (λ least. nat_lt lifetime.seconds (age + least)) (first_valid request.now MinFresh)) }
 {
-    policy.heeds_requests && is_below(lifetime, age, request)
+    policy.heeds_requests && is_below_min_fresh_of(lifetime, age, request)
 }
 
-fn is_below(lifetime: Lifetime, age: u32, request: &Directives) -> bool
+fn is_below_min_fresh_of(lifetime: Lifetime, age: u32, request: &Directives) -> bool
     ensures { result ≡ is_some_and (λ least. nat_lt lifetime.seconds (age + least)) (first_valid request.now MinFresh) }
 {
     match request.first_valid(Directive::MinFresh) {
@@ -88,7 +89,7 @@ fn asks_for_freshness(policy: Policy, request: &Directives) -> bool
 }
 
 fn is_past_limit(lifetime: Lifetime, age: u32, request: &Directives) -> bool
-    ensures { result ≡ past_limit (staleness_of lifetime age) (max_stale request.now) }
+    ensures { result ≡ is_past_max_stale (staleness_of lifetime age) (max_stale request.now) }
 {
     match request.max_stale() {
         MaxStale::UpTo(limit) => limit < staleness(lifetime, age),
@@ -103,9 +104,10 @@ fn accepts_stale(request: &Directives) -> bool
     request.max_stale() != MaxStale::Absent
 }
 
-pub(crate) fn must_revalidate(response: &Directives) -> bool
+pub(crate) fn may_not_be_sent_stale(response: &Directives) -> bool
     ensures { result
-        ≡ ((has response.now MustRevalidate || has response.now ProxyRevalidate) || has response.now SMaxage) }
+        ≡ ((directive_occurs response.now MustRevalidate || directive_occurs response.now ProxyRevalidate)
+        || directive_occurs response.now SMaxage) }
 {
     response.has(Directive::MustRevalidate)
         || response.has(Directive::ProxyRevalidate)
@@ -120,7 +122,8 @@ fn rule_against(
     response: &Directives,
     request: &Directives,
 ) -> Option<ReuseRule>
-    ensures { result ≡ find (λ r. against r (situation_at policy lifetime age response.now request.now)) entry_rules }
+    ensures { result ≡ find
+        (λ r. rule_condition r (situation_at policy lifetime age response.now request.now)) rules_on_chosen }
 {
     if response.has(Directive::NoCache) {
         return Some(ReuseRule::ResponseNoCache);
@@ -149,11 +152,12 @@ fn stale_rule(
     response: &Directives,
     request: &Directives,
 ) -> Option<ReuseRule>
-    requires validated_not { has response.now NoCache ≡ false }
+    requires validated_not { directive_occurs response.now NoCache ≡ false }
     requires stale { is_fresh_of lifetime age ≡ false }
-    ensures { result ≡ find (λ r. against r (situation_at policy lifetime age response.now request.now)) entry_rules }
+    ensures { result ≡ find
+        (λ r. rule_condition r (situation_at policy lifetime age response.now request.now)) rules_on_chosen }
 {
-    if must_revalidate(response) {
+    if may_not_be_sent_stale(response) {
         return Some(ReuseRule::MustRevalidate);
     }
     if !lifetime.explicit {
@@ -186,7 +190,8 @@ pub(crate) fn rule_on(
     policy: Policy,
 ) -> Option<ReuseRule>
     requires { asked_directives.now ≡ occurrences_of asked.now.fields }
-    ensures { result ≡ find (λ r. against r (situation policy entry.now asked.now now)) entry_rules }
+    ensures { result ≡ find
+        (λ r. rule_condition r (situation_of_request policy entry.now asked.now now)) rules_on_chosen }
 {
     let lifetime = lifetime_under(policy, entry.status, &entry.fields, &entry.directives);
     let age = current_age(&entry.times, now);

@@ -1,6 +1,7 @@
 //! The rules that keep a stored response from being sent, by their numbers, and the words that name them.
 ghost use Rattle.std.specs.Prelude.{◌≡◌, option_copied};
-ghost use Rattle.hx_reuse.specs.Words.{number_of, reason_of, detail_of, error_number_of, error_word_of};
+ghost use Rattle.hx_reuse.specs.RuleNames.{reuse_rule_number, reuse_rule_reason, reuse_rule_detail, error_rule_number};
+ghost use Rattle.hx_reuse.specs.RuleNames.{error_rule_word};
 
 /// A rule against sending a stored response (RFC 9111, sections 4 and 5.2.1), in the order in which they are asked.
 #[derive(Clone, Copy, Debug, PartialEq, Eq)]
@@ -47,14 +48,14 @@ pub enum ReuseRule {
 impl ReuseRule {
     /// The number, from 0.
     pub fn number(self) -> u8
-        ensures { result ≡ number_of self }
+        ensures { result ≡ reuse_rule_number self }
     {
         self as u8
     }
 
     /// The reason that Cache-Status names (RFC 9211, section 2.2).
     pub fn reason(self) -> &'static str
-        ensures { result.now ≡ reason_of self }
+        ensures { result.now ≡ reuse_rule_reason self }
     {
         match self {
             ReuseRule::Method => "method",
@@ -78,7 +79,7 @@ impl ReuseRule {
 
     /// The detail that tells it from the other rules of its reason (RFC 9211, section 2.8), if it needs one.
     pub fn detail(self) -> Option<&'static str>
-        ensures { option_copied result ≡ detail_of self }
+        ensures { option_copied result ≡ reuse_rule_detail self }
     {
         match self {
             ReuseRule::Method | ReuseRule::UriMiss | ReuseRule::VaryMiss | ReuseRule::NoMaxStale =>
@@ -119,14 +120,14 @@ pub enum ErrorRule {
 impl ErrorRule {
     /// The number, from 1.
     pub fn number(self) -> u8
-        ensures { result ≡ error_number_of self }
+        ensures { result ≡ error_rule_number self }
     {
         self as u8
     }
 
     /// The word that an answer names it by.
     pub fn word(self) -> &'static str
-        ensures { result.now ≡ error_word_of self }
+        ensures { result.now ≡ error_rule_word self }
     {
         match self {
             ErrorRule::NoCache => "no-cache",

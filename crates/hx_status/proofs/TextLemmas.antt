@@ -5,21 +5,21 @@ use Rattle.std.proofs.lemmas.Bool.Decides.{nat_tests}
 use Rattle.hx_reuse.specs.declared.rule.ReuseRule.{ReuseRule}
 use Rattle.hx_reuse.specs.declared.rule.ReuseRule.TheVariants.{Operator, Method, Content, Range, Precondition, UriMiss, VaryMiss, ResponseNoCache, RequestNoCache, AboveMaxAge, BelowMinFresh, MustRevalidate, NoLifetime, StaleNoCache, NoMaxStale, PastMaxStale, StaleMaxAge, StaleMinFresh}
 use Rattle.hx_reuse.specs.Rules.{reuse_rules}
-use Rattle.hx_framing.specs.declared.fault.FrameFault.{FrameFault}
-use Rattle.hx_framing.specs.declared.fault.FrameFault.TheVariants as frame
-use Rattle.hx_target.specs.declared.faults.TargetFault.{TargetFault}
-use Rattle.hx_target.specs.declared.faults.TargetFault.TheVariants as target
+use Rattle.hx_framing.specs.declared.frame_fault.FrameFault.{FrameFault}
+use Rattle.hx_framing.specs.declared.frame_fault.FrameFault.TheVariants as frame
+use Rattle.hx_target.specs.declared.target_fault.TargetFault.{TargetFault}
+use Rattle.hx_target.specs.declared.target_fault.TargetFault.TheVariants as target
 use Rattle.hx_status.specs.declared.cause.FailKind.{FailKind}
 use Rattle.hx_status.specs.declared.cause.FailKind.TheVariants as kind
-use Rattle.hx_status.specs.Refusals.{IsOfTheTable, frame_word, kind_word, rule_text, status_of, target_word}
+use Rattle.hx_status.specs.Refusals.{CauseIsOfTheTable, frame_word, fail_kind_word, reuse_rule_text, refusal_status, target_word}
 use Rattle.hx_status.specs.declared.cause.Cause.{Cause}
 use Rattle.hx_status.specs.declared.cause.Cause.TheVariants.{Denied, NoLine, OnlyIfCached, Origin, Frame, Target}
 
 -- the rule that has this text
 named_by : List ℕ → Option ReuseRule
-named_by text = find (λ r. bytes_eq (rule_text r) text) reuse_rules
+named_by text = find (λ r. bytes_eq (reuse_rule_text r) text) reuse_rules
 
-named : (r : ReuseRule) → named_by (rule_text r) ≡ Some r
+named : (r : ReuseRule) → named_by (reuse_rule_text r) ≡ Some r
 unfolding named_by
 named Operator = refl
 named Method = refl
@@ -43,7 +43,7 @@ named StaleMinFresh = refl
 same_rule : (r q : ReuseRule) → ◌≡◌ {A = Option ReuseRule} (Some r) (Some q) → r ≡ q
 same_rule r q h = cc
 
-pub texts_differ : (r q : ReuseRule) → rule_text r ≡ rule_text q → r ≡ q
+pub texts_differ : (r q : ReuseRule) → reuse_rule_text r ≡ reuse_rule_text q → r ≡ q
 texts_differ r q h = same_rule r q (sym (named r) ∙ ap named_by h ∙ named q)
 
 every_frame : List FrameFault
@@ -102,9 +102,9 @@ every_kind = kind.Refused ∷ kind.TimedOut ∷ kind.Closed ∷ kind.BadAnswer �
 
 -- the kind that has this word
 kind_by : List ℕ → Option FailKind
-kind_by text = find (λ x. bytes_eq (kind_word x) text) every_kind
+kind_by text = find (λ x. bytes_eq (fail_kind_word x) text) every_kind
 
-kind_named : (x : FailKind) → kind_by (kind_word x) ≡ Some x
+kind_named : (x : FailKind) → kind_by (fail_kind_word x) ≡ Some x
 unfolding kind_by every_kind
 kind_named kind.Refused = refl
 kind_named kind.TimedOut = refl
@@ -115,7 +115,7 @@ kind_named kind.TooLarge = refl
 same_kind : (x y : FailKind) → ◌≡◌ {A = Option FailKind} (Some x) (Some y) → x ≡ y
 same_kind x y h = cc
 
-pub kind_words_differ : (x y : FailKind) → kind_word x ≡ kind_word y → x ≡ y
+pub kind_words_differ : (x y : FailKind) → fail_kind_word x ≡ fail_kind_word y → x ≡ y
 kind_words_differ x y h = same_kind x y (sym (kind_named x) ∙ ap kind_by h ∙ kind_named y)
 
 -- ---- the statuses
@@ -123,35 +123,35 @@ kind_words_differ x y h = same_kind x y (sym (kind_named x) ∙ ap kind_by h ∙
 not_403 : (status : ℕ) → (status == 403) ≡ false → status ≡ 403 → ⊥
 not_403 status other is = grind (arith, nat_tests)
 
-pub only_the_table_forbids : (cause : Cause) → status_of cause ≡ 403 → IsOfTheTable cause
+pub only_the_table_forbids : (cause : Cause) → refusal_status cause ≡ 403 → CauseIsOfTheTable cause
 only_the_table_forbids (Denied line) h = inl (line, refl)
 only_the_table_forbids NoLine h = inr refl
-only_the_table_forbids (OnlyIfCached rule) h = absurd (not_403 (status_of (OnlyIfCached rule)) refl h)
-only_the_table_forbids (Origin kind.Refused rule error) h = absurd (not_403 (status_of (Origin kind.Refused rule error)) refl h)
-only_the_table_forbids (Origin kind.TimedOut rule error) h = absurd (not_403 (status_of (Origin kind.TimedOut rule error)) refl h)
-only_the_table_forbids (Origin kind.Closed rule error) h = absurd (not_403 (status_of (Origin kind.Closed rule error)) refl h)
-only_the_table_forbids (Origin kind.BadAnswer rule error) h = absurd (not_403 (status_of (Origin kind.BadAnswer rule error)) refl h)
-only_the_table_forbids (Origin kind.TooLarge rule error) h = absurd (not_403 (status_of (Origin kind.TooLarge rule error)) refl h)
-only_the_table_forbids (Frame frame.Head) h = absurd (not_403 (status_of (Frame frame.Head)) refl h)
-only_the_table_forbids (Frame frame.Version) h = absurd (not_403 (status_of (Frame frame.Version)) refl h)
-only_the_table_forbids (Frame frame.BothLengths) h = absurd (not_403 (status_of (Frame frame.BothLengths)) refl h)
-only_the_table_forbids (Frame frame.Length) h = absurd (not_403 (status_of (Frame frame.Length)) refl h)
-only_the_table_forbids (Frame frame.Coding) h = absurd (not_403 (status_of (Frame frame.Coding)) refl h)
-only_the_table_forbids (Frame frame.Chunk) h = absurd (not_403 (status_of (Frame frame.Chunk)) refl h)
-only_the_table_forbids (Frame frame.TooLarge) h = absurd (not_403 (status_of (Frame frame.TooLarge)) refl h)
-only_the_table_forbids (Frame frame.Expect) h = absurd (not_403 (status_of (Frame frame.Expect)) refl h)
-only_the_table_forbids (Frame frame.Truncated) h = absurd (not_403 (status_of (Frame frame.Truncated)) refl h)
-only_the_table_forbids (Frame frame.Status) h = absurd (not_403 (status_of (Frame frame.Status)) refl h)
-only_the_table_forbids (Target target.Form) h = absurd (not_403 (status_of (Target target.Form)) refl h)
-only_the_table_forbids (Target target.Scheme) h = absurd (not_403 (status_of (Target target.Scheme)) refl h)
-only_the_table_forbids (Target target.Host) h = absurd (not_403 (status_of (Target target.Host)) refl h)
-only_the_table_forbids (Target target.Port) h = absurd (not_403 (status_of (Target target.Port)) refl h)
-only_the_table_forbids (Target target.Userinfo) h = absurd (not_403 (status_of (Target target.Userinfo)) refl h)
-only_the_table_forbids (Target target.Escape) h = absurd (not_403 (status_of (Target target.Escape)) refl h)
-only_the_table_forbids (Target target.DotSegment) h = absurd (not_403 (status_of (Target target.DotSegment)) refl h)
-only_the_table_forbids (Target target.TooLong) h = absurd (not_403 (status_of (Target target.TooLong)) refl h)
-only_the_table_forbids (Target target.OutOfMemory) h = absurd (not_403 (status_of (Target target.OutOfMemory)) refl h)
+only_the_table_forbids (OnlyIfCached rule) h = absurd (not_403 (refusal_status (OnlyIfCached rule)) refl h)
+only_the_table_forbids (Origin kind.Refused rule error) h = absurd (not_403 (refusal_status (Origin kind.Refused rule error)) refl h)
+only_the_table_forbids (Origin kind.TimedOut rule error) h = absurd (not_403 (refusal_status (Origin kind.TimedOut rule error)) refl h)
+only_the_table_forbids (Origin kind.Closed rule error) h = absurd (not_403 (refusal_status (Origin kind.Closed rule error)) refl h)
+only_the_table_forbids (Origin kind.BadAnswer rule error) h = absurd (not_403 (refusal_status (Origin kind.BadAnswer rule error)) refl h)
+only_the_table_forbids (Origin kind.TooLarge rule error) h = absurd (not_403 (refusal_status (Origin kind.TooLarge rule error)) refl h)
+only_the_table_forbids (Frame frame.Head) h = absurd (not_403 (refusal_status (Frame frame.Head)) refl h)
+only_the_table_forbids (Frame frame.Version) h = absurd (not_403 (refusal_status (Frame frame.Version)) refl h)
+only_the_table_forbids (Frame frame.BothLengths) h = absurd (not_403 (refusal_status (Frame frame.BothLengths)) refl h)
+only_the_table_forbids (Frame frame.Length) h = absurd (not_403 (refusal_status (Frame frame.Length)) refl h)
+only_the_table_forbids (Frame frame.Coding) h = absurd (not_403 (refusal_status (Frame frame.Coding)) refl h)
+only_the_table_forbids (Frame frame.Chunk) h = absurd (not_403 (refusal_status (Frame frame.Chunk)) refl h)
+only_the_table_forbids (Frame frame.TooLarge) h = absurd (not_403 (refusal_status (Frame frame.TooLarge)) refl h)
+only_the_table_forbids (Frame frame.Expect) h = absurd (not_403 (refusal_status (Frame frame.Expect)) refl h)
+only_the_table_forbids (Frame frame.Truncated) h = absurd (not_403 (refusal_status (Frame frame.Truncated)) refl h)
+only_the_table_forbids (Frame frame.Status) h = absurd (not_403 (refusal_status (Frame frame.Status)) refl h)
+only_the_table_forbids (Target target.Form) h = absurd (not_403 (refusal_status (Target target.Form)) refl h)
+only_the_table_forbids (Target target.Scheme) h = absurd (not_403 (refusal_status (Target target.Scheme)) refl h)
+only_the_table_forbids (Target target.Host) h = absurd (not_403 (refusal_status (Target target.Host)) refl h)
+only_the_table_forbids (Target target.Port) h = absurd (not_403 (refusal_status (Target target.Port)) refl h)
+only_the_table_forbids (Target target.Userinfo) h = absurd (not_403 (refusal_status (Target target.Userinfo)) refl h)
+only_the_table_forbids (Target target.Escape) h = absurd (not_403 (refusal_status (Target target.Escape)) refl h)
+only_the_table_forbids (Target target.DotSegment) h = absurd (not_403 (refusal_status (Target target.DotSegment)) refl h)
+only_the_table_forbids (Target target.TooLong) h = absurd (not_403 (refusal_status (Target target.TooLong)) refl h)
+only_the_table_forbids (Target target.OutOfMemory) h = absurd (not_403 (refusal_status (Target target.OutOfMemory)) refl h)
 
-pub the_table_forbids : (cause : Cause) → IsOfTheTable cause → status_of cause ≡ 403
+pub the_table_forbids : (cause : Cause) → CauseIsOfTheTable cause → refusal_status cause ≡ 403
 the_table_forbids cause (inl (line, is)) = rw is refl
 the_table_forbids cause (inr is) = rw is refl

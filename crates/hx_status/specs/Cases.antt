@@ -7,8 +7,8 @@ use Rattle.hx_status.specs.declared.status.Detail.{Detail}
 use Rattle.hx_status.specs.declared.status.Status.{Status}
 
 -- an answer passed on
-abbrev pub passed_on : ReuseRule → Status
-passed_on rule = record {
+abbrev pub answer_passed_on : ReuseRule → Status
+answer_passed_on rule = record {
   how = Fwd rule;
   fwd_status = None;
   ttl = None;
@@ -19,8 +19,8 @@ passed_on rule = record {
 }
 
 -- and stored, with so many seconds left
-abbrev pub passed_on_and_stored : ReuseRule → ℤ → Status
-passed_on_and_stored rule left = record {
+abbrev pub answer_passed_on_and_stored : ReuseRule → ℤ → Status
+answer_passed_on_and_stored rule left = record {
   how = Fwd rule;
   fwd_status = None;
   ttl = Some left;
@@ -31,8 +31,8 @@ passed_on_and_stored rule left = record {
 }
 
 -- a stored response that is sent after all, though the request had gone forward by a rule
-abbrev pub sent_after_all : ReuseRule → Option ℕ → Option ℤ → Option Detail → Status
-sent_after_all rule fwd_status ttl detail =
+abbrev pub stored_sent_after_forward : ReuseRule → Option ℕ → Option ℤ → Option Detail → Status
+stored_sent_after_forward rule fwd_status ttl detail =
     record {
       how = Fwd rule;
       fwd_status = fwd_status;
@@ -44,5 +44,5 @@ sent_after_all rule fwd_status ttl detail =
     }
 
 -- an answer that is passed on and tells why it isn't stored
-abbrev pub not_stored_by : ReuseRule → StoreRule → Status
-not_stored_by rule storing = record (passed_on rule) { not_stored = Some storing }
+abbrev pub passed_on_and_not_stored : ReuseRule → StoreRule → Status
+passed_on_and_not_stored rule storing = record (answer_passed_on rule) { not_stored = Some storing }

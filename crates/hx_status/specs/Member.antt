@@ -1,11 +1,11 @@
 -- The member of Cache-Status that the proxy adds (RFC 9211, section 2). Its parameters come in this order.
 --
 -- member_text: the member
--- how_text, fwd_status_text, ttl_text, flag_text, detail_text: its parameters
+-- hit_or_forward_text, fwd_status_text, ttl_text, flag_text, detail_parameter_text: its parameters
 use Rattle.std.specs.Prelude.{◌≡◌, ℕ, ℤ, List, [], ◌++◌, codes, Bool, true, false, Option, Some, None, option_map}
 use Rattle.std.specs.Fmt.{decimal, signed_decimal}
-use Rattle.hx_reuse.specs.Words.{reason_of, detail_of}
-use Rattle.hx_storable.specs.Words.{storing_word_of}
+use Rattle.hx_reuse.specs.RuleNames.{reuse_rule_reason, reuse_rule_detail}
+use Rattle.hx_storable.specs.StoringRuleNames.{storing_rule_word}
 use Rattle.hx_storable.specs.declared.rule.StoreRule.{StoreRule}
 use Rattle.hx_storable.specs.declared.rule.StoreRule.TheVariants as storing
 use Rattle.hx_status.specs.declared.status.How.{How}
@@ -15,9 +15,9 @@ use Rattle.hx_status.specs.declared.status.Detail.TheVariants.{StaleIfError, Reu
 use Rattle.hx_status.specs.declared.status.Status.{Status}
 
 -- a stored response that no rule forbade, or the reason for going forward (RFC 9211, sections 2.1 and 2.2)
-abbrev pub how_text : How → List ℕ
-how_text Hit = codes ";hit"
-how_text (Fwd rule) = codes ";fwd=" ++ reason_of rule
+abbrev pub hit_or_forward_text : How → List ℕ
+hit_or_forward_text Hit = codes ";hit"
+hit_or_forward_text (Fwd rule) = codes ";fwd=" ++ reuse_rule_reason rule
 
 -- the status of the origin's answer (RFC 9211, section 2.3)
 abbrev pub fwd_status_text : Option ℕ → List ℕ
@@ -35,14 +35,14 @@ flag_text true text = text
 flag_text false text = []
 
 -- the words of steps that sent a stored response after all
-abbrev pub word_of : Detail → List ℕ
-word_of StaleIfError = codes "stale-if-error"
-word_of ReuseAfterError = codes "reuse-after-error"
-word_of ReuseAfter304 = codes "reuse-after-304"
+abbrev pub detail_word : Detail → List ℕ
+detail_word StaleIfError = codes "stale-if-error"
+detail_word ReuseAfterError = codes "reuse-after-error"
+detail_word ReuseAfter304 = codes "reuse-after-304"
 
-abbrev pub rule_detail : How → Option (List ℕ)
-rule_detail Hit = None
-rule_detail (Fwd rule) = detail_of rule
+abbrev pub detail_of_rule : How → Option (List ℕ)
+detail_of_rule Hit = None
+detail_of_rule (Fwd rule) = reuse_rule_detail rule
 
 -- why an answer isn't stored, where nothing else is told: `not-stored-` and the word of the rule (law
 -- `not_stored_names_the_rule`)
@@ -66,32 +66,32 @@ not_stored_word storing.Serials = codes "not-stored-no-serial"
 not_stored_word storing.SetCookie = codes "not-stored-set-cookie"
 not_stored_word storing.ErrorStatus = codes "not-stored-error-status"
 
-abbrev pub word_or : Option (List ℕ) → Option StoreRule → Option (List ℕ)
-word_or (Some word) rule = Some word
-word_or None rule = option_map not_stored_word rule
+abbrev pub word_or_not_stored : Option (List ℕ) → Option StoreRule → Option (List ℕ)
+word_or_not_stored (Some word) rule = Some word
+word_or_not_stored None rule = option_map not_stored_word rule
 
 -- the word of such a step stands in place of the rule's, and either in place of the storing rule's
-abbrev pub detail_or : Option Detail → How → Option (List ℕ)
-detail_or (Some detail) how = Some (word_of detail)
-detail_or None how = rule_detail how
+abbrev pub detail_of_step_or_rule : Option Detail → How → Option (List ℕ)
+detail_of_step_or_rule (Some detail) how = Some (detail_word detail)
+detail_of_step_or_rule None how = detail_of_rule how
 
-abbrev pub detail_named : Status → Option (List ℕ)
-detail_named status = word_or (detail_or status.detail status.how) status.not_stored
+abbrev pub detail_of_status : Status → Option (List ℕ)
+detail_of_status status = word_or_not_stored (detail_of_step_or_rule status.detail status.how) status.not_stored
 
-abbrev pub word_text : Option (List ℕ) → List ℕ
-word_text None = []
-word_text (Some word) = codes ";detail=" ++ word
+abbrev pub detail_word_text : Option (List ℕ) → List ℕ
+detail_word_text None = []
+detail_word_text (Some word) = codes ";detail=" ++ word
 
 -- what tells the rule from others of its reason (RFC 9211, section 2.8)
-abbrev pub detail_text : Status → List ℕ
-detail_text status = word_text (detail_named status)
+abbrev pub detail_parameter_text : Status → List ℕ
+detail_parameter_text status = detail_word_text (detail_of_status status)
 
 abbrev pub member_text : List ℕ → Status → List ℕ
 member_text name status =
-    name ++ how_text status.how ++ fwd_status_text status.fwd_status ++ ttl_text status.ttl
-    ++ flag_text status.stored (codes ";stored") ++ flag_text status.collapsed (codes ";collapsed") ++ detail_text status
+    name ++ hit_or_forward_text status.how ++ fwd_status_text status.fwd_status ++ ttl_text status.ttl
+    ++ flag_text status.stored (codes ";stored") ++ flag_text status.collapsed (codes ";collapsed") ++ detail_parameter_text status
 
 -- ---- the statement
 
 abbrev pub NotStoredNamesTheRule : Type 0
-NotStoredNamesTheRule = (rule : StoreRule) → not_stored_word rule ≡ codes "not-stored-" ++ storing_word_of rule
+NotStoredNamesTheRule = (rule : StoreRule) → not_stored_word rule ≡ codes "not-stored-" ++ storing_rule_word rule

@@ -1,42 +1,42 @@
 -- The proxy's own answers: a status, and a text that names the first rule against the request. The text is
 -- the value of the field Refusal and the content (own, so that an answer to HEAD names its cause too).
 --
--- status_of, text_of: the answer to a cause    origin_text: where the origin failed
+-- refusal_status, refusal_text: the answer to a cause    origin_text: where the origin failed
 -- frame_word, target_word: the words of faults
 -- TextsOfRulesDiffer and those below it: a reader of the text knows the rule, the fault, the failure
 use Rattle.std.specs.Prelude.{◌≡◌, ◌⊎◌, ℕ, List, [], ◌++◌, codes, Option, Some, None}
 use Rattle.std.specs.Fmt.{decimal}
-use Rattle.hx_framing.specs.declared.fault.FrameFault.{FrameFault}
-use Rattle.hx_framing.specs.declared.fault.FrameFault.TheVariants as frame
-use Rattle.hx_target.specs.declared.faults.TargetFault.{TargetFault}
-use Rattle.hx_target.specs.declared.faults.TargetFault.TheVariants as target
+use Rattle.hx_framing.specs.declared.frame_fault.FrameFault.{FrameFault}
+use Rattle.hx_framing.specs.declared.frame_fault.FrameFault.TheVariants as frame
+use Rattle.hx_target.specs.declared.target_fault.TargetFault.{TargetFault}
+use Rattle.hx_target.specs.declared.target_fault.TargetFault.TheVariants as target
 use Rattle.hx_reuse.specs.declared.rule.ReuseRule.{ReuseRule}
 use Rattle.hx_reuse.specs.declared.rule.ErrorRule.{ErrorRule}
-use Rattle.hx_reuse.specs.Words.{reason_of, detail_of, error_word_of}
-use Rattle.hx_status.specs.Member.{word_text}
+use Rattle.hx_reuse.specs.RuleNames.{reuse_rule_reason, reuse_rule_detail, error_rule_word}
+use Rattle.hx_status.specs.Member.{detail_word_text}
 use Rattle.hx_status.specs.declared.cause.FailKind.{FailKind}
 use Rattle.hx_status.specs.declared.cause.FailKind.TheVariants.{Refused, TimedOut, Closed, BadAnswer, TooLarge}
 use Rattle.hx_status.specs.declared.cause.Cause.{Cause}
 use Rattle.hx_status.specs.declared.cause.Cause.TheVariants.{Denied, NoLine, OnlyIfCached, Origin, Frame, Target}
 
 -- reason and detail of a reuse rule, as in Cache-Status
-abbrev pub rule_text : ReuseRule → List ℕ
-rule_text rule = codes ";fwd=" ++ reason_of rule ++ word_text (detail_of rule)
+abbrev pub reuse_rule_text : ReuseRule → List ℕ
+reuse_rule_text rule = codes ";fwd=" ++ reuse_rule_reason rule ++ detail_word_text (reuse_rule_detail rule)
 
-abbrev pub kind_word : FailKind → List ℕ
-kind_word Refused = codes "refused"
-kind_word TimedOut = codes "timed-out"
-kind_word Closed = codes "closed"
-kind_word BadAnswer = codes "bad-answer"
-kind_word TooLarge = codes "too-large"
+abbrev pub fail_kind_word : FailKind → List ℕ
+fail_kind_word Refused = codes "refused"
+fail_kind_word TimedOut = codes "timed-out"
+fail_kind_word Closed = codes "closed"
+fail_kind_word BadAnswer = codes "bad-answer"
+fail_kind_word TooLarge = codes "too-large"
 
-abbrev pub error_text : Option ErrorRule → List ℕ
-error_text None = []
-error_text (Some rule) = codes ";stale-if-error=" ++ error_word_of rule
+abbrev pub error_rule_text : Option ErrorRule → List ℕ
+error_rule_text None = []
+error_rule_text (Some rule) = codes ";stale-if-error=" ++ error_rule_word rule
 
 -- how the origin failed, and the rules against a stored response
 abbrev pub origin_text : FailKind → ReuseRule → Option ErrorRule → List ℕ
-origin_text kind rule error = codes "origin " ++ kind_word kind ++ rule_text rule ++ error_text error
+origin_text kind rule error = codes "origin " ++ fail_kind_word kind ++ reuse_rule_text rule ++ error_rule_text error
 
 -- 502 Bad Gateway, 504 Gateway Timeout (RFC 9110, sections 15.6.3 and 15.6.5)
 abbrev pub origin_status : FailKind → ℕ
@@ -95,25 +95,25 @@ target_status target.DotSegment = 400
 target_status target.TooLong = 414
 target_status target.OutOfMemory = 400
 
-abbrev pub status_of : Cause → ℕ
-status_of (Denied line) = 403
-status_of NoLine = 403
-status_of (OnlyIfCached rule) = 504
-status_of (Origin kind rule error) = origin_status kind
-status_of (Frame fault) = frame_status fault
-status_of (Target fault) = target_status fault
+abbrev pub refusal_status : Cause → ℕ
+refusal_status (Denied line) = 403
+refusal_status NoLine = 403
+refusal_status (OnlyIfCached rule) = 504
+refusal_status (Origin kind rule error) = origin_status kind
+refusal_status (Frame fault) = frame_status fault
+refusal_status (Target fault) = target_status fault
 
-abbrev pub text_of : Cause → List ℕ
-text_of (Denied line) = codes "denied by line " ++ decimal line
-text_of NoLine = codes "no line allows it"
-text_of (OnlyIfCached rule) = codes "only-if-cached" ++ rule_text rule
-text_of (Origin kind rule error) = origin_text kind rule error
-text_of (Frame fault) = codes "refused: " ++ frame_word fault
-text_of (Target fault) = codes "refused: " ++ target_word fault
+abbrev pub refusal_text : Cause → List ℕ
+refusal_text (Denied line) = codes "denied by line " ++ decimal line
+refusal_text NoLine = codes "no line allows it"
+refusal_text (OnlyIfCached rule) = codes "only-if-cached" ++ reuse_rule_text rule
+refusal_text (Origin kind rule error) = origin_text kind rule error
+refusal_text (Frame fault) = codes "refused: " ++ frame_word fault
+refusal_text (Target fault) = codes "refused: " ++ target_word fault
 
 -- no two reuse rules are named by the same text, in a refusal as in Cache-Status
 abbrev pub TextsOfRulesDiffer : Type 0
-TextsOfRulesDiffer = (rule other : ReuseRule) → rule_text rule ≡ rule_text other → rule ≡ other
+TextsOfRulesDiffer = (rule other : ReuseRule) → reuse_rule_text rule ≡ reuse_rule_text other → rule ≡ other
 
 -- no two faults of messages have one word, nor two faults of targets, nor two ways in which an origin fails
 abbrev pub FrameWordsDiffer : Type 0
@@ -122,15 +122,15 @@ FrameWordsDiffer = (fault other : FrameFault) → frame_word fault ≡ frame_wor
 abbrev pub TargetWordsDiffer : Type 0
 TargetWordsDiffer = (fault other : TargetFault) → target_word fault ≡ target_word other → fault ≡ other
 
-abbrev pub KindWordsDiffer : Type 0
-KindWordsDiffer = (kind other : FailKind) → kind_word kind ≡ kind_word other → kind ≡ other
+abbrev pub FailKindWordsDiffer : Type 0
+FailKindWordsDiffer = (kind other : FailKind) → fail_kind_word kind ≡ fail_kind_word other → kind ≡ other
 
 -- 403 Forbidden is the operator's answer and no other's (RFC 9110, section 15.5.4)
-abbrev pub IsOfTheTable : Cause → Type 0
-IsOfTheTable cause = ((line : ℕ) × (cause ≡ Denied line)) ⊎ (cause ≡ NoLine)
+abbrev pub CauseIsOfTheTable : Cause → Type 0
+CauseIsOfTheTable cause = ((line : ℕ) × (cause ≡ Denied line)) ⊎ (cause ≡ NoLine)
 
 abbrev pub OnlyTheTableForbids : Type 0
-OnlyTheTableForbids = (cause : Cause) → status_of cause ≡ 403 → IsOfTheTable cause
+OnlyTheTableForbids = (cause : Cause) → refusal_status cause ≡ 403 → CauseIsOfTheTable cause
 
 abbrev pub TheTableForbids : Type 0
-TheTableForbids = (cause : Cause) → IsOfTheTable cause → status_of cause ≡ 403
+TheTableForbids = (cause : Cause) → CauseIsOfTheTable cause → refusal_status cause ≡ 403

@@ -1,9 +1,10 @@
 //! The member of Cache-Status that this proxy adds (RFC 9211).
 ghost use Rattle.std.specs.Prelude.{◌≡◌, ◌++◌, IfOk, OnOk, Bool, option_copied};
 ghost use Rattle.std.specs.Fmt.{decimal, signed_decimal};
-ghost use Rattle.hx_reuse.specs.Words.{reason_of, detail_of};
-ghost use Rattle.hx_status.specs.Member.{member_text, how_text, fwd_status_text, ttl_text, flag_text, word_text};
-ghost use Rattle.hx_status.specs.Member.{detail_or, detail_named, word_of, not_stored_word};
+ghost use Rattle.hx_reuse.specs.RuleNames.{reuse_rule_reason, reuse_rule_detail};
+ghost use Rattle.hx_status.specs.Member.{member_text, hit_or_forward_text, fwd_status_text, ttl_text, flag_text};
+ghost use Rattle.hx_status.specs.Member.{detail_word_text};
+ghost use Rattle.hx_status.specs.Member.{detail_of_step_or_rule, detail_of_status, detail_word, not_stored_word};
 
 use crate::status::{Detail, How, Status};
 use hx_fields::Bytes;
@@ -15,7 +16,7 @@ use std::alloc::{AllocError, Global};
 const MEMBER_ROOM: usize = 64;
 
 fn push_how(out: &mut Vec<u8>, how: How) -> Result<(), AllocError>
-    ensures { OnOk result (out.new.items ≡ out.old.items ++ how_text how) }
+    ensures { OnOk result (out.new.items ≡ out.old.items ++ hit_or_forward_text how) }
 {
     match how {
         How::Hit => out.extend_from_slice(b";hit"),
@@ -63,7 +64,7 @@ fn push_flag(out: &mut Vec<u8>, is_set: bool, text: &str) -> Result<(), AllocErr
 }
 
 fn word(detail: Detail) -> &'static str
-    ensures { result.now ≡ word_of detail }
+    ensures { result.now ≡ detail_word detail }
 {
     match detail {
         Detail::StaleIfError => "stale-if-error",
@@ -73,8 +74,8 @@ fn word(detail: Detail) -> &'static str
 }
 
 /// The detail of a step in place of the rule's, else the rule's.
-fn rule_detail(status: &Status) -> Option<&'static str>
-    ensures { option_copied result ≡ detail_or status.now.detail status.now.how }
+fn detail_of_rule(status: &Status) -> Option<&'static str>
+    ensures { option_copied result ≡ detail_of_step_or_rule status.now.detail status.now.how }
 {
     match status.detail {
         Some(detail) => Some(word(detail)),
@@ -86,10 +87,10 @@ fn rule_detail(status: &Status) -> Option<&'static str>
 }
 
 /// That detail, else why the answer isn't stored.
-fn detail_named(status: &Status) -> Option<&'static str>
-    ensures { option_copied result ≡ detail_named status.now }
+fn detail_of_status(status: &Status) -> Option<&'static str>
+    ensures { option_copied result ≡ detail_of_status status.now }
 {
-    match rule_detail(status) {
+    match detail_of_rule(status) {
         Some(word) => Some(word),
         None => status.not_stored.map(not_stored_word),
     }
@@ -123,7 +124,7 @@ fn not_stored_word(rule: StoreRule) -> &'static str
 
 /// Adds `;detail=WORD` where there is one.
 pub(crate) fn push_detail(out: &mut Vec<u8>, word: Option<&'static str>) -> Result<(), AllocError>
-    ensures { OnOk result (out.new.items ≡ out.old.items ++ word_text (option_copied word.entry)) }
+    ensures { OnOk result (out.new.items ≡ out.old.items ++ detail_word_text (option_copied word.entry)) }
 {
     match word {
         None => Ok(()),
@@ -145,6 +146,6 @@ pub fn member(alloc: Global, name: &str, status: &Status) -> Result<Bytes, Alloc
     push_ttl(&mut out, status.ttl)?;
     push_flag(&mut out, status.stored, ";stored")?;
     push_flag(&mut out, status.collapsed, ";collapsed")?;
-    push_detail(&mut out, detail_named(status))?;
+    push_detail(&mut out, detail_of_status(status))?;
     Ok(Bytes::from_vec(out))
 }

@@ -1,6 +1,6 @@
 //! What the texts tell their reader.
 ghost use Rattle.hx_status.specs.Member.{NotStoredNamesTheRule};
-ghost use Rattle.hx_status.specs.Refusals.{FrameWordsDiffer, KindWordsDiffer, OnlyTheTableForbids};
+ghost use Rattle.hx_status.specs.Refusals.{FrameWordsDiffer, FailKindWordsDiffer, OnlyTheTableForbids};
 ghost use Rattle.hx_status.specs.Refusals.{TargetWordsDiffer, TextsOfRulesDiffer, TheTableForbids};
 
 /// No two reuse rules are named by the same text, in a refusal as in Cache-Status.
@@ -12,7 +12,7 @@ pub fn texts_name_the_rule()
 pub fn words_name_the_fault()
     ensures frame { FrameWordsDiffer }
     ensures target { TargetWordsDiffer }
-    ensures kind { KindWordsDiffer }
+    ensures kind { FailKindWordsDiffer }
 {}
 
 /// 403 is given exactly where the operator's table lets a request not through (RFC 9110, section 15.5.4).

@@ -1,6 +1,7 @@
 //! The proxy's own answers.
 ghost use Rattle.std.specs.Prelude.{◌≡◌, ◌++◌, IfOk, OnOk};
-ghost use Rattle.hx_status.specs.Refusals.{status_of, text_of, rule_text, error_text, kind_word, origin_text};
+ghost use Rattle.hx_status.specs.Refusals.{refusal_status, refusal_text, reuse_rule_text, error_rule_text};
+ghost use Rattle.hx_status.specs.Refusals.{fail_kind_word, origin_text};
 ghost use Rattle.hx_status.specs.Refusals.{origin_status, frame_word, frame_status, target_word, target_status};
 
 use crate::cache_status::push_detail;
@@ -11,8 +12,8 @@ use hx_reuse::{ErrorRule, ReuseRule};
 use hx_target::TargetFault;
 use std::alloc::{AllocError, Global};
 
-fn kind_word(kind: FailKind) -> &'static str
-    ensures { result.now ≡ kind_word kind }
+fn fail_kind_word(kind: FailKind) -> &'static str
+    ensures { result.now ≡ fail_kind_word kind }
 {
     match kind {
         FailKind::Refused => "refused",
@@ -73,8 +74,8 @@ fn frame_status(fault: FrameFault) -> u16
     }
 }
 
-fn status_of(cause: Cause) -> u16
-    ensures { result ≡ status_of cause }
+fn refusal_status(cause: Cause) -> u16
+    ensures { result ≡ refusal_status cause }
 {
     match cause {
         Cause::Denied(_) | Cause::NoLine => 403,
@@ -91,7 +92,7 @@ fn status_of(cause: Cause) -> u16
 }
 
 fn push_rule(out: &mut Vec<u8>, rule: ReuseRule) -> Result<(), AllocError>
-    ensures { OnOk result (out.new.items ≡ out.old.items ++ rule_text rule) }
+    ensures { OnOk result (out.new.items ≡ out.old.items ++ reuse_rule_text rule) }
 {
     out.extend_from_slice(b";fwd=")?;
     out.extend_from_slice(rule.reason().as_bytes())?;
@@ -99,7 +100,7 @@ fn push_rule(out: &mut Vec<u8>, rule: ReuseRule) -> Result<(), AllocError>
 }
 
 fn push_error(out: &mut Vec<u8>, rule: Option<ErrorRule>) -> Result<(), AllocError>
-    ensures { OnOk result (out.new.items ≡ out.old.items ++ error_text rule) }
+    ensures { OnOk result (out.new.items ≡ out.old.items ++ error_rule_text rule) }
 {
     match rule {
         None => Ok(()),
@@ -110,8 +111,8 @@ fn push_error(out: &mut Vec<u8>, rule: Option<ErrorRule>) -> Result<(), AllocErr
     }
 }
 
-fn text_of(alloc: Global, cause: Cause) -> Result<Bytes, AllocError>
-    ensures { IfOk result (λ text. text ≡ text_of cause) }
+fn refusal_text(alloc: Global, cause: Cause) -> Result<Bytes, AllocError>
+    ensures { IfOk result (λ text. text ≡ refusal_text cause) }
 {
     let mut out = Vec::new(alloc);
     match cause {
@@ -127,7 +128,7 @@ fn text_of(alloc: Global, cause: Cause) -> Result<Bytes, AllocError>
         }
         Cause::Origin(kind, rule, error) => {
             out.extend_from_slice(b"origin ")?;
-            out.extend_from_slice(kind_word(kind).as_bytes())?;
+            out.extend_from_slice(fail_kind_word(kind).as_bytes())?;
             push_rule(&mut out, rule)?;
             push_error(&mut out, error)?;
         }
@@ -145,8 +146,8 @@ fn text_of(alloc: Global, cause: Cause) -> Result<Bytes, AllocError>
 
 /// The status and the text of the proxy's own answer.
 pub fn refusal(alloc: Global, cause: Cause) -> Result<(u16, Bytes), AllocError>
-    ensures status { IfOk result (λ own. own.0 ≡ status_of cause) }
-    ensures text { IfOk result (λ own. own.1 ≡ text_of cause) }
+    ensures status { IfOk result (λ own. own.0 ≡ refusal_status cause) }
+    ensures text { IfOk result (λ own. own.1 ≡ refusal_text cause) }
 {
-    Ok((status_of(cause), text_of(alloc, cause)?))
+    Ok((refusal_status(cause), refusal_text(alloc, cause)?))
 }

@@ -1,8 +1,8 @@
 //! The texts of worked cases, computed from the definitions: each function's contract is the cases,
 //! and its body is empty.
 ghost use Rattle.std.specs.Prelude.{◌≡◌, codes, Some, None, true, false, pos, negsuc};
-ghost use Rattle.hx_framing.specs.declared.fault.FrameFault.TheVariants as frame;
-ghost use Rattle.hx_target.specs.declared.faults.TargetFault.TheVariants as target;
+ghost use Rattle.hx_framing.specs.declared.frame_fault.FrameFault.TheVariants as frame;
+ghost use Rattle.hx_target.specs.declared.target_fault.TargetFault.TheVariants as target;
 ghost use Rattle.hx_reuse.specs.declared.rule.ReuseRule.TheVariants as rule;
 ghost use Rattle.hx_reuse.specs.declared.rule.ErrorRule.TheVariants as on_error;
 ghost use Rattle.hx_status.specs.declared.status.How.TheVariants.{Hit, Fwd};
@@ -10,9 +10,10 @@ ghost use Rattle.hx_status.specs.declared.status.Detail.TheVariants.{StaleIfErro
 ghost use Rattle.hx_status.specs.declared.cause.Cause.TheVariants.{Denied, NoLine, OnlyIfCached, Origin, Frame, Target};
 ghost use Rattle.hx_status.specs.declared.cause.FailKind.TheVariants.{Refused, TimedOut, Closed, BadAnswer, TooLarge};
 ghost use Rattle.hx_status.specs.Member.{member_text};
-ghost use Rattle.hx_status.specs.Refusals.{status_of, text_of};
+ghost use Rattle.hx_status.specs.Refusals.{refusal_status, refusal_text};
 ghost use Rattle.hx_storable.specs.declared.rule.StoreRule.TheVariants as storing;
-ghost use Rattle.hx_status.specs.Cases.{not_stored_by, passed_on, passed_on_and_stored, sent_after_all};
+ghost use Rattle.hx_status.specs.Cases.{passed_on_and_not_stored, answer_passed_on, answer_passed_on_and_stored};
+ghost use Rattle.hx_status.specs.Cases.{stored_sent_after_forward};
 
 /// A hit, a first answer that is stored, one with no lifetime left, and denials by the operator's table.
 pub fn worked_texts()
@@ -25,69 +26,70 @@ pub fn worked_texts()
       detail = None;
       not_stored = None;
     }) ≡ codes "edge;hit;ttl=30" }
-    ensures stored { member_text (codes "edge") (passed_on_and_stored rule.UriMiss (pos 59)) ≡ codes "edge;fwd=uri-miss;ttl=59;stored" }
-    ensures over { member_text (codes "edge") (passed_on_and_stored rule.UriMiss (negsuc 0)) ≡ codes "edge;fwd=uri-miss;ttl=-1;stored" }
-    ensures another_variant { member_text (codes "edge") (passed_on rule.VaryMiss) ≡ codes "edge;fwd=vary-miss" }
-    ensures another_method { member_text (codes "edge") (passed_on rule.Method) ≡ codes "edge;fwd=method" }
-    ensures denied { text_of (Denied 1) ≡ codes "denied by line 1" }
-    ensures no_line { text_of NoLine ≡ codes "no line allows it" }
-    ensures forbidden { status_of NoLine ≡ 403 }
+    ensures stored { member_text (codes "edge") (answer_passed_on_and_stored rule.UriMiss (pos 59)) ≡ codes "edge;fwd=uri-miss;ttl=59;stored" }
+    ensures over { member_text (codes "edge") (answer_passed_on_and_stored rule.UriMiss (negsuc 0)) ≡ codes "edge;fwd=uri-miss;ttl=-1;stored" }
+    ensures another_variant { member_text (codes "edge") (answer_passed_on rule.VaryMiss) ≡ codes "edge;fwd=vary-miss" }
+    ensures another_method { member_text (codes "edge") (answer_passed_on rule.Method) ≡ codes "edge;fwd=method" }
+    ensures denied { refusal_text (Denied 1) ≡ codes "denied by line 1" }
+    ensures no_line { refusal_text NoLine ≡ codes "no line allows it" }
+    ensures forbidden { refusal_status NoLine ≡ 403 }
 {}
 
 /// Content, a range, a precondition.
 pub fn bypass_rules_in_order()
-    ensures content { member_text (codes "edge") (passed_on rule.Content) ≡ codes "edge;fwd=bypass;detail=content" }
-    ensures range { member_text (codes "edge") (passed_on rule.Range) ≡ codes "edge;fwd=bypass;detail=range" }
-    ensures precondition { member_text (codes "edge") (passed_on rule.Precondition) ≡ codes "edge;fwd=bypass;detail=precondition" }
+    ensures content { member_text (codes "edge") (answer_passed_on rule.Content) ≡ codes "edge;fwd=bypass;detail=content" }
+    ensures range { member_text (codes "edge") (answer_passed_on rule.Range) ≡ codes "edge;fwd=bypass;detail=range" }
+    ensures precondition { member_text (codes "edge") (answer_passed_on rule.Precondition) ≡ codes "edge;fwd=bypass;detail=precondition" }
 {}
 
 /// On a line without cache: passed on, what only the origin could answer, and a failure.
 pub fn line_without_cache()
-    ensures passed_on { member_text (codes "edge") (passed_on rule.Operator) ≡ codes "edge;fwd=bypass;detail=operator" }
-    ensures only_if_cached { text_of (OnlyIfCached rule.Operator) ≡ codes "only-if-cached;fwd=bypass;detail=operator" }
-    ensures refused { text_of (Origin Refused rule.Operator None) ≡ codes "origin refused;fwd=bypass;detail=operator" }
+    ensures passed_on { member_text (codes "edge") (answer_passed_on rule.Operator) ≡ codes "edge;fwd=bypass;detail=operator" }
+    ensures only_if_cached { refusal_text (OnlyIfCached rule.Operator) ≡ codes "only-if-cached;fwd=bypass;detail=operator" }
+    ensures refused { refusal_text (Origin Refused rule.Operator None) ≡ codes "origin refused;fwd=bypass;detail=operator" }
 {}
 
 /// The least rule where several stand, and what only the origin could answer.
 pub fn least_reuse_rule()
-    ensures response_no_cache { member_text (codes "edge") (passed_on rule.ResponseNoCache) ≡ codes "edge;fwd=stale;detail=response-no-cache" }
-    ensures request_no_cache { member_text (codes "edge") (passed_on rule.RequestNoCache) ≡ codes "edge;fwd=request;detail=no-cache" }
-    ensures must_revalidate { member_text (codes "edge") (passed_on rule.MustRevalidate) ≡ codes "edge;fwd=stale;detail=must-revalidate" }
-    ensures max_stale { member_text (codes "edge") (passed_on rule.PastMaxStale) ≡ codes "edge;fwd=stale;detail=max-stale" }
-    ensures only_if_cached { text_of (OnlyIfCached rule.AboveMaxAge) ≡ codes "only-if-cached;fwd=request;detail=max-age" }
-    ensures no_answer { status_of (OnlyIfCached rule.AboveMaxAge) ≡ 504 }
+    ensures response_no_cache { member_text (codes "edge") (answer_passed_on rule.ResponseNoCache) ≡ codes "edge;fwd=stale;detail=response-no-cache" }
+    ensures request_no_cache { member_text (codes "edge") (answer_passed_on rule.RequestNoCache) ≡ codes "edge;fwd=request;detail=no-cache" }
+    ensures must_revalidate { member_text (codes "edge") (answer_passed_on rule.MustRevalidate) ≡ codes "edge;fwd=stale;detail=must-revalidate" }
+    ensures max_stale { member_text (codes "edge") (answer_passed_on rule.PastMaxStale) ≡ codes "edge;fwd=stale;detail=max-stale" }
+    ensures only_if_cached { refusal_text (OnlyIfCached rule.AboveMaxAge) ≡ codes "only-if-cached;fwd=request;detail=max-age" }
+    ensures no_answer { refusal_status (OnlyIfCached rule.AboveMaxAge) ≡ 504 }
 {}
 
 /// A 304 of the origin freshens what states no lifetime, and one that validates nothing leads to what is held.
 pub fn no_lifetime_is_only_validated()
-    ensures stored { member_text (codes "edge") (passed_on_and_stored rule.UriMiss (pos 0)) ≡ codes "edge;fwd=uri-miss;ttl=0;stored" }
-    ensures freshened { member_text (codes "edge") (sent_after_all rule.NoLifetime (Some 304) (Some (pos 0)) None)
+    ensures stored { member_text (codes "edge") (answer_passed_on_and_stored rule.UriMiss (pos 0)) ≡ codes "edge;fwd=uri-miss;ttl=0;stored" }
+    ensures freshened { member_text (codes "edge") (stored_sent_after_forward rule.NoLifetime (Some 304)
+        (Some (pos 0)) None)
         ≡ codes "edge;fwd=stale;fwd-status=304;ttl=0;detail=no-lifetime" }
-    ensures after_304 { member_text (codes "edge") (sent_after_all rule.NoMaxStale (Some 304) (Some (pos 59))
+    ensures after_304 { member_text (codes "edge") (stored_sent_after_forward rule.NoMaxStale (Some 304) (Some (pos 59))
         (Some ReuseAfter304)) ≡ codes "edge;fwd=stale;fwd-status=304;ttl=59;detail=reuse-after-304" }
-    ensures after_error { member_text (codes "edge") (sent_after_all rule.NoMaxStale None (Some (pos 50))
+    ensures after_error { member_text (codes "edge") (stored_sent_after_forward rule.NoMaxStale None (Some (pos 50))
         (Some ReuseAfterError)) ≡ codes "edge;fwd=stale;ttl=50;detail=reuse-after-error" }
 {}
 
 /// By the response's stale-if-error, after a failure and after a 503; and the first rule against it.
 pub fn stale_if_error_of_response()
-    ensures sent { member_text (codes "edge") (sent_after_all rule.NoMaxStale None (Some (negsuc 59))
+    ensures sent { member_text (codes "edge") (stored_sent_after_forward rule.NoMaxStale None (Some (negsuc 59))
         (Some StaleIfError)) ≡ codes "edge;fwd=stale;ttl=-60;detail=stale-if-error" }
-    ensures after_503 { member_text (codes "edge") (sent_after_all rule.NoMaxStale (Some 503) (Some (negsuc 59))
+    ensures after_503 { member_text (codes "edge") (stored_sent_after_forward rule.NoMaxStale (Some 503) (Some (negsuc 59))
         (Some StaleIfError)) ≡ codes "edge;fwd=stale;fwd-status=503;ttl=-60;detail=stale-if-error" }
-    ensures too_stale { text_of (Origin Refused rule.NoMaxStale (Some on_error.TooStale)) ≡ codes "origin refused;fwd=stale;stale-if-error=too-stale" }
-    ensures forbidden { text_of (Origin Refused rule.MustRevalidate (Some on_error.MustRevalidate)) ≡ codes "origin refused;fwd=stale;detail=must-revalidate;stale-if-error=must-revalidate" }
-    ensures bad_gateway { status_of (Origin Refused rule.NoMaxStale (Some on_error.TooStale)) ≡ 502 }
+    ensures too_stale { refusal_text (Origin Refused rule.NoMaxStale (Some on_error.TooStale)) ≡ codes "origin refused;fwd=stale;stale-if-error=too-stale" }
+    ensures forbidden { refusal_text (Origin Refused rule.MustRevalidate (Some on_error.MustRevalidate)) ≡ codes "origin refused;fwd=stale;detail=must-revalidate;stale-if-error=must-revalidate" }
+    ensures bad_gateway { refusal_status (Origin Refused rule.NoMaxStale (Some on_error.TooStale)) ≡ 502 }
 {}
 
 /// By the request's; a time-out is told from other failures by its status.
 pub fn stale_if_error_of_request()
-    ensures sent { member_text (codes "edge") (sent_after_all rule.NoMaxStale None (Some (negsuc 9))
+    ensures sent { member_text (codes "edge") (stored_sent_after_forward rule.NoMaxStale None (Some (negsuc 9))
         (Some StaleIfError)) ≡ codes "edge;fwd=stale;ttl=-10;detail=stale-if-error" }
-    ensures no_directive { text_of (Origin TimedOut rule.NoMaxStale (Some on_error.NoDirective)) ≡ codes "origin timed-out;fwd=stale;stale-if-error=no-directive" }
-    ensures time_out { status_of (Origin TimedOut rule.NoMaxStale (Some on_error.NoDirective)) ≡ 504 }
-    ensures nothing_held { text_of (Origin BadAnswer rule.UriMiss None) ≡ codes "origin bad-answer;fwd=uri-miss" }
-    ensures closed { text_of (Origin Closed rule.UriMiss None) ≡ codes "origin closed;fwd=uri-miss" }
+    ensures no_directive { refusal_text (Origin TimedOut rule.NoMaxStale (Some on_error.NoDirective)) ≡ codes "origin timed-out;fwd=stale;stale-if-error=no-directive" }
+    ensures time_out { refusal_status (Origin TimedOut rule.NoMaxStale (Some on_error.NoDirective)) ≡ 504 }
+    ensures nothing_held { refusal_text (Origin BadAnswer rule.UriMiss None) ≡ codes "origin bad-answer;fwd=uri-miss" }
+    ensures closed { refusal_text (Origin Closed rule.UriMiss None) ≡ codes "origin closed;fwd=uri-miss" }
 {}
 
 /// The answer to a request that waited for another's.
@@ -118,70 +120,72 @@ pub fn stored_comes_before_collapsed()
 
 /// What each refused message is told by; one that was cut off gets no answer, and a bad status stands in no request.
 pub fn refused_messages()
-    ensures head { text_of (Frame frame.Head) ≡ codes "refused: head" }
-    ensures version { text_of (Frame frame.Version) ≡ codes "refused: version" }
-    ensures both_lengths { text_of (Frame frame.BothLengths) ≡ codes "refused: both-lengths" }
-    ensures length { text_of (Frame frame.Length) ≡ codes "refused: length" }
-    ensures coding { text_of (Frame frame.Coding) ≡ codes "refused: coding" }
-    ensures chunk { text_of (Frame frame.Chunk) ≡ codes "refused: chunk" }
-    ensures too_large { text_of (Frame frame.TooLarge) ≡ codes "refused: too-large" }
-    ensures expect { text_of (Frame frame.Expect) ≡ codes "refused: expect" }
+    ensures head { refusal_text (Frame frame.Head) ≡ codes "refused: head" }
+    ensures version { refusal_text (Frame frame.Version) ≡ codes "refused: version" }
+    ensures both_lengths { refusal_text (Frame frame.BothLengths) ≡ codes "refused: both-lengths" }
+    ensures length { refusal_text (Frame frame.Length) ≡ codes "refused: length" }
+    ensures coding { refusal_text (Frame frame.Coding) ≡ codes "refused: coding" }
+    ensures chunk { refusal_text (Frame frame.Chunk) ≡ codes "refused: chunk" }
+    ensures too_large { refusal_text (Frame frame.TooLarge) ≡ codes "refused: too-large" }
+    ensures expect { refusal_text (Frame frame.Expect) ≡ codes "refused: expect" }
 {}
 
 /// Its status (RFC 9110, sections 15.5.1, 15.5.14, 15.5.18, 15.6.2 and 15.6.6; RFC 9112, section 6.1 for 501).
 pub fn statuses_of_refused_messages()
-    ensures head { status_of (Frame frame.Head) ≡ 400 }
-    ensures version { status_of (Frame frame.Version) ≡ 505 }
-    ensures both_lengths { status_of (Frame frame.BothLengths) ≡ 400 }
-    ensures length { status_of (Frame frame.Length) ≡ 400 }
-    ensures coding { status_of (Frame frame.Coding) ≡ 501 }
-    ensures chunk { status_of (Frame frame.Chunk) ≡ 400 }
-    ensures too_large { status_of (Frame frame.TooLarge) ≡ 413 }
-    ensures expect { status_of (Frame frame.Expect) ≡ 417 }
+    ensures head { refusal_status (Frame frame.Head) ≡ 400 }
+    ensures version { refusal_status (Frame frame.Version) ≡ 505 }
+    ensures both_lengths { refusal_status (Frame frame.BothLengths) ≡ 400 }
+    ensures length { refusal_status (Frame frame.Length) ≡ 400 }
+    ensures coding { refusal_status (Frame frame.Coding) ≡ 501 }
+    ensures chunk { refusal_status (Frame frame.Chunk) ≡ 400 }
+    ensures too_large { refusal_status (Frame frame.TooLarge) ≡ 413 }
+    ensures expect { refusal_status (Frame frame.Expect) ≡ 417 }
 {}
 
 /// What each refused target is told by.
 pub fn refused_targets()
-    ensures form { text_of (Target target.Form) ≡ codes "refused: form" }
-    ensures scheme { text_of (Target target.Scheme) ≡ codes "refused: scheme" }
-    ensures host { text_of (Target target.Host) ≡ codes "refused: host" }
-    ensures port { text_of (Target target.Port) ≡ codes "refused: port" }
-    ensures userinfo { text_of (Target target.Userinfo) ≡ codes "refused: userinfo" }
-    ensures escape { text_of (Target target.Escape) ≡ codes "refused: escape" }
-    ensures dot_segment { text_of (Target target.DotSegment) ≡ codes "refused: dot-segment" }
-    ensures too_long { text_of (Target target.TooLong) ≡ codes "refused: too-long" }
+    ensures form { refusal_text (Target target.Form) ≡ codes "refused: form" }
+    ensures scheme { refusal_text (Target target.Scheme) ≡ codes "refused: scheme" }
+    ensures host { refusal_text (Target target.Host) ≡ codes "refused: host" }
+    ensures port { refusal_text (Target target.Port) ≡ codes "refused: port" }
+    ensures userinfo { refusal_text (Target target.Userinfo) ≡ codes "refused: userinfo" }
+    ensures escape { refusal_text (Target target.Escape) ≡ codes "refused: escape" }
+    ensures dot_segment { refusal_text (Target target.DotSegment) ≡ codes "refused: dot-segment" }
+    ensures too_long { refusal_text (Target target.TooLong) ≡ codes "refused: too-long" }
 {}
 
 /// Its status (RFC 9110, sections 15.5.1 and 15.5.15).
 pub fn statuses_of_refused_targets()
-    ensures form { status_of (Target target.Form) ≡ 400 }
-    ensures scheme { status_of (Target target.Scheme) ≡ 400 }
-    ensures host { status_of (Target target.Host) ≡ 400 }
-    ensures port { status_of (Target target.Port) ≡ 400 }
-    ensures userinfo { status_of (Target target.Userinfo) ≡ 400 }
-    ensures escape { status_of (Target target.Escape) ≡ 400 }
-    ensures dot_segment { status_of (Target target.DotSegment) ≡ 400 }
-    ensures too_long { status_of (Target target.TooLong) ≡ 414 }
+    ensures form { refusal_status (Target target.Form) ≡ 400 }
+    ensures scheme { refusal_status (Target target.Scheme) ≡ 400 }
+    ensures host { refusal_status (Target target.Host) ≡ 400 }
+    ensures port { refusal_status (Target target.Port) ≡ 400 }
+    ensures userinfo { refusal_status (Target target.Userinfo) ≡ 400 }
+    ensures escape { refusal_status (Target target.Escape) ≡ 400 }
+    ensures dot_segment { refusal_status (Target target.DotSegment) ≡ 400 }
+    ensures too_long { refusal_status (Target target.TooLong) ≡ 414 }
 {}
 
 /// How an origin failed: 504 where no answer came in time, else 502 (RFC 9110, sections 15.6.3 and 15.6.5).
 pub fn failed_origins()
-    ensures refused { status_of (Origin Refused rule.UriMiss None) ≡ 502 }
-    ensures timed_out { status_of (Origin TimedOut rule.UriMiss None) ≡ 504 }
-    ensures closed { status_of (Origin Closed rule.UriMiss None) ≡ 502 }
-    ensures bad_answer { status_of (Origin BadAnswer rule.UriMiss None) ≡ 502 }
-    ensures too_large { status_of (Origin TooLarge rule.UriMiss None) ≡ 502 }
-    ensures too_large_text { text_of (Origin TooLarge rule.UriMiss None) ≡ codes "origin too-large;fwd=uri-miss" }
+    ensures refused { refusal_status (Origin Refused rule.UriMiss None) ≡ 502 }
+    ensures timed_out { refusal_status (Origin TimedOut rule.UriMiss None) ≡ 504 }
+    ensures closed { refusal_status (Origin Closed rule.UriMiss None) ≡ 502 }
+    ensures bad_answer { refusal_status (Origin BadAnswer rule.UriMiss None) ≡ 502 }
+    ensures too_large { refusal_status (Origin TooLarge rule.UriMiss None) ≡ 502 }
+    ensures too_large_text { refusal_text (Origin TooLarge rule.UriMiss None) ≡ codes "origin too-large;fwd=uri-miss" }
 {}
 
 /// Why an answer isn't stored, where no other detail is told.
 pub fn storing_rules_are_named()
-    ensures no_lifetime { member_text (codes "edge") (not_stored_by rule.UriMiss storing.NothingToReuse) ≡ codes "edge;fwd=uri-miss;detail=not-stored-no-lifetime" }
-    ensures no_store { member_text (codes "edge") (not_stored_by rule.UriMiss storing.ResponseNoStore) ≡ codes "edge;fwd=uri-miss;detail=not-stored-no-store" }
-    ensures private { member_text (codes "edge") (not_stored_by rule.NoMaxStale storing.Private) ≡ codes "edge;fwd=stale;detail=not-stored-private" }
-    ensures cookie { member_text (codes "edge") (not_stored_by rule.UriMiss storing.SetCookie) ≡ codes "edge;fwd=uri-miss;detail=not-stored-set-cookie" }
-    ensures method { member_text (codes "edge") (not_stored_by rule.Method storing.Method) ≡ codes "edge;fwd=method;detail=not-stored-method" }
-    ensures rule_first { member_text (codes "edge") (not_stored_by rule.Operator storing.Operator) ≡ codes "edge;fwd=bypass;detail=operator" }
-    ensures rule_of_the_request { member_text (codes "edge") (not_stored_by rule.RequestNoCache storing.TooLarge)
+    ensures no_lifetime { member_text (codes "edge") (passed_on_and_not_stored rule.UriMiss storing.NothingToReuse)
+        ≡ codes "edge;fwd=uri-miss;detail=not-stored-no-lifetime" }
+    ensures no_store { member_text (codes "edge") (passed_on_and_not_stored rule.UriMiss storing.ResponseNoStore)
+        ≡ codes "edge;fwd=uri-miss;detail=not-stored-no-store" }
+    ensures private { member_text (codes "edge") (passed_on_and_not_stored rule.NoMaxStale storing.Private) ≡ codes "edge;fwd=stale;detail=not-stored-private" }
+    ensures cookie { member_text (codes "edge") (passed_on_and_not_stored rule.UriMiss storing.SetCookie) ≡ codes "edge;fwd=uri-miss;detail=not-stored-set-cookie" }
+    ensures method { member_text (codes "edge") (passed_on_and_not_stored rule.Method storing.Method) ≡ codes "edge;fwd=method;detail=not-stored-method" }
+    ensures rule_first { member_text (codes "edge") (passed_on_and_not_stored rule.Operator storing.Operator) ≡ codes "edge;fwd=bypass;detail=operator" }
+    ensures rule_of_the_request { member_text (codes "edge") (passed_on_and_not_stored rule.RequestNoCache storing.TooLarge)
         ≡ codes "edge;fwd=request;detail=no-cache" }
 {}

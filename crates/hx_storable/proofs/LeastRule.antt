@@ -3,11 +3,11 @@ use Rattle.std.proofs.Common.{◌≡◌, inl, inr, true, false, refl}
 use Rattle.std.specs.Prelude.{Some}
 use Rattle.hx_hop.specs.declared.request_view.Asked.{Asked}
 use Rattle.hx_hop.specs.declared.response_view.Answered.{Answered}
-use Rattle.hx_storable.specs.declared.known_facts.Facts.{Facts}
+use Rattle.hx_storable.specs.declared.known_facts.StoringFacts.{StoringFacts}
 use Rattle.hx_storable.specs.declared.rule.StoreRule.{StoreRule}
 use Rattle.hx_storable.specs.declared.rule.StoreRule.TheVariants.{Operator, Method, Bypass, Status, MustUnderstand, ResponseNoStore, RequestNoStore, Private, Authorization, NothingAllows, VaryStar, ConnectionField, NothingToReuse, TooLarge, Overtaken, Serials, SetCookie, ErrorStatus}
-use Rattle.hx_storable.specs.Rules.{applies, number_of, storage_rules, storage_rule_of}
-use Rattle.hx_storable.specs.Storable.{IsLeast, IsStored}
+use Rattle.hx_storable.specs.Rules.{storing_rule_applies, storing_rule_number, storage_rules, storage_rule_of}
+use Rattle.hx_storable.specs.Storable.{IsLeastStoringRule, ResponseIsStored}
 use Rattle.hx_fields.proofs.FirstThat.{IsMember, ascends, passes, fails_before, none_passes, none_found, first_found}
 
 -- each rule is in the table
@@ -31,28 +31,28 @@ listed Serials = inr (inr (inr (inr (inr (inr (inr (inr (inr (inr (inr (inr (inr
 listed SetCookie = inr (inr (inr (inr (inr (inr (inr (inr (inr (inr (inr (inr (inr (inr (inr (inr (inl refl))))))))))))))))
 listed ErrorStatus = inr (inr (inr (inr (inr (inr (inr (inr (inr (inr (inr (inr (inr (inr (inr (inr (inr (inl refl)))))))))))))))))
 
-in_order : ascends number_of 0 storage_rules ≡ true
+in_order : ascends storing_rule_number 0 storage_rules ≡ true
 unfolding ascends
 in_order = refl
 
-module _ (asked : Asked) (answered : Answered) (facts : Facts) where
-  pub rule_is_least : (least : StoreRule) → storage_rule_of asked answered facts ≡ Some least → IsLeast asked answered facts least
+module _ (asked : Asked) (answered : Answered) (facts : StoringFacts) where
+  pub rule_is_least : (least : StoreRule) → storage_rule_of asked answered facts ≡ Some least → IsLeastStoringRule asked answered facts least
   unfolding storage_rule_of
   rule_is_least least h =
       record {
-        it_applies = passes number_of (λ r. applies r asked answered facts) storage_rules least h;
-        none_before = λ r l. fails_before number_of (λ r. applies r asked answered facts) 0 storage_rules least r in_order h (listed r) l;
+        it_applies = passes storing_rule_number (λ r. storing_rule_applies r asked answered facts) storage_rules least h;
+        none_before = λ r l. fails_before storing_rule_number (λ r. storing_rule_applies r asked answered facts) 0 storage_rules least r in_order h (listed r) l;
       }
 
-  pub least_is_rule : (least : StoreRule) → IsLeast asked answered facts least → storage_rule_of asked answered facts ≡ Some least
+  pub least_is_rule : (least : StoreRule) → IsLeastStoringRule asked answered facts least → storage_rule_of asked answered facts ≡ Some least
   unfolding storage_rule_of
   least_is_rule least is =
-      first_found number_of (λ r. applies r asked answered facts) 0 storage_rules least in_order (listed least) is.it_applies is.none_before
+      first_found storing_rule_number (λ r. storing_rule_applies r asked answered facts) 0 storage_rules least in_order (listed least) is.it_applies is.none_before
 
-  pub no_rule_applies : (any : StoreRule) → IsStored asked answered facts → applies any asked answered facts ≡ false
+  pub no_rule_applies : (any : StoreRule) → ResponseIsStored asked answered facts → storing_rule_applies any asked answered facts ≡ false
   unfolding storage_rule_of
-  no_rule_applies any h = none_passes number_of (λ r. applies r asked answered facts) storage_rules any h (listed any)
+  no_rule_applies any h = none_passes storing_rule_number (λ r. storing_rule_applies r asked answered facts) storage_rules any h (listed any)
 
-  pub no_rule_found : ((any : StoreRule) → applies any asked answered facts ≡ false) → IsStored asked answered facts
+  pub no_rule_found : ((any : StoreRule) → storing_rule_applies any asked answered facts ≡ false) → ResponseIsStored asked answered facts
   unfolding storage_rule_of
-  no_rule_found none = none_found number_of (λ r. applies r asked answered facts) storage_rules none
+  no_rule_found none = none_found storing_rule_number (λ r. storing_rule_applies r asked answered facts) storage_rules none

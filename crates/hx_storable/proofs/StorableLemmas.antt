@@ -2,29 +2,29 @@
 use Rattle.std.proofs.Common.{◌≡◌, ℕ, ◌⊎◌, inl, inr, Bool, true, false, List, refl, sym, ◌∙◌, ap}
 use Rattle.std.specs.Prelude.{◌==◌, ◌&&◌, ◌||◌, not, codes, bytes_eq}
 use Rattle.std.proofs.lemmas.Slice.Eq.{bytes_eq-Decides}
-use Rattle.hx_fields.specs.Lines.{has as has_line}
+use Rattle.hx_fields.specs.FieldLines.{has_field as has_line}
 use Rattle.hx_directives.specs.Occurrences.{occurrences_of}
 use Rattle.hx_directives.specs.declared.names.Directive.TheVariants as directive
 use Rattle.hx_hop.specs.declared.request_view.Asked.{Asked}
 use Rattle.hx_hop.specs.declared.response_view.Answered.{Answered}
-use Rattle.hx_hop.specs.Bypass.{has_content, asks_for_range, has_precondition}
-use Rattle.hx_storable.specs.declared.known_facts.Facts.{Facts}
+use Rattle.hx_hop.specs.Bypass.{request_has_content, asks_for_range, has_precondition}
+use Rattle.hx_storable.specs.declared.known_facts.StoringFacts.{StoringFacts}
 use Rattle.hx_storable.specs.declared.rule.StoreRule.{StoreRule}
 use Rattle.hx_storable.specs.declared.rule.StoreRule.TheVariants.{Operator, Method, Bypass, Status, MustUnderstand, ResponseNoStore, RequestNoStore, Private, Authorization, NothingAllows, VaryStar, ConnectionField, NothingToReuse, TooLarge, Overtaken, Serials, SetCookie, ErrorStatus}
-use Rattle.hx_policy.specs.Words.{is_heuristic}
-use Rattle.hx_storable.specs.Rules.{asks, says, is_understood, allows_shared, allows_storing, applies}
-use Rattle.hx_storable.specs.Storable.{IsFinal, NeedsUnderstanding, IsNotForbidden, AllowsShared, AllowsStoring, IsForTheStore, MayBeStored, IsStored}
+use Rattle.hx_policy.specs.Policies.{is_heuristic}
+use Rattle.hx_storable.specs.Rules.{request_has, response_has, is_understood_status, allows_shared, allows_storing, storing_rule_applies}
+use Rattle.hx_storable.specs.Storable.{StatusIsFinal, NeedsUnderstanding, NoStoreIsAbsentOrLifted, ResponseAllowsShared, ResponseAllowsStoring, RequestIsForTheStore, ResponseMayBeStored, ResponseIsStored}
 use Rattle.hx_fields.proofs.JoinedTests.{never, not_false, not_true, left_false, right_false, neither, one_of, or_left, or_right, second_false, either_false, first_absent, last_absent, is_equal, not_equal, implied}
 use Rattle.hx_storable.proofs.LeastRule.{no_rule_applies, no_rule_found}
 use Rattle.hx_storable.proofs.LineLemmas.{turned, within_the_words, cookie_applies, error_applies}
 
 -- ---- statuses and methods
 
-part_is_not_understood : (status : ℕ) → status ≡ 206 → is_understood status ≡ true → ⊥
-part_is_not_understood status e h = never (sym (sym (ap is_understood e) ∙ h))
+part_is_not_understood : (status : ℕ) → status ≡ 206 → is_understood_status status ≡ true → ⊥
+part_is_not_understood status e h = never (sym (sym (ap is_understood_status e) ∙ h))
 
-not_modified_is_not_understood : (status : ℕ) → status ≡ 304 → is_understood status ≡ true → ⊥
-not_modified_is_not_understood status e h = never (sym (sym (ap is_understood e) ∙ h))
+not_modified_is_not_understood : (status : ℕ) → status ≡ 304 → is_understood_status status ≡ true → ⊥
+not_modified_is_not_understood status e h = never (sym (sym (ap is_understood_status e) ∙ h))
 
 method_is_get : (m : List ℕ) → not (bytes_eq m (codes "GET")) ≡ false → m ≡ codes "GET"
 method_is_get m h = (bytes_eq-Decides m (codes "GET")).0 (not_false (bytes_eq m (codes "GET")) h)
@@ -32,10 +32,10 @@ method_is_get m h = (bytes_eq-Decides m (codes "GET")).0 (not_false (bytes_eq m 
 get_is_method : (m : List ℕ) → m ≡ codes "GET" → not (bytes_eq m (codes "GET")) ≡ false
 get_is_method m is = rw is refl
 
-module _ (asked : Asked) (answered : Answered) (facts : Facts) where
+module _ (asked : Asked) (answered : Answered) (facts : StoringFacts) where
   -- ---- what is so where no rule stands
 
-  module _ (none : (any : StoreRule) → applies any asked answered facts ≡ false) where
+  module _ (none : (any : StoreRule) → storing_rule_applies any asked answered facts ≡ false) where
     pub is_get : asked.method ≡ codes "GET"
     is_get = method_is_get asked.method (none Method)
 
@@ -45,66 +45,66 @@ module _ (asked : Asked) (answered : Answered) (facts : Facts) where
     pub not_a_304 : answered.status ≡ 304 → ⊥
     not_a_304 e = never (sym (is_equal answered.status 304 e) ∙ right_false (answered.status == 206) (answered.status == 304) (none Status))
 
-    must_be_understood : says answered directive.MustUnderstand ≡ true → is_understood answered.status ≡ true
+    must_be_understood : response_has answered directive.MustUnderstand ≡ true → is_understood_status answered.status ≡ true
     must_be_understood must =
-        not_false (is_understood answered.status) (second_false (says answered directive.MustUnderstand) (not (is_understood answered.status)) must (none MustUnderstand))
+        not_false (is_understood_status answered.status) (second_false (response_has answered directive.MustUnderstand) (not (is_understood_status answered.status)) must (none MustUnderstand))
 
-    understood : NeedsUnderstanding answered → is_understood answered.status ≡ true
+    understood : NeedsUnderstanding answered → is_understood_status answered.status ≡ true
     understood (inl part) = absurd (not_a_part part)
     understood (inr (inl not_modified)) = absurd (not_a_304 not_modified)
     understood (inr (inr must)) = must_be_understood must
 
-    pub not_forbidden : IsNotForbidden answered
-    not_forbidden = at (either_false (says answered directive.NoStore) (not (says answered directive.MustUnderstand)) (none ResponseNoStore))
+    pub not_forbidden : NoStoreIsAbsentOrLifted answered
+    not_forbidden = at (either_false (response_has answered directive.NoStore) (not (response_has answered directive.MustUnderstand)) (none ResponseNoStore))
       where
-        at : (says answered directive.NoStore ≡ false) ⊎ (not (says answered directive.MustUnderstand) ≡ false) → IsNotForbidden answered
+        at : (response_has answered directive.NoStore ≡ false) ⊎ (not (response_has answered directive.MustUnderstand) ≡ false) → NoStoreIsAbsentOrLifted answered
         at (inl absent) = inl absent
-        at (inr lifted) = let must = not_false (says answered directive.MustUnderstand) lifted in inr (must, must_be_understood must)
+        at (inr lifted) = let must = not_false (response_has answered directive.MustUnderstand) lifted in inr (must, must_be_understood must)
 
-    pub shared_or_unauthorized : (has_line asked.fields (codes "Authorization") ≡ false) ⊎ AllowsShared answered
+    pub shared_or_unauthorized : (has_line asked.fields (codes "Authorization") ≡ false) ⊎ ResponseAllowsShared answered
     shared_or_unauthorized = at (either_false (has_line asked.fields (codes "Authorization")) (not (allows_shared (occurrences_of answered.fields))) (none Authorization))
       where
         must : Bool
-        must = says answered directive.MustRevalidate
+        must = response_has answered directive.MustRevalidate
 
         public : Bool
-        public = says answered directive.Public
+        public = response_has answered directive.Public
 
         shared : Bool
-        shared = says answered directive.SMaxage
+        shared = response_has answered directive.SMaxage
 
-        last : (must || public ≡ true) ⊎ (shared ≡ true) → AllowsShared answered
+        last : (must || public ≡ true) ⊎ (shared ≡ true) → ResponseAllowsShared answered
         last (inl h) = elim (one_of must public h) [ inl k ↦ inl k | inr k ↦ inr (inl k) ]
         last (inr h) = inr (inr h)
 
-        at : (has_line asked.fields (codes "Authorization") ≡ false) ⊎ (not (allows_shared (occurrences_of answered.fields)) ≡ false) → (has_line asked.fields (codes "Authorization") ≡ false) ⊎ AllowsShared answered
+        at : (has_line asked.fields (codes "Authorization") ≡ false) ⊎ (not (allows_shared (occurrences_of answered.fields)) ≡ false) → (has_line asked.fields (codes "Authorization") ≡ false) ⊎ ResponseAllowsShared answered
         at (inl absent) = inl absent
         at (inr h) = inr (last (one_of (must || public) shared (not_false (allows_shared (occurrences_of answered.fields)) h)))
 
-    allowed : AllowsStoring answered
+    allowed : ResponseAllowsStoring answered
     allowed = first (one_of (((public || expires) || max_age) || shared) (is_heuristic answered.status) (not_false (allows_storing answered) (none NothingAllows)))
       where
         public : Bool
-        public = says answered directive.Public
+        public = response_has answered directive.Public
 
         expires : Bool
         expires = has_line answered.fields (codes "Expires")
 
         max_age : Bool
-        max_age = says answered directive.MaxAge
+        max_age = response_has answered directive.MaxAge
 
         shared : Bool
-        shared = says answered directive.SMaxage
+        shared = response_has answered directive.SMaxage
 
-        third : (public || expires ≡ true) ⊎ (max_age ≡ true) → AllowsStoring answered
+        third : (public || expires ≡ true) ⊎ (max_age ≡ true) → ResponseAllowsStoring answered
         third (inl h) = elim (one_of public expires h) [ inl k ↦ inl k | inr k ↦ inr (inl k) ]
         third (inr h) = inr (inr (inl h))
 
-        second : ((public || expires) || max_age ≡ true) ⊎ (shared ≡ true) → AllowsStoring answered
+        second : ((public || expires) || max_age ≡ true) ⊎ (shared ≡ true) → ResponseAllowsStoring answered
         second (inl h) = third (one_of (public || expires) max_age h)
         second (inr h) = inr (inr (inr (inl h)))
 
-        first : (((public || expires) || max_age) || shared ≡ true) ⊎ (is_heuristic answered.status ≡ true) → AllowsStoring answered
+        first : (((public || expires) || max_age) || shared ≡ true) ⊎ (is_heuristic answered.status ≡ true) → ResponseAllowsStoring answered
         first (inl h) = second (one_of ((public || expires) || max_age) shared h)
         first (inr h) = inr (inr (inr (inr h)))
 
@@ -115,17 +115,17 @@ module _ (asked : Asked) (answered : Answered) (facts : Facts) where
         at (inl h) = inl (not_false facts.explicit h)
         at (inr h) = inr (not_false facts.validator h)
 
-    no_bypass : IsForTheStore asked
+    no_bypass : RequestIsForTheStore asked
     no_bypass =
-        let both = left_false (has_content asked || asks_for_range asked) (has_precondition asked) (none Bypass) in
+        let both = left_false (request_has_content asked || asks_for_range asked) (has_precondition asked) (none Bypass) in
         record {
           is_get = is_get;
-          no_content = left_false (has_content asked) (asks_for_range asked) both;
-          no_range = right_false (has_content asked) (asks_for_range asked) both;
-          no_precondition = right_false (has_content asked || asks_for_range asked) (has_precondition asked) (none Bypass);
+          no_content = left_false (request_has_content asked) (asks_for_range asked) both;
+          no_range = right_false (request_has_content asked) (asks_for_range asked) both;
+          no_precondition = right_false (request_has_content asked || asks_for_range asked) (has_precondition asked) (none Bypass);
         }
 
-    may_be_stored : IsFinal answered → MayBeStored asked answered facts
+    may_be_stored : StatusIsFinal answered → ResponseMayBeStored asked answered facts
     may_be_stored final = record {
       operator_allows = not_false facts.policy.caches (none Operator);
       is_storable = record {
@@ -146,25 +146,25 @@ module _ (asked : Asked) (answered : Answered) (facts : Facts) where
 
   -- ---- and back
 
-  shared_is_allowed : AllowsShared answered → allows_shared (occurrences_of answered.fields) ≡ true
-  shared_is_allowed (inl h) = or_left (says answered directive.MustRevalidate || says answered directive.Public) (says answered directive.SMaxage) (or_left (says answered directive.MustRevalidate) (says answered directive.Public) h)
-  shared_is_allowed (inr (inl h)) = or_left (says answered directive.MustRevalidate || says answered directive.Public) (says answered directive.SMaxage) (or_right (says answered directive.MustRevalidate) (says answered directive.Public) h)
-  shared_is_allowed (inr (inr h)) = or_right (says answered directive.MustRevalidate || says answered directive.Public) (says answered directive.SMaxage) h
+  shared_is_allowed : ResponseAllowsShared answered → allows_shared (occurrences_of answered.fields) ≡ true
+  shared_is_allowed (inl h) = or_left (response_has answered directive.MustRevalidate || response_has answered directive.Public) (response_has answered directive.SMaxage) (or_left (response_has answered directive.MustRevalidate) (response_has answered directive.Public) h)
+  shared_is_allowed (inr (inl h)) = or_left (response_has answered directive.MustRevalidate || response_has answered directive.Public) (response_has answered directive.SMaxage) (or_right (response_has answered directive.MustRevalidate) (response_has answered directive.Public) h)
+  shared_is_allowed (inr (inr h)) = or_right (response_has answered directive.MustRevalidate || response_has answered directive.Public) (response_has answered directive.SMaxage) h
 
-  storing_is_allowed : AllowsStoring answered → allows_storing answered ≡ true
+  storing_is_allowed : ResponseAllowsStoring answered → allows_storing answered ≡ true
   storing_is_allowed says_so = at says_so
     where
       public : Bool
-      public = says answered directive.Public
+      public = response_has answered directive.Public
 
       expires : Bool
       expires = has_line answered.fields (codes "Expires")
 
       max_age : Bool
-      max_age = says answered directive.MaxAge
+      max_age = response_has answered directive.MaxAge
 
       shared : Bool
-      shared = says answered directive.SMaxage
+      shared = response_has answered directive.SMaxage
 
       heuristic : Bool
       heuristic = is_heuristic answered.status
@@ -172,18 +172,18 @@ module _ (asked : Asked) (answered : Answered) (facts : Facts) where
       by_two : public || expires ≡ true → allows_storing answered ≡ true
       by_two h = or_left (((public || expires) || max_age) || shared) heuristic (or_left ((public || expires) || max_age) shared (or_left (public || expires) max_age h))
 
-      at : AllowsStoring answered → allows_storing answered ≡ true
+      at : ResponseAllowsStoring answered → allows_storing answered ≡ true
       at (inl h) = by_two (or_left public expires h)
       at (inr (inl h)) = by_two (or_right public expires h)
       at (inr (inr (inl h))) = or_left (((public || expires) || max_age) || shared) heuristic (or_left ((public || expires) || max_age) shared (or_right (public || expires) max_age h))
       at (inr (inr (inr (inl h)))) = or_left (((public || expires) || max_age) || shared) heuristic (or_right ((public || expires) || max_age) shared h)
       at (inr (inr (inr (inr h)))) = or_right (((public || expires) || max_age) || shared) heuristic h
 
-  not_forbidden_applies : IsNotForbidden answered → says answered directive.NoStore && not (says answered directive.MustUnderstand) ≡ false
-  not_forbidden_applies (inl absent) = first_absent (says answered directive.NoStore) (not (says answered directive.MustUnderstand)) absent
-  not_forbidden_applies (inr lifted) = last_absent (says answered directive.NoStore) (not (says answered directive.MustUnderstand)) (not_true (says answered directive.MustUnderstand) lifted.0)
+  not_forbidden_applies : NoStoreIsAbsentOrLifted answered → response_has answered directive.NoStore && not (response_has answered directive.MustUnderstand) ≡ false
+  not_forbidden_applies (inl absent) = first_absent (response_has answered directive.NoStore) (not (response_has answered directive.MustUnderstand)) absent
+  not_forbidden_applies (inr lifted) = last_absent (response_has answered directive.NoStore) (not (response_has answered directive.MustUnderstand)) (not_true (response_has answered directive.MustUnderstand) lifted.0)
 
-  authorization_applies : (has_line asked.fields (codes "Authorization") ≡ false) ⊎ AllowsShared answered → has_line asked.fields (codes "Authorization") && not (allows_shared (occurrences_of answered.fields)) ≡ false
+  authorization_applies : (has_line asked.fields (codes "Authorization") ≡ false) ⊎ ResponseAllowsShared answered → has_line asked.fields (codes "Authorization") && not (allows_shared (occurrences_of answered.fields)) ≡ false
   authorization_applies (inl absent) = first_absent (has_line asked.fields (codes "Authorization")) (not (allows_shared (occurrences_of answered.fields))) absent
   authorization_applies (inr shared) = last_absent (has_line asked.fields (codes "Authorization")) (not (allows_shared (occurrences_of answered.fields))) (not_true (allows_shared (occurrences_of answered.fields)) (shared_is_allowed shared))
 
@@ -191,18 +191,18 @@ module _ (asked : Asked) (answered : Answered) (facts : Facts) where
   of_use_applies (inl h) = first_absent (not facts.explicit) (not facts.validator) (not_true facts.explicit h)
   of_use_applies (inr h) = last_absent (not facts.explicit) (not facts.validator) (not_true facts.validator h)
 
-  module _ (may : MayBeStored asked answered facts) where
-    none_applies : (any : StoreRule) → applies any asked answered facts ≡ false
+  module _ (may : ResponseMayBeStored asked answered facts) where
+    none_applies : (any : StoreRule) → storing_rule_applies any asked answered facts ≡ false
     none_applies Operator = not_true facts.policy.caches may.operator_allows
     none_applies Method = get_is_method asked.method may.is_for_the_store.is_get
     none_applies Bypass =
-        neither (has_content asked || asks_for_range asked) (has_precondition asked)
-        (neither (has_content asked) (asks_for_range asked) may.is_for_the_store.no_content may.is_for_the_store.no_range) may.is_for_the_store.no_precondition
+        neither (request_has_content asked || asks_for_range asked) (has_precondition asked)
+        (neither (request_has_content asked) (asks_for_range asked) may.is_for_the_store.no_content may.is_for_the_store.no_range) may.is_for_the_store.no_precondition
     none_applies Status =
         neither (answered.status == 206) (answered.status == 304)
         (not_equal answered.status 206 (λ e. part_is_not_understood answered.status e (may.is_storable.status_is_understood (inl e))))
         (not_equal answered.status 304 (λ e. not_modified_is_not_understood answered.status e (may.is_storable.status_is_understood (inr (inl e)))))
-    none_applies MustUnderstand = implied (says answered directive.MustUnderstand) (is_understood answered.status) (λ must. may.is_storable.status_is_understood (inr (inr must)))
+    none_applies MustUnderstand = implied (response_has answered directive.MustUnderstand) (is_understood_status answered.status) (λ must. may.is_storable.status_is_understood (inr (inr must)))
     none_applies ResponseNoStore = not_forbidden_applies may.is_storable.no_no_store
     none_applies RequestNoStore = may.is_storable.not_asked_not_to
     none_applies Private = may.is_storable.not_private
@@ -217,49 +217,49 @@ module _ (asked : Asked) (answered : Answered) (facts : Facts) where
     none_applies SetCookie = cookie_applies asked answered facts may.is_within_the_words.cookies
     none_applies ErrorStatus = error_applies asked answered facts may.is_within_the_words.errors
 
-    pub is_stored : IsStored asked answered facts
+    pub is_stored : ResponseIsStored asked answered facts
     is_stored = no_rule_found asked answered facts none_applies
 
   -- ---- what is never stored
 
-  pub stored_may_be : IsFinal answered → IsStored asked answered facts → MayBeStored asked answered facts
+  pub stored_may_be : StatusIsFinal answered → ResponseIsStored asked answered facts → ResponseMayBeStored asked answered facts
   stored_may_be final h = may_be_stored (λ any. no_rule_applies asked answered facts any h) final
 
-  forbids : (says answered directive.NoStore ≡ true) → (says answered directive.MustUnderstand ≡ true → is_understood answered.status ≡ true → ⊥) → IsStored asked answered facts → ⊥
+  forbids : (response_has answered directive.NoStore ≡ true) → (response_has answered directive.MustUnderstand ≡ true → is_understood_status answered.status ≡ true → ⊥) → ResponseIsStored asked answered facts → ⊥
   forbids no_store not_lifted h = at (not_forbidden (λ any. no_rule_applies asked answered facts any h))
     where
-      at : IsNotForbidden answered → ⊥
+      at : NoStoreIsAbsentOrLifted answered → ⊥
       at (inl absent) = never (sym no_store ∙ absent)
       at (inr lifted) = not_lifted lifted.0 lifted.1
 
-  pub no_store_forbids : (says answered directive.NoStore ≡ true) × (says answered directive.MustUnderstand ≡ false) → IsStored asked answered facts → ⊥
+  pub no_store_forbids : (response_has answered directive.NoStore ≡ true) × (response_has answered directive.MustUnderstand ≡ false) → ResponseIsStored asked answered facts → ⊥
   no_store_forbids p h = forbids p.0 (λ must understood. never (sym must ∙ p.1)) h
 
-  pub no_store_forbids_unless_understood : (says answered directive.NoStore ≡ true) × (is_understood answered.status ≡ false) → IsStored asked answered facts → ⊥
+  pub no_store_forbids_unless_understood : (response_has answered directive.NoStore ≡ true) × (is_understood_status answered.status ≡ false) → ResponseIsStored asked answered facts → ⊥
   no_store_forbids_unless_understood p h = forbids p.0 (λ must understood. never (sym understood ∙ p.1)) h
 
-  pub requests_no_store_forbids : asks asked directive.NoStore ≡ true → IsStored asked answered facts → ⊥
+  pub requests_no_store_forbids : request_has asked directive.NoStore ≡ true → ResponseIsStored asked answered facts → ⊥
   requests_no_store_forbids p h = never (sym p ∙ no_rule_applies asked answered facts RequestNoStore h)
 
-  pub private_forbids : says answered directive.Private ≡ true → IsStored asked answered facts → ⊥
+  pub private_forbids : response_has answered directive.Private ≡ true → ResponseIsStored asked answered facts → ⊥
   private_forbids p h = never (sym p ∙ no_rule_applies asked answered facts Private h)
 
-  pub authorization_forbids : (has_line asked.fields (codes "Authorization") ≡ true) × (says answered directive.MustRevalidate ≡ false) × (says answered directive.Public ≡ false) × (says answered directive.SMaxage ≡ false)
-      → IsStored asked answered facts → ⊥
+  pub authorization_forbids : (has_line asked.fields (codes "Authorization") ≡ true) × (response_has answered directive.MustRevalidate ≡ false) × (response_has answered directive.Public ≡ false) × (response_has answered directive.SMaxage ≡ false)
+      → ResponseIsStored asked answered facts → ⊥
   authorization_forbids p h = at (shared_or_unauthorized (λ any. no_rule_applies asked answered facts any h))
     where
-      at : (has_line asked.fields (codes "Authorization") ≡ false) ⊎ AllowsShared answered → ⊥
+      at : (has_line asked.fields (codes "Authorization") ≡ false) ⊎ ResponseAllowsShared answered → ⊥
       at (inl absent) = never (sym p.0 ∙ absent)
       at (inr (inl must)) = never (sym must ∙ p.1)
       at (inr (inr (inl public))) = never (sym public ∙ p.2)
       at (inr (inr (inr shared))) = never (sym shared ∙ p.3)
 
-  pub parts_forbid : (answered.status ≡ 206) ⊎ (answered.status ≡ 304) → IsStored asked answered facts → ⊥
+  pub parts_forbid : (answered.status ≡ 206) ⊎ (answered.status ≡ 304) → ResponseIsStored asked answered facts → ⊥
   parts_forbid (inl e) h = not_a_part (λ any. no_rule_applies asked answered facts any h) e
   parts_forbid (inr e) h = not_a_304 (λ any. no_rule_applies asked answered facts any h) e
 
-  pub other_methods_forbid : ((asked.method ≡ codes "GET") → ⊥) → IsStored asked answered facts → ⊥
+  pub other_methods_forbid : ((asked.method ≡ codes "GET") → ⊥) → ResponseIsStored asked answered facts → ⊥
   other_methods_forbid p h = p (is_get (λ any. no_rule_applies asked answered facts any h))
 
-  pub operator_forbids : facts.policy.caches ≡ false → IsStored asked answered facts → ⊥
+  pub operator_forbids : facts.policy.caches ≡ false → ResponseIsStored asked answered facts → ⊥
   operator_forbids p h = never (sym (turned facts.policy.caches p) ∙ no_rule_applies asked answered facts Operator h)

@@ -3,9 +3,9 @@ use Rattle.std.proofs.Common.{◌≡◌, refl}
 use Rattle.std.specs.Prelude.{◌==◌, find, Some}
 use Rattle.hx_storable.specs.declared.rule.StoreRule.{StoreRule}
 use Rattle.hx_storable.specs.declared.rule.StoreRule.TheVariants.{Operator, Method, Bypass, Status, MustUnderstand, ResponseNoStore, RequestNoStore, Private, Authorization, NothingAllows, VaryStar, ConnectionField, NothingToReuse, TooLarge, Overtaken, Serials, SetCookie, ErrorStatus}
-use Rattle.hx_storable.specs.Rules.{number_of, storage_rules}
+use Rattle.hx_storable.specs.Rules.{storing_rule_number, storage_rules}
 
-pub each_is_listed : (rule : StoreRule) → find (λ other. number_of other == number_of rule) storage_rules ≡ Some rule
+pub each_is_listed : (rule : StoreRule) → find (λ other. storing_rule_number other == storing_rule_number rule) storage_rules ≡ Some rule
 each_is_listed Operator = refl
 each_is_listed Method = refl
 each_is_listed Bypass = refl

@@ -4,16 +4,16 @@ use Rattle.hx_fields.specs.Examples.{line}
 use Rattle.hx_fields.specs.declared.field_line.Field.{Field}
 use Rattle.hx_hop.specs.declared.request_view.Asked.{Asked}
 use Rattle.hx_hop.specs.declared.response_view.Answered.{Answered}
-use Rattle.hx_policy.specs.Words.{plain}
-use Rattle.hx_storable.specs.declared.known_facts.Facts.{Facts}
+use Rattle.hx_policy.specs.Policies.{plain}
+use Rattle.hx_storable.specs.declared.known_facts.StoringFacts.{StoringFacts}
 
 -- one Cache-Control line
-abbrev pub control : List ℕ → List Field
-control value = line (codes "Cache-Control") value ∷ []
+abbrev pub cache_control_fields : List ℕ → List Field
+cache_control_fields value = line (codes "Cache-Control") value ∷ []
 
 -- a GET of /a with these lines
-abbrev pub get : List Field → Asked
-get fields = record {
+abbrev pub get_a_with : List Field → Asked
+get_a_with fields = record {
   method = codes "GET";
   minor = 1;
   target = record { key = record { host = codes "h"; port = 80; path_query = codes "/a" }; table_path = codes "/a" };
@@ -23,15 +23,15 @@ get fields = record {
 }
 
 -- with Authorization
-abbrev pub authorized : Asked
-authorized = get (line (codes "Authorization") (codes "x") ∷ [])
+abbrev pub get_with_authorization : Asked
+get_with_authorization = get_a_with (line (codes "Authorization") (codes "x") ∷ [])
 
-abbrev pub answer : ℕ → List Field → Answered
-answer status fields = record { status = status; fields = fields }
+abbrev pub answer_with : ℕ → List Field → Answered
+answer_with status fields = record { status = status; fields = fields }
 
 -- an answer that states its lifetime, with nothing against it
-abbrev pub lasting : Facts
-lasting = record {
+abbrev pub storable_facts : StoringFacts
+storable_facts = record {
   policy = plain true;
   vary_star = false;
   listed = false;
@@ -43,8 +43,8 @@ lasting = record {
 }
 
 -- one whose Vary is `*`
-abbrev pub starred : Facts
-starred = record {
+abbrev pub facts_with_vary_star : StoringFacts
+facts_with_vary_star = record {
   policy = plain true;
   vary_star = true;
   listed = false;
@@ -56,8 +56,8 @@ starred = record {
 }
 
 -- and whose Connection names a cache field too
-abbrev pub starred_and_listed : Facts
-starred_and_listed = record {
+abbrev pub facts_with_star_and_listed : StoringFacts
+facts_with_star_and_listed = record {
   policy = plain true;
   vary_star = true;
   listed = true;
@@ -69,8 +69,8 @@ starred_and_listed = record {
 }
 
 -- one that the operator keeps from the store
-abbrev pub kept_out : Facts
-kept_out = record {
+abbrev pub facts_of_uncached_line : StoringFacts
+facts_of_uncached_line = record {
   policy = plain false;
   vary_star = false;
   listed = false;
@@ -82,20 +82,20 @@ kept_out = record {
 }
 
 -- and any other, whatever the other words say
-abbrev pub not_kept_out : Facts → Facts
-not_kept_out facts = record facts { policy = record facts.policy { caches = true } }
+abbrev pub facts_of_cached_line : StoringFacts → StoringFacts
+facts_of_cached_line facts = record facts { policy = record facts.policy { caches = true } }
 
 -- a page that sets a cookie, with one Cache-Control line
 abbrev pub login_page : List ℕ → Answered
-login_page value = answer 200 (line (codes "Set-Cookie") (codes "session=1") ∷ control value)
+login_page value = answer_with 200 (line (codes "Set-Cookie") (codes "session=1") ∷ cache_control_fields value)
 
 -- an answer that lasts a minute
-abbrev pub minute : ℕ → Answered
-minute status = answer status (control (codes "max-age=60"))
+abbrev pub answer_of_a_minute : ℕ → Answered
+answer_of_a_minute status = answer_with status (cache_control_fields (codes "max-age=60"))
 
 -- where the operator stores no cookies, and where he stores no errors
-abbrev pub without_cookies : Facts
-without_cookies = record lasting { policy = record (plain true) { stores_cookies = false } }
+abbrev pub without_cookies : StoringFacts
+without_cookies = record storable_facts { policy = record (plain true) { stores_cookies = false } }
 
-abbrev pub without_errors : Facts
-without_errors = record lasting { policy = record (plain true) { stores_errors = false } }
+abbrev pub without_errors : StoringFacts
+without_errors = record storable_facts { policy = record (plain true) { stores_errors = false } }

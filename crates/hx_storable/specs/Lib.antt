@@ -1,6 +1,6 @@
 pub mod Rules
 pub mod Storable
-pub mod LineWords
+pub mod LineWordsInStoring
 pub mod Cases
-pub mod Words
-pub mod Tables
+pub mod StoringRuleNames
+pub mod StoringRuleTables

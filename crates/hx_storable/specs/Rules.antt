@@ -1,23 +1,24 @@
 -- Which rules keep a response from being stored (RFC 9111, sections 3 and 3.5), and which is the first.
 -- A cache may always store less (RFC 9111, section 2); the rules that do so are marked "own".
 --
--- is_understood: statuses     allows_storing, allows_shared: what a response says of it
+-- is_understood_status: statuses     allows_storing, allows_shared: what a response says of it
 -- has_cookie_for_one, is_uncached_error: what the operator may keep from the store
--- applies: the condition of each rule        storage_rules, number_of: the rules by their numbers
+-- storing_rule_applies: the condition of each rule
+-- storage_rules, storing_rule_number: the rules by their numbers
 -- storage_rule_of: the least that stands
 use Rattle.std.specs.Prelude.{ℕ, ◌==◌, nat_le, Bool, not, ◌&&◌, ◌||◌, List, [], ◌∷◌, ◌++◌, find, codes, bytes_eq}
 use Rattle.std.specs.Prelude.{Option}
-use Rattle.hx_fields.specs.Lines.{has as has_line}
+use Rattle.hx_fields.specs.FieldLines.{has_field as has_line}
 use Rattle.hx_directives.specs.Occurrences.{occurrences_of}
-use Rattle.hx_directives.specs.Answers.{has}
+use Rattle.hx_directives.specs.Answers.{directive_occurs}
 use Rattle.hx_directives.specs.declared.names.Directive.{Directive}
 use Rattle.hx_directives.specs.declared.occurrences.Occurrence.{Occurrence}
 use Rattle.hx_directives.specs.declared.names.Directive.TheVariants as directive
 use Rattle.hx_hop.specs.declared.request_view.Asked.{Asked}
 use Rattle.hx_hop.specs.declared.response_view.Answered.{Answered}
-use Rattle.hx_hop.specs.Bypass.{has_content, asks_for_range, has_precondition}
-use Rattle.hx_policy.specs.Words.{is_heuristic}
-use Rattle.hx_storable.specs.declared.known_facts.Facts.{Facts}
+use Rattle.hx_hop.specs.Bypass.{request_has_content, asks_for_range, has_precondition}
+use Rattle.hx_policy.specs.Policies.{is_heuristic}
+use Rattle.hx_storable.specs.declared.known_facts.StoringFacts.{StoringFacts}
 use Rattle.hx_storable.specs.declared.rule.StoreRule.{StoreRule}
 use Rattle.hx_storable.specs.declared.rule.StoreRule.TheVariants.{Operator, Method, Bypass, Status, MustUnderstand}
 use Rattle.hx_storable.specs.declared.rule.StoreRule.TheVariants.{ResponseNoStore, RequestNoStore, Private}
@@ -27,76 +28,80 @@ use Rattle.hx_storable.specs.declared.rule.StoreRule.TheVariants.{Serials, SetCo
 
 -- the statuses whose caching this cache understands (RFC 9111, section 5.2.2.3)
 -- own: those of the standard's list but 206, for no incomplete response is stored
-abbrev pub is_understood : ℕ → Bool
-is_understood status = is_heuristic status && not (status == 206)
+abbrev pub is_understood_status : ℕ → Bool
+is_understood_status status = is_heuristic status && not (status == 206)
 
 -- a directive occurs in the request, and in the response
-abbrev pub asks : Asked → Directive → Bool
-asks asked d = has (occurrences_of asked.fields) d
+abbrev pub request_has : Asked → Directive → Bool
+request_has asked d = directive_occurs (occurrences_of asked.fields) d
 
-abbrev pub says : Answered → Directive → Bool
-says answered d = has (occurrences_of answered.fields) d
+abbrev pub response_has : Answered → Directive → Bool
+response_has answered d = directive_occurs (occurrences_of answered.fields) d
 
 -- a directive lets a shared cache store what was asked for with Authorization (RFC 9111, section 3.5)
 abbrev pub allows_shared : List Occurrence → Bool
-allows_shared found = (has found directive.MustRevalidate || has found directive.Public) || has found directive.SMaxage
+allows_shared found = (directive_occurs found directive.MustRevalidate || directive_occurs found directive.Public)
+    || directive_occurs found directive.SMaxage
 
 -- something in the response allows it to be stored, whether or not its seconds can be read (RFC 9111, section 3)
 abbrev pub allows_storing : Answered → Bool
 allows_storing answered =
-    (((says answered directive.Public || has_line answered.fields (codes "Expires")) || says answered directive.MaxAge)
-    || says answered directive.SMaxage) || is_heuristic answered.status
+    (((response_has answered directive.Public || has_line answered.fields (codes "Expires"))
+    || response_has answered directive.MaxAge)
+    || response_has answered directive.SMaxage) || is_heuristic answered.status
 
 -- the response sets a cookie, and doesn't say that it is for all. Of itself Set-Cookie "does not
 -- inhibit caching" (RFC 9111, section 7.3): it takes a word of the operator's line
 abbrev pub has_cookie_for_one : Answered → Bool
-has_cookie_for_one answered = has_line answered.fields (codes "Set-Cookie") && not (says answered directive.Public)
+has_cookie_for_one answered = has_line answered.fields (codes "Set-Cookie") && not (response_has answered directive.Public)
 
 -- the status tells an error (RFC 9110, sections 15.5 and 15.6), and none of 404, 405, 410, 414 and 501
 abbrev pub is_uncached_error : ℕ → Bool
 is_uncached_error status = nat_le 400 status && not (is_heuristic status)
 
 -- the condition of each rule
-abbrev pub applies : StoreRule → Asked → Answered → Facts → Bool
+abbrev pub storing_rule_applies : StoreRule → Asked → Answered → StoringFacts → Bool
 -- own: what the operator keeps from the store
-applies Operator asked answered facts = not facts.policy.caches
+storing_rule_applies Operator asked answered facts = not facts.policy.caches
 -- own: of all methods that it understands this cache stores answers to GET alone
-applies Method asked answered facts = not (bytes_eq asked.method (codes "GET"))
+storing_rule_applies Method asked answered facts = not (bytes_eq asked.method (codes "GET"))
 -- own: such a request goes past the cache, in both directions
-applies Bypass asked answered facts = (has_content asked || asks_for_range asked) || has_precondition asked
+storing_rule_applies Bypass asked answered facts =
+    (request_has_content asked || asks_for_range asked) || has_precondition asked
 -- RFC 9111, sections 3 and 3.3
-applies Status asked answered facts = (answered.status == 206) || (answered.status == 304)
+storing_rule_applies Status asked answered facts = (answered.status == 206) || (answered.status == 304)
 -- RFC 9111, section 5.2.2.3
-applies MustUnderstand asked answered facts = says answered directive.MustUnderstand
-    && not (is_understood answered.status)
+storing_rule_applies MustUnderstand asked answered facts = response_has answered directive.MustUnderstand
+    && not (is_understood_status answered.status)
 -- RFC 9111, sections 5.2.2.3 and 5.2.2.5
-applies ResponseNoStore asked answered facts = says answered directive.NoStore
-    && not (says answered directive.MustUnderstand)
+storing_rule_applies ResponseNoStore asked answered facts = response_has answered directive.NoStore
+    && not (response_has answered directive.MustUnderstand)
 -- RFC 9111, section 5.2.1.5
-applies RequestNoStore asked answered facts = asks asked directive.NoStore
+storing_rule_applies RequestNoStore asked answered facts = request_has asked directive.NoStore
 -- RFC 9111, section 5.2.2.7; own: also where it names fields
-applies Private asked answered facts = says answered directive.Private
+storing_rule_applies Private asked answered facts = response_has answered directive.Private
 -- RFC 9111, section 3.5
-applies Authorization asked answered facts = has_line asked.fields (codes "Authorization")
+storing_rule_applies Authorization asked answered facts = has_line asked.fields (codes "Authorization")
     && not (allows_shared (occurrences_of answered.fields))
 -- RFC 9111, section 3
-applies NothingAllows asked answered facts = not (allows_storing answered)
+storing_rule_applies NothingAllows asked answered facts = not (allows_storing answered)
 -- own: such a response answers no other request (RFC 9111, section 4.1)
-applies VaryStar asked answered facts = facts.vary_star
+storing_rule_applies VaryStar asked answered facts = facts.vary_star
 -- own: a cache field that was meant for one connection isn't there to be kept (RFC 9110, section 7.6.1)
-applies ConnectionField asked answered facts = facts.listed
+storing_rule_applies ConnectionField asked answered facts = facts.listed
 -- own: it could never be sent, nor validated (RFC 9111, section 4.2.2 lets a lifetime be guessed)
-applies NothingToReuse asked answered facts = not facts.explicit && not facts.validator
+storing_rule_applies NothingToReuse asked answered facts = not facts.explicit && not facts.validator
 -- own: the operator's limit
-applies TooLarge asked answered facts = facts.too_large
+storing_rule_applies TooLarge asked answered facts = facts.too_large
 -- own: it may be what the invalidation was to drop (RFC 9111, section 4.4)
-applies Overtaken asked answered facts = facts.overtaken
+storing_rule_applies Overtaken asked answered facts = facts.overtaken
 -- own: each stored response has a number that no other ever has
-applies Serials asked answered facts = facts.no_serial
+storing_rule_applies Serials asked answered facts = facts.no_serial
 -- own: where the operator stores no cookies (RFC 9111, section 7.3)
-applies SetCookie asked answered facts = not facts.policy.stores_cookies && has_cookie_for_one answered
+storing_rule_applies SetCookie asked answered facts = not facts.policy.stores_cookies && has_cookie_for_one answered
 -- own: where the operator stores no errors
-applies ErrorStatus asked answered facts = not facts.policy.stores_errors && is_uncached_error answered.status
+storing_rule_applies ErrorStatus asked answered facts = not facts.policy.stores_errors
+    && is_uncached_error answered.status
 
 -- the rules by their numbers; six ask for nothing but the facts, and the last two are the words of the operator's line
 abbrev pub rules_on_facts : List StoreRule
@@ -110,26 +115,26 @@ storage_rules =
     Operator ∷ Method ∷ Bypass ∷ Status ∷ MustUnderstand ∷ ResponseNoStore ∷ RequestNoStore ∷ Private ∷ Authorization
     ∷ NothingAllows ∷ (rules_on_facts ++ rules_of_words)
 
-abbrev pub number_of : StoreRule → ℕ
-number_of Operator = 0
-number_of Method = 1
-number_of Bypass = 2
-number_of Status = 3
-number_of MustUnderstand = 4
-number_of ResponseNoStore = 5
-number_of RequestNoStore = 6
-number_of Private = 7
-number_of Authorization = 8
-number_of NothingAllows = 9
-number_of VaryStar = 10
-number_of ConnectionField = 11
-number_of NothingToReuse = 12
-number_of TooLarge = 13
-number_of Overtaken = 14
-number_of Serials = 15
-number_of SetCookie = 16
-number_of ErrorStatus = 17
+abbrev pub storing_rule_number : StoreRule → ℕ
+storing_rule_number Operator = 0
+storing_rule_number Method = 1
+storing_rule_number Bypass = 2
+storing_rule_number Status = 3
+storing_rule_number MustUnderstand = 4
+storing_rule_number ResponseNoStore = 5
+storing_rule_number RequestNoStore = 6
+storing_rule_number Private = 7
+storing_rule_number Authorization = 8
+storing_rule_number NothingAllows = 9
+storing_rule_number VaryStar = 10
+storing_rule_number ConnectionField = 11
+storing_rule_number NothingToReuse = 12
+storing_rule_number TooLarge = 13
+storing_rule_number Overtaken = 14
+storing_rule_number Serials = 15
+storing_rule_number SetCookie = 16
+storing_rule_number ErrorStatus = 17
 
 -- the least rule that stands
-unfoldable pub storage_rule_of : Asked → Answered → Facts → Option StoreRule
-storage_rule_of asked answered facts = find (λ rule. applies rule asked answered facts) storage_rules
+unfoldable pub storage_rule_of : Asked → Answered → StoringFacts → Option StoreRule
+storage_rule_of asked answered facts = find (λ rule. storing_rule_applies rule asked answered facts) storage_rules

@@ -4,7 +4,7 @@ use hx_policy::Policy;
 
 /// What is known of an answer besides its head and the request.
 #[derive(Clone, Copy, Debug, PartialEq, Eq)]
-pub struct Facts {
+pub struct StoringFacts {
     /// What the line of its exchange says of caching.
     pub policy: Policy,
     /// A member of its Vary is `*` or no token (RFC 9111, section 4.1).

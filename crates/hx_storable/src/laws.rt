@@ -2,47 +2,53 @@
 //! worked cases: each function's contract is a law, and its body is empty.
 ghost use Rattle.std.specs.Prelude.{◌≡◌, ◌∷◌, [], codes, Some, None, true, false};
 ghost use Rattle.hx_fields.specs.Examples.{line};
-ghost use Rattle.hx_storable.specs.Tables.{RulesAreInOrder, EachRuleIsListed, WordsComeLast};
-ghost use Rattle.hx_storable.specs.Words.{WordsOfStoringRulesDiffer};
+ghost use Rattle.hx_storable.specs.StoringRuleTables.{StoringRulesAreInOrder, EachStoringRuleIsListed};
+ghost use Rattle.hx_storable.specs.StoringRuleTables.{RulesOfWordsComeLast};
+ghost use Rattle.hx_storable.specs.StoringRuleNames.{WordsOfStoringRulesDiffer};
 ghost use Rattle.hx_storable.specs.Rules.{storage_rule_of};
-ghost use Rattle.hx_storable.specs.Storable.{StoresNothingElse, StoresWhatMayBeStored, NamesTheLeast};
-ghost use Rattle.hx_storable.specs.Storable.{NamesOneThatApplies, StoresWhereNoneApplies, NoStoreForbids};
-ghost use Rattle.hx_storable.specs.Storable.{NoStoreForbidsUnlessUnderstood, RequestsNoStoreForbids, PrivateForbids};
-ghost use Rattle.hx_storable.specs.Storable.{AuthorizationForbids, PartsAreNeverStored, OnlyGetIsStored};
-ghost use Rattle.hx_storable.specs.Storable.{OperatorForbids};
-ghost use Rattle.hx_storable.specs.LineWords.{CookieForbids, ErrorForbids, WordsOnlyForbid, WordsForbidNoMore};
-ghost use Rattle.hx_storable.specs.LineWords.{PlainLineIsTheOperators, PlainLineStoresCookies, PlainLineStoresErrors};
-ghost use Rattle.hx_storable.specs.LineWords.{PlainLineAsksTheOthers};
-ghost use Rattle.hx_storable.specs.Cases.{control, get, authorized, answer, lasting, starred, starred_and_listed};
-ghost use Rattle.hx_storable.specs.Cases.{kept_out, not_kept_out, login_page, minute, without_cookies, without_errors};
+ghost use Rattle.hx_storable.specs.Storable.{NothingElseIsStorable, WhatMayBeStoredIsStored, LeastStoringRuleIsNamed};
+ghost use Rattle.hx_storable.specs.Storable.{NamedStoringRuleApplies, StoredWhereNoRuleApplies, NoStoreForbidsStoring};
+ghost use Rattle.hx_storable.specs.Storable.{NoStoreForbidsUnlessUnderstood, RequestNoStoreForbidsStoring};
+ghost use Rattle.hx_storable.specs.Storable.{PrivateForbidsStoring};
+ghost use Rattle.hx_storable.specs.Storable.{AuthorizationForbidsStoring, PartsAreNeverStored, OnlyGetIsStored};
+ghost use Rattle.hx_storable.specs.Storable.{OperatorForbidsStoring};
+ghost use Rattle.hx_storable.specs.LineWordsInStoring.{CookieForbidsStoring, ErrorForbidsStoring, WordsOnlyForbid};
+ghost use Rattle.hx_storable.specs.LineWordsInStoring.{WordsForbidNothingElse};
+ghost use Rattle.hx_storable.specs.LineWordsInStoring.{PlainLineIsTheOperators, PlainLineStoresCookies};
+ghost use Rattle.hx_storable.specs.LineWordsInStoring.{PlainLineStoresErrors};
+ghost use Rattle.hx_storable.specs.LineWordsInStoring.{PlainLineAsksOnlyOtherRules};
+ghost use Rattle.hx_storable.specs.Cases.{cache_control_fields, get_a_with, get_with_authorization, answer_with};
+ghost use Rattle.hx_storable.specs.Cases.{storable_facts, facts_with_vary_star, facts_with_star_and_listed};
+ghost use Rattle.hx_storable.specs.Cases.{facts_of_uncached_line, facts_of_cached_line, login_page, answer_of_a_minute};
+ghost use Rattle.hx_storable.specs.Cases.{without_cookies, without_errors};
 
-use crate::{Facts, StoreRule};
+use crate::{StoreRule, StoringFacts};
 
 /// A response is stored exactly where RFC 9111, section 3 lets a shared cache store it, and this cache has a use and
 /// room for it.
 pub fn stored_where_it_may_be_stored()
-    ensures every { StoresWhatMayBeStored }
-    ensures only { StoresNothingElse }
+    ensures every { WhatMayBeStoredIsStored }
+    ensures only { NothingElseIsStorable }
 {}
 
 /// The rule that is named stands, and none of a smaller number does; where none is named none stands.
 pub fn the_least_storage_rule_is_named()
-    ensures least { NamesTheLeast }
-    ensures every { NamesOneThatApplies }
-    ensures none { StoresWhereNoneApplies }
+    ensures least { LeastStoringRuleIsNamed }
+    ensures every { NamedStoringRuleApplies }
+    ensures none { StoredWhereNoRuleApplies }
 {}
 
 /// no-store forbids storing, whether the response has it (where must-understand doesn't lift it) or the request.
 pub fn what_may_not_be_stored_never_is()
-    ensures response { NoStoreForbids }
+    ensures response { NoStoreForbidsStoring }
     ensures not_understood { NoStoreForbidsUnlessUnderstood }
-    ensures request { RequestsNoStoreForbids }
+    ensures request { RequestNoStoreForbidsStoring }
 {}
 
 /// What is for one user alone is never stored.
 pub fn nothing_private_is_stored()
-    ensures private { PrivateForbids }
-    ensures authorized { AuthorizationForbids }
+    ensures private { PrivateForbidsStoring }
+    ensures authorized { AuthorizationForbidsStoring }
 {}
 
 /// No part of a representation is stored, and nothing that another method than GET asked for.
@@ -53,47 +59,54 @@ pub fn only_whole_answers_to_get_are_stored()
 
 /// What the operator keeps from the store is never stored, whatever the origin says of it.
 pub fn nothing_is_stored_against_the_operator()
-    ensures { OperatorForbids }
+    ensures { OperatorForbidsStoring }
 {}
 
 /// Where the operator stores no cookies, none is stored for others than the one whom it was set for.
 #[tactic(auto, unfolding(crate::specs::Rules::storage_rule_of))]
 pub fn a_cookie_is_not_stored_for_others()
-    ensures every { CookieForbids }
-    ensures login_page { storage_rule_of (get []) (login_page (codes "max-age=60")) without_cookies ≡ Some StoreRule.SetCookie }
-    ensures public { storage_rule_of (get []) (login_page (codes "public, max-age=60")) without_cookies ≡ None }
-    ensures without_the_word { storage_rule_of (get []) (login_page (codes "max-age=60")) lasting ≡ None }
-    ensures public_without_the_word { storage_rule_of (get []) (login_page (codes "public, max-age=60")) lasting ≡ None }
-    ensures no_cookie { storage_rule_of (get []) (minute 200) without_cookies ≡ None }
-    ensures errors_alone { storage_rule_of (get []) (login_page (codes "max-age=60")) without_errors ≡ None }
+    ensures every { CookieForbidsStoring }
+    ensures login_page { storage_rule_of (get_a_with []) (login_page (codes "max-age=60")) without_cookies
+        ≡ Some StoreRule.SetCookie }
+    ensures public { storage_rule_of (get_a_with []) (login_page (codes "public, max-age=60")) without_cookies ≡ None }
+    ensures without_the_word { storage_rule_of (get_a_with []) (login_page (codes "max-age=60")) storable_facts ≡ None }
+    ensures public_without_the_word { storage_rule_of (get_a_with []) (login_page (codes "public, max-age=60")) storable_facts ≡ None }
+    ensures no_cookie { storage_rule_of (get_a_with []) (answer_of_a_minute 200) without_cookies ≡ None }
+    ensures errors_alone { storage_rule_of (get_a_with []) (login_page (codes "max-age=60")) without_errors ≡ None }
 {}
 
 /// Where the operator stores no errors, none is stored whose status isn't heuristically cacheable,
 /// however long it lasts.
 #[tactic(auto, unfolding(crate::specs::Rules::storage_rule_of))]
 pub fn an_error_is_not_stored()
-    ensures every { ErrorForbids }
-    ensures bad_request { storage_rule_of (get []) (minute 400) without_errors ≡ Some StoreRule.ErrorStatus }
-    ensures unauthorized { storage_rule_of (get []) (minute 401) without_errors ≡ Some StoreRule.ErrorStatus }
-    ensures forbidden { storage_rule_of (get []) (minute 403) without_errors ≡ Some StoreRule.ErrorStatus }
-    ensures server_error { storage_rule_of (get []) (minute 500) without_errors ≡ Some StoreRule.ErrorStatus }
-    ensures unavailable { storage_rule_of (get []) (minute 503) without_errors ≡ Some StoreRule.ErrorStatus }
-    ensures not_found { storage_rule_of (get []) (minute 404) without_errors ≡ None }
-    ensures not_allowed { storage_rule_of (get []) (minute 405) without_errors ≡ None }
-    ensures gone { storage_rule_of (get []) (minute 410) without_errors ≡ None }
-    ensures too_long { storage_rule_of (get []) (minute 414) without_errors ≡ None }
-    ensures not_implemented { storage_rule_of (get []) (minute 501) without_errors ≡ None }
-    ensures found { storage_rule_of (get []) (minute 302) without_errors ≡ None }
-    ensures found_without_the_word { storage_rule_of (get []) (minute 302) lasting ≡ None }
-    ensures bad_request_without_the_word { storage_rule_of (get []) (minute 400) lasting ≡ None }
-    ensures cookies_alone { storage_rule_of (get []) (minute 400) without_cookies ≡ None }
+    ensures every { ErrorForbidsStoring }
+    ensures bad_request { storage_rule_of (get_a_with []) (answer_of_a_minute 400) without_errors
+        ≡ Some StoreRule.ErrorStatus }
+    ensures unauthorized { storage_rule_of (get_a_with []) (answer_of_a_minute 401) without_errors
+        ≡ Some StoreRule.ErrorStatus }
+    ensures forbidden { storage_rule_of (get_a_with []) (answer_of_a_minute 403) without_errors
+        ≡ Some StoreRule.ErrorStatus }
+    ensures server_error { storage_rule_of (get_a_with []) (answer_of_a_minute 500) without_errors
+        ≡ Some StoreRule.ErrorStatus }
+    ensures unavailable { storage_rule_of (get_a_with []) (answer_of_a_minute 503) without_errors
+        ≡ Some StoreRule.ErrorStatus }
+    ensures not_found { storage_rule_of (get_a_with []) (answer_of_a_minute 404) without_errors ≡ None }
+    ensures not_allowed { storage_rule_of (get_a_with []) (answer_of_a_minute 405) without_errors ≡ None }
+    ensures gone { storage_rule_of (get_a_with []) (answer_of_a_minute 410) without_errors ≡ None }
+    ensures too_long { storage_rule_of (get_a_with []) (answer_of_a_minute 414) without_errors ≡ None }
+    ensures not_implemented { storage_rule_of (get_a_with []) (answer_of_a_minute 501) without_errors ≡ None }
+    ensures found { storage_rule_of (get_a_with []) (answer_of_a_minute 302) without_errors ≡ None }
+    ensures found_without_the_word { storage_rule_of (get_a_with []) (answer_of_a_minute 302) storable_facts ≡ None }
+    ensures bad_request_without_the_word { storage_rule_of (get_a_with []) (answer_of_a_minute 400) storable_facts
+        ≡ None }
+    ensures cookies_alone { storage_rule_of (get_a_with []) (answer_of_a_minute 400) without_cookies ≡ None }
 {}
 
 /// The words of a line keep a response from the store, or do nothing: what is stored with them is
 /// stored without them, and what they allow is stored as without them.
 pub fn words_only_forbid_storing()
     ensures only { WordsOnlyForbid }
-    ensures no_more { WordsForbidNoMore }
+    ensures no_more { WordsForbidNothingElse }
 {}
 
 /// With a line that has no words the least rule is what it would be if there were none: the
@@ -102,65 +115,79 @@ pub fn default_policy_changes_nothing()
     ensures operator { PlainLineIsTheOperators }
     ensures cookies { PlainLineStoresCookies }
     ensures errors { PlainLineStoresErrors }
-    ensures others { PlainLineAsksTheOthers }
+    ensures others { PlainLineAsksOnlyOtherRules }
 {}
 
 /// The least number, where several rules stand, and the operator's doesn't.
 #[tactic(auto, unfolding(crate::specs::Rules::storage_rule_of))]
-pub fn least_storage_rule(facts: Facts)
-    ensures status { storage_rule_of (get []) (answer 206 (control (codes "must-understand"))) (not_kept_out facts)
+pub fn least_storage_rule(facts: StoringFacts)
+    ensures status { storage_rule_of (get_a_with []) (answer_with 206 (cache_control_fields (codes "must-understand")))
+        (facts_of_cached_line facts)
         ≡ Some StoreRule.Status }
-    ensures must_understand { storage_rule_of (get (control (codes "no-store")))
-        (answer 299 (control (codes "must-understand"))) (not_kept_out facts) ≡ Some StoreRule.MustUnderstand }
-    ensures response_no_store { storage_rule_of (get (control (codes "no-store")))
-        (answer 200 (control (codes "no-store"))) (not_kept_out facts) ≡ Some StoreRule.ResponseNoStore }
-    ensures request_no_store { storage_rule_of (get (control (codes "no-store")))
-        (answer 200 (control (codes "private"))) (not_kept_out facts) ≡ Some StoreRule.RequestNoStore }
-    ensures private { storage_rule_of authorized (answer 200 (control (codes "private"))) (not_kept_out facts)
+    ensures must_understand { storage_rule_of (get_a_with (cache_control_fields (codes "no-store")))
+        (answer_with 299 (cache_control_fields (codes "must-understand"))) (facts_of_cached_line facts)
+        ≡ Some StoreRule.MustUnderstand }
+    ensures response_no_store { storage_rule_of (get_a_with (cache_control_fields (codes "no-store")))
+        (answer_with 200 (cache_control_fields (codes "no-store"))) (facts_of_cached_line facts)
+        ≡ Some StoreRule.ResponseNoStore }
+    ensures request_no_store { storage_rule_of (get_a_with (cache_control_fields (codes "no-store")))
+        (answer_with 200 (cache_control_fields (codes "private"))) (facts_of_cached_line facts)
+        ≡ Some StoreRule.RequestNoStore }
+    ensures private { storage_rule_of get_with_authorization (answer_with 200 (cache_control_fields (codes "private")))
+        (facts_of_cached_line facts)
         ≡ Some StoreRule.Private }
-    ensures authorization { storage_rule_of authorized (answer 299 []) (not_kept_out facts)
+    ensures authorization { storage_rule_of get_with_authorization (answer_with 299 []) (facts_of_cached_line facts)
         ≡ Some StoreRule.Authorization }
-    ensures nothing_allows { storage_rule_of (get []) (answer 299 (line (codes "Vary") (codes "*") ∷ [])) starred
+    ensures nothing_allows { storage_rule_of (get_a_with [])
+        (answer_with 299 (line (codes "Vary") (codes "*") ∷ [])) facts_with_vary_star
         ≡ Some StoreRule.NothingAllows }
-    ensures vary_star { storage_rule_of (get []) (answer 200 (line (codes "Vary") (codes "*") ∷ [])) starred_and_listed
+    ensures vary_star { storage_rule_of (get_a_with [])
+        (answer_with 200 (line (codes "Vary") (codes "*") ∷ [])) facts_with_star_and_listed
         ≡ Some StoreRule.VaryStar }
 {}
 
 /// With a status that is understood, must-understand lifts no-store.
 #[tactic(auto, unfolding(crate::specs::Rules::storage_rule_of))]
 pub fn must_understand_overrides_no_store()
-    ensures { storage_rule_of (get []) (answer 200 (control (codes "must-understand, no-store, max-age=60"))) lasting ≡ None }
+    ensures { storage_rule_of (get_a_with [])
+        (answer_with 200 (cache_control_fields (codes "must-understand, no-store, max-age=60"))) storable_facts ≡ None }
 {}
 
 /// For a request with Authorization max-age isn't enough, and public is. A qualified private is a private.
 #[tactic(auto, unfolding(crate::specs::Rules::storage_rule_of))]
 pub fn authorization_and_private()
-    ensures max_age { storage_rule_of authorized (answer 200 (control (codes "max-age=60"))) lasting
+    ensures max_age { storage_rule_of get_with_authorization
+        (answer_with 200 (cache_control_fields (codes "max-age=60"))) storable_facts
         ≡ Some StoreRule.Authorization }
-    ensures public { storage_rule_of authorized (answer 200 (control (codes "public, max-age=60"))) lasting ≡ None }
-    ensures private { storage_rule_of (get []) (answer 200 (control (codes "private=\"Set-Cookie, X\", max-age=60"))) lasting ≡ Some StoreRule.Private }
+    ensures public { storage_rule_of get_with_authorization
+        (answer_with 200 (cache_control_fields (codes "public, max-age=60"))) storable_facts ≡ None }
+    ensures private { storage_rule_of (get_a_with [])
+        (answer_with 200 (cache_control_fields (codes "private=\"Set-Cookie, X\", max-age=60"))) storable_facts ≡ Some StoreRule.Private }
 {}
 
 /// An answer that nothing else stands against, and one that a later rule stands against too.
 #[tactic(auto, unfolding(crate::specs::Rules::storage_rule_of))]
 pub fn line_without_cache()
-    ensures lasting { storage_rule_of (get []) (answer 200 (control (codes "max-age=60"))) kept_out ≡ Some StoreRule.Operator }
-    ensures private { storage_rule_of (get []) (answer 200 (control (codes "private"))) kept_out ≡ Some StoreRule.Operator }
-    ensures with_cache { storage_rule_of (get []) (answer 200 (control (codes "max-age=60"))) lasting ≡ None }
+    ensures lasting { storage_rule_of (get_a_with [])
+        (answer_with 200 (cache_control_fields (codes "max-age=60"))) facts_of_uncached_line ≡ Some StoreRule.Operator }
+    ensures private { storage_rule_of (get_a_with [])
+        (answer_with 200 (cache_control_fields (codes "private"))) facts_of_uncached_line ≡ Some StoreRule.Operator }
+    ensures with_cache { storage_rule_of (get_a_with [])
+        (answer_with 200 (cache_control_fields (codes "max-age=60"))) storable_facts ≡ None }
 {}
 
 /// An answer that states nothing is stored where its status alone allows it, and isn't where it doesn't.
 #[tactic(auto, unfolding(crate::specs::Rules::storage_rule_of))]
 pub fn status_alone_allows_storing()
-    ensures not_found { storage_rule_of (get []) (answer 404 []) lasting ≡ None }
-    ensures found { storage_rule_of (get []) (answer 302 []) lasting ≡ Some StoreRule.NothingAllows }
+    ensures not_found { storage_rule_of (get_a_with []) (answer_with 404 []) storable_facts ≡ None }
+    ensures found { storage_rule_of (get_a_with []) (answer_with 302 []) storable_facts ≡ Some StoreRule.NothingAllows }
 {}
 
 /// Each rule is listed once, in the order of the numbers, and those of the line's words come last.
 pub fn the_tables_of_the_storing_rules_agree()
-    ensures numbers { RulesAreInOrder }
-    ensures listed { EachRuleIsListed }
-    ensures words { WordsComeLast }
+    ensures numbers { StoringRulesAreInOrder }
+    ensures listed { EachStoringRuleIsListed }
+    ensures words { RulesOfWordsComeLast }
 {}
 
 /// The word of a rule tells it from each other.

@@ -2,15 +2,15 @@
 //!
 //! The rules and their order stand in `specs/Rules.antt`; what they come to, in the standard's own list, is
 //! `specs/Storable.antt`, and `laws` proves it. What the store and the operator know of an answer is handed in as
-//! `Facts`: nothing here reads a clock, a store or a table, and no memory is taken.
+//! `StoringFacts`: nothing here reads a clock, a store or a table, and no memory is taken.
 #![tactic(auto)]
 
 mod known_facts;
 mod laws;
 mod rule;
-mod storing;
+mod storing_rules;
 
-pub use crate::known_facts::Facts;
+pub use crate::known_facts::StoringFacts;
 pub use crate::laws::{
     a_cookie_is_not_stored_for_others, an_error_is_not_stored, authorization_and_private,
     default_policy_changes_nothing, least_storage_rule, line_without_cache,
@@ -21,4 +21,4 @@ pub use crate::laws::{
     words_name_the_storing_rule, words_only_forbid_storing,
 };
 pub use crate::rule::StoreRule;
-pub use crate::storing::first_rule_against;
+pub use crate::storing_rules::first_rule_against;

@@ -6,41 +6,41 @@ use Rattle.std.proofs.lemmas.Bool.{cases_Bool, false≢true, eqb-true, eq-eqb, o
 use Rattle.std.proofs.lemmas.Bool.Decides.{nat_tests}
 use Rattle.std.proofs.lemmas.List.{length-take}
 use Rattle.std.proofs.lemmas.Option.{same_Some}
-use Rattle.hx_store.specs.Serials.{is_in, Distinct, insert_ascending}
+use Rattle.hx_store.specs.Serials.{serial_is_in, Distinct, insert_ascending}
 use Rattle.hx_store.specs.Stored.{Stored}
-use Rattle.hx_store.specs.Shelf.{serials, holds, find_entry, without}
-use Rattle.hx_store.specs.Places.{IsAbsent, IsPlace}
+use Rattle.hx_store.specs.Shelf.{serials, holds_serial, find_entry, without_serials}
+use Rattle.hx_store.specs.SerialPlaces.{SerialIsAbsent, IsPlaceOfSerial}
 
 pub eqb_comm : (a b : ℕ) → eqb a b ≡ eqb b a
 eqb_comm a b = grind (arith, nat_tests)
 
-pub not_only : (a s : ℕ) → eqb a s ≡ false → is_in a (s ∷ []) ≡ false
+pub not_only : (a s : ℕ) → eqb a s ≡ false → serial_is_in a (s ∷ []) ≡ false
 not_only a s h = grind (arith, nat_tests)
 
-pub without_none : (s : ℕ) (es : List Stored) → holds s es ≡ false → without (s ∷ []) es ≡ es
+pub without_none : (s : ℕ) (es : List Stored) → holds_serial s es ≡ false → without_serials (s ∷ []) es ≡ es
 without_none s [] h = refl
 without_none s (e ∷ es) h =
-    let p = or_parts (eqb e.serial s) (is_in s (serials es)) h in
-    ap (λ b. cond (not b) (e ∷ without (s ∷ []) es) (without (s ∷ []) es)) (not_only e.serial s p.0)
+    let p = or_parts (eqb e.serial s) (serial_is_in s (serials es)) h in
+    ap (λ b. cond (not b) (e ∷ without_serials (s ∷ []) es) (without_serials (s ∷ []) es)) (not_only e.serial s p.0)
     ∙ ap (λ zs. e ∷ zs) (without_none s es p.1)
 
-pub find_none : (s : ℕ) (es : List Stored) → holds s es ≡ false → find_entry s es ≡ None
+pub find_none : (s : ℕ) (es : List Stored) → holds_serial s es ≡ false → find_entry s es ≡ None
 find_none s [] h = refl
 find_none s (e ∷ es) h =
-    let p = or_parts (eqb e.serial s) (is_in s (serials es)) h in
+    let p = or_parts (eqb e.serial s) (serial_is_in s (serials es)) h in
     ap (λ b. cond b (Some e) (find_entry s es)) p.0 ∙ find_none s es p.1
 
 record LenIs (s : ℕ) (es : List Stored) (n : ℕ) : Type 0 where
-  at : n < length es → IsPlace s es n
-  past : length es ≤ n → holds s es ≡ false
+  at : n < length es → IsPlaceOfSerial s es n
+  past : length es ≤ n → holds_serial s es ≡ false
 
 len_is : (s : ℕ) (es : List Stored) → Distinct (serials es) → LenIs s es (position_or_len (λ e. eqb e.serial s) es)
 len_is s [] d = record { at = λ h. absurd (omega arith); past = λ h. refl }
 len_is s (e ∷ es) d = elim (cases_Bool (eqb e.serial s)) [
   | inl t ↦ (
-      let none : holds s es ≡ false = subst (λ z. is_in z (serials es) ≡ false) (eqb-true e.serial s t) d.0 in
-      let in' : is_in e.serial (s ∷ []) ≡ true = or_left _ _ (sym (eqb_comm e.serial s) ∙ t) in
-      let w : without (s ∷ []) (e ∷ es) ≡ es = ap (λ b. cond (not b) (e ∷ without (s ∷ []) es) (without (s ∷ []) es)) in' ∙ without_none s es none in
+      let none : holds_serial s es ≡ false = subst (λ z. serial_is_in z (serials es) ≡ false) (eqb-true e.serial s t) d.0 in
+      let in' : serial_is_in e.serial (s ∷ []) ≡ true = or_left _ _ (sym (eqb_comm e.serial s) ∙ t) in
+      let w : without_serials (s ∷ []) (e ∷ es) ≡ es = ap (λ b. cond (not b) (e ∷ without_serials (s ∷ []) es) (without_serials (s ∷ []) es)) in' ∙ without_none s es none in
       let zero_is : position_or_len (λ e. eqb e.serial s) (e ∷ es) ≡ 0 = ap (λ b. cond (not b) (1 + position_or_len (λ e. eqb e.serial s) es) 0) t in
       subst (LenIs s (e ∷ es)) (sym zero_is) (record {
         at = λ h. record {
@@ -57,8 +57,8 @@ len_is s (e ∷ es) d = elim (cases_Bool (eqb e.serial s)) [
       let r = len_is s es d.1 in
       let more : position_or_len (λ e. eqb e.serial s) (e ∷ es) ≡ suc n =
       ap (λ b. cond (not b) (1 + n) 0) f ∙ omega arith in
-      let w : without (s ∷ []) (e ∷ es) ≡ e ∷ without (s ∷ []) es =
-      ap (λ b. cond (not b) (e ∷ without (s ∷ []) es) (without (s ∷ []) es)) (not_only e.serial s f) in
+      let w : without_serials (s ∷ []) (e ∷ es) ≡ e ∷ without_serials (s ∷ []) es =
+      ap (λ b. cond (not b) (e ∷ without_serials (s ∷ []) es) (without_serials (s ∷ []) es)) (not_only e.serial s f) in
       subst (LenIs s (e ∷ es)) (sym more) (record {
         at = λ h. let p = r.at (omega arith) in record {
           within = h;
@@ -66,13 +66,13 @@ len_is s (e ∷ es) d = elim (cases_Bool (eqb e.serial s)) [
           found = λ d. ap (λ b. cond b (Some e) (find_entry s es)) f ∙ p.found d;
           rest = ap (λ zs. e ∷ zs) p.rest ∙ sym w;
         };
-        past = λ h. ap (λ b. b || holds s es) f ∙ r.past (omega arith);
+        past = λ h. ap (λ b. b || holds_serial s es) f ∙ r.past (omega arith);
       })
       )
 ]
 
 pub position_is : (s : ℕ) (es : List Stored) → Distinct (serials es) →
-    MatchOption (position (λ e. eqb e.serial s) es) (IsAbsent s es) (IsPlace s es)
+    MatchOption (position (λ e. eqb e.serial s) es) (SerialIsAbsent s es) (IsPlaceOfSerial s es)
 position_is s es d =
     let n = position_or_len (λ e. eqb e.serial s) es in
     let r = len_is s es d in
@@ -85,13 +85,13 @@ position_is s es d =
       })
     ]
 
-pub filter_keeps : (p : Stored → Bool) (s : ℕ) (es : List Stored) → holds s es ≡ false → holds s (filter p es) ≡ false
+pub filter_keeps : (p : Stored → Bool) (s : ℕ) (es : List Stored) → holds_serial s es ≡ false → holds_serial s (filter p es) ≡ false
 filter_keeps p s [] h = refl
 filter_keeps p s (e ∷ es) h =
-    let q = or_parts (eqb e.serial s) (is_in s (serials es)) h in
+    let q = or_parts (eqb e.serial s) (serial_is_in s (serials es)) h in
     let r = filter_keeps p s es q.1 in
-    elim (p e) as (λ b. holds s (cond b (e ∷ filter p es) (filter p es)) ≡ false) [
-      | true ↦ ap (λ b. b || holds s (filter p es)) q.0 ∙ r
+    elim (p e) as (λ b. holds_serial s (cond b (e ∷ filter p es) (filter p es)) ≡ false) [
+      | true ↦ ap (λ b. b || holds_serial s (filter p es)) q.0 ∙ r
       | false ↦ r
     ]
 
@@ -103,25 +103,25 @@ Distinct-filter p (e ∷ es) d =
       | false ↦ Distinct-filter p es d.1
     ]
 
-pub take_keeps : (n : ℕ) (s : ℕ) (es : List Stored) → holds s es ≡ false → holds s (take n es) ≡ false
+pub take_keeps : (n : ℕ) (s : ℕ) (es : List Stored) → holds_serial s es ≡ false → holds_serial s (take n es) ≡ false
 take_keeps zero s es h = refl
 take_keeps (suc n) s [] h = refl
 take_keeps (suc n) s (e ∷ es) h =
-    let q = or_parts (eqb e.serial s) (is_in s (serials es)) h in
-    ap (λ b. b || holds s (take n es)) q.0 ∙ take_keeps n s es q.1
+    let q = or_parts (eqb e.serial s) (serial_is_in s (serials es)) h in
+    ap (λ b. b || holds_serial s (take n es)) q.0 ∙ take_keeps n s es q.1
 
 pub Distinct-take : (n : ℕ) (es : List Stored) → Distinct (serials es) → Distinct (serials (take n es))
 Distinct-take zero es d = tt
 Distinct-take (suc n) [] d = tt
 Distinct-take (suc n) (e ∷ es) d = (take_keeps n e.serial es d.0, Distinct-take n es d.1)
 
-pub without_gone : (s : ℕ) (es : List Stored) → holds s (without (s ∷ []) es) ≡ false
+pub without_gone : (s : ℕ) (es : List Stored) → holds_serial s (without_serials (s ∷ []) es) ≡ false
 without_gone s [] = refl
 without_gone s (e ∷ es) = elim (cases_Bool (eqb e.serial s)) [
-  | inl t ↦ ap (λ b. holds s (cond (not b) (e ∷ without (s ∷ []) es) (without (s ∷ []) es))) (or_left _ _ (sym (eqb_comm e.serial s) ∙ t))
+  | inl t ↦ ap (λ b. holds_serial s (cond (not b) (e ∷ without_serials (s ∷ []) es) (without_serials (s ∷ []) es))) (or_left _ _ (sym (eqb_comm e.serial s) ∙ t))
       ∙ without_gone s es
-  | inr f ↦ ap (λ b. holds s (cond (not b) (e ∷ without (s ∷ []) es) (without (s ∷ []) es))) (not_only e.serial s f)
-      ∙ ap (λ b. b || holds s (without (s ∷ []) es)) f ∙ without_gone s es
+  | inr f ↦ ap (λ b. holds_serial s (cond (not b) (e ∷ without_serials (s ∷ []) es) (without_serials (s ∷ []) es))) (not_only e.serial s f)
+      ∙ ap (λ b. b || holds_serial s (without_serials (s ∷ []) es)) f ∙ without_gone s es
 ]
 
 pub length-filter_le : (p : Stored → Bool) (es : List Stored) → length (filter p es) ≤ length es
@@ -130,19 +130,19 @@ length-filter_le p (e ∷ es) =
     let h = length-filter_le p es in
     elim (p e) as (λ b. length (cond b (e ∷ filter p es) (filter p es)) ≤ suc (length es)) [ true ↦ omega arith | false ↦ omega arith ]
 
-pub length-without : (s : ℕ) (es : List Stored) → holds s es ≡ true → length (without (s ∷ []) es) < length es
+pub length-without : (s : ℕ) (es : List Stored) → holds_serial s es ≡ true → length (without_serials (s ∷ []) es) < length es
 length-without s [] h = absurd (false≢true h)
 length-without s (e ∷ es) h = elim (cases_Bool (eqb e.serial s)) [
   | inl t ↦ (
-      let w : without (s ∷ []) (e ∷ es) ≡ without (s ∷ []) es =
-      ap (λ b. cond (not b) (e ∷ without (s ∷ []) es) (without (s ∷ []) es)) (or_left _ _ (sym (eqb_comm e.serial s) ∙ t)) in
-      let l = length-filter_le (λ e. not (is_in e.serial (s ∷ []))) es in
+      let w : without_serials (s ∷ []) (e ∷ es) ≡ without_serials (s ∷ []) es =
+      ap (λ b. cond (not b) (e ∷ without_serials (s ∷ []) es) (without_serials (s ∷ []) es)) (or_left _ _ (sym (eqb_comm e.serial s) ∙ t)) in
+      let l = length-filter_le (λ e. not (serial_is_in e.serial (s ∷ []))) es in
       rw w (omega arith)
       )
   | inr f ↦ (
-      let w : without (s ∷ []) (e ∷ es) ≡ e ∷ without (s ∷ []) es =
-      ap (λ b. cond (not b) (e ∷ without (s ∷ []) es) (without (s ∷ []) es)) (not_only e.serial s f) in
-      let l = length-without s es (sym (ap (λ b. b || holds s es) f) ∙ h) in
+      let w : without_serials (s ∷ []) (e ∷ es) ≡ e ∷ without_serials (s ∷ []) es =
+      ap (λ b. cond (not b) (e ∷ without_serials (s ∷ []) es) (without_serials (s ∷ []) es)) (not_only e.serial s f) in
+      let l = length-without s es (sym (ap (λ b. b || holds_serial s es) f) ∙ h) in
       rw w (omega arith)
       )
 ]
@@ -157,21 +157,21 @@ sound_filter limit p es zs e h =
     let k : IsSound limit (filter p es) = (omega arith, Distinct-filter p es h.1) in
     subst (IsSound limit) (sym e) k
 
-pub sound_front : (limit s : ℕ) (es zs : List Stored) (x : Stored) → zs ≡ x ∷ without (s ∷ []) es → x.serial ≡ s → holds s es ≡ true →
+pub sound_front : (limit s : ℕ) (es zs : List Stored) (x : Stored) → zs ≡ x ∷ without_serials (s ∷ []) es → x.serial ≡ s → holds_serial s es ≡ true →
     IsSound limit es → IsSound limit zs
 sound_front limit s es zs x e k m h =
     let l = length-without s es m in
-    let none : holds x.serial (without (s ∷ []) es) ≡ false =
-    ap (λ z. holds z (without (s ∷ []) es)) k ∙ without_gone s es in
-    let g : IsSound limit (x ∷ without (s ∷ []) es) = (omega arith, (none, Distinct-filter _ es h.1)) in
+    let none : holds_serial x.serial (without_serials (s ∷ []) es) ≡ false =
+    ap (λ z. holds_serial z (without_serials (s ∷ []) es)) k ∙ without_gone s es in
+    let g : IsSound limit (x ∷ without_serials (s ∷ []) es) = (omega arith, (none, Distinct-filter _ es h.1)) in
     subst (IsSound limit) (sym e) g
 
-pub sound_put : (limit : ℕ) (gone : List ℕ) (es zs : List Stored) (x : Stored) → zs ≡ take limit (x ∷ without gone es) → holds x.serial es ≡ false →
+pub sound_put : (limit : ℕ) (gone : List ℕ) (es zs : List Stored) (x : Stored) → zs ≡ take limit (x ∷ without_serials gone es) → holds_serial x.serial es ≡ false →
     IsSound limit es → IsSound limit zs
 sound_put limit gone es zs x e m h =
-    let g : IsSound limit (take limit (x ∷ without gone es)) = (
-      omega (arith, length-take limit (x ∷ without gone es)),
-      Distinct-take limit (x ∷ without gone es) (filter_keeps _ x.serial es m, Distinct-filter _ es h.1),
+    let g : IsSound limit (take limit (x ∷ without_serials gone es)) = (
+      omega (arith, length-take limit (x ∷ without_serials gone es)),
+      Distinct-take limit (x ∷ without_serials gone es) (filter_keeps _ x.serial es m, Distinct-filter _ es h.1),
     ) in
     subst (IsSound limit) (sym e) g
 
@@ -186,10 +186,10 @@ find-serial s (e ∷ es) x h = elim (cases_Bool (eqb e.serial s)) [
   | inr f ↦ find-serial s es x (sym (ap (λ b. cond b (Some e) (find_entry s es)) f) ∙ h)
 ]
 
-pub held_is_found : (s : ℕ) (es : List Stored) → holds s es ≡ is_some (find_entry s es)
+pub held_is_found : (s : ℕ) (es : List Stored) → holds_serial s es ≡ is_some (find_entry s es)
 held_is_found s [] = refl
 held_is_found s (e ∷ es) =
-    elim (eqb e.serial s) as (λ b. (b || holds s es) ≡ is_some (cond b (Some e) (find_entry s es))) [
+    elim (eqb e.serial s) as (λ b. (b || holds_serial s es) ≡ is_some (cond b (Some e) (find_entry s es))) [
       | true ↦ refl
       | false ↦ held_is_found s es
     ]
@@ -207,7 +207,7 @@ pub serials_in_order : (es : List Stored) → serials es ≡ map (λ e. e.serial
 serials_in_order [] = refl
 serials_in_order (e ∷ es) = ap (λ zs. e.serial ∷ zs) (serials_in_order es)
 
-pub any_is_in : (s : ℕ) (xs : List ℕ) → list_any (λ x. eqb x s) xs ≡ is_in s xs
+pub any_is_in : (s : ℕ) (xs : List ℕ) → list_any (λ x. eqb x s) xs ≡ serial_is_in s xs
 any_is_in s [] = refl
 any_is_in s (x ∷ xs) = ap (λ b. eqb x s || b) (any_is_in s xs)
 
@@ -221,7 +221,7 @@ insert_at_place s (x ∷ xs) = elim (cases_Bool (leb s x)) [
       ∙ sym (ap (λ b. cond b (s ∷ x ∷ xs) (x ∷ insert_ascending s xs)) f)
 ]
 
-pub find_holds : (s : ℕ) (es : List Stored) (x : Stored) → find_entry s es ≡ Some x → holds x.serial es ≡ true
+pub find_holds : (s : ℕ) (es : List Stored) (x : Stored) → find_entry s es ≡ Some x → holds_serial x.serial es ≡ true
 find_holds s [] x h = absurd (cc)
 find_holds s (e ∷ es) x h = elim (cases_Bool (eqb e.serial s)) [
   | inl t ↦ (

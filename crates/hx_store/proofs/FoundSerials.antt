@@ -5,9 +5,9 @@ use Rattle.std.proofs.lemmas.Bool.Decides.{leb_tells}
 use Rattle.hx_target.specs.declared.keys.Key.{Key}
 use Rattle.hx_target.specs.Keys.{same_key}
 use Rattle.hx_store.specs.Stored.{Stored}
-use Rattle.hx_store.specs.Serials.{is_in, insert_ascending}
+use Rattle.hx_store.specs.Serials.{serial_is_in, insert_ascending}
 use Rattle.hx_store.specs.Shelf.{serials_of}
-use Rattle.hx_store.specs.Found.{NoneBelow, IsAscending}
+use Rattle.hx_store.specs.Found.{NoSerialIsBelow, IsAscending}
 
 swap_or : (a b c : Bool) → (a || (b || c)) ≡ (b || (a || c))
 swap_or true true c = refl
@@ -15,33 +15,33 @@ swap_or true false c = refl
 swap_or false true c = refl
 swap_or false false c = refl
 
-pub is_in-insert : (s x : ℕ) (xs : List ℕ) → is_in s (insert_ascending x xs) ≡ (eqb x s || is_in s xs)
+pub is_in-insert : (s x : ℕ) (xs : List ℕ) → serial_is_in s (insert_ascending x xs) ≡ (eqb x s || serial_is_in s xs)
 is_in-insert s x [] = refl
 is_in-insert s x (y ∷ ys) =
-    elim (leb x y) as (λ b. is_in s (cond b (x ∷ y ∷ ys) (y ∷ insert_ascending x ys)) ≡ (eqb x s || (eqb y s || is_in s ys))) [
+    elim (leb x y) as (λ b. serial_is_in s (cond b (x ∷ y ∷ ys) (y ∷ insert_ascending x ys)) ≡ (eqb x s || (eqb y s || serial_is_in s ys))) [
       | true ↦ refl
-      | false ↦ ap (λ b. eqb y s || b) (is_in-insert s x ys) ∙ swap_or (eqb y s) (eqb x s) (is_in s ys)
+      | false ↦ ap (λ b. eqb y s || b) (is_in-insert s x ys) ∙ swap_or (eqb y s) (eqb x s) (serial_is_in s ys)
     ]
 
 pub finds_those : (key : Key) (s : ℕ) (es : List Stored) →
-    is_in s (serials_of key es) ≡ list_any (λ e. same_key e.key key && eqb e.serial s) es
+    serial_is_in s (serials_of key es) ≡ list_any (λ e. same_key e.key key && eqb e.serial s) es
 finds_those key s [] = refl
 finds_those key s (e ∷ es) =
     let more = finds_those key s es in
-    elim (same_key e.key key) as (λ b. is_in s (cond b (insert_ascending e.serial (serials_of key es)) (serials_of key es))
+    elim (same_key e.key key) as (λ b. serial_is_in s (cond b (insert_ascending e.serial (serials_of key es)) (serials_of key es))
     ≡ ((b && eqb e.serial s) || list_any (λ (f : Stored). same_key f.key key && eqb f.serial s) es)) [
       | true ↦ is_in-insert s e.serial (serials_of key es) ∙ ap (λ b. eqb e.serial s || b) more
       | false ↦ more
     ]
 
-pub below_less : (a b : ℕ) (xs : List ℕ) → a ≤ b → NoneBelow b xs → NoneBelow a xs
+pub below_less : (a b : ℕ) (xs : List ℕ) → a ≤ b → NoSerialIsBelow b xs → NoSerialIsBelow a xs
 below_less a b [] le h = tt
 below_less a b (x ∷ xs) le h = (omega (arith, h.0), below_less a b xs le h.1)
 
-below_insert : (a s : ℕ) (xs : List ℕ) → a ≤ s → NoneBelow a xs → NoneBelow a (insert_ascending s xs)
+below_insert : (a s : ℕ) (xs : List ℕ) → a ≤ s → NoSerialIsBelow a xs → NoSerialIsBelow a (insert_ascending s xs)
 below_insert a s [] le h = (le, tt)
 below_insert a s (x ∷ xs) le h =
-    elim (leb s x) as (λ b. NoneBelow a (cond b (s ∷ x ∷ xs) (x ∷ insert_ascending s xs))) [
+    elim (leb s x) as (λ b. NoSerialIsBelow a (cond b (s ∷ x ∷ xs) (x ∷ insert_ascending s xs))) [
       | true ↦ (le, h)
       | false ↦ (h.0, below_insert a s xs le h.1)
     ]

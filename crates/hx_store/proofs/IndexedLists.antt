@@ -11,133 +11,133 @@ use Rattle.hx_target.specs.declared.keys.Key.{Key}
 use Rattle.hx_target.specs.Keys.{same_key}
 use Rattle.hx_target.specs.KeyOrder.{same_key_equiv}
 use Rattle.hx_store.specs.declared.key_index.KeyIndex.{KeyIndex}
-use Rattle.hx_store.specs.Serials.{is_in, Distinct, insert_ascending}
+use Rattle.hx_store.specs.Serials.{serial_is_in, Distinct, insert_ascending}
 use Rattle.hx_store.specs.Stored.{Stored}
-use Rattle.hx_store.specs.Shelf.{serials, holds, find_entry, without, serials_of, promoted, in_front, without_key}
-use Rattle.hx_store.specs.Found.{NoneBelow, IsAscending}
+use Rattle.hx_store.specs.Shelf.{serials, holds_serial, find_entry, without_serials, serials_of, with_promoted, with_in_front, without_key}
+use Rattle.hx_store.specs.Found.{NoSerialIsBelow, IsAscending}
 use Rattle.hx_vary.specs.declared.marks.Mark.{Mark}
-use Rattle.hx_vary.specs.Marks.{mark_of}
-use Rattle.hx_store.specs.Index.{AreMarks, IsIndexOf, IsMarked, IsMarkedAnew, IsPutIn, IsTakenOut, but, indexed, marks_at, without_others}
+use Rattle.hx_vary.specs.Marks.{mark_of_values}
+use Rattle.hx_store.specs.Index.{EachMarkIsOfItsEntry, IsKeyIndexOf, MarksAreOfTheirEntries, SerialIsMarkedAnew, SerialIsPutIn, SerialIsTakenOut, without_first_serial, serials_in_index, serials_and_marks_at, entries_but_others}
 use Rattle.hx_store.proofs.EntryLists.{eqb_comm, not_only, without_none, without_gone, find_none, find-serial, find_holds, Distinct-filter, length-filter_le, length-without}
 use Rattle.hx_store.proofs.FoundSerials.{is_in-insert, finds_ascending, below_less}
 use Rattle.hx_store.proofs.KeyedEntries.{is_some-find, distinct-front}
-use Rattle.hx_target.specs.KeyHash.{one_key}
+use Rattle.hx_target.specs.KeyHash.{same_keys_are_equal}
 use Rattle.hx_store.proofs.Indices.{not_nothing}
 use Rattle.hx_store.proofs.MarkLists.{IsPart, keys-marked, keys-put, keys-removed, marks-anew, marks-more, marks-part, marks-put, marks-removed, part-front, part-without}
 
 -- ---- lists of serials
 
 -- what was put in goes again
-but-insert : (s : ℕ) (xs : List ℕ) → but s (insert_ascending s xs) ≡ xs
+but-insert : (s : ℕ) (xs : List ℕ) → without_first_serial s (insert_ascending s xs) ≡ xs
 but-insert s [] = ap (λ b. cond b [] (s ∷ [])) (eq-eqb s s refl)
 but-insert s (x ∷ xs) = elim (cases_Bool (leb s x)) [
-  | inl t ↦ ap (λ b. but s (cond b (s ∷ x ∷ xs) (x ∷ insert_ascending s xs))) t ∙ ap (λ b. cond b (x ∷ xs) (s ∷ but s (x ∷ xs))) (eq-eqb s s refl)
+  | inl t ↦ ap (λ b. without_first_serial s (cond b (s ∷ x ∷ xs) (x ∷ insert_ascending s xs))) t ∙ ap (λ b. cond b (x ∷ xs) (s ∷ without_first_serial s (x ∷ xs))) (eq-eqb s s refl)
   | inr f ↦ (
       let n : eqb x s ≡ false = grind (arith, nat_tests, f) in
-      ap (λ b. but s (cond b (s ∷ x ∷ xs) (x ∷ insert_ascending s xs))) f
-      ∙ ap (λ b. cond b (insert_ascending s xs) (x ∷ but s (insert_ascending s xs))) n
+      ap (λ b. without_first_serial s (cond b (s ∷ x ∷ xs) (x ∷ insert_ascending s xs))) f
+      ∙ ap (λ b. cond b (insert_ascending s xs) (x ∷ without_first_serial s (insert_ascending s xs))) n
       ∙ ap (λ ys. x ∷ ys) (but-insert s xs)
       )
 ]
 
-but-none : (s : ℕ) (xs : List ℕ) → is_in s xs ≡ false → but s xs ≡ xs
+but-none : (s : ℕ) (xs : List ℕ) → serial_is_in s xs ≡ false → without_first_serial s xs ≡ xs
 but-none s [] h = refl
 but-none s (x ∷ xs) h =
-    let p = or_parts (eqb x s) (is_in s xs) h in
-    ap (λ b. cond b xs (x ∷ but s xs)) p.0 ∙ ap (λ ys. x ∷ ys) (but-none s xs p.1)
+    let p = or_parts (eqb x s) (serial_is_in s xs) h in
+    ap (λ b. cond b xs (x ∷ without_first_serial s xs)) p.0 ∙ ap (λ ys. x ∷ ys) (but-none s xs p.1)
 
-pub insert-below : (a : ℕ) (xs : List ℕ) → NoneBelow a xs → insert_ascending a xs ≡ a ∷ xs
+pub insert-below : (a : ℕ) (xs : List ℕ) → NoSerialIsBelow a xs → insert_ascending a xs ≡ a ∷ xs
 insert-below a [] h = refl
 insert-below a (x ∷ xs) h =
     let t : leb a x ≡ true = grind (arith, nat_tests, h.0) in
     ap (λ b. cond b (a ∷ x ∷ xs) (x ∷ insert_ascending a xs)) t
 
 -- another one goes, whether before or after
-but-other : (s a : ℕ) (xs : List ℕ) → eqb a s ≡ false → IsAscending xs → but s (insert_ascending a xs) ≡ insert_ascending a (but s xs)
+but-other : (s a : ℕ) (xs : List ℕ) → eqb a s ≡ false → IsAscending xs → without_first_serial s (insert_ascending a xs) ≡ insert_ascending a (without_first_serial s xs)
 but-other s a [] n h = ap (λ b. cond b [] (a ∷ [])) n
 but-other s a (x ∷ xs) n h = elim (leb_tells a x) [
   | inl p ↦ (
-      let front : but s (insert_ascending a (x ∷ xs)) ≡ a ∷ but s (x ∷ xs) =
-      ap (λ b. but s (cond b (a ∷ x ∷ xs) (x ∷ insert_ascending a xs))) p.0 ∙ ap (λ b. cond b (x ∷ xs) (a ∷ but s (x ∷ xs))) n in
+      let front : without_first_serial s (insert_ascending a (x ∷ xs)) ≡ a ∷ without_first_serial s (x ∷ xs) =
+      ap (λ b. without_first_serial s (cond b (a ∷ x ∷ xs) (x ∷ insert_ascending a xs))) p.0 ∙ ap (λ b. cond b (x ∷ xs) (a ∷ without_first_serial s (x ∷ xs))) n in
       front ∙ sym (elim (cases_Bool (eqb x s)) [
-        | inl t ↦ ap (λ b. insert_ascending a (cond b xs (x ∷ but s xs))) t ∙ insert-below a xs (below_less a x xs p.1 h.0)
-            ∙ sym (ap (λ b. a ∷ cond b xs (x ∷ but s xs)) t)
-        | inr f ↦ ap (λ b. insert_ascending a (cond b xs (x ∷ but s xs))) f
-            ∙ ap (λ b. cond b (a ∷ x ∷ but s xs) (x ∷ insert_ascending a (but s xs))) p.0
-            ∙ sym (ap (λ b. a ∷ cond b xs (x ∷ but s xs)) f)
+        | inl t ↦ ap (λ b. insert_ascending a (cond b xs (x ∷ without_first_serial s xs))) t ∙ insert-below a xs (below_less a x xs p.1 h.0)
+            ∙ sym (ap (λ b. a ∷ cond b xs (x ∷ without_first_serial s xs)) t)
+        | inr f ↦ ap (λ b. insert_ascending a (cond b xs (x ∷ without_first_serial s xs))) f
+            ∙ ap (λ b. cond b (a ∷ x ∷ without_first_serial s xs) (x ∷ insert_ascending a (without_first_serial s xs))) p.0
+            ∙ sym (ap (λ b. a ∷ cond b xs (x ∷ without_first_serial s xs)) f)
       ])
       )
   | inr p ↦ (
-      ap (λ b. but s (cond b (a ∷ x ∷ xs) (x ∷ insert_ascending a xs))) p.0
+      ap (λ b. without_first_serial s (cond b (a ∷ x ∷ xs) (x ∷ insert_ascending a xs))) p.0
       ∙ (elim (cases_Bool (eqb x s)) [
-        | inl t ↦ ap (λ b. cond b (insert_ascending a xs) (x ∷ but s (insert_ascending a xs))) t
-            ∙ sym (ap (λ b. insert_ascending a (cond b xs (x ∷ but s xs))) t)
-        | inr f ↦ ap (λ b. cond b (insert_ascending a xs) (x ∷ but s (insert_ascending a xs))) f
+        | inl t ↦ ap (λ b. cond b (insert_ascending a xs) (x ∷ without_first_serial s (insert_ascending a xs))) t
+            ∙ sym (ap (λ b. insert_ascending a (cond b xs (x ∷ without_first_serial s xs))) t)
+        | inr f ↦ ap (λ b. cond b (insert_ascending a xs) (x ∷ without_first_serial s (insert_ascending a xs))) f
             ∙ ap (λ ys. x ∷ ys) (but-other s a xs n h.1)
-            ∙ sym (ap (λ b. cond b (a ∷ x ∷ but s xs) (x ∷ insert_ascending a (but s xs))) p.0)
-            ∙ sym (ap (λ b. insert_ascending a (cond b xs (x ∷ but s xs))) f)
+            ∙ sym (ap (λ b. cond b (a ∷ x ∷ without_first_serial s xs) (x ∷ insert_ascending a (without_first_serial s xs))) p.0)
+            ∙ sym (ap (λ b. insert_ascending a (cond b xs (x ∷ without_first_serial s xs))) f)
       ])
       )
 ]
 
-none_below_in : (a s : ℕ) (xs : List ℕ) → NoneBelow a xs → is_in s xs ≡ true → a ≤ s
+none_below_in : (a s : ℕ) (xs : List ℕ) → NoSerialIsBelow a xs → serial_is_in s xs ≡ true → a ≤ s
 none_below_in a s [] h m = absurd (false≢true m)
 none_below_in a s (x ∷ xs) h m = elim (cases_Bool (eqb x s)) [
   | inl t ↦ subst (λ y. a ≤ y) (eqb-true x s t) h.0
-  | inr f ↦ none_below_in a s xs h.1 (sym (ap (λ b. b || is_in s xs) f) ∙ m)
+  | inr f ↦ none_below_in a s xs h.1 (sym (ap (λ b. b || serial_is_in s xs) f) ∙ m)
 ]
 
 -- what went comes back where it was
-insert-but : (s : ℕ) (xs : List ℕ) → IsAscending xs → is_in s xs ≡ true → insert_ascending s (but s xs) ≡ xs
+insert-but : (s : ℕ) (xs : List ℕ) → IsAscending xs → serial_is_in s xs ≡ true → insert_ascending s (without_first_serial s xs) ≡ xs
 insert-but s [] h m = absurd (false≢true m)
 insert-but s (x ∷ xs) h m = elim (cases_Bool (eqb x s)) [
   | inl t ↦ (
       let e : x ≡ s = eqb-true x s t in
-      ap (λ b. insert_ascending s (cond b xs (x ∷ but s xs))) t
-      ∙ insert-below s xs (subst (λ y. NoneBelow y xs) e h.0)
+      ap (λ b. insert_ascending s (cond b xs (x ∷ without_first_serial s xs))) t
+      ∙ insert-below s xs (subst (λ y. NoSerialIsBelow y xs) e h.0)
       ∙ ap (λ y. y ∷ xs) (sym e)
       )
   | inr f ↦ (
-      let m' : is_in s xs ≡ true = sym (ap (λ b. b || is_in s xs) f) ∙ m in
+      let m' : serial_is_in s xs ≡ true = sym (ap (λ b. b || serial_is_in s xs) f) ∙ m in
       let l : x ≤ s = none_below_in x s xs h.0 m' in
       let g : leb s x ≡ false = grind (arith, nat_tests, f, l) in
-      ap (λ b. insert_ascending s (cond b xs (x ∷ but s xs))) f
-      ∙ ap (λ b. cond b (s ∷ x ∷ but s xs) (x ∷ insert_ascending s (but s xs))) g
+      ap (λ b. insert_ascending s (cond b xs (x ∷ without_first_serial s xs))) f
+      ∙ ap (λ b. cond b (s ∷ x ∷ without_first_serial s xs) (x ∷ insert_ascending s (without_first_serial s xs))) g
       ∙ ap (λ ys. x ∷ ys) (insert-but s xs h.1 m')
       )
 ]
 
 -- ---- the serials of a key
 
-pub not_of_key : (s : ℕ) (q : Key) (es : List Stored) → holds s es ≡ false → is_in s (serials_of q es) ≡ false
+pub not_of_key : (s : ℕ) (q : Key) (es : List Stored) → holds_serial s es ≡ false → serial_is_in s (serials_of q es) ≡ false
 not_of_key s q [] h = refl
 not_of_key s q (e ∷ es) h =
-    let p = or_parts (eqb e.serial s) (holds s es) h in
+    let p = or_parts (eqb e.serial s) (holds_serial s es) h in
     let more = not_of_key s q es p.1 in
-    elim (same_key e.key q) as (λ b. is_in s (cond b (insert_ascending e.serial (serials_of q es)) (serials_of q es)) ≡ false) [
-      | true ↦ is_in-insert s e.serial (serials_of q es) ∙ ap (λ b. b || is_in s (serials_of q es)) p.0 ∙ more
+    elim (same_key e.key q) as (λ b. serial_is_in s (cond b (insert_ascending e.serial (serials_of q es)) (serials_of q es)) ≡ false) [
+      | true ↦ is_in-insert s e.serial (serials_of q es) ∙ ap (λ b. b || serial_is_in s (serials_of q es)) p.0 ∙ more
       | false ↦ more
     ]
 
 -- an entry that goes takes its serial with it
-pub serials-without : (s : ℕ) (q : Key) (es : List Stored) → Distinct (serials es) → serials_of q (without (s ∷ []) es) ≡ but s (serials_of q es)
+pub serials-without : (s : ℕ) (q : Key) (es : List Stored) → Distinct (serials es) → serials_of q (without_serials (s ∷ []) es) ≡ without_first_serial s (serials_of q es)
 serials-without s q [] d = refl
 serials-without s q (e ∷ es) d = elim (cases_Bool (eqb e.serial s)) [
   | inl t ↦ (
       let is : e.serial ≡ s = eqb-true e.serial s t in
-      let none : holds s es ≡ false = subst (λ z. holds z es ≡ false) is d.0 in
-      let gone : is_in e.serial (s ∷ []) ≡ true = or_left _ _ (sym (eqb_comm e.serial s) ∙ t) in
-      ap (λ b. serials_of q (cond (not b) (e ∷ without (s ∷ []) es) (without (s ∷ []) es))) gone
+      let none : holds_serial s es ≡ false = subst (λ z. holds_serial z es ≡ false) is d.0 in
+      let gone : serial_is_in e.serial (s ∷ []) ≡ true = or_left _ _ (sym (eqb_comm e.serial s) ∙ t) in
+      ap (λ b. serials_of q (cond (not b) (e ∷ without_serials (s ∷ []) es) (without_serials (s ∷ []) es))) gone
       ∙ ap (serials_of q) (without_none s es none)
-      ∙ sym (elim (same_key e.key q) as (λ b. but s (cond b (insert_ascending e.serial (serials_of q es)) (serials_of q es)) ≡ serials_of q es) [
-        | true ↦ ap (λ z. but s (insert_ascending z (serials_of q es))) is ∙ but-insert s (serials_of q es)
+      ∙ sym (elim (same_key e.key q) as (λ b. without_first_serial s (cond b (insert_ascending e.serial (serials_of q es)) (serials_of q es)) ≡ serials_of q es) [
+        | true ↦ ap (λ z. without_first_serial s (insert_ascending z (serials_of q es))) is ∙ but-insert s (serials_of q es)
         | false ↦ but-none s (serials_of q es) (not_of_key s q es none)
       ])
       )
   | inr f ↦ (
-      ap (λ b. serials_of q (cond (not b) (e ∷ without (s ∷ []) es) (without (s ∷ []) es))) (not_only e.serial s f)
-      ∙ (elim (same_key e.key q) as (λ b. cond b (insert_ascending e.serial (serials_of q (without (s ∷ []) es))) (serials_of q (without (s ∷ []) es))
-      ≡ but s (cond b (insert_ascending e.serial (serials_of q es)) (serials_of q es))) [
+      ap (λ b. serials_of q (cond (not b) (e ∷ without_serials (s ∷ []) es) (without_serials (s ∷ []) es))) (not_only e.serial s f)
+      ∙ (elim (same_key e.key q) as (λ b. cond b (insert_ascending e.serial (serials_of q (without_serials (s ∷ []) es))) (serials_of q (without_serials (s ∷ []) es))
+      ≡ without_first_serial s (cond b (insert_ascending e.serial (serials_of q es)) (serials_of q es))) [
         | true ↦ ap (insert_ascending e.serial) (serials-without s q es d.1)
             ∙ sym (but-other s e.serial (serials_of q es) f (finds_ascending q es))
         | false ↦ serials-without s q es d.1
@@ -146,14 +146,14 @@ serials-without s q (e ∷ es) d = elim (cases_Bool (eqb e.serial s)) [
 ]
 
 -- the serial of a held entry is among those of its key, and of no other key
-of_its_key : (s : ℕ) (q : Key) (es : List Stored) (e : Stored) → Distinct (serials es) → find_entry s es ≡ Some e → is_in s (serials_of q es) ≡ same_key e.key q
+of_its_key : (s : ℕ) (q : Key) (es : List Stored) (e : Stored) → Distinct (serials es) → find_entry s es ≡ Some e → serial_is_in s (serials_of q es) ≡ same_key e.key q
 of_its_key s q [] e d h = absurd (cc)
 of_its_key s q (x ∷ xs) e d h = elim (cases_Bool (eqb x.serial s)) [
   | inl t ↦ (
       let k : x ≡ e = same_Some x e (sym (ap (λ b. cond b (Some x) (find_entry s xs)) t) ∙ h) in
-      let none : holds s xs ≡ false = subst (λ z. holds z xs ≡ false) (eqb-true x.serial s t) d.0 in
+      let none : holds_serial s xs ≡ false = subst (λ z. holds_serial z xs ≡ false) (eqb-true x.serial s t) d.0 in
       let r = not_of_key s q xs none in
-      (elim (same_key x.key q) as (λ b. is_in s (cond b (insert_ascending x.serial (serials_of q xs)) (serials_of q xs)) ≡ b) [
+      (elim (same_key x.key q) as (λ b. serial_is_in s (cond b (insert_ascending x.serial (serials_of q xs)) (serials_of q xs)) ≡ b) [
         | true ↦ is_in-insert s x.serial (serials_of q xs) ∙ or_left _ _ t
         | false ↦ r
       ])
@@ -161,8 +161,8 @@ of_its_key s q (x ∷ xs) e d h = elim (cases_Bool (eqb x.serial s)) [
       )
   | inr f ↦ (
       let more = of_its_key s q xs e d.1 (sym (ap (λ b. cond b (Some x) (find_entry s xs)) f) ∙ h) in
-      (elim (same_key x.key q) as (λ b. is_in s (cond b (insert_ascending x.serial (serials_of q xs)) (serials_of q xs)) ≡ is_in s (serials_of q xs)) [
-        | true ↦ is_in-insert s x.serial (serials_of q xs) ∙ ap (λ b. b || is_in s (serials_of q xs)) f
+      (elim (same_key x.key q) as (λ b. serial_is_in s (cond b (insert_ascending x.serial (serials_of q xs)) (serials_of q xs)) ≡ serial_is_in s (serials_of q xs)) [
+        | true ↦ is_in-insert s x.serial (serials_of q xs) ∙ ap (λ b. b || serial_is_in s (serials_of q xs)) f
         | false ↦ refl
       ])
       ∙ more
@@ -171,20 +171,20 @@ of_its_key s q (x ∷ xs) e d h = elim (cases_Bool (eqb x.serial s)) [
 
 -- an entry with the serial and the key of a held one, in its place, first
 pub serials-front : (s : ℕ) (q : Key) (es : List Stored) (e x : Stored) → Distinct (serials es) → find_entry s es ≡ Some e → x.serial ≡ s →
-    same_key e.key x.key ≡ true → serials_of q (x ∷ without (s ∷ []) es) ≡ serials_of q es
+    same_key e.key x.key ≡ true → serials_of q (x ∷ without_serials (s ∷ []) es) ≡ serials_of q es
 serials-front s q es e x d h is k =
-    let same : same_key x.key q ≡ same_key e.key q = ap (λ y. same_key y q) (sym (one_key e.key x.key k)) in
+    let same : same_key x.key q ≡ same_key e.key q = ap (λ y. same_key y q) (sym (same_keys_are_equal e.key x.key k)) in
     let its = of_its_key s q es e d h in
     let w = serials-without s q es d in
     elim (cases_Bool (same_key e.key q)) [
       | inl t ↦ (
-          ap (λ b. cond b (insert_ascending x.serial (serials_of q (without (s ∷ []) es))) (serials_of q (without (s ∷ []) es))) (same ∙ t)
-          ∙ ap (λ z. insert_ascending z (serials_of q (without (s ∷ []) es))) is
+          ap (λ b. cond b (insert_ascending x.serial (serials_of q (without_serials (s ∷ []) es))) (serials_of q (without_serials (s ∷ []) es))) (same ∙ t)
+          ∙ ap (λ z. insert_ascending z (serials_of q (without_serials (s ∷ []) es))) is
           ∙ ap (insert_ascending s) w
           ∙ insert-but s (serials_of q es) (finds_ascending q es) (its ∙ t)
           )
       | inr f ↦ (
-          ap (λ b. cond b (insert_ascending x.serial (serials_of q (without (s ∷ []) es))) (serials_of q (without (s ∷ []) es))) (same ∙ f)
+          ap (λ b. cond b (insert_ascending x.serial (serials_of q (without_serials (s ∷ []) es))) (serials_of q (without_serials (s ∷ []) es))) (same ∙ f)
           ∙ w ∙ but-none s (serials_of q es) (its ∙ f)
           )
     ]
@@ -193,76 +193,76 @@ serials-front s q es e x d h is k =
 
 -- at a key, the serials once one was put in at another, and once one was taken out there
 abbrev Gains : KeyIndex → Key → ℕ → KeyIndex → Type 0
-Gains old key s new = (q : Key) → indexed new q ≡ cond (same_key key q) (insert_ascending s (indexed old q)) (indexed old q)
+Gains old key s new = (q : Key) → serials_in_index new q ≡ cond (same_key key q) (insert_ascending s (serials_in_index old q)) (serials_in_index old q)
 
 abbrev Loses : KeyIndex → Key → ℕ → KeyIndex → Type 0
-Loses old key s new = (q : Key) → indexed new q ≡ cond (same_key key q) (but s (indexed old q)) (indexed old q)
+Loses old key s new = (q : Key) → serials_in_index new q ≡ cond (same_key key q) (without_first_serial s (serials_in_index old q)) (serials_in_index old q)
 
-gains : (key : Key) (s : ℕ) (m : Mark) (es : List Stored) (old new : KeyIndex) → holds s es ≡ false → IsIndexOf es old → IsPutIn old key s m new → Gains old key s new
+gains : (key : Key) (s : ℕ) (m : Mark) (es : List Stored) (old new : KeyIndex) → holds_serial s es ≡ false → IsKeyIndexOf es old → SerialIsPutIn old key s m new → Gains old key s new
 gains key s m es old new n i p q =
-    let ps = marks_at old q in
-    let none : is_in s (keys_of ps) ≡ false = ap (is_in s) (i q) ∙ not_of_key s q es n in
+    let ps = serials_and_marks_at old q in
+    let none : serial_is_in s (keys_of ps) ≡ false = ap (serial_is_in s) (i q) ∙ not_of_key s q es n in
     ap keys_of (p q)
     ∙ (elim (same_key key q) as (λ b. keys_of (cond b (insert_entry nat_cmp ps s m) ps) ≡ cond b (insert_ascending s (keys_of ps)) (keys_of ps)) [
       | true ↦ keys-put s m ps none
       | false ↦ refl
     ])
 
-loses : (key : Key) (s : ℕ) (old new : KeyIndex) → IsTakenOut old key s new → Loses old key s new
+loses : (key : Key) (s : ℕ) (old new : KeyIndex) → SerialIsTakenOut old key s new → Loses old key s new
 loses key s old new t q =
-    let ps = marks_at old q in
+    let ps = serials_and_marks_at old q in
     ap keys_of (t q)
-    ∙ (elim (same_key key q) as (λ b. keys_of (cond b (remove_entry (is_at (nat_cmp s)) ps) ps) ≡ cond b (but s (keys_of ps)) (keys_of ps)) [
+    ∙ (elim (same_key key q) as (λ b. keys_of (cond b (remove_entry (is_at (nat_cmp s)) ps) ps) ≡ cond b (without_first_serial s (keys_of ps)) (keys_of ps)) [
       | true ↦ keys-removed s ps
       | false ↦ refl
     ])
 
 index-without : (s : ℕ) (es : List Stored) (e : Stored) (old new : KeyIndex) → Distinct (serials es) → find_entry s es ≡ Some e →
-    IsIndexOf es old → Loses old e.key s new → IsIndexOf (without (s ∷ []) es) new
+    IsKeyIndexOf es old → Loses old e.key s new → IsKeyIndexOf (without_serials (s ∷ []) es) new
 index-without s es e old new d h i t q =
     t q
     ∙ (elim (cases_Bool (same_key e.key q)) [
-      | inl y ↦ ap (λ b. cond b (but s (indexed old q)) (indexed old q)) y ∙ ap (but s) (i q)
-      | inr n ↦ ap (λ b. cond b (but s (indexed old q)) (indexed old q)) n ∙ i q ∙ sym (but-none s (serials_of q es) (of_its_key s q es e d h ∙ n))
+      | inl y ↦ ap (λ b. cond b (without_first_serial s (serials_in_index old q)) (serials_in_index old q)) y ∙ ap (without_first_serial s) (i q)
+      | inr n ↦ ap (λ b. cond b (without_first_serial s (serials_in_index old q)) (serials_in_index old q)) n ∙ i q ∙ sym (but-none s (serials_of q es) (of_its_key s q es e d h ∙ n))
     ])
     ∙ sym (serials-without s q es d)
 
-index-more : (e : Stored) (es : List Stored) (old new : KeyIndex) → IsIndexOf es old → Gains old e.key e.serial new → IsIndexOf (e ∷ es) new
+index-more : (e : Stored) (es : List Stored) (old new : KeyIndex) → IsKeyIndexOf es old → Gains old e.key e.serial new → IsKeyIndexOf (e ∷ es) new
 index-more e es old new i p q = p q ∙ ap (λ xs. cond (same_key e.key q) (insert_ascending e.serial xs) xs) (i q)
 
 -- put in and taken out again
-index_back : (key : Key) (s : ℕ) (es : List Stored) (old mid new : KeyIndex) → IsIndexOf es old → Gains old key s mid → Loses mid key s new →
-    IsIndexOf es new
+index_back : (key : Key) (s : ℕ) (es : List Stored) (old mid new : KeyIndex) → IsKeyIndexOf es old → Gains old key s mid → Loses mid key s new →
+    IsKeyIndexOf es new
 index_back key s es old mid new i p t q =
     t q
     ∙ (elim (cases_Bool (same_key key q)) [
-      | inl y ↦ ap (λ b. cond b (but s (indexed mid q)) (indexed mid q)) y
-          ∙ ap (but s) (p q ∙ ap (λ b. cond b (insert_ascending s (indexed old q)) (indexed old q)) y)
-          ∙ but-insert s (indexed old q)
-      | inr n ↦ ap (λ b. cond b (but s (indexed mid q)) (indexed mid q)) n
-          ∙ p q ∙ ap (λ b. cond b (insert_ascending s (indexed old q)) (indexed old q)) n
+      | inl y ↦ ap (λ b. cond b (without_first_serial s (serials_in_index mid q)) (serials_in_index mid q)) y
+          ∙ ap (without_first_serial s) (p q ∙ ap (λ b. cond b (insert_ascending s (serials_in_index old q)) (serials_in_index old q)) y)
+          ∙ but-insert s (serials_in_index old q)
+      | inr n ↦ ap (λ b. cond b (without_first_serial s (serials_in_index mid q)) (serials_in_index mid q)) n
+          ∙ p q ∙ ap (λ b. cond b (insert_ascending s (serials_in_index old q)) (serials_in_index old q)) n
     ])
     ∙ i q
 
-pub index-again : (key : Key) (s : ℕ) (m : Mark) (es : List Stored) (old mid new : KeyIndex) → holds s es ≡ false → IsIndexOf es old → IsPutIn old key s m mid →
-    IsTakenOut mid key s new → IsIndexOf es new
+pub index-again : (key : Key) (s : ℕ) (m : Mark) (es : List Stored) (old mid new : KeyIndex) → holds_serial s es ≡ false → IsKeyIndexOf es old → SerialIsPutIn old key s m mid →
+    SerialIsTakenOut mid key s new → IsKeyIndexOf es new
 index-again key s m es old mid new n i p t = index_back key s es old mid new i (gains key s m es old mid n i p) (loses key s mid new t)
 
 index-front : (s : ℕ) (es : List Stored) (e x : Stored) (index : KeyIndex) → Distinct (serials es) → find_entry s es ≡ Some e → x.serial ≡ s →
-    same_key e.key x.key ≡ true → IsIndexOf es index → IsIndexOf (x ∷ without (s ∷ []) es) index
+    same_key e.key x.key ≡ true → IsKeyIndexOf es index → IsKeyIndexOf (x ∷ without_serials (s ∷ []) es) index
 index-front s es e x index d h is k i q = i q ∙ sym (serials-front s q es e x d h is k)
 
 -- the last of them
 pub record IsLast (es : List Stored) (e : Stored) : Type 0 where
   pub found : find_entry e.serial es ≡ Some e
-  pub rest : without (e.serial ∷ []) es ≡ take (length es - 1) es
+  pub rest : without_serials (e.serial ∷ []) es ≡ take (length es - 1) es
 
 pub last-is : (es : List Stored) (e : Stored) → Distinct (serials es) → slice_get es (length es - 1) ≡ Some e → IsLast es e
 last-is [] e d h = absurd (cc)
 last-is (x ∷ []) e d h =
     let k : x ≡ e = same_Some x e h in
     let t : eqb x.serial e.serial ≡ true = eq-eqb _ _ (ap (λ y. y.serial) k) in
-    let gone : is_in x.serial (e.serial ∷ []) ≡ true = or_left _ _ (sym (eqb_comm x.serial e.serial) ∙ t) in
+    let gone : serial_is_in x.serial (e.serial ∷ []) ≡ true = or_left _ _ (sym (eqb_comm x.serial e.serial) ∙ t) in
     record {
       found = ap (λ b. cond b (Some x) None) t ∙ ap Some k;
       rest = ap (λ b. cond (not b) (x ∷ []) []) gone;
@@ -270,14 +270,14 @@ last-is (x ∷ []) e d h =
 last-is (x ∷ (y ∷ ys)) e d h =
     let one : length (x ∷ (y ∷ ys)) - 1 ≡ suc (length (y ∷ ys) - 1) = omega arith in
     let r = last-is (y ∷ ys) e d.1 (ap (slice_get (x ∷ (y ∷ ys))) (sym one) ∙ h) in
-    let in' : holds e.serial (y ∷ ys) ≡ true = find_holds e.serial (y ∷ ys) e r.found in
+    let in' : holds_serial e.serial (y ∷ ys) ≡ true = find_holds e.serial (y ∷ ys) e r.found in
     let n : eqb x.serial e.serial ≡ false = elim (cases_Bool (eqb x.serial e.serial)) [
-      | inl t ↦ absurd (false≢true (sym d.0 ∙ subst (λ z. holds z (y ∷ ys) ≡ true) (sym (eqb-true x.serial e.serial t)) in'))
+      | inl t ↦ absurd (false≢true (sym d.0 ∙ subst (λ z. holds_serial z (y ∷ ys) ≡ true) (sym (eqb-true x.serial e.serial t)) in'))
       | inr f ↦ f
     ] in
     record {
       found = ap (λ b. cond b (Some x) (find_entry e.serial (y ∷ ys))) n ∙ r.found;
-      rest = ap (λ b. cond (not b) (x ∷ without (e.serial ∷ []) (y ∷ ys)) (without (e.serial ∷ []) (y ∷ ys))) (not_only x.serial e.serial n)
+      rest = ap (λ b. cond (not b) (x ∷ without_serials (e.serial ∷ []) (y ∷ ys)) (without_serials (e.serial ∷ []) (y ∷ ys))) (not_only x.serial e.serial n)
           ∙ ap (λ zs. x ∷ zs) r.rest
           ∙ sym (ap (λ m. take m (x ∷ (y ∷ ys))) one);
     }
@@ -291,24 +291,24 @@ last-none (x ∷ (y ∷ ys)) h =
 
 -- ---- what keeps the index: entries of which no serial stands twice, and an index of them
 abbrev pub IsKept : List Stored → KeyIndex → Type 0
-IsKept es index = Distinct (serials es) × IsIndexOf es index
+IsKept es index = Distinct (serials es) × IsKeyIndexOf es index
 
-pub kept-none : (s : ℕ) (es : List Stored) (index : KeyIndex) → find_entry s es ≡ None → IsKept es index → IsKept (without (s ∷ []) es) index
+pub kept-none : (s : ℕ) (es : List Stored) (index : KeyIndex) → find_entry s es ≡ None → IsKept es index → IsKept (without_serials (s ∷ []) es) index
 kept-none s es index h k =
     subst (λ zs. IsKept zs index) (sym (without_none s es (sym (is_some-find s es) ∙ ap is_some h))) k
 
-pub kept-without : (s : ℕ) (es : List Stored) (e : Stored) (old new : KeyIndex) → find_entry s es ≡ Some e → IsTakenOut old e.key s new →
-    IsKept es old → IsKept (without (s ∷ []) es) new
+pub kept-without : (s : ℕ) (es : List Stored) (e : Stored) (old new : KeyIndex) → find_entry s es ≡ Some e → SerialIsTakenOut old e.key s new →
+    IsKept es old → IsKept (without_serials (s ∷ []) es) new
 kept-without s es e old new h t k = (Distinct-filter _ es k.0, index-without s es e old new k.0 h k.1 (loses e.key s old new t))
 
 kept-front : (s : ℕ) (es : List Stored) (e x : Stored) (index : KeyIndex) → find_entry s es ≡ Some e → x.serial ≡ s → same_key e.key x.key ≡ true →
-    IsKept es index → IsKept (x ∷ without (s ∷ []) es) index
+    IsKept es index → IsKept (x ∷ without_serials (s ∷ []) es) index
 kept-front s es e x index h is same k = (distinct-front s x es is k.0, index-front s es e x index k.0 h is same k.1)
 
 -- a new mark changes no serial
-same_serials : (key : Key) (s : ℕ) (m : Mark) (old new : KeyIndex) → IsMarkedAnew old key s m new → (q : Key) → indexed new q ≡ indexed old q
+same_serials : (key : Key) (s : ℕ) (m : Mark) (old new : KeyIndex) → SerialIsMarkedAnew old key s m new → (q : Key) → serials_in_index new q ≡ serials_in_index old q
 same_serials key s m old new a q =
-    let ps = marks_at old q in
+    let ps = serials_and_marks_at old q in
     ap keys_of (a q)
     ∙ (elim (same_key key q) as (λ b. keys_of (cond b (set_value (is_at (nat_cmp s)) ps m) ps) ≡ keys_of ps) [
       | true ↦ keys-marked (is_at (nat_cmp s)) m ps
@@ -316,200 +316,200 @@ same_serials key s m old new a q =
     ])
 
 pub kept-anew : (key : Key) (s : ℕ) (m : Mark) (es : List Stored) (e x : Stored) (old new : KeyIndex) → find_entry s es ≡ Some e → x.serial ≡ s →
-    same_key e.key x.key ≡ true → IsMarkedAnew old key s m new → IsKept es old → IsKept (x ∷ without (s ∷ []) es) new
+    same_key e.key x.key ≡ true → SerialIsMarkedAnew old key s m new → IsKept es old → IsKept (x ∷ without_serials (s ∷ []) es) new
 kept-anew key s m es e x old new h is same a k =
     kept-front s es e x new h is same (k.0, λ q. same_serials key s m old new a q ∙ k.1 q)
 
 kept_promoted_by : (s : ℕ) (es : List Stored) (index : KeyIndex) (o : Option Stored) → find_entry s es ≡ o → IsKept es index →
-    IsKept (in_front o (without (s ∷ []) es)) index
+    IsKept (with_in_front o (without_serials (s ∷ []) es)) index
 kept_promoted_by s es index None h k = kept-none s es index h k
 kept_promoted_by s es index (Some e) h k = kept-front s es e e index h (find-serial s es e h) (same_key_equiv.refl e.key) k
 
-pub kept-promoted : (s : ℕ) (es : List Stored) (index : KeyIndex) → IsKept es index → IsKept (promoted s es) index
+pub kept-promoted : (s : ℕ) (es : List Stored) (index : KeyIndex) → IsKept es index → IsKept (with_promoted s es) index
 kept-promoted s es index k = kept_promoted_by s es index (find_entry s es) refl k
 
-pub kept-last : (es : List Stored) (e : Stored) (old new : KeyIndex) → slice_get es (length es - 1) ≡ Some e → IsTakenOut old e.key e.serial new →
+pub kept-last : (es : List Stored) (e : Stored) (old new : KeyIndex) → slice_get es (length es - 1) ≡ Some e → SerialIsTakenOut old e.key e.serial new →
     IsKept es old → IsKept (take (length es - 1) es) new
 kept-last es e old new h t k =
     let l = last-is es e k.0 h in
     subst (λ zs. IsKept zs new) l.rest (kept-without e.serial es e old new l.found t k)
 
-pub kept-more : (e : Stored) (m : Mark) (es : List Stored) (old new : KeyIndex) → holds e.serial es ≡ false → IsPutIn old e.key e.serial m new →
+pub kept-more : (e : Stored) (m : Mark) (es : List Stored) (old new : KeyIndex) → holds_serial e.serial es ≡ false → SerialIsPutIn old e.key e.serial m new →
     IsKept es old → IsKept (e ∷ es) new
 kept-more e m es old new n p k = ((n, k.0), index-more e es old new k.1 (gains e.key e.serial m es old new n k.1 p))
 
 -- ---- what keeps the marks
 
-pub marked-part : (seed : ℕ) (es zs : List Stored) (index : KeyIndex) → IsPart zs es → IsMarked seed es index → IsMarked seed zs index
-marked-part seed es zs index part k q = marks-part seed es zs (marks_at index q) part (k q)
+pub marked-part : (seed : ℕ) (es zs : List Stored) (index : KeyIndex) → IsPart zs es → MarksAreOfTheirEntries seed es index → MarksAreOfTheirEntries seed zs index
+marked-part seed es zs index part k q = marks-part seed es zs (serials_and_marks_at index q) part (k q)
 
-pub marked-taken : (seed : ℕ) (key : Key) (s : ℕ) (es : List Stored) (old new : KeyIndex) → IsTakenOut old key s new → IsMarked seed es old → IsMarked seed es new
+pub marked-taken : (seed : ℕ) (key : Key) (s : ℕ) (es : List Stored) (old new : KeyIndex) → SerialIsTakenOut old key s new → MarksAreOfTheirEntries seed es old → MarksAreOfTheirEntries seed es new
 marked-taken seed key s es old new t k q =
-    let ps = marks_at old q in
-    let Are : Bool → Type 0 = λ b. AreMarks seed es (cond b (remove_entry (is_at (nat_cmp s)) ps) ps) in
+    let ps = serials_and_marks_at old q in
+    let Are : Bool → Type 0 = λ b. EachMarkIsOfItsEntry seed es (cond b (remove_entry (is_at (nat_cmp s)) ps) ps) in
     let are : Are (same_key key q) = elim (same_key key q) as Are [ true ↦ marks-removed seed (is_at (nat_cmp s)) es ps (k q) | false ↦ k q ] in
-    subst (AreMarks seed es) (sym (t q)) are
+    subst (EachMarkIsOfItsEntry seed es) (sym (t q)) are
 
-marked-put : (seed : ℕ) (key : Key) (s : ℕ) (m : Mark) (es : List Stored) (old new : KeyIndex) → IfSome (find_entry s es) (λ e. m ≡ mark_of seed e.nominated) →
-    IsPutIn old key s m new → IsMarked seed es old → IsMarked seed es new
+marked-put : (seed : ℕ) (key : Key) (s : ℕ) (m : Mark) (es : List Stored) (old new : KeyIndex) → IfSome (find_entry s es) (λ e. m ≡ mark_of_values seed e.nominated) →
+    SerialIsPutIn old key s m new → MarksAreOfTheirEntries seed es old → MarksAreOfTheirEntries seed es new
 marked-put seed key s m es old new f p k q =
-    let ps = marks_at old q in
-    let Are : Bool → Type 0 = λ b. AreMarks seed es (cond b (insert_entry nat_cmp ps s m) ps) in
+    let ps = serials_and_marks_at old q in
+    let Are : Bool → Type 0 = λ b. EachMarkIsOfItsEntry seed es (cond b (insert_entry nat_cmp ps s m) ps) in
     let are : Are (same_key key q) = elim (same_key key q) as Are [ true ↦ marks-put seed es s m ps f (k q) | false ↦ k q ] in
-    subst (AreMarks seed es) (sym (p q)) are
+    subst (EachMarkIsOfItsEntry seed es) (sym (p q)) are
 
-pub marked-more : (seed : ℕ) (x : Stored) (es : List Stored) (old new : KeyIndex) → holds x.serial es ≡ false → IsIndexOf es old →
-    IsPutIn old x.key x.serial (mark_of seed x.nominated) new → IsMarked seed es old → IsMarked seed (x ∷ es) new
+pub marked-more : (seed : ℕ) (x : Stored) (es : List Stored) (old new : KeyIndex) → holds_serial x.serial es ≡ false → IsKeyIndexOf es old →
+    SerialIsPutIn old x.key x.serial (mark_of_values seed x.nominated) new → MarksAreOfTheirEntries seed es old → MarksAreOfTheirEntries seed (x ∷ es) new
 marked-more seed x es old new n i p k =
-    let first : IfSome (find_entry x.serial (x ∷ es)) (λ e. mark_of seed x.nominated ≡ mark_of seed e.nominated) = rw (eq-eqb x.serial x.serial refl) refl in
-    marked-put seed x.key x.serial (mark_of seed x.nominated) (x ∷ es) old new first p
-    (λ q. marks-more seed x es (marks_at old q) (ap (is_in x.serial) (i q) ∙ not_of_key x.serial q es n) (k q))
+    let first : IfSome (find_entry x.serial (x ∷ es)) (λ e. mark_of_values seed x.nominated ≡ mark_of_values seed e.nominated) = rw (eq-eqb x.serial x.serial refl) refl in
+    marked-put seed x.key x.serial (mark_of_values seed x.nominated) (x ∷ es) old new first p
+    (λ q. marks-more seed x es (serials_and_marks_at old q) (ap (serial_is_in x.serial) (i q) ∙ not_of_key x.serial q es n) (k q))
 
 -- put in and taken out again
-pub marked-again : (seed : ℕ) (key : Key) (s : ℕ) (m : Mark) (es : List Stored) (old mid new : KeyIndex) → holds s es ≡ false → IsPutIn old key s m mid →
-    IsTakenOut mid key s new → IsMarked seed es old → IsMarked seed es new
+pub marked-again : (seed : ℕ) (key : Key) (s : ℕ) (m : Mark) (es : List Stored) (old mid new : KeyIndex) → holds_serial s es ≡ false → SerialIsPutIn old key s m mid →
+    SerialIsTakenOut mid key s new → MarksAreOfTheirEntries seed es old → MarksAreOfTheirEntries seed es new
 marked-again seed key s m es old mid new n p t k =
-    let none : IfSome (find_entry s es) (λ e. m ≡ mark_of seed e.nominated) = rw (find_none s es n) tt in
+    let none : IfSome (find_entry s es) (λ e. m ≡ mark_of_values seed e.nominated) = rw (find_none s es n) tt in
     marked-taken seed key s es mid new t (marked-put seed key s m es old mid none p k)
 
-pub marked-without : (seed : ℕ) (key : Key) (s : ℕ) (es : List Stored) (old new : KeyIndex) → IsTakenOut old key s new → IsMarked seed es old →
-    IsMarked seed (without (s ∷ []) es) new
-marked-without seed key s es old new t k = marked-taken seed key s (without (s ∷ []) es) old new t (marked-part seed es (without (s ∷ []) es) old (part-without s es) k)
+pub marked-without : (seed : ℕ) (key : Key) (s : ℕ) (es : List Stored) (old new : KeyIndex) → SerialIsTakenOut old key s new → MarksAreOfTheirEntries seed es old →
+    MarksAreOfTheirEntries seed (without_serials (s ∷ []) es) new
+marked-without seed key s es old new t k = marked-taken seed key s (without_serials (s ∷ []) es) old new t (marked-part seed es (without_serials (s ∷ []) es) old (part-without s es) k)
 
-pub marked-none : (seed : ℕ) (s : ℕ) (es : List Stored) (index : KeyIndex) → IsMarked seed es index → IsMarked seed (without (s ∷ []) es) index
-marked-none seed s es index k = marked-part seed es (without (s ∷ []) es) index (part-without s es) k
+pub marked-none : (seed : ℕ) (s : ℕ) (es : List Stored) (index : KeyIndex) → MarksAreOfTheirEntries seed es index → MarksAreOfTheirEntries seed (without_serials (s ∷ []) es) index
+marked-none seed s es index k = marked-part seed es (without_serials (s ∷ []) es) index (part-without s es) k
 
 pub marked-last : (seed : ℕ) (es : List Stored) (e : Stored) (old new : KeyIndex) → Distinct (serials es) → slice_get es (length es - 1) ≡ Some e →
-    IsTakenOut old e.key e.serial new → IsMarked seed es old → IsMarked seed (take (length es - 1) es) new
+    SerialIsTakenOut old e.key e.serial new → MarksAreOfTheirEntries seed es old → MarksAreOfTheirEntries seed (take (length es - 1) es) new
 marked-last seed es e old new d h t k =
     let l = last-is es e d h in
-    subst (λ zs. IsMarked seed zs new) l.rest (marked-without seed e.key e.serial es old new t k)
+    subst (λ zs. MarksAreOfTheirEntries seed zs new) l.rest (marked-without seed e.key e.serial es old new t k)
 
 -- a new form of a held entry in its place
 pub marked-anew : (seed : ℕ) (s : ℕ) (es : List Stored) (e x : Stored) (old new : KeyIndex) → find_entry s es ≡ Some e → x.serial ≡ s → same_key e.key x.key ≡ true →
-    IsMarkedAnew old x.key s (mark_of seed x.nominated) new → IsKept es old → IsMarked seed es old → IsMarked seed (x ∷ without (s ∷ []) es) new
+    SerialIsMarkedAnew old x.key s (mark_of_values seed x.nominated) new → IsKept es old → MarksAreOfTheirEntries seed es old → MarksAreOfTheirEntries seed (x ∷ without_serials (s ∷ []) es) new
 marked-anew seed s es e x old new h is same a kept k q =
-    let ps = marks_at old q in
-    let zs = without (s ∷ []) es in
-    let rest : AreMarks seed zs ps = marks-part seed es zs ps (part-without s es) (k q) in
-    let once : is_in s (but s (keys_of ps)) ≡ false =
-    ap (λ xs. is_in s (but s xs)) (kept.1 q) ∙ ap (is_in s) (sym (serials-without s q es kept.0)) ∙ not_of_key s q zs (without_gone s es) in
-    let Are : Bool → Type 0 = λ b. AreMarks seed (x ∷ zs) (cond b (set_value (is_at (nat_cmp s)) ps (mark_of seed x.nominated)) ps) in
-    subst (AreMarks seed (x ∷ zs)) (sym (a q)) (elim (cases_Bool (same_key x.key q)) [
+    let ps = serials_and_marks_at old q in
+    let zs = without_serials (s ∷ []) es in
+    let rest : EachMarkIsOfItsEntry seed zs ps = marks-part seed es zs ps (part-without s es) (k q) in
+    let once : serial_is_in s (without_first_serial s (keys_of ps)) ≡ false =
+    ap (λ xs. serial_is_in s (without_first_serial s xs)) (kept.1 q) ∙ ap (serial_is_in s) (sym (serials-without s q es kept.0)) ∙ not_of_key s q zs (without_gone s es) in
+    let Are : Bool → Type 0 = λ b. EachMarkIsOfItsEntry seed (x ∷ zs) (cond b (set_value (is_at (nat_cmp s)) ps (mark_of_values seed x.nominated)) ps) in
+    subst (EachMarkIsOfItsEntry seed (x ∷ zs)) (sym (a q)) (elim (cases_Bool (same_key x.key q)) [
       | inl y ↦ subst Are (sym y) (marks-anew seed s x zs ps is once rest)
       | inr n ↦ subst Are (sym n) (marks-more seed x zs ps (
-          ap (λ z. is_in z (keys_of ps)) is ∙ ap (is_in s) (kept.1 q) ∙ of_its_key s q es e kept.0 h ∙ ap (λ y. same_key y q) (one_key e.key x.key same) ∙ n
+          ap (λ z. serial_is_in z (keys_of ps)) is ∙ ap (serial_is_in s) (kept.1 q) ∙ of_its_key s q es e kept.0 h ∙ ap (λ y. same_key y q) (same_keys_are_equal e.key x.key same) ∙ n
           ) rest)
     ])
 
-marked_promoted_by : (seed : ℕ) (s : ℕ) (es : List Stored) (index : KeyIndex) (o : Option Stored) → find_entry s es ≡ o → IsMarked seed es index →
-    IsMarked seed (in_front o (without (s ∷ []) es)) index
+marked_promoted_by : (seed : ℕ) (s : ℕ) (es : List Stored) (index : KeyIndex) (o : Option Stored) → find_entry s es ≡ o → MarksAreOfTheirEntries seed es index →
+    MarksAreOfTheirEntries seed (with_in_front o (without_serials (s ∷ []) es)) index
 marked_promoted_by seed s es index None h k = marked-none seed s es index k
-marked_promoted_by seed s es index (Some e) h k = marked-part seed es (e ∷ without (s ∷ []) es) index (part-front s es e h) k
+marked_promoted_by seed s es index (Some e) h k = marked-part seed es (e ∷ without_serials (s ∷ []) es) index (part-front s es e h) k
 
-pub marked-promoted : (seed : ℕ) (s : ℕ) (es : List Stored) (index : KeyIndex) → IsMarked seed es index → IsMarked seed (promoted s es) index
+pub marked-promoted : (seed : ℕ) (s : ℕ) (es : List Stored) (index : KeyIndex) → MarksAreOfTheirEntries seed es index → MarksAreOfTheirEntries seed (with_promoted s es) index
 marked-promoted seed s es index k = marked_promoted_by seed s es index (find_entry s es) refl k
 
 -- ---- entries that go
 
 stays : (s kept : ℕ) (gone : List ℕ) (e : Stored) → eqb s kept ≡ false →
-    ((eqb e.serial kept || not (is_in e.serial (s ∷ gone))) ≡ (not (is_in e.serial (s ∷ [])) && (eqb e.serial kept || not (is_in e.serial gone))))
+    ((eqb e.serial kept || not (serial_is_in e.serial (s ∷ gone))) ≡ (not (serial_is_in e.serial (s ∷ [])) && (eqb e.serial kept || not (serial_is_in e.serial gone))))
 stays s kept gone e n = grind (arith, nat_tests, n)
 
 -- one of several goes
 pub others-step : (s kept : ℕ) (gone : List ℕ) (es : List Stored) → eqb s kept ≡ false →
-    without_others kept gone (without (s ∷ []) es) ≡ without_others kept (s ∷ gone) es
+    entries_but_others kept gone (without_serials (s ∷ []) es) ≡ entries_but_others kept (s ∷ gone) es
 others-step s kept gone [] n = refl
 others-step s kept gone (e ∷ es) n =
     let more = others-step s kept gone es n in
-    let b = is_in e.serial (s ∷ []) in
-    let r = eqb e.serial kept || not (is_in e.serial gone) in
-    sym (ap (λ x. cond x (e ∷ without_others kept (s ∷ gone) es) (without_others kept (s ∷ gone) es)) (stays s kept gone e n)
-    ∙ (elim b as (λ x. cond (not x && r) (e ∷ without_others kept (s ∷ gone) es) (without_others kept (s ∷ gone) es)
-    ≡ without_others kept gone (cond (not x) (e ∷ without (s ∷ []) es) (without (s ∷ []) es))) [
+    let b = serial_is_in e.serial (s ∷ []) in
+    let r = eqb e.serial kept || not (serial_is_in e.serial gone) in
+    sym (ap (λ x. cond x (e ∷ entries_but_others kept (s ∷ gone) es) (entries_but_others kept (s ∷ gone) es)) (stays s kept gone e n)
+    ∙ (elim b as (λ x. cond (not x && r) (e ∷ entries_but_others kept (s ∷ gone) es) (entries_but_others kept (s ∷ gone) es)
+    ≡ entries_but_others kept gone (cond (not x) (e ∷ without_serials (s ∷ []) es) (without_serials (s ∷ []) es))) [
       | true ↦ sym more
       | false ↦ ap (λ zs. cond r (e ∷ zs) zs) (sym more)
     ]))
 
 -- the one that stays in any case is passed over
-pub others-same : (kept : ℕ) (gone : List ℕ) (es : List Stored) → without_others kept gone es ≡ without_others kept (kept ∷ gone) es
+pub others-same : (kept : ℕ) (gone : List ℕ) (es : List Stored) → entries_but_others kept gone es ≡ entries_but_others kept (kept ∷ gone) es
 others-same kept gone [] = refl
 others-same kept gone (e ∷ es) =
     let more = others-same kept gone es in
-    let same : (eqb e.serial kept || not (is_in e.serial gone)) ≡ (eqb e.serial kept || not (is_in e.serial (kept ∷ gone))) = grind (arith, nat_tests) in
-    ap (λ x. cond x (e ∷ without_others kept gone es) (without_others kept gone es)) same
-    ∙ ap (λ zs. cond (eqb e.serial kept || not (is_in e.serial (kept ∷ gone))) (e ∷ zs) zs) more
+    let same : (eqb e.serial kept || not (serial_is_in e.serial gone)) ≡ (eqb e.serial kept || not (serial_is_in e.serial (kept ∷ gone))) = grind (arith, nat_tests) in
+    ap (λ x. cond x (e ∷ entries_but_others kept gone es) (entries_but_others kept gone es)) same
+    ∙ ap (λ zs. cond (eqb e.serial kept || not (serial_is_in e.serial (kept ∷ gone))) (e ∷ zs) zs) more
 
-pub others-none : (kept : ℕ) (es : List Stored) → without_others kept [] es ≡ es
+pub others-none : (kept : ℕ) (es : List Stored) → entries_but_others kept [] es ≡ es
 others-none kept [] = refl
 others-none kept (e ∷ es) =
-    (elim (eqb e.serial kept) as (λ b. cond (b || true) (e ∷ without_others kept [] es) (without_others kept [] es) ≡ e ∷ without_others kept [] es) [ true ↦ refl | false ↦ refl ])
+    (elim (eqb e.serial kept) as (λ b. cond (b || true) (e ∷ entries_but_others kept [] es) (entries_but_others kept [] es) ≡ e ∷ entries_but_others kept [] es) [ true ↦ refl | false ↦ refl ])
     ∙ ap (λ zs. e ∷ zs) (others-none kept es)
 
-others-old : (kept : ℕ) (gone : List ℕ) (es : List Stored) → holds kept es ≡ false → without_others kept gone es ≡ without gone es
+others-old : (kept : ℕ) (gone : List ℕ) (es : List Stored) → holds_serial kept es ≡ false → entries_but_others kept gone es ≡ without_serials gone es
 others-old kept gone [] h = refl
 others-old kept gone (e ∷ es) h =
-    let p = or_parts (eqb e.serial kept) (holds kept es) h in
-    ap (λ b. cond (b || not (is_in e.serial gone)) (e ∷ without_others kept gone es) (without_others kept gone es)) p.0
-    ∙ ap (λ zs. cond (not (is_in e.serial gone)) (e ∷ zs) zs) (others-old kept gone es p.1)
+    let p = or_parts (eqb e.serial kept) (holds_serial kept es) h in
+    ap (λ b. cond (b || not (serial_is_in e.serial gone)) (e ∷ entries_but_others kept gone es) (entries_but_others kept gone es)) p.0
+    ∙ ap (λ zs. cond (not (serial_is_in e.serial gone)) (e ∷ zs) zs) (others-old kept gone es p.1)
 
 -- a new entry stays, of whatever serials the others go
-others-new : (x : Stored) (gone : List ℕ) (es : List Stored) → holds x.serial es ≡ false → without_others x.serial gone (x ∷ es) ≡ x ∷ without gone es
+others-new : (x : Stored) (gone : List ℕ) (es : List Stored) → holds_serial x.serial es ≡ false → entries_but_others x.serial gone (x ∷ es) ≡ x ∷ without_serials gone es
 others-new x gone es h =
-    ap (λ b. cond (b || not (is_in x.serial gone)) (x ∷ without_others x.serial gone es) (without_others x.serial gone es)) (eq-eqb x.serial x.serial refl)
+    ap (λ b. cond (b || not (serial_is_in x.serial gone)) (x ∷ entries_but_others x.serial gone es) (entries_but_others x.serial gone es)) (eq-eqb x.serial x.serial refl)
     ∙ ap (λ zs. x ∷ zs) (others-old x.serial gone es h)
 
 -- what stands once a new entry went in and the replaced ones went
-pub put-stands : (x : Stored) (gone : List ℕ) (es mid zs : List Stored) (s : ℕ) → s ≡ x.serial → mid ≡ x ∷ es → zs ≡ without_others s gone mid →
-    holds x.serial es ≡ false → zs ≡ x ∷ without gone es
+pub put-stands : (x : Stored) (gone : List ℕ) (es mid zs : List Stored) (s : ℕ) → s ≡ x.serial → mid ≡ x ∷ es → zs ≡ entries_but_others s gone mid →
+    holds_serial x.serial es ≡ false → zs ≡ x ∷ without_serials gone es
 put-stands x gone es mid zs s is stored left new =
-    left ∙ ap (λ k. without_others k gone mid) is ∙ ap (without_others x.serial gone) stored ∙ others-new x gone es new
+    left ∙ ap (λ k. entries_but_others k gone mid) is ∙ ap (entries_but_others x.serial gone) stored ∙ others-new x gone es new
 
-is_first : (s : ℕ) (xs : List ℕ) → slice_get xs 0 ≡ Some s → is_in s xs ≡ true
+is_first : (s : ℕ) (xs : List ℕ) → slice_get xs 0 ≡ Some s → serial_is_in s xs ≡ true
 is_first s [] h = absurd (cc)
 is_first s (x ∷ xs) h = or_left _ _ (eq-eqb x s (same_Some x s h))
 
-first-held : (s : ℕ) (q : Key) (es : List Stored) → slice_get (serials_of q es) 0 ≡ Some s → holds s es ≡ true
-first-held s q es h = elim (cases_Bool (holds s es)) [
+first-held : (s : ℕ) (q : Key) (es : List Stored) → slice_get (serials_of q es) 0 ≡ Some s → holds_serial s es ≡ true
+first-held s q es h = elim (cases_Bool (holds_serial s es)) [
   | inl t ↦ t
   | inr f ↦ absurd (false≢true (sym (not_of_key s q es f) ∙ is_first s (serials_of q es) h))
 ]
 
-goes : (s : ℕ) (q : Key) (es : List Stored) → Distinct (serials es) → is_in s (serials_of q es) ≡ true → without_key q (without (s ∷ []) es) ≡ without_key q es
+goes : (s : ℕ) (q : Key) (es : List Stored) → Distinct (serials es) → serial_is_in s (serials_of q es) ≡ true → without_key q (without_serials (s ∷ []) es) ≡ without_key q es
 goes s q [] d m = refl
 goes s q (e ∷ es) d m = elim (cases_Bool (eqb e.serial s)) [
   | inl t ↦ (
-      let none : holds s es ≡ false = subst (λ z. holds z es ≡ false) (eqb-true e.serial s t) d.0 in
-      let gone : is_in e.serial (s ∷ []) ≡ true = or_left _ _ (sym (eqb_comm e.serial s) ∙ t) in
+      let none : holds_serial s es ≡ false = subst (λ z. holds_serial z es ≡ false) (eqb-true e.serial s t) d.0 in
+      let gone : serial_is_in e.serial (s ∷ []) ≡ true = or_left _ _ (sym (eqb_comm e.serial s) ∙ t) in
       let key : same_key e.key q ≡ true = elim (cases_Bool (same_key e.key q)) [
         | inl y ↦ y
         | inr n ↦ absurd (false≢true (
             sym (not_of_key s q es none)
-            ∙ sym (ap (λ b. is_in s (cond b (insert_ascending e.serial (serials_of q es)) (serials_of q es))) n)
+            ∙ sym (ap (λ b. serial_is_in s (cond b (insert_ascending e.serial (serials_of q es)) (serials_of q es))) n)
             ∙ m
             ))
       ] in
-      ap (λ b. without_key q (cond (not b) (e ∷ without (s ∷ []) es) (without (s ∷ []) es))) gone
+      ap (λ b. without_key q (cond (not b) (e ∷ without_serials (s ∷ []) es) (without_serials (s ∷ []) es))) gone
       ∙ ap (without_key q) (without_none s es none)
       ∙ sym (ap (λ b. cond (not b) (e ∷ without_key q es) (without_key q es)) key)
       )
   | inr f ↦ (
-      let more : is_in s (serials_of q es) ≡ true =
-      (elim (same_key e.key q) as (λ b. is_in s (serials_of q es) ≡ is_in s (cond b (insert_ascending e.serial (serials_of q es)) (serials_of q es))) [
-        | true ↦ sym (is_in-insert s e.serial (serials_of q es) ∙ ap (λ b. b || is_in s (serials_of q es)) f)
+      let more : serial_is_in s (serials_of q es) ≡ true =
+      (elim (same_key e.key q) as (λ b. serial_is_in s (serials_of q es) ≡ serial_is_in s (cond b (insert_ascending e.serial (serials_of q es)) (serials_of q es))) [
+        | true ↦ sym (is_in-insert s e.serial (serials_of q es) ∙ ap (λ b. b || serial_is_in s (serials_of q es)) f)
         | false ↦ refl
       ]) ∙ m in
-      ap (λ b. without_key q (cond (not b) (e ∷ without (s ∷ []) es) (without (s ∷ []) es))) (not_only e.serial s f)
+      ap (λ b. without_key q (cond (not b) (e ∷ without_serials (s ∷ []) es) (without_serials (s ∷ []) es))) (not_only e.serial s f)
       ∙ ap (λ zs. cond (not (same_key e.key q)) (e ∷ zs) zs) (goes s q es d.1 more)
       )
 ]
 
 -- one of a key goes, and those that are not of the key stay
-pub key-step : (s : ℕ) (q : Key) (es zs : List Stored) → Distinct (serials es) → slice_get (serials_of q es) 0 ≡ Some s → zs ≡ without (s ∷ []) es →
+pub key-step : (s : ℕ) (q : Key) (es zs : List Stored) → Distinct (serials es) → slice_get (serials_of q es) 0 ≡ Some s → zs ≡ without_serials (s ∷ []) es →
     without_key q zs ≡ without_key q es
 key-step s q es zs d h e = ap (without_key q) e ∙ goes s q es d (is_first s (serials_of q es) h)
 
-pub key-smaller : (s : ℕ) (q : Key) (es zs : List Stored) → slice_get (serials_of q es) 0 ≡ Some s → zs ≡ without (s ∷ []) es → length zs < length es
+pub key-smaller : (s : ℕ) (q : Key) (es zs : List Stored) → slice_get (serials_of q es) 0 ≡ Some s → zs ≡ without_serials (s ∷ []) es → length zs < length es
 key-smaller s q es zs h e = subst (λ ys. length ys < length es) (sym e) (length-without s es (first-held s q es h))
 
 nothing : (xs : List ℕ) → slice_get xs 0 ≡ None → xs ≡ []
@@ -527,11 +527,11 @@ none_of_key q (e ∷ es) h = elim (cases_Bool (same_key e.key q)) [
 pub key-end : (q : Key) (es : List Stored) → slice_get (serials_of q es) 0 ≡ None → without_key q es ≡ es
 key-end q es h = none_of_key q es (nothing (serials_of q es) h)
 
-length_front : (s : ℕ) (es : List Stored) (o : Option Stored) → find_entry s es ≡ o → length (in_front o (without (s ∷ []) es)) ≤ length es
-length_front s es None h = length-filter_le (λ e. not (is_in e.serial (s ∷ []))) es
+length_front : (s : ℕ) (es : List Stored) (o : Option Stored) → find_entry s es ≡ o → length (with_in_front o (without_serials (s ∷ []) es)) ≤ length es
+length_front s es None h = length-filter_le (λ e. not (serial_is_in e.serial (s ∷ []))) es
 length_front s es (Some e) h =
     let l = length-without s es (sym (is_some-find s es) ∙ ap is_some h) in
     omega arith
 
-pub length-promoted : (s : ℕ) (es : List Stored) → length (promoted s es) ≤ length es
+pub length-promoted : (s : ℕ) (es : List Stored) → length (with_promoted s es) ≤ length es
 length-promoted s es = length_front s es (find_entry s es) refl

@@ -13,10 +13,10 @@ use Rattle.std.proofs.lemmas.Option.{same_Some}
 use Rattle.hx_vary.specs.declared.marks.Mark.{Mark}
 use Rattle.hx_target.specs.declared.keys.Key.{Key}
 use Rattle.hx_target.specs.Keys.{same_key}
-use Rattle.hx_target.specs.KeyHash.{one_key}
+use Rattle.hx_target.specs.KeyHash.{same_keys_are_equal}
 use Rattle.hx_store.specs.declared.key_index.KeyIndex.{KeyIndex}
-use Rattle.hx_store.specs.Serials.{is_in, insert_ascending}
-use Rattle.hx_store.specs.Index.{marks_at, IsSameIndex, IsTrim, IsTrimBeside}
+use Rattle.hx_store.specs.Serials.{serial_is_in, insert_ascending}
+use Rattle.hx_store.specs.Index.{serials_and_marks_at, IsSameKeyIndex, HasNoUnusedKey, HasNoOtherUnusedKey}
 use Rattle.hx_store.proofs.FoundSerials.{is_in-insert}
 
 abbrev pub entries_or_none : Option (List (ℕ × Mark)) → List (ℕ × Mark)
@@ -25,7 +25,7 @@ entries_or_none o = unwrap_or o []
 -- a map that has w at a key, and else what it had
 pub written : (key : Key) (old new : KeyIndex) (w : Option (List (ℕ × Mark))) →
     ((q : Key) → get same_key new.serials q ≡ cond (same_key key q) w (get same_key old.serials q)) →
-    (q : Key) → marks_at new q ≡ cond (same_key key q) (entries_or_none w) (marks_at old q)
+    (q : Key) → serials_and_marks_at new q ≡ cond (same_key key q) (entries_or_none w) (serials_and_marks_at old q)
 written key old new w h q =
     let g = get same_key old.serials q in
     ap entries_or_none (h q)
@@ -33,22 +33,22 @@ written key old new w h q =
 
 -- what is at the key is what f makes of what was there
 pub changed : (f : List (ℕ × Mark) → List (ℕ × Mark)) (key : Key) (old new : KeyIndex) (ks : List (ℕ × Mark)) →
-    ((q : Key) → marks_at new q ≡ cond (same_key key q) ks (marks_at old q)) → ks ≡ f (marks_at old key) →
-    (q : Key) → marks_at new q ≡ cond (same_key key q) (f (marks_at old q)) (marks_at old q)
+    ((q : Key) → serials_and_marks_at new q ≡ cond (same_key key q) ks (serials_and_marks_at old q)) → ks ≡ f (serials_and_marks_at old key) →
+    (q : Key) → serials_and_marks_at new q ≡ cond (same_key key q) (f (serials_and_marks_at old q)) (serials_and_marks_at old q)
 changed f key old new ks h e q = elim (cases_Bool (same_key key q)) [
   | inl t ↦ (
-      h q ∙ ap (λ b. cond b ks (marks_at old q)) t ∙ e ∙ ap (λ k. f (marks_at old k)) (one_key key q t)
-      ∙ sym (ap (λ b. cond b (f (marks_at old q)) (marks_at old q)) t)
+      h q ∙ ap (λ b. cond b ks (serials_and_marks_at old q)) t ∙ e ∙ ap (λ k. f (serials_and_marks_at old k)) (same_keys_are_equal key q t)
+      ∙ sym (ap (λ b. cond b (f (serials_and_marks_at old q)) (serials_and_marks_at old q)) t)
       )
-  | inr n ↦ h q ∙ ap (λ b. cond b ks (marks_at old q)) n ∙ sym (ap (λ b. cond b (f (marks_at old q)) (marks_at old q)) n)
+  | inr n ↦ h q ∙ ap (λ b. cond b ks (serials_and_marks_at old q)) n ∙ sym (ap (λ b. cond b (f (serials_and_marks_at old q)) (serials_and_marks_at old q)) n)
 ]
 
 -- the same where f leaves it as it was
 pub unchanged : (key : Key) (old new : KeyIndex) (ks : List (ℕ × Mark)) →
-    ((q : Key) → marks_at new q ≡ cond (same_key key q) ks (marks_at old q)) → ks ≡ marks_at old key → IsSameIndex old new
+    ((q : Key) → serials_and_marks_at new q ≡ cond (same_key key q) ks (serials_and_marks_at old q)) → ks ≡ serials_and_marks_at old key → IsSameKeyIndex old new
 unchanged key old new ks h e q =
     changed (λ xs. xs) key old new ks h e q
-    ∙ (elim (same_key key q) as (λ b. cond b (marks_at old q) (marks_at old q) ≡ marks_at old q) [ true ↦ refl | false ↦ refl ])
+    ∙ (elim (same_key key q) as (λ b. cond b (serials_and_marks_at old q) (serials_and_marks_at old q) ≡ serials_and_marks_at old q) [ true ↦ refl | false ↦ refl ])
 
 -- ---- no key is in the index for nothing
 
@@ -57,7 +57,7 @@ HasSome marks = marks ≡ [] → ⊥
 
 pub not_nothing : (s : ℕ) (xs : List ℕ) → insert_ascending s xs ≡ [] → ⊥
 not_nothing s xs h = false≢true (
-    sym (ap (is_in s) h)
+    sym (ap (serial_is_in s) h)
     ∙ is_in-insert s s xs
     ∙ or_left _ _ (eq-eqb s s refl)
     )
@@ -76,7 +76,7 @@ pub some_has : (set : List (ℕ × Mark)) → HasSome set → ForSome (Some set)
 some_has set n x e k = n (same_Some set x e ∙ k)
 
 pub trim-written : (key : Key) (old new : KeyIndex) (w : Option (List (ℕ × Mark))) →
-    ((q : Key) → get same_key new.serials q ≡ cond (same_key key q) w (get same_key old.serials q)) → ForSome w HasSome → IsTrim old → IsTrim new
+    ((q : Key) → get same_key new.serials q ≡ cond (same_key key q) w (get same_key old.serials q)) → ForSome w HasSome → HasNoUnusedKey old → HasNoUnusedKey new
 trim-written key old new w h n o q set e k =
     let g = get same_key old.serials q in
     elim (cases_Bool (same_key key q)) [
@@ -85,13 +85,13 @@ trim-written key old new w h n o q set e k =
     ]
 
 pub trim-beside : (key : Key) (old new : KeyIndex) (w : Option (List (ℕ × Mark))) →
-    ((q : Key) → get same_key new.serials q ≡ cond (same_key key q) w (get same_key old.serials q)) → IsTrim old → IsTrimBeside key new
+    ((q : Key) → get same_key new.serials q ≡ cond (same_key key q) w (get same_key old.serials q)) → HasNoUnusedKey old → HasNoOtherUnusedKey key new
 trim-beside key old new w h o q f set e k =
     let g = get same_key old.serials q in
     o q set (sym (h q ∙ ap (λ b. cond b w g) f) ∙ e) k
 
 pub trim-removed : (key : Key) (mid new : KeyIndex) →
-    ((q : Key) → get same_key new.serials q ≡ cond (same_key key q) None (get same_key mid.serials q)) → IsTrimBeside key mid → IsTrim new
+    ((q : Key) → get same_key new.serials q ≡ cond (same_key key q) None (get same_key mid.serials q)) → HasNoOtherUnusedKey key mid → HasNoUnusedKey new
 trim-removed key mid new h b q set e k =
     let g = get same_key mid.serials q in
     elim (cases_Bool (same_key key q)) [
@@ -102,5 +102,5 @@ trim-removed key mid new h b q set e k =
       | inr f ↦ b q f set (sym (h q ∙ ap (λ b. cond b None g) f) ∙ e) k
     ]
 
-pub trim-same : (old new : KeyIndex) → new.serials.entries ≡ old.serials.entries → IsTrim old → IsTrim new
+pub trim-same : (old new : KeyIndex) → new.serials.entries ≡ old.serials.entries → HasNoUnusedKey old → HasNoUnusedKey new
 trim-same old new s o q set e k = o q set (ap (lookup (same_key q)) (sym s) ∙ e) k

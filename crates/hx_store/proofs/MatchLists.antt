@@ -9,18 +9,18 @@ use Rattle.hx_fields.specs.declared.field_line.Field.{Field}
 use Rattle.hx_target.specs.declared.keys.Key.{Key}
 use Rattle.hx_target.specs.Keys.{same_key}
 use Rattle.hx_vary.specs.Vary.{vary_matches}
-use Rattle.hx_store.specs.Serials.{is_in, Distinct, insert_ascending}
+use Rattle.hx_store.specs.Serials.{serial_is_in, Distinct, insert_ascending}
 use Rattle.hx_store.specs.Stored.{Stored}
-use Rattle.hx_store.specs.Shelf.{serials, find_entry, serials_of, is_match, matching_serials}
-use Rattle.hx_store.specs.Found.{NoneBelow, IsAscending}
+use Rattle.hx_store.specs.Shelf.{serials, find_entry, serials_of, entry_matches, matching_serials}
+use Rattle.hx_store.specs.Found.{NoSerialIsBelow, IsAscending}
 use Rattle.hx_store.proofs.FoundSerials.{below_less, finds_ascending, finds_those}
 use Rattle.hx_store.proofs.Indices.{not_nothing}
 use Rattle.hx_store.proofs.IndexedLists.{insert-below, not_of_key}
 
-below_filter : (p : ℕ → Bool) (a : ℕ) (xs : List ℕ) → NoneBelow a xs → NoneBelow a (filter p xs)
+below_filter : (p : ℕ → Bool) (a : ℕ) (xs : List ℕ) → NoSerialIsBelow a xs → NoSerialIsBelow a (filter p xs)
 below_filter p a [] h = tt
 below_filter p a (x ∷ xs) h =
-    elim (p x) as (λ b. NoneBelow a (cond b (x ∷ filter p xs) (filter p xs))) [ true ↦ (h.0, below_filter p a xs h.1) | false ↦ below_filter p a xs h.1 ]
+    elim (p x) as (λ b. NoSerialIsBelow a (cond b (x ∷ filter p xs) (filter p xs))) [ true ↦ (h.0, below_filter p a xs h.1) | false ↦ below_filter p a xs h.1 ]
 
 -- what passes goes where it would go among those that pass
 filter-insert : (p : ℕ → Bool) (s : ℕ) (xs : List ℕ) → IsAscending xs →
@@ -47,19 +47,19 @@ filter-insert p s (x ∷ xs) h = elim (leb_tells s x) [
       )
 ]
 
-filter-agree : (p q : ℕ → Bool) (xs : List ℕ) → ((s : ℕ) → is_in s xs ≡ true → p s ≡ q s) → filter p xs ≡ filter q xs
+filter-agree : (p q : ℕ → Bool) (xs : List ℕ) → ((s : ℕ) → serial_is_in s xs ≡ true → p s ≡ q s) → filter p xs ≡ filter q xs
 filter-agree p q [] h = refl
 filter-agree p q (x ∷ xs) h =
-    ap (λ b. cond b (x ∷ filter p xs) (filter p xs)) (h x (ap (λ b. b || is_in x xs) (eq-eqb x x refl)))
-    ∙ ap (λ ys. cond (q x) (x ∷ ys) ys) (filter-agree p q xs (λ s m. h s (or_right (eqb x s) (is_in s xs) m)))
+    ap (λ b. cond b (x ∷ filter p xs) (filter p xs)) (h x (ap (λ b. b || serial_is_in x xs) (eq-eqb x x refl)))
+    ∙ ap (λ ys. cond (q x) (x ∷ ys) ys) (filter-agree p q xs (λ s m. h s (or_right (eqb x s) (serial_is_in s xs) m)))
 
 -- one entry more is found by its serial alone
 others_match : (key : Key) (request : List Field) (e : Stored) (es : List Stored) → Distinct (serials (e ∷ es)) →
-    filter (λ s. is_match request (find_entry s (e ∷ es))) (serials_of key es) ≡ matching_serials key request es
+    filter (λ s. entry_matches request (find_entry s (e ∷ es))) (serials_of key es) ≡ matching_serials key request es
 others_match key request e es d = filter-agree _ _ (serials_of key es) (λ s m.
     let apart : eqb e.serial s ≡ false = false_from_ne_true _ (λ t. false≢true (
-    sym (not_of_key e.serial key es d.0) ∙ ap (λ z. is_in z (serials_of key es)) (eqb-true e.serial s t) ∙ m)) in
-    ap (λ b. is_match request (cond b (Some e) (find_entry s es))) apart)
+    sym (not_of_key e.serial key es d.0) ∙ ap (λ z. serial_is_in z (serials_of key es)) (eqb-true e.serial s t) ∙ m)) in
+    ap (λ b. entry_matches request (cond b (Some e) (find_entry s es))) apart)
 
 -- it makes no odds whether the entries are tested first or their serials
 pub walked : (key : Key) (request : List Field) (es : List Stored) → Distinct (serials es) →
@@ -67,10 +67,10 @@ pub walked : (key : Key) (request : List Field) (es : List Stored) → Distinct 
 walked key request [] d = refl
 walked key request (e ∷ es) d =
     let is : Stored → Bool = λ f. vary_matches f.nominated request in
-    let test : ℕ → Bool = λ s. is_match request (find_entry s (e ∷ es)) in
+    let test : ℕ → Bool = λ s. entry_matches request (find_entry s (e ∷ es)) in
     let xs = serials_of key es in
     let same : filter test xs ≡ serials_of key (filter is es) = others_match key request e es d ∙ sym (walked key request es d.1) in
-    let its : test e.serial ≡ is e = ap (λ b. is_match request (cond b (Some e) (find_entry e.serial es))) (eq-eqb e.serial e.serial refl) in
+    let its : test e.serial ≡ is e = ap (λ b. entry_matches request (cond b (Some e) (find_entry e.serial es))) (eq-eqb e.serial e.serial refl) in
     let some = serials_of key (filter is es) in
     sym (elim (cases_Bool (same_key e.key key)) [
       | inl y ↦ (
@@ -130,9 +130,9 @@ any_of_filter p q (e ∷ es) =
     ]
 
 pub finds_matches : (key : Key) (request : List Field) (s : ℕ) (es : List Stored) → Distinct (serials es) →
-    is_in s (matching_serials key request es) ≡ list_any (λ e. vary_matches e.nominated request && (same_key e.key key && eqb e.serial s)) es
+    serial_is_in s (matching_serials key request es) ≡ list_any (λ e. vary_matches e.nominated request && (same_key e.key key && eqb e.serial s)) es
 finds_matches key request s es d =
-    ap (is_in s) (sym (walked key request es d))
+    ap (serial_is_in s) (sym (walked key request es d))
     ∙ finds_those key s (filter (λ (e : Stored). vary_matches e.nominated request) es)
     ∙ any_of_filter (λ e. vary_matches e.nominated request) (λ e. same_key e.key key && eqb e.serial s) es
 

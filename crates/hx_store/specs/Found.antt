@@ -6,31 +6,31 @@ use Rattle.hx_target.specs.declared.keys.Key.{Key}
 use Rattle.hx_target.specs.Keys.{same_key}
 use Rattle.hx_vary.specs.Vary.{vary_matches}
 use Rattle.hx_store.specs.Stored.{Stored}
-use Rattle.hx_store.specs.Serials.{is_in, Distinct}
+use Rattle.hx_store.specs.Serials.{serial_is_in, Distinct}
 use Rattle.hx_store.specs.Shelf.{serials, serials_of, matching_serials}
 
-abbrev pub NoneBelow : ℕ → List ℕ → Type 0
-NoneBelow s [] = Unit {0}
-NoneBelow s (x ∷ xs) = (s ≤ x) × NoneBelow s xs
+abbrev pub NoSerialIsBelow : ℕ → List ℕ → Type 0
+NoSerialIsBelow s [] = Unit {0}
+NoSerialIsBelow s (x ∷ xs) = (s ≤ x) × NoSerialIsBelow s xs
 
 abbrev pub IsAscending : List ℕ → Type 0
 IsAscending [] = Unit {0}
-IsAscending (x ∷ xs) = NoneBelow x xs × IsAscending xs
+IsAscending (x ∷ xs) = NoSerialIsBelow x xs × IsAscending xs
 
 -- a serial is found exactly where an entry has it and the key
-abbrev pub FindsThoseOfTheKey : Type 0
-FindsThoseOfTheKey = (key : Key) (s : ℕ) (es : List Stored) →
-    is_in s (serials_of key es) ≡ list_any (λ e. same_key e.key key && (e.serial == s)) es
+abbrev pub FindsSerialsOfTheKey : Type 0
+FindsSerialsOfTheKey = (key : Key) (s : ℕ) (es : List Stored) →
+    serial_is_in s (serials_of key es) ≡ list_any (λ e. same_key e.key key && (e.serial == s)) es
 
-abbrev pub FindsAscending : Type 0
-FindsAscending = (key : Key) (es : List Stored) → IsAscending (serials_of key es)
+abbrev pub FoundSerialsAscend : Type 0
+FoundSerialsAscend = (key : Key) (es : List Stored) → IsAscending (serials_of key es)
 
 -- and it is found for a request exactly where that entry also nominates what the request has
-abbrev pub FindsThoseThatMatch : Type 0
-FindsThoseThatMatch = (key : Key) (request : List Field) (s : ℕ) (es : List Stored) → Distinct (serials es) →
-    is_in s (matching_serials key request es)
+abbrev pub FindsMatchingSerials : Type 0
+FindsMatchingSerials = (key : Key) (request : List Field) (s : ℕ) (es : List Stored) → Distinct (serials es) →
+    serial_is_in s (matching_serials key request es)
     ≡ list_any (λ e. vary_matches e.nominated request && (same_key e.key key && (e.serial == s))) es
 
-abbrev pub MatchesAscend : Type 0
-MatchesAscend = (key : Key) (request : List Field) (es : List Stored) → Distinct (serials es)
+abbrev pub MatchingSerialsAscend : Type 0
+MatchingSerialsAscend = (key : Key) (request : List Field) (es : List Stored) → Distinct (serials es)
     → IsAscending (matching_serials key request es)

@@ -8,6 +8,6 @@ kept_marks (Some p) more = p ∷ []
 kept_marks None more = more
 
 -- where one stands alone, the map is empty
-abbrev pub IsAloneOrMore : Option (ℕ × Mark) → List (ℕ × Mark) → Type 0
-IsAloneOrMore (Some p) more = more ≡ []
-IsAloneOrMore None more = Unit {0}
+abbrev pub IsOneOrAMap : Option (ℕ × Mark) → List (ℕ × Mark) → Type 0
+IsOneOrAMap (Some p) more = more ≡ []
+IsOneOrAMap None more = Unit {0}

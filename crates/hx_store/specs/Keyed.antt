@@ -6,10 +6,10 @@ use Rattle.hx_store.specs.Serials.{Distinct}
 use Rattle.hx_store.specs.Shelf.{serials}
 
 -- each serial is its entry's own
-abbrev pub AreKeyed : List (ℕ × Stored) → Type 0
-AreKeyed [] = Unit {0}
-AreKeyed (p ∷ ps) = (p.0 ≡ p.1.serial) × AreKeyed ps
+abbrev pub EntriesHaveTheirSerials : List (ℕ × Stored) → Type 0
+EntriesHaveTheirSerials [] = Unit {0}
+EntriesHaveTheirSerials (p ∷ ps) = (p.0 ≡ p.1.serial) × EntriesHaveTheirSerials ps
 
 -- and no serial stands twice
-abbrev pub AreKeyedApart : List (ℕ × Stored) → Type 0
-AreKeyedApart ps = AreKeyed ps × Distinct (serials (values_of ps))
+abbrev pub EntriesHaveDistinctSerials : List (ℕ × Stored) → Type 0
+EntriesHaveDistinctSerials ps = EntriesHaveTheirSerials ps × Distinct (serials (values_of ps))

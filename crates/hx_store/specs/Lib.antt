@@ -6,5 +6,5 @@ pub mod KeptMarks
 pub mod Index
 pub mod Found
 pub mod Recency
-pub mod Places
+pub mod SerialPlaces
 pub mod Cases

@@ -1,14 +1,14 @@
 -- Lists of serials.
 use Rattle.std.specs.Prelude.{◌≡◌, ℕ, Bool, false, ◌||◌, ◌==◌, List, [], ◌∷◌, if◌then◌else◌, nat_le}
 
-abbrev pub is_in : ℕ → List ℕ → Bool
-is_in s [] = false
-is_in s (x ∷ xs) = (x == s) || is_in s xs
+abbrev pub serial_is_in : ℕ → List ℕ → Bool
+serial_is_in s [] = false
+serial_is_in s (x ∷ xs) = (x == s) || serial_is_in s xs
 
 -- no serial stands twice
 abbrev pub Distinct : List ℕ → Type 0
 Distinct [] = Unit {0}
-Distinct (x ∷ xs) = (is_in x xs ≡ false) × Distinct xs
+Distinct (x ∷ xs) = (serial_is_in x xs ≡ false) × Distinct xs
 
 -- a serial before the first that isn't below it
 abbrev pub insert_ascending : ℕ → List ℕ → List ℕ

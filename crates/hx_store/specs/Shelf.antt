@@ -1,8 +1,8 @@
 -- What a bounded store holds: a list of entries, the latest stored or used first.
 --
--- serials, holds, find_entry: the entries by their serials     serials_of: those with a key
--- is_match: an entry has a request's nominated values          matching_serials: those with a key that have them
--- without, without_key: the entries that stay                  promoted: one comes first
+-- serials, holds_serial, find_entry: the entries by their serials     serials_of: those with a key
+-- entry_matches: an entry has a request's nominated values          matching_serials: those with a key that have them
+-- without_serials, without_key: the entries that stay                  with_promoted: one comes first
 use Rattle.std.specs.Prelude.{ℕ, Bool, false, not, ◌==◌, Option, None, Some, List, [], ◌∷◌, if◌then◌else◌}
 use Rattle.std.specs.List.{filter}
 use Rattle.hx_fields.specs.declared.field_line.Field.{Field}
@@ -10,23 +10,23 @@ use Rattle.hx_target.specs.declared.keys.Key.{Key}
 use Rattle.hx_target.specs.Keys.{same_key}
 use Rattle.hx_vary.specs.Vary.{vary_matches}
 use Rattle.hx_store.specs.Stored.{Stored}
-use Rattle.hx_store.specs.Serials.{is_in, insert_ascending}
+use Rattle.hx_store.specs.Serials.{serial_is_in, insert_ascending}
 
 abbrev pub serials : List Stored → List ℕ
 serials [] = []
 serials (e ∷ es) = e.serial ∷ serials es
 
 -- an entry of this serial is held
-abbrev pub holds : ℕ → List Stored → Bool
-holds s es = is_in s (serials es)
+abbrev pub holds_serial : ℕ → List Stored → Bool
+holds_serial s es = serial_is_in s (serials es)
 
 abbrev pub find_entry : ℕ → List Stored → Option Stored
 find_entry s [] = None
 find_entry s (e ∷ es) = if e.serial == s then Some e else find_entry s es
 
 -- the entries but those with these serials
-abbrev pub without : List ℕ → List Stored → List Stored
-without gone es = filter (λ e. not (is_in e.serial gone)) es
+abbrev pub without_serials : List ℕ → List Stored → List Stored
+without_serials gone es = filter (λ e. not (serial_is_in e.serial gone)) es
 
 -- the entries but those with this key
 abbrev pub without_key : Key → List Stored → List Stored
@@ -39,25 +39,25 @@ serials_of key (e ∷ es) =
     if same_key e.key key then insert_ascending e.serial (serials_of key es) else serials_of key es
 
 -- the entry that was found nominates what the request has (RFC 9111, section 4.1)
-abbrev pub is_match : List Field → Option Stored → Bool
-is_match request None = false
-is_match request (Some e) = vary_matches e.nominated request
+abbrev pub entry_matches : List Field → Option Stored → Bool
+entry_matches request None = false
+entry_matches request (Some e) = vary_matches e.nominated request
 
 -- the serials of the entries with this key that nominate what the request has, ascending
 abbrev pub matching_serials : Key → List Field → List Stored → List ℕ
-matching_serials key request es = filter (λ s. is_match request (find_entry s es)) (serials_of key es)
+matching_serials key request es = filter (λ s. entry_matches request (find_entry s es)) (serials_of key es)
 
-abbrev pub in_front : Option Stored → List Stored → List Stored
-in_front None es = es
-in_front (Some e) es = e ∷ es
+abbrev pub with_in_front : Option Stored → List Stored → List Stored
+with_in_front None es = es
+with_in_front (Some e) es = e ∷ es
 
 -- the held entry of this serial comes first
-abbrev pub promoted : ℕ → List Stored → List Stored
-promoted s es = in_front (find_entry s es) (without (s ∷ []) es)
+abbrev pub with_promoted : ℕ → List Stored → List Stored
+with_promoted s es = with_in_front (find_entry s es) (without_serials (s ∷ []) es)
 
 -- a bounded store: the most entries that it holds, those that it holds, the latest stored or used
 -- first, and for how many entries, those among them, memory is known to stand ready
-pub record Shelved : Type 0 where
+pub record ShelfModel : Type 0 where
   pub limit : ℕ
   pub entries : List Stored
   pub room : ℕ

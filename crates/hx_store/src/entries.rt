@@ -4,7 +4,7 @@
 
 ghost use Rattle.std.specs.Prelude.{◌≡◌, ◌==◌, IfOk};
 ghost use Rattle.hx_target.specs.Keys.{same_key};
-ghost use Rattle.hx_store.specs.Serials.{is_in};
+ghost use Rattle.hx_store.specs.Serials.{serial_is_in};
 
 use hx_age::Times;
 use hx_directives::Directives;
@@ -92,7 +92,7 @@ impl Entry {
     }
 
     pub(crate) fn is_among(&self, serials: &[u64]) -> bool
-        ensures { result ≡ is_in self.now.serial serials.now }
+        ensures { result ≡ serial_is_in self.now.serial serials.now }
     {
         contains(serials, self.serial)
     }
@@ -105,7 +105,7 @@ impl Entry {
 }
 
 fn contains(serials: &[u64], serial: u64) -> bool
-    ensures { result ≡ is_in serial serials.now }
+    ensures { result ≡ serial_is_in serial serials.now }
 {
     for s in serials {
         if *s == serial {

@@ -6,8 +6,8 @@ ghost use Rattle.std.specs.Prelude.{◌≡◌, ◌-◌, ◌∷◌, [], false, tr
 ghost use Rattle.std.specs.Prelude.{IfErr, OnErr, OnOk, Some};
 ghost use Rattle.std.specs.List.{filter, list_all};
 ghost use Rattle.std.specs.Map.{keys_of};
-ghost use Rattle.hx_store.specs.Index.{is_match_by, AreMarks};
-ghost use Rattle.hx_store.specs.Shelf.{holds, find_entry, is_match, without, promoted};
+ghost use Rattle.hx_store.specs.Index.{entry_matches_values, EachMarkIsOfItsEntry};
+ghost use Rattle.hx_store.specs.Shelf.{holds_serial, find_entry, entry_matches, without_serials, with_promoted};
 
 use crate::entries::Entry;
 use crate::key_marks::KeyMarks;
@@ -36,13 +36,13 @@ impl Model for EntryCache {
     ghost use Rattle.std.specs.Prelude.{◌≡◌, ◌^◌, ◌-◌, List};
     ghost use Rattle.std.specs.Map.{values_of};
     ghost use Rattle.hx_store.specs.Stored.{Stored};
-    ghost use Rattle.hx_store.specs.Keyed.{AreKeyedApart};
+    ghost use Rattle.hx_store.specs.Keyed.{EntriesHaveDistinctSerials};
 
     ghost Value = { List Stored };
 
     ghost view = { λ c. values_of c.entries.entries };
 
-    ghost invariant = { λ c. AreKeyedApart c.entries.entries × (c.entries.cap ≡ 2 ^ 64 - 1) };
+    ghost invariant = { λ c. EntriesHaveDistinctSerials c.entries.entries × (c.entries.cap ≡ 2 ^ 64 - 1) };
 }
 
 impl EntryCache {
@@ -64,7 +64,7 @@ impl EntryCache {
 
     /// Whether the entry of this serial is here.
     pub(crate) fn contains(&self, serial: u64) -> bool
-        ensures { result ≡ holds serial self.now }
+        ensures { result ≡ holds_serial serial self.now }
     {
         self.entries.contains(&serial)
     }
@@ -84,12 +84,13 @@ impl EntryCache {
         serials: Serials,
         request: &Fields,
     ) -> Result<Serials, AllocError>
-        ensures { IfOk result (λ found. found ≡ filter (λ s. is_match request.now (find_entry s self.now)) serials) }
+        ensures { IfOk result
+            (λ found. found ≡ filter (λ s. entry_matches request.now (find_entry s self.now)) serials) }
     {
         if self.all_match(alloc, serials.as_slice(), request)? {
             return Ok(serials);
         }
-        self.those_that_match(alloc, serials.as_slice(), request)
+        self.collect_matching(alloc, serials.as_slice(), request)
     }
 
     /// Whether the entries of all of these serials nominate what the request has. Fails only where memory runs out.
@@ -99,7 +100,8 @@ impl EntryCache {
         serials: &[u64],
         request: &Fields,
     ) -> Result<bool, AllocError>
-        ensures { IfOk result (λ all. all ≡ list_all (λ s. is_match request.now (find_entry s self.now)) serials.now) }
+        ensures { IfOk result
+            (λ all. all ≡ list_all (λ s. entry_matches request.now (find_entry s self.now)) serials.now) }
     {
         for serial in serials {
             if !self.is_match(alloc, *serial, request)? {
@@ -109,14 +111,14 @@ impl EntryCache {
         Ok(true)
     }
 
-    fn those_that_match(
+    fn collect_matching(
         &self,
         alloc: Global,
         serials: &[u64],
         request: &Fields,
     ) -> Result<Serials, AllocError>
         ensures { IfOk result (λ found. found
-            ≡ filter (λ s. is_match request.now (find_entry s self.now)) serials.now) }
+            ≡ filter (λ s. entry_matches request.now (find_entry s self.now)) serials.now) }
     {
         let mut found = Serials::new(alloc);
         for serial in serials {
@@ -129,7 +131,7 @@ impl EntryCache {
 
     /// Whether the entry of this serial is here and nominates what the request has. Fails only where memory runs out.
     fn is_match(&self, alloc: Global, serial: u64, request: &Fields) -> Result<bool, AllocError>
-        ensures { IfOk result (λ is. is ≡ is_match request.now (find_entry serial self.now)) }
+        ensures { IfOk result (λ is. is ≡ entry_matches request.now (find_entry serial self.now)) }
     {
         match self.peek(serial) {
             Some(entry) => matches(alloc, &entry.nominated, request),
@@ -139,39 +141,39 @@ impl EntryCache {
 
     /// Those of the serials of one key whose entries nominate what the request has. Where there are
     /// several, an entry is looked at only where its mark may match. Fails only where memory runs out.
-    pub(crate) fn matching_of(
+    pub(crate) fn matching_among_marks(
         &self,
         alloc: Global,
         marks: &KeyMarks,
         request: &Fields,
         seed: u64,
     ) -> Result<Serials, AllocError>
-        requires { AreMarks seed self.now marks.now }
+        requires { EachMarkIsOfItsEntry seed self.now marks.now }
         ensures { IfOk result (λ found. found
-            ≡ filter (λ s. is_match request.now (find_entry s self.now)) (keys_of marks.now)) }
+            ≡ filter (λ s. entry_matches request.now (find_entry s self.now)) (keys_of marks.now)) }
     {
         if !marks.is_several() {
             let found = marks.list(alloc)?;
             return self.matching(alloc, found, request);
         }
         let asked = RequestValues::of(alloc, request, seed)?;
-        let marked = marks.list_marked(alloc, &asked)?;
-        self.matching_by(alloc, marked.as_slice(), &asked)
+        let marked = marks.list_possible_matches(alloc, &asked)?;
+        self.matching_by_values(alloc, marked.as_slice(), &asked)
     }
 
     /// Those of some serials whose entries nominate what these values have. Fails only where memory runs out.
-    fn matching_by(
+    fn matching_by_values(
         &self,
         alloc: Global,
         serials: &[u64],
         asked: &RequestValues,
     ) -> Result<Serials, AllocError>
         ensures { IfOk result (λ found. found
-            ≡ filter (λ s. is_match_by asked.now.values (find_entry s self.now)) serials.now) }
+            ≡ filter (λ s. entry_matches_values asked.now.values (find_entry s self.now)) serials.now) }
     {
         let mut found = Serials::new(alloc);
         for serial in serials {
-            if self.is_match_by(*serial, asked)? {
+            if self.entry_matches_values(*serial, asked)? {
                 found.push(*serial)?;
             }
         }
@@ -179,8 +181,8 @@ impl EntryCache {
     }
 
     /// Whether the entry of this serial is here and nominates what these values have. Fails only where memory runs out.
-    fn is_match_by(&self, serial: u64, asked: &RequestValues) -> Result<bool, AllocError>
-        ensures { IfOk result (λ is. is ≡ is_match_by asked.now.values (find_entry serial self.now)) }
+    fn entry_matches_values(&self, serial: u64, asked: &RequestValues) -> Result<bool, AllocError>
+        ensures { IfOk result (λ is. is ≡ entry_matches_values asked.now.values (find_entry serial self.now)) }
     {
         match self.peek(serial) {
             Some(entry) => asked.matches(&entry.nominated),
@@ -190,7 +192,7 @@ impl EntryCache {
 
     /// Puts an entry first. Want of memory changes nothing and hands it back.
     pub(crate) fn store(&mut self, entry: Entry) -> Result<(), Entry>
-        requires { holds entry.serial self.old ≡ false }
+        requires { holds_serial entry.serial self.old ≡ false }
         ensures ok { OnOk result (self.new ≡ entry ∷ self.old) }
         ensures err { OnErr result (self.new ≡ self.old) }
         ensures given_back { IfErr result (λ e. e ≡ entry) }
@@ -207,9 +209,9 @@ impl EntryCache {
 
     /// Puts a new form of a held entry in its place, first, and hands the old one back. No memory is taken.
     pub(crate) fn replace(&mut self, entry: Entry) -> Entry
-        requires { holds entry.serial self.old ≡ true }
+        requires { holds_serial entry.serial self.old ≡ true }
         ensures value { find_entry entry.serial self.old ≡ Some result }
-        ensures entries { self.new ≡ entry ∷ without (entry.serial ∷ []) self.old }
+        ensures entries { self.new ≡ entry ∷ without_serials (entry.serial ∷ []) self.old }
     {
         match self.entries.get_mut(&entry.serial) {
             Some(held) => mem::replace(held, entry),
@@ -219,8 +221,8 @@ impl EntryCache {
 
     /// Brings the entry of this serial to the front. No memory is taken.
     pub(crate) fn promote(&mut self, serial: u64) -> bool
-        ensures value { result ≡ holds serial self.old }
-        ensures entries { self.new ≡ promoted serial self.old }
+        ensures value { result ≡ holds_serial serial self.old }
+        ensures entries { self.new ≡ with_promoted serial self.old }
     {
         self.entries.promote(&serial)
     }
@@ -228,7 +230,7 @@ impl EntryCache {
     /// Takes the entry of this serial out. No memory is taken.
     pub(crate) fn remove(&mut self, serial: u64) -> Option<Entry>
         ensures value { result ≡ find_entry serial self.old }
-        ensures entries { self.new ≡ without (serial ∷ []) self.old }
+        ensures entries { self.new ≡ without_serials (serial ∷ []) self.old }
     {
         self.entries.pop(&serial)
     }

@@ -7,9 +7,10 @@ ghost use Rattle.std.specs.Prelude.{option_copied, IfOk, IfErr, OnErr, OnOk, Som
 ghost use Rattle.std.specs.Option.{ForSome};
 ghost use Rattle.hx_target.specs.Keys.{same_key};
 ghost use Rattle.hx_store.specs.Serials.{Distinct};
-ghost use Rattle.hx_store.specs.Shelf.{holds, find_entry, without, serials, serials_of, matching_serials, promoted};
+ghost use Rattle.hx_store.specs.Shelf.{holds_serial, find_entry, without_serials, serials, serials_of};
+ghost use Rattle.hx_store.specs.Shelf.{matching_serials, with_promoted};
 ghost use Rattle.hx_store.specs.Shelf.{without_key};
-ghost use Rattle.hx_store.specs.Index.{without_others};
+ghost use Rattle.hx_store.specs.Index.{entries_but_others};
 
 use crate::entries::Entry;
 use crate::entry_cache::EntryCache;
@@ -44,7 +45,7 @@ impl Drop for IndexedEntries {
 impl Model for IndexedEntries {
     ghost use Rattle.std.specs.Prelude.{List};
     ghost use Rattle.hx_store.specs.Stored.{Stored};
-    ghost use Rattle.hx_store.specs.Index.{IsIndexOf, IsMarked, IsTrim};
+    ghost use Rattle.hx_store.specs.Index.{IsKeyIndexOf, MarksAreOfTheirEntries, HasNoUnusedKey};
     ghost use Rattle.hx_store.specs.Serials.{Distinct};
     ghost use Rattle.hx_store.specs.Shelf.{serials};
 
@@ -52,8 +53,8 @@ impl Model for IndexedEntries {
 
     ghost view = { λ s. s.entries };
 
-    ghost invariant = { λ s. (Distinct (serials s.entries) × IsIndexOf s.entries s.index) × IsTrim s.index
-        × IsMarked s.seed s.entries s.index };
+    ghost invariant = { λ s. (Distinct (serials s.entries) × IsKeyIndexOf s.entries s.index) × HasNoUnusedKey s.index
+        × MarksAreOfTheirEntries s.seed s.entries s.index };
 }
 
 impl IndexedEntries {
@@ -78,7 +79,7 @@ impl IndexedEntries {
 
     /// Whether the entry of this serial is here.
     pub(crate) fn contains(&self, serial: u64) -> bool
-        ensures { result ≡ holds serial self.now }
+        ensures { result ≡ holds_serial serial self.now }
     {
         self.entries.contains(serial)
     }
@@ -125,14 +126,16 @@ impl IndexedEntries {
         ensures distinct { Distinct (serials self.now) }
     {
         match self.index.at(key) {
-            Some(marks) => self.entries.matching_of(alloc, marks, request, self.seed),
+            Some(marks) => self
+                .entries
+                .matching_among_marks(alloc, marks, request, self.seed),
             None => Ok(Serials::new(alloc)),
         }
     }
 
     /// Puts an entry first. Want of memory changes nothing and hands it back.
     pub(crate) fn store(&mut self, entry: Entry) -> Result<(), Entry>
-        requires { holds entry.serial self.old ≡ false }
+        requires { holds_serial entry.serial self.old ≡ false }
         ensures ok { OnOk result (self.new ≡ entry ∷ self.old) }
         ensures err { OnErr result (self.new ≡ self.old) }
         ensures given_back { IfErr result (λ e. e ≡ entry) }
@@ -157,10 +160,10 @@ impl IndexedEntries {
 
     /// Puts a new form of a held entry in its place, first, and hands the old one back. No memory is taken.
     pub(crate) fn replace(&mut self, entry: Entry) -> Entry
-        requires held { holds entry.serial self.old ≡ true }
+        requires held { holds_serial entry.serial self.old ≡ true }
         requires same_key { ForSome (find_entry entry.serial self.old) (λ old. same_key old.key entry.key ≡ true) }
         ensures value { find_entry entry.serial self.old ≡ Some result }
-        ensures entries { self.new ≡ entry ∷ without (entry.serial ∷ []) self.old }
+        ensures entries { self.new ≡ entry ∷ without_serials (entry.serial ∷ []) self.old }
     {
         let mark = entry.nominated.mark(self.seed);
         self.index.mark(&entry.key, entry.serial, mark);
@@ -169,8 +172,8 @@ impl IndexedEntries {
 
     /// Brings the entry of this serial to the front. No memory is taken.
     pub(crate) fn promote(&mut self, serial: u64) -> bool
-        ensures value { result ≡ holds serial self.old }
-        ensures entries { self.new ≡ promoted serial self.old }
+        ensures value { result ≡ holds_serial serial self.old }
+        ensures entries { self.new ≡ with_promoted serial self.old }
     {
         self.entries.promote(serial)
     }
@@ -178,7 +181,7 @@ impl IndexedEntries {
     /// Takes the entry of this serial out. No memory is taken.
     pub(crate) fn remove(&mut self, serial: u64) -> Option<Entry>
         ensures value { result ≡ find_entry serial self.old }
-        ensures entries { self.new ≡ without (serial ∷ []) self.old }
+        ensures entries { self.new ≡ without_serials (serial ∷ []) self.old }
     {
         match self.entries.remove(serial) {
             Some(entry) => {
@@ -218,7 +221,7 @@ impl IndexedEntries {
 
     /// Takes the entries with these serials out, but that of the serial `kept`.
     pub(crate) fn remove_others(&mut self, kept: u64, gone: &[u64])
-        ensures { self.new ≡ without_others kept gone.now self.old }
+        ensures { self.new ≡ entries_but_others kept gone.now self.old }
     {
         for serial in gone {
             if *serial != kept {

@@ -31,9 +31,9 @@ impl Drop for IndexedShelf {
 
 impl Model for IndexedShelf {
     ghost use Rattle.std.specs.Prelude.{◌≤◌, length};
-    ghost use Rattle.hx_store.specs.Shelf.{Shelved};
+    ghost use Rattle.hx_store.specs.Shelf.{ShelfModel};
 
-    ghost Value = { Shelved };
+    ghost Value = { ShelfModel };
 
     ghost view = { λ s. record { limit = s.capacity; entries = s.held; room = 0 } };
 

@@ -9,8 +9,9 @@ ghost use Rattle.hx_target.specs.declared.keys.Key.{Key as StoreKey};
 ghost use Rattle.std.specs.HashMap.{get, hasher_of};
 ghost use Rattle.hx_target.specs.Keys.{same_key};
 ghost use Rattle.std.specs.Ordering.{nat_cmp};
-ghost use Rattle.hx_store.specs.Index.{indexed, marks_at, IsMarkedAnew, IsPutIn, IsPutInIf, IsTakenOut, IsSameIndex};
-ghost use Rattle.hx_store.specs.Index.{IsTrim, IsTrimBeside};
+ghost use Rattle.hx_store.specs.Index.{serials_in_index, serials_and_marks_at, SerialIsMarkedAnew, SerialIsPutIn};
+ghost use Rattle.hx_store.specs.Index.{SerialIsPutInIf, SerialIsTakenOut, IsSameKeyIndex};
+ghost use Rattle.hx_store.specs.Index.{HasNoUnusedKey, HasNoOtherUnusedKey};
 
 use crate::key_hashing::KeyHashing;
 use crate::key_marks::KeyMarks;
@@ -35,8 +36,8 @@ impl Drop for KeyIndex {
 impl KeyIndex {
     /// No serials. Keys are hashed by the seed, so nobody who doesn't know it can choose keys of one hash.
     pub(crate) fn new(alloc: Global, seed: u64) -> KeyIndex
-        ensures empty { (key : StoreKey) → marks_at result key ≡ [] }
-        ensures trim { IsTrim result }
+        ensures empty { (key : StoreKey) → serials_and_marks_at result key ≡ [] }
+        ensures trim { HasNoUnusedKey result }
         ensures seeded { (hasher_of result.serials).seed ≡ seed }
     {
         KeyIndex {
@@ -53,7 +54,7 @@ impl KeyIndex {
 
     /// The serials at a key, ascending. Fails only where memory runs out.
     pub(crate) fn find(&self, alloc: Global, key: &Key) -> Result<Serials, AllocError>
-        ensures { IfOk result (λ found. found ≡ indexed self.now key.now) }
+        ensures { IfOk result (λ found. found ≡ serials_in_index self.now key.now) }
     {
         match self.at(key) {
             Some(marks) => marks.list(alloc),
@@ -63,7 +64,7 @@ impl KeyIndex {
 
     /// The first serial at a key.
     pub(crate) fn first(&self, key: &Key) -> Option<u64>
-        ensures { result ≡ slice_get (indexed self.now key.now) 0 }
+        ensures { result ≡ slice_get (serials_in_index self.now key.now) 0 }
     {
         match self.at(key) {
             Some(marks) => marks.first(),
@@ -73,7 +74,7 @@ impl KeyIndex {
 
     /// Whether a serial stands at a key.
     pub(crate) fn has(&self, key: &Key) -> bool
-        ensures { result ≡ not (length (indexed self.now key.now) == 0) }
+        ensures { result ≡ not (length (serials_in_index self.now key.now) == 0) }
     {
         self.first(key).is_some()
     }
@@ -86,9 +87,9 @@ impl KeyIndex {
         serial: u64,
         mark: Mark,
     ) -> Result<(), AllocError>
-        ensures ok { OnOk result (IsPutIn self.old key.now serial mark self.new) }
-        ensures err { OnErr result (IsSameIndex self.old self.new) }
-        ensures trim { IsTrim self.old → IsTrim self.new }
+        ensures ok { OnOk result (SerialIsPutIn self.old key.now serial mark self.new) }
+        ensures err { OnErr result (IsSameKeyIndex self.old self.new) }
+        ensures trim { HasNoUnusedKey self.old → HasNoUnusedKey self.new }
     {
         if self.insert_beside(alloc, key, serial, mark)? {
             return Ok(());
@@ -107,9 +108,9 @@ impl KeyIndex {
         serial: u64,
         mark: Mark,
     ) -> Result<bool, AllocError>
-        ensures ok { IfOk result (λ has. IsPutInIf has self.old key.now serial mark self.new) }
-        ensures err { OnErr result (IsSameIndex self.old self.new) }
-        ensures trim { IsTrim self.old → IsTrim self.new }
+        ensures ok { IfOk result (λ has. SerialIsPutInIf has self.old key.now serial mark self.new) }
+        ensures err { OnErr result (IsSameKeyIndex self.old self.new) }
+        ensures trim { HasNoUnusedKey self.old → HasNoUnusedKey self.new }
     {
         match self.serials.get_mut(key) {
             Some(marks) => {
@@ -122,8 +123,8 @@ impl KeyIndex {
 
     /// Puts another mark beside a serial that stands at a key. No memory is taken.
     pub(crate) fn mark(&mut self, key: &Key, serial: u64, mark: Mark)
-        ensures marked { IsMarkedAnew self.old key.now serial mark self.new }
-        ensures trim { IsTrim self.old → IsTrim self.new }
+        ensures marked { SerialIsMarkedAnew self.old key.now serial mark self.new }
+        ensures trim { HasNoUnusedKey self.old → HasNoUnusedKey self.new }
     {
         if let Some(marks) = self.serials.get_mut(key) {
             marks.set_mark(serial, mark);
@@ -132,8 +133,8 @@ impl KeyIndex {
 
     /// Takes a serial out at a key. No memory is taken.
     pub(crate) fn remove(&mut self, key: &Key, serial: u64)
-        ensures taken { IsTakenOut self.old key.now serial self.new }
-        ensures trim { IsTrim self.old → IsTrim self.new }
+        ensures taken { SerialIsTakenOut self.old key.now serial self.new }
+        ensures trim { HasNoUnusedKey self.old → HasNoUnusedKey self.new }
     {
         if self.take_out(key, serial) {
             self.serials.remove(key);
@@ -142,10 +143,10 @@ impl KeyIndex {
 
     /// Takes a serial out at a key, and says whether it was the last there.
     fn take_out(&mut self, key: &Key, serial: u64) -> bool
-        ensures taken { IsTakenOut self.old key.now serial self.new }
-        ensures emptied { OnTrue result (marks_at self.new key.now ≡ []) }
-        ensures trim_beside { IsTrim self.old → IsTrimBeside key.now self.new }
-        ensures trim { IsTrim self.old → OnFalse result (IsTrim self.new) }
+        ensures taken { SerialIsTakenOut self.old key.now serial self.new }
+        ensures emptied { OnTrue result (serials_and_marks_at self.new key.now ≡ []) }
+        ensures trim_beside { HasNoUnusedKey self.old → HasNoOtherUnusedKey key.now self.new }
+        ensures trim { HasNoUnusedKey self.old → OnFalse result (HasNoUnusedKey self.new) }
     {
         match self.serials.get_mut(key) {
             Some(marks) => {

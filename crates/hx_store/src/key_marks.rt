@@ -9,7 +9,7 @@ ghost use Rattle.std.specs.Map.{keys_of, remove_entry, set_value};
 ghost use Rattle.std.specs.Ordering.{nat_cmp};
 ghost use Rattle.std.specs.BTreeMap.{insert_entry, is_at};
 ghost use Rattle.std.specs.HashSet.{contains};
-ghost use Rattle.hx_store.specs.Index.{may_be_of};
+ghost use Rattle.hx_store.specs.Index.{serials_that_may_match};
 
 use crate::serial_list::Serials;
 use hx_vary::{Mark, RequestValues};
@@ -34,14 +34,14 @@ impl Drop for KeyMarks {
 
 impl Model for KeyMarks {
     ghost use Rattle.std.specs.Prelude.{List, ℕ};
-    ghost use Rattle.hx_store.specs.KeptMarks.{kept_marks, IsAloneOrMore};
+    ghost use Rattle.hx_store.specs.KeptMarks.{kept_marks, IsOneOrAMap};
     ghost use Rattle.hx_vary.specs.declared.marks.Mark.{Mark};
 
     ghost Value = { List (ℕ × Mark) };
 
     ghost view = { λ m. kept_marks m.only m.more.entries };
 
-    ghost invariant = { λ m. IsAloneOrMore m.only m.more.entries };
+    ghost invariant = { λ m. IsOneOrAMap m.only m.more.entries };
 }
 
 impl KeyMarks {
@@ -68,7 +68,7 @@ impl KeyMarks {
     {
         match self.only {
             Some((serial, _)) => Some(serial),
-            None => first_of(&self.more),
+            None => least_serial(&self.more),
         }
     }
 
@@ -77,8 +77,8 @@ impl KeyMarks {
         ensures { IfOk result (λ list. list ≡ keys_of self.now) }
     {
         match self.only {
-            Some((serial, _)) => list_of_one(alloc, serial),
-            None => list_of(alloc, &self.more),
+            Some((serial, _)) => serials_of_one(alloc, serial),
+            None => serials_of_map(alloc, &self.more),
         }
     }
 
@@ -90,16 +90,16 @@ impl KeyMarks {
     }
 
     /// The serials whose marks don't keep the request from matching. Fails only where memory runs out.
-    pub(crate) fn list_marked(
+    pub(crate) fn list_possible_matches(
         &self,
         alloc: Global,
         asked: &RequestValues,
     ) -> Result<Serials, AllocError>
-        ensures { IfOk result (λ list. list ≡ may_be_of (contains nat_eq asked.now.tags) self.now) }
+        ensures { IfOk result (λ list. list ≡ serials_that_may_match (contains nat_eq asked.now.tags) self.now) }
     {
         match &self.only {
-            Some((serial, mark)) => marked_of_one(alloc, *serial, mark, asked),
-            None => list_of_marked(alloc, &self.more, asked),
+            Some((serial, mark)) => possible_match_of_one(alloc, *serial, mark, asked),
+            None => possible_matches_of(alloc, &self.more, asked),
         }
     }
 
@@ -114,7 +114,7 @@ impl KeyMarks {
         ensures err { OnErr result (self.new ≡ self.old) }
     {
         if let Some((first, its)) = self.only {
-            self.more = two(alloc, first, its, serial, mark)?;
+            self.more = map_of_two(alloc, first, its, serial, mark)?;
             self.only = None;
             return Ok(());
         }
@@ -150,7 +150,7 @@ impl KeyMarks {
 }
 
 /// A map of two serials, or of one where they are the same.
-fn two(
+fn map_of_two(
     alloc: Global,
     first: u64,
     its: Mark,
@@ -191,7 +191,7 @@ fn remove_mark(marks: &mut BTreeMap<u64, Mark>, serial: u64)
 }
 
 /// The least serial of a map.
-fn first_of(marks: &BTreeMap<u64, Mark>) -> Option<u64>
+fn least_serial(marks: &BTreeMap<u64, Mark>) -> Option<u64>
     ensures { result ≡ slice_get (keys_of marks.now.entries) 0 }
 {
     match marks.first_key_value() {
@@ -201,7 +201,7 @@ fn first_of(marks: &BTreeMap<u64, Mark>) -> Option<u64>
 }
 
 /// One serial.
-fn list_of_one(alloc: Global, serial: u64) -> Result<Serials, AllocError>
+fn serials_of_one(alloc: Global, serial: u64) -> Result<Serials, AllocError>
     ensures { IfOk result (λ list. list ≡ serial ∷ []) }
 {
     let mut list = Serials::with_capacity(alloc, 1)?;
@@ -210,7 +210,7 @@ fn list_of_one(alloc: Global, serial: u64) -> Result<Serials, AllocError>
 }
 
 /// The serials of a map, in their order.
-fn list_of(alloc: Global, marks: &BTreeMap<u64, Mark>) -> Result<Serials, AllocError>
+fn serials_of_map(alloc: Global, marks: &BTreeMap<u64, Mark>) -> Result<Serials, AllocError>
     ensures { IfOk result (λ list. list ≡ keys_of marks.now.entries) }
 {
     let mut list = Serials::with_capacity(alloc, marks.len())?;
@@ -221,28 +221,29 @@ fn list_of(alloc: Global, marks: &BTreeMap<u64, Mark>) -> Result<Serials, AllocE
 }
 
 /// One serial, unless its mark keeps the request from matching.
-fn marked_of_one(
+fn possible_match_of_one(
     alloc: Global,
     serial: u64,
     mark: &Mark,
     asked: &RequestValues,
 ) -> Result<Serials, AllocError>
-    ensures { IfOk result (λ list. list ≡ may_be_of (contains nat_eq asked.now.tags) ((serial, mark.now) ∷ [])) }
+    ensures { IfOk result (λ list. list ≡ serials_that_may_match (contains nat_eq asked.now.tags)
+        ((serial, mark.now) ∷ [])) }
 {
     if asked.may_match(mark) {
-        list_of_one(alloc, serial)
+        serials_of_one(alloc, serial)
     } else {
         Ok(Serials::new(alloc))
     }
 }
 
 /// The serials of a map whose marks may match these, in their order.
-fn list_of_marked(
+fn possible_matches_of(
     alloc: Global,
     marks: &BTreeMap<u64, Mark>,
     asked: &RequestValues,
 ) -> Result<Serials, AllocError>
-    ensures { IfOk result (λ list. list ≡ may_be_of (contains nat_eq asked.now.tags) marks.now.entries) }
+    ensures { IfOk result (λ list. list ≡ serials_that_may_match (contains nat_eq asked.now.tags) marks.now.entries) }
 {
     let mut list = Serials::new(alloc);
     for (serial, mark) in marks {

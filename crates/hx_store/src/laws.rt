@@ -2,66 +2,73 @@
 
 ghost use Rattle.std.specs.Prelude.{◌≡◌, ◌<◌, ◌∷◌, ◌++◌, [], ℕ, List, true, false, codes, length, map, take, slice_get};
 ghost use Rattle.std.specs.Prelude.{is_some, IfSome, Some, None, Decides};
-ghost use Rattle.hx_store.specs.Serials.{is_in};
+ghost use Rattle.hx_store.specs.Serials.{serial_is_in};
 ghost use Rattle.hx_store.specs.Stored.{Stored};
-ghost use Rattle.hx_store.specs.Recency.{Done, Held, IsLater, Listed, bounded_of, held_of, place, recent_after};
+ghost use Rattle.hx_store.specs.Recency.{StoreChange, Held, IsTouchedLater, IsStoredAndNotRemoved, bounded_of, held_of};
+ghost use Rattle.hx_store.specs.Recency.{count_before, recent_after_change};
 ghost use Rattle.hx_store.specs.Recency.{recent_of};
-ghost use Rattle.hx_store.specs.Shelf.{find_entry, holds, promoted, serials, serials_of, without, without_key};
-ghost use Rattle.hx_store.specs.Found.{FindsThoseOfTheKey, FindsAscending, FindsThoseThatMatch, MatchesAscend};
-ghost use Rattle.hx_store.specs.Cases.{key_of, first, second, third, fourth};
+ghost use Rattle.hx_store.specs.Shelf.{find_entry, holds_serial, with_promoted, serials, serials_of, without_serials};
+ghost use Rattle.hx_store.specs.Shelf.{without_key};
+ghost use Rattle.hx_store.specs.Found.{FindsSerialsOfTheKey, FoundSerialsAscend, FindsMatchingSerials};
+ghost use Rattle.hx_store.specs.Found.{MatchingSerialsAscend};
+ghost use Rattle.hx_store.specs.Cases.{key_of_path, first, second, third, fourth};
 
 /// A store of two entries, 2 and 1: entry 3 replaces 2, entry 4 turns 1 out, and 3 is used.
 pub fn shelf_calls()
-    ensures replaced { take 2 (third ∷ without (2 ∷ []) (second ∷ first ∷ [])) ≡ third ∷ first ∷ [] }
-    ensures nothing_back { slice_get (third ∷ without (2 ∷ []) (second ∷ first ∷ [])) 2 ≡ None }
-    ensures stored { take 2 (fourth ∷ without [] (third ∷ first ∷ [])) ≡ fourth ∷ third ∷ [] }
-    ensures one_back { slice_get (fourth ∷ without [] (third ∷ first ∷ [])) 2 ≡ Some first }
-    ensures promoted { promoted 3 (fourth ∷ third ∷ []) ≡ third ∷ fourth ∷ [] }
+    ensures replaced { take 2 (third ∷ without_serials (2 ∷ []) (second ∷ first ∷ [])) ≡ third ∷ first ∷ [] }
+    ensures nothing_back { slice_get (third ∷ without_serials (2 ∷ []) (second ∷ first ∷ [])) 2 ≡ None }
+    ensures stored { take 2 (fourth ∷ without_serials [] (third ∷ first ∷ [])) ≡ fourth ∷ third ∷ [] }
+    ensures one_back { slice_get (fourth ∷ without_serials [] (third ∷ first ∷ [])) 2 ≡ Some first }
+    ensures promoted { with_promoted 3 (fourth ∷ third ∷ []) ≡ third ∷ fourth ∷ [] }
     ensures absent { find_entry 9 (third ∷ fourth ∷ []) ≡ None }
-    ensures found { serials_of (key_of (codes "/c")) (fourth ∷ second ∷ third ∷ []) ≡ 3 ∷ 4 ∷ [] }
-    ensures invalidated { without_key (key_of (codes "/c")) (fourth ∷ second ∷ third ∷ []) ≡ second ∷ [] }
+    ensures found { serials_of (key_of_path (codes "/c")) (fourth ∷ second ∷ third ∷ []) ≡ 3 ∷ 4 ∷ [] }
+    ensures invalidated { without_key (key_of_path (codes "/c")) (fourth ∷ second ∷ third ∷ []) ≡ second ∷ [] }
 {}
 
 /// The serials are those of all entries, in their order. A serial is held exactly where an entry is found by it, and
 /// the entry that is found has it.
 pub fn what_is_held_is_found()
     ensures serials { (entries : List Stored) → serials entries ≡ map (λ e. e.serial) entries }
-    ensures held { (serial : ℕ) (entries : List Stored) → holds serial entries ≡ is_some (find_entry serial entries) }
+    ensures held { (serial : ℕ) (entries : List Stored) → holds_serial serial entries ≡ is_some
+        (find_entry serial entries) }
     ensures found { (serial : ℕ) (entries : List Stored) → IfSome (find_entry serial entries) (λ e. e.serial ≡ serial) }
 {}
 
 /// What is found of a key is the serial of each entry with that key and no other, ascending.
 pub fn found_serials_are_those_of_the_key()
-    ensures those { FindsThoseOfTheKey }
-    ensures ascending { FindsAscending }
+    ensures those { FindsSerialsOfTheKey }
+    ensures ascending { FoundSerialsAscend }
 {}
 
 /// What is found of a key for a request is the serial of each entry with that key that nominates what the request has,
 /// and no other, ascending.
 pub fn found_matches_nominate_what_is_asked()
-    ensures those { FindsThoseThatMatch }
-    ensures ascending { MatchesAscend }
+    ensures those { FindsMatchingSerials }
+    ensures ascending { MatchingSerialsAscend }
 {}
 
 /// The place of a serial is how many stand before it, and one that isn't listed has all before it.
 pub fn a_place_counts_what_comes_before()
-    ensures listed { (serial : ℕ) (before behind : List ℕ) → is_in serial before ≡ false
-        → place serial (before ++ serial ∷ behind) ≡ length before }
-    ensures absent { (serial : ℕ) (all : List ℕ) → is_in serial all ≡ false → place serial all ≡ length all }
+    ensures listed { (serial : ℕ) (before behind : List ℕ) → serial_is_in serial before ≡ false
+        → count_before serial (before ++ serial ∷ behind) ≡ length before }
+    ensures absent { (serial : ℕ) (all : List ℕ) → serial_is_in serial all ≡ false → count_before serial all
+        ≡ length all }
 {}
 
 /// A bounded list has exactly what is held by the count over its history, in the order of the latest storing or use.
 /// Listed is what was stored or used and not removed since; the held are the front of the listed, and what was crowded
 /// out doesn't come back when a removal leaves room.
 pub fn the_bounded_list_is_what_is_held()
-    ensures listed { (past : List Done) (serial : ℕ) → Decides (is_in serial (recent_of past)) (Listed past serial) }
-    ensures ordered { (past : List Done) (a b : ℕ) → is_in a (recent_of past) ≡ true → IsLater past a b
-        → place a (recent_of past) < place b (recent_of past) }
-    ensures same { (capacity : ℕ) (past : List Done) → bounded_of capacity past ≡ held_of capacity past }
-    ensures counted { (capacity : ℕ) (past : List Done) (serial : ℕ)
-        → Decides (is_in serial (held_of capacity past)) (Held capacity past serial) }
-    ensures front { (capacity : ℕ) (past : List Done)
+    ensures listed { (past : List StoreChange) (serial : ℕ) → Decides (serial_is_in serial (recent_of past))
+        (IsStoredAndNotRemoved past serial) }
+    ensures ordered { (past : List StoreChange) (a b : ℕ) → serial_is_in a (recent_of past) ≡ true
+        → IsTouchedLater past a b
+        → count_before a (recent_of past) < count_before b (recent_of past) }
+    ensures same { (capacity : ℕ) (past : List StoreChange) → bounded_of capacity past ≡ held_of capacity past }
+    ensures counted { (capacity : ℕ) (past : List StoreChange) (serial : ℕ)
+        → Decides (serial_is_in serial (held_of capacity past)) (Held capacity past serial) }
+    ensures front { (capacity : ℕ) (past : List StoreChange)
         → (rest : List ℕ) × (held_of capacity past ++ rest ≡ recent_of past) }
-    ensures more { (capacity : ℕ) (item : Done) (past : List Done)
-        → held_of capacity (item ∷ past) ≡ take capacity (recent_after item (held_of capacity past)) }
+    ensures more { (capacity : ℕ) (item : StoreChange) (past : List StoreChange)
+        → held_of capacity (item ∷ past) ≡ take capacity (recent_after_change item (held_of capacity past)) }
 {}

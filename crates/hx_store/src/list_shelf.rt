@@ -4,8 +4,8 @@ ghost use Rattle.std.specs.Prelude.{◌≡◌, ◌<◌, ◌≤◌, ◌+◌, ◌=
 ghost use Rattle.std.specs.Prelude.{MatchOption, IsOk, OnOk, OnErr, IfOk, IfErr, false};
 ghost use Rattle.std.specs.List.{list_any};
 ghost use Rattle.hx_target.specs.Keys.{same_key};
-ghost use Rattle.hx_store.specs.Places.{IsAbsent, IsPlace};
-ghost use Rattle.hx_store.specs.Shelf.{holds, without, without_key};
+ghost use Rattle.hx_store.specs.SerialPlaces.{SerialIsAbsent, IsPlaceOfSerial};
+ghost use Rattle.hx_store.specs.Shelf.{holds_serial, without_serials, without_key};
 
 use crate::entries::Entry;
 use crate::serial_list::Serials;
@@ -35,9 +35,9 @@ impl Drop for ListShelf {
 impl Model for ListShelf {
     ghost use Rattle.std.specs.Prelude.{◌≤◌, length, vec_capacity};
     ghost use Rattle.hx_store.specs.Serials.{Distinct};
-    ghost use Rattle.hx_store.specs.Shelf.{Shelved, serials};
+    ghost use Rattle.hx_store.specs.Shelf.{ShelfModel, serials};
 
-    ghost Value = { Shelved };
+    ghost Value = { ShelfModel };
 
     ghost view = { λ s. record { limit = s.capacity; entries = s.entries.items; room = vec_capacity s.entries } };
 
@@ -57,13 +57,14 @@ impl ListShelf {
 
     /// Where the entry of this serial stands.
     fn place(&self, serial: u64) -> Option<usize>
-        ensures { MatchOption result (IsAbsent serial self.now.entries) (IsPlace serial self.now.entries) }
+        ensures { MatchOption result (SerialIsAbsent serial self.now.entries)
+            (IsPlaceOfSerial serial self.now.entries) }
     {
         let _entries = &self.entries;
-        self.first_with(serial)
+        self.first_index_with(serial)
     }
 
-    fn first_with(&self, serial: u64) -> Option<usize>
+    fn first_index_with(&self, serial: u64) -> Option<usize>
         ensures { result ≡ position (λ e. e.serial == serial) self.now.entries }
     {
         self.entries.iter().position(|e| e.has_serial(serial))
@@ -71,7 +72,7 @@ impl ListShelf {
 }
 
 /// Whether an entry has this key.
-fn stands(entries: &[Entry], key: &Key) -> bool
+fn has_entry_with_key(entries: &[Entry], key: &Key) -> bool
     ensures { result ≡ list_any (λ e. same_key e.key key.now) entries.now }
 {
     entries.iter().any(|e| e.has_key(key))
@@ -79,7 +80,7 @@ fn stands(entries: &[Entry], key: &Key) -> bool
 
 /// The entry comes first, in place of those with the serials in `replaced`.
 fn put_first(entries: &mut Vec<Entry>, entry: Entry, replaced: &[u64]) -> Result<(), Entry>
-    ensures ok { OnOk result (entries.new.items ≡ entry ∷ without replaced.now entries.old.items) }
+    ensures ok { OnOk result (entries.new.items ≡ entry ∷ without_serials replaced.now entries.old.items) }
     ensures err { OnErr result (entries.new.items ≡ entries.old.items) }
     ensures given_back { IfErr result (λ e. e ≡ entry) }
     ensures taken { length entries.old.items < vec_capacity entries.old → IsOk result }
@@ -96,7 +97,7 @@ fn put_first(entries: &mut Vec<Entry>, entry: Entry, replaced: &[u64]) -> Result
 }
 
 /// Takes the last one out where one too many stand.
-fn cut(entries: &mut Vec<Entry>, capacity: usize) -> Option<Entry>
+fn evict_last(entries: &mut Vec<Entry>, capacity: usize) -> Option<Entry>
     requires { length entries.old.items ≤ capacity + 1 }
     ensures items { entries.new.items ≡ take capacity entries.old.items }
     ensures gone { result ≡ slice_get entries.old.items capacity }
@@ -149,7 +150,7 @@ impl Shelf for ListShelf {
     }
 
     fn has_key(&self, key: &Key) -> bool {
-        stands(self.entries.as_slice(), key)
+        has_entry_with_key(self.entries.as_slice(), key)
     }
 
     fn find_matching(
@@ -173,11 +174,11 @@ impl Shelf for ListShelf {
     // What the trait says, and that the list then has room for one more than it held before: a full one that took an
     // entry takes each that follows.
     fn put(&mut self, entry: Entry, replaced: &[u64]) -> Result<Option<Entry>, Entry>
-        requires { holds entry.serial self.old.entries ≡ false }
+        requires { holds_serial entry.serial self.old.entries ≡ false }
         ensures ok { OnOk result (self.new.entries
-            ≡ take self.old.limit (entry ∷ without replaced.now self.old.entries)) }
+            ≡ take self.old.limit (entry ∷ without_serials replaced.now self.old.entries)) }
         ensures evicted { IfOk result (λ out. out
-            ≡ slice_get (entry ∷ without replaced.now self.old.entries) self.old.limit) }
+            ≡ slice_get (entry ∷ without_serials replaced.now self.old.entries) self.old.limit) }
         ensures err { OnErr result (self.new.entries ≡ self.old.entries) }
         ensures given_back { IfErr result (λ e. e ≡ entry) }
         ensures taken { length self.old.entries < self.old.room → IsOk result }
@@ -186,7 +187,7 @@ impl Shelf for ListShelf {
         ensures made { OnOk result (length self.old.entries < self.new.room) }
     {
         put_first(&mut self.entries, entry, replaced)?;
-        Ok(cut(&mut self.entries, self.capacity))
+        Ok(evict_last(&mut self.entries, self.capacity))
     }
 
     fn freshen(&mut self, entry: Entry) -> Entry {

@@ -8,8 +8,9 @@ ghost use Rattle.std.specs.Prelude.{slice_get, option_copied, IfOk, IfErr, IsOk,
 ghost use Rattle.std.specs.Option.{ForSome};
 ghost use Rattle.hx_target.specs.Keys.{same_key};
 ghost use Rattle.hx_store.specs.Serials.{Distinct};
-ghost use Rattle.hx_store.specs.Shelf.{holds, find_entry, without, without_key, serials, serials_of, matching_serials};
-ghost use Rattle.hx_store.specs.Shelf.{promoted};
+ghost use Rattle.hx_store.specs.Shelf.{holds_serial, find_entry, without_serials, without_key, serials, serials_of};
+ghost use Rattle.hx_store.specs.Shelf.{matching_serials};
+ghost use Rattle.hx_store.specs.Shelf.{with_promoted};
 
 use crate::entries::Entry;
 use crate::serial_list::Serials;
@@ -41,7 +42,7 @@ pub trait Shelf {
 
     /// Whether the entry of this serial is held.
     fn contains(&self, serial: u64) -> bool
-        ensures { result ≡ holds serial (entries self.now) };
+        ensures { result ≡ holds_serial serial (entries self.now) };
 
     /// The entry of this serial, which is not used by this.
     fn peek(&self, serial: u64) -> Option<&Entry>
@@ -71,11 +72,11 @@ pub trait Shelf {
     /// stand, the last one is handed back. Want of memory changes nothing and hands the new entry back; where there
     /// is room for one more, none is wanted.
     fn put(&mut self, entry: Entry, replaced: &[u64]) -> Result<Option<Entry>, Entry>
-        requires { holds entry.serial (entries self.old) ≡ false }
+        requires { holds_serial entry.serial (entries self.old) ≡ false }
         ensures ok { OnOk result (entries self.new
-            ≡ take (limit self.old) (entry ∷ without replaced.now (entries self.old))) }
+            ≡ take (limit self.old) (entry ∷ without_serials replaced.now (entries self.old))) }
         ensures evicted { IfOk result (λ out. out
-            ≡ slice_get (entry ∷ without replaced.now (entries self.old)) (limit self.old)) }
+            ≡ slice_get (entry ∷ without_serials replaced.now (entries self.old)) (limit self.old)) }
         ensures err { OnErr result (entries self.new ≡ entries self.old) }
         ensures given_back { IfErr result (λ e. e ≡ entry) }
         ensures taken { length (entries self.old) < room self.old → IsOk result }
@@ -84,25 +85,25 @@ pub trait Shelf {
 
     /// Puts a new form of a held entry in its place, first, and hands the old one back. No memory is taken.
     fn freshen(&mut self, entry: Entry) -> Entry
-        requires held { holds entry.serial (entries self.old) ≡ true }
+        requires held { holds_serial entry.serial (entries self.old) ≡ true }
         requires same_key { ForSome (find_entry entry.serial (entries self.old))
             (λ old. same_key old.key entry.key ≡ true) }
         ensures value { find_entry entry.serial (entries self.old) ≡ Some result }
-        ensures entries { entries self.new ≡ entry ∷ without (entry.serial ∷ []) (entries self.old) }
+        ensures entries { entries self.new ≡ entry ∷ without_serials (entry.serial ∷ []) (entries self.old) }
         ensures limit { limit self.new ≡ limit self.old }
         ensures room { room self.old ≤ room self.new };
 
     /// Brings the entry of this serial to the front. No memory is taken.
     fn promote(&mut self, serial: u64) -> bool
-        ensures value { result ≡ holds serial (entries self.old) }
-        ensures entries { entries self.new ≡ promoted serial (entries self.old) }
+        ensures value { result ≡ holds_serial serial (entries self.old) }
+        ensures entries { entries self.new ≡ with_promoted serial (entries self.old) }
         ensures limit { limit self.new ≡ limit self.old }
         ensures room { room self.old ≤ room self.new };
 
     /// Takes the entry of this serial out. No memory is taken.
     fn remove(&mut self, serial: u64) -> Option<Entry>
         ensures value { result ≡ find_entry serial (entries self.old) }
-        ensures entries { entries self.new ≡ without (serial ∷ []) (entries self.old) }
+        ensures entries { entries self.new ≡ without_serials (serial ∷ []) (entries self.old) }
         ensures limit { limit self.new ≡ limit self.old }
         ensures room { room self.old ≤ room self.new };
 

@@ -10,7 +10,7 @@ use Rattle.hx_target.proofs.TablePaths.{and_parts}
 use Rattle.std.specs.Char.{to_ascii_lowercase, is_ascii_digit, digit_value}
 use Rattle.std.specs.Str.Parse.{digits_value, digits_value_after}
 use Rattle.http_uri.specs.ByteClasses.{index_of, index_after_last, rsplit_once_back}
-use Rattle.hx_target.specs.Hosts.{lowercase, is_name_byte, is_address_byte, is_name, is_address, is_host, host_part, after_host, is_port_part, has_valid_host, short_number, if_port, port_of, port_part}
+use Rattle.hx_target.specs.Hosts.{lowercase, is_name_byte, is_address_byte, is_name, is_address, is_host, host_part, behind_host, is_port_part, has_valid_host, short_number, port_if_valid, port_of, port_part}
 
 -- bytes that are no letters, and the classes of bytes
 low_bracket : (b : ℕ) → (to_ascii_lowercase b == 91) ≡ (b == 91)
@@ -85,7 +85,7 @@ low_host_part value =
     ∙ (ap (λ b. cond t (lowercase (take (index_of 93 value + 1) value)) b) (take-map to_ascii_lowercase (index_of 58 value) value)
     ∙ sym (low_cond t (take (index_of 93 value + 1) value) (take (index_of 58 value) value))))))
 
-low_after_host : (value : List ℕ) → after_host (lowercase value) ≡ lowercase (after_host value)
+low_after_host : (value : List ℕ) → behind_host (lowercase value) ≡ lowercase (behind_host value)
 low_after_host value =
     ap (λ h. drop (length h) (lowercase value)) (low_host_part value)
     ∙ (ap (λ n. drop n (lowercase value)) (length-map (host_part value) to_ascii_lowercase)
@@ -120,10 +120,10 @@ low_is_port_part text =
 
 pub low_valid : (value : List ℕ) → has_valid_host (lowercase value) ≡ has_valid_host value
 low_valid value =
-    ap (λ h. is_host h && is_port_part (after_host (lowercase value))) (low_host_part value)
+    ap (λ h. is_host h && is_port_part (behind_host (lowercase value))) (low_host_part value)
     ∙ (ap (λ r. is_host (lowercase (host_part value)) && is_port_part r) (low_after_host value)
-    ∙ (ap (λ t. t && is_port_part (lowercase (after_host value))) (low_is_host (host_part value))
-    ∙ ap (λ t. is_host (host_part value) && t) (low_is_port_part (after_host value))))
+    ∙ (ap (λ t. t && is_port_part (lowercase (behind_host value))) (low_is_host (host_part value))
+    ∙ ap (λ t. is_host (host_part value) && t) (low_is_port_part (behind_host value))))
 
 low_digits : (n : ℕ) (text : List ℕ) → list_all is_ascii_digit text ≡ true → digits_value_after 10 n (lowercase text) ≡ digits_value_after 10 n text
 low_digits n [] h = refl
@@ -147,13 +147,13 @@ low_short_number text =
 low_port_of : (text : List ℕ) → port_of (lowercase text) ≡ port_of text
 unfolding port_of
 low_port_of text =
-    ap (λ n. cond (n == 0) (Some 80) (option_and_then if_port (short_number (lowercase text)))) (length-map text to_ascii_lowercase)
-    ∙ ap (λ o. cond (length text == 0) (Some 80) (option_and_then if_port o)) (low_short_number text)
+    ap (λ n. cond (n == 0) (Some 80) (option_and_then port_if_valid (short_number (lowercase text)))) (length-map text to_ascii_lowercase)
+    ∙ ap (λ o. cond (length text == 0) (Some 80) (option_and_then port_if_valid o)) (low_short_number text)
 
 pub low_port_part : (value : List ℕ) → port_part (lowercase value) ≡ port_part value
 low_port_part value =
     ap (λ r. port_of (drop 1 r)) (low_after_host value)
-    ∙ (ap port_of (drop-map to_ascii_lowercase 1 (after_host value)) ∙ low_port_of (drop 1 (after_host value)))
+    ∙ (ap port_of (drop-map to_ascii_lowercase 1 (behind_host value)) ∙ low_port_of (drop 1 (behind_host value)))
 
 low_low : (text : List ℕ) → lowercase (lowercase text) ≡ lowercase text
 low_low [] = refl

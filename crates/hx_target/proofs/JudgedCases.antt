@@ -5,12 +5,12 @@ use Rattle.std.specs.List.{list_any}
 use Rattle.std.specs.Option.{option_and_then}
 use Rattle.http_uri.specs.Grammar.{path_of}
 use Rattle.http_uri.specs.ByteClasses.{rsplit_once_back}
-use Rattle.hx_target.specs.declared.faults.TargetFault.{TargetFault}
-use Rattle.hx_target.specs.declared.faults.TargetFault.TheVariants.{Form, Scheme, Host, Port, Userinfo, Escape, DotSegment, TooLong}
+use Rattle.hx_target.specs.declared.target_fault.TargetFault.{TargetFault}
+use Rattle.hx_target.specs.declared.target_fault.TargetFault.TheVariants.{Form, Scheme, Host, Port, Userinfo, Escape, DotSegment, TooLong}
 use Rattle.hx_target.specs.declared.targets.Target.{Target}
 use Rattle.hx_target.specs.Hosts.{lowercase, host_part, has_valid_host, port_part}
 use Rattle.hx_target.specs.Paths.{has_bad_escape, has_dot_segment, table_path_of}
-use Rattle.hx_target.specs.Judgement.{Question, judged_of, fault_or_target, first_fault, target_of, has_read_form, has_other_scheme, has_userinfo, host_value, host_port, naming, named, path_query_of}
+use Rattle.hx_target.specs.Judgement.{Question, judged_of, fault_or_target, first_fault, target_of, has_read_form, has_other_scheme, has_userinfo, host_value, host_port, authority_or_host, host_and_port_text, path_query_of}
 use Rattle.hx_target.proofs.Cases.{low_valid, low_port_part, low_named_host, low_after_userinfo, low_any_at_sign, same_but_for_case}
 
 abbrev answer : Target → Option TargetFault → Result Target TargetFault
@@ -30,8 +30,8 @@ of_tests target kept form scheme none valid userinfo line_port port host =
     (cond (nat_lt 8192 (length target)) (Some TooLong) None))))))))
 
 judged_by_tests : (q : Question) →
-    judged_of q ≡ of_tests q.target q.kept (has_read_form q) (has_other_scheme q.scheme) (is_none (host_value q.hosts)) (has_valid_host (named q)) (has_userinfo q.authority)
-    (host_port q.hosts) (port_part (named q)) (lowercase (host_part (named q)))
+    judged_of q ≡ of_tests q.target q.kept (has_read_form q) (has_other_scheme q.scheme) (is_none (host_value q.hosts)) (has_valid_host (host_and_port_text q)) (has_userinfo q.authority)
+    (host_port q.hosts) (port_part (host_and_port_text q)) (lowercase (host_part (host_and_port_text q)))
 unfolding judged_of of_tests
 judged_by_tests q = answer_is q (first_fault q)
 
@@ -44,8 +44,8 @@ pub scheme_case : (q : Question) (a b : List ℕ) → lowercase a ≡ lowercase 
 scheme_case q a b e =
     let tests : has_other_scheme (Some a) ≡ has_other_scheme (Some b) = ap (λ low. not (bytes_eq low (codes "http"))) e in
     judged_by_tests (record q { scheme = Some a })
-    ∙ (ap (λ t. of_tests q.target q.kept (has_read_form (record q { scheme = Some a })) t (is_none (host_value q.hosts)) (has_valid_host (named q)) (has_userinfo q.authority)
-    (host_port q.hosts) (port_part (named q)) (lowercase (host_part (named q)))) tests
+    ∙ (ap (λ t. of_tests q.target q.kept (has_read_form (record q { scheme = Some a })) t (is_none (host_value q.hosts)) (has_valid_host (host_and_port_text q)) (has_userinfo q.authority)
+    (host_port q.hosts) (port_part (host_and_port_text q)) (lowercase (host_part (host_and_port_text q)))) tests
     ∙ sym (judged_by_tests (record q { scheme = Some b })))
 
 pub authority_case : (q : Question) (a b : List ℕ) → lowercase a ≡ lowercase b → judged_of (record q { authority = Some a }) ≡ judged_of (record q { authority = Some b })
@@ -63,7 +63,7 @@ authority_case q a b e =
 
 -- the line's value where it is valid, in a function that doesn't tell the two apart
 named_same : {A : Type 0} (f : List ℕ → A) (a b : List ℕ) → f a ≡ f b → (authority : Option (List ℕ)) (t u : Bool) → t ≡ u →
-    f (naming authority (unwrap_or (cond t (Some a) None) [])) ≡ f (naming authority (unwrap_or (cond u (Some b) None) []))
+    f (authority_or_host authority (unwrap_or (cond t (Some a) None) [])) ≡ f (authority_or_host authority (unwrap_or (cond u (Some b) None) []))
 named_same f a b same (Some c) t u e = refl
 named_same f a b same None true true e = same
 named_same f a b same None true false e = absurd (no_case e)

@@ -8,14 +8,14 @@ use Rattle.http_uri.specs.ByteClasses.{slash}
 use Rattle.std.proofs.lemmas.Bool.Decides.{Decides-eqb}
 use Rattle.http_uri.proofs.UriLemmas.{IsAuthority_first}
 use Rattle.http_uri.proofs.Theorems.{Spells_unique}
-use Rattle.hx_target.specs.declared.faults.TargetFault.{TargetFault}
-use Rattle.hx_target.specs.declared.faults.TargetFault.TheVariants.{Form, Scheme, Host, Port, Userinfo, Escape, DotSegment, TooLong}
+use Rattle.hx_target.specs.declared.target_fault.TargetFault.{TargetFault}
+use Rattle.hx_target.specs.declared.target_fault.TargetFault.TheVariants.{Form, Scheme, Host, Port, Userinfo, Escape, DotSegment, TooLong}
 use Rattle.hx_target.specs.declared.targets.Target.{Target}
 use Rattle.hx_target.specs.Paths.{has_bad_escape, has_dot_segment, table_path_of, is_normal}
 use Rattle.hx_target.proofs.NormalPaths.{table-normal}
-use Rattle.hx_target.specs.Judgement.{Question, Judged, question_of, judged_of, applies, first_fault, fault_or_target, target_of, table_path}
+use Rattle.hx_target.specs.Judgement.{Question, TargetIsJudged, question_of, judged_of, target_fault_applies, first_fault, fault_or_target, target_of, table_path_of_target}
 
-pub one_judgement : (target : List ℕ) (hosts : List (List ℕ)) (r s : Result Target TargetFault) → Judged target hosts r → Judged target hosts s → r ≡ s
+pub one_judgement : (target : List ℕ) (hosts : List (List ℕ)) (r s : Result Target TargetFault) → TargetIsJudged target hosts r → TargetIsJudged target hosts s → r ≡ s
 one_judgement target hosts r s (inl h) (inl k) = h.1 ∙ sym k.1
 one_judgement target hosts r s (inl h) (inr (inl k)) = h.1 ∙ sym k.1
 one_judgement target hosts r s (inl h) (inr (inr k)) = let bad = h.0 in let good = k.0 in cc
@@ -35,18 +35,18 @@ none_applies true o x e = cc
 none_applies false o x e = (refl, e)
 
 abbrev pub PassedPath : Question → Type 0
-PassedPath q = (has_bad_escape (path_of q.kept) ≡ false) × (has_dot_segment (table_path q) ≡ false)
+PassedPath q = (has_bad_escape (path_of q.kept) ≡ false) × (has_dot_segment (table_path_of_target q) ≡ false)
 
 -- what has no fault has neither a bad escape nor a dot segment
 no_fault : (q : Question) → first_fault q ≡ None → PassedPath q
 no_fault q none =
-    let form = none_applies (applies Form q) (find (λ fault. applies fault q) (Scheme ∷ Host ∷ Port ∷ Userinfo ∷ Escape ∷ DotSegment ∷ TooLong ∷ [])) Form none in
-    let scheme = none_applies (applies Scheme q) (find (λ fault. applies fault q) (Host ∷ Port ∷ Userinfo ∷ Escape ∷ DotSegment ∷ TooLong ∷ [])) Scheme form.1 in
-    let host = none_applies (applies Host q) (find (λ fault. applies fault q) (Port ∷ Userinfo ∷ Escape ∷ DotSegment ∷ TooLong ∷ [])) Host scheme.1 in
-    let port = none_applies (applies Port q) (find (λ fault. applies fault q) (Userinfo ∷ Escape ∷ DotSegment ∷ TooLong ∷ [])) Port host.1 in
-    let userinfo = none_applies (applies Userinfo q) (find (λ fault. applies fault q) (Escape ∷ DotSegment ∷ TooLong ∷ [])) Userinfo port.1 in
-    let escape = none_applies (applies Escape q) (find (λ fault. applies fault q) (DotSegment ∷ TooLong ∷ [])) Escape userinfo.1 in
-    let dots = none_applies (applies DotSegment q) (find (λ fault. applies fault q) (TooLong ∷ [])) DotSegment escape.1 in
+    let form = none_applies (target_fault_applies Form q) (find (λ fault. target_fault_applies fault q) (Scheme ∷ Host ∷ Port ∷ Userinfo ∷ Escape ∷ DotSegment ∷ TooLong ∷ [])) Form none in
+    let scheme = none_applies (target_fault_applies Scheme q) (find (λ fault. target_fault_applies fault q) (Host ∷ Port ∷ Userinfo ∷ Escape ∷ DotSegment ∷ TooLong ∷ [])) Scheme form.1 in
+    let host = none_applies (target_fault_applies Host q) (find (λ fault. target_fault_applies fault q) (Port ∷ Userinfo ∷ Escape ∷ DotSegment ∷ TooLong ∷ [])) Host scheme.1 in
+    let port = none_applies (target_fault_applies Port q) (find (λ fault. target_fault_applies fault q) (Userinfo ∷ Escape ∷ DotSegment ∷ TooLong ∷ [])) Port host.1 in
+    let userinfo = none_applies (target_fault_applies Userinfo q) (find (λ fault. target_fault_applies fault q) (Escape ∷ DotSegment ∷ TooLong ∷ [])) Userinfo port.1 in
+    let escape = none_applies (target_fault_applies Escape q) (find (λ fault. target_fault_applies fault q) (DotSegment ∷ TooLong ∷ [])) Escape userinfo.1 in
+    let dots = none_applies (target_fault_applies DotSegment q) (find (λ fault. target_fault_applies fault q) (TooLong ∷ [])) DotSegment escape.1 in
     (escape.0, dots.0)
 
 passes : (q : Question) (o : Option TargetFault) (aim : Target) → first_fault q ≡ o → Ok aim ≡ fault_or_target o q → PassedPath q × (aim ≡ target_of q)
@@ -54,7 +54,7 @@ passes q (Some fault) aim is e = cc
 passes q None aim is e = (no_fault q is, cc)
 
 -- what a target that is read has: a path without those two, and the table path of this path
-pub read_path : (target : List ℕ) (hosts : List (List ℕ)) (aim : Target) → Judged target hosts (Ok aim) →
+pub read_path : (target : List ℕ) (hosts : List (List ℕ)) (aim : Target) → TargetIsJudged target hosts (Ok aim) →
     (path : List ℕ) × (has_bad_escape path ≡ false) × (has_dot_segment (table_path_of path) ≡ false) × (aim.table_path ≡ table_path_of path)
 unfolding judged_of
 read_path target hosts aim (inl h) = let e = h.1 in cc
@@ -64,12 +64,12 @@ read_path target hosts aim (inr (inr (good, (u, cut, is)))) =
     let p = passes q (first_fault q) aim refl is in
     (path_of q.kept, p.0.0, p.0.1, ap (λ (t : Target). t.table_path) p.1)
 
-pub no_dots_pass : (target : List ℕ) (hosts : List (List ℕ)) (aim : Target) → Judged target hosts (Ok aim) → has_dot_segment aim.table_path ≡ false
+pub no_dots_pass : (target : List ℕ) (hosts : List (List ℕ)) (aim : Target) → TargetIsJudged target hosts (Ok aim) → has_dot_segment aim.table_path ≡ false
 no_dots_pass target hosts aim judged =
     let (path, escapes, dots, is) = read_path target hosts aim judged in
     ap has_dot_segment is ∙ dots
 
-pub normal_pass : (target : List ℕ) (hosts : List (List ℕ)) (aim : Target) → Judged target hosts (Ok aim) → is_normal aim.table_path ≡ true
+pub normal_pass : (target : List ℕ) (hosts : List (List ℕ)) (aim : Target) → TargetIsJudged target hosts (Ok aim) → is_normal aim.table_path ≡ true
 normal_pass target hosts aim judged =
     let (path, escapes, dots, is) = read_path target hosts aim judged in
     ap is_normal is ∙ table-normal path escapes

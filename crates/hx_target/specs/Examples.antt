@@ -3,13 +3,13 @@ use Rattle.std.specs.Prelude.{ℕ, List, [], ◌∷◌, ◌++◌, codes, Some, N
 use Rattle.hx_target.specs.Judgement.{Question}
 
 -- a target in origin form, and one Host line
-abbrev pub in_origin_form : List ℕ → List ℕ → Question
-in_origin_form target host =
+abbrev pub target_in_origin_form : List ℕ → List ℕ → Question
+target_in_origin_form target host =
     record { target = target; scheme = None; authority = None; kept = target; hosts = host ∷ [] }
 
 -- a target `scheme://authority` with this path and query, and one Host line
-abbrev pub in_absolute_form : List ℕ → List ℕ → List ℕ → List ℕ → Question
-in_absolute_form scheme authority kept host =
+abbrev pub target_in_absolute_form : List ℕ → List ℕ → List ℕ → List ℕ → Question
+target_in_absolute_form scheme authority kept host =
     record {
       target = scheme ++ codes "://" ++ authority ++ kept;
       scheme = Some scheme;
@@ -19,5 +19,5 @@ in_absolute_form scheme authority kept host =
     }
 
 -- a target of a slash and this text, with this path
-abbrev pub of_text : List ℕ → List ℕ → Question
-of_text text path = record (in_origin_form path (codes "h")) { target = 47 ∷ text }
+abbrev pub target_of_text : List ℕ → List ℕ → Question
+target_of_text text path = record (target_in_origin_form path (codes "h")) { target = 47 ∷ text }

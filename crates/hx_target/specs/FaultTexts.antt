@@ -1,8 +1,8 @@
 -- What is wrong with a target and what may stand there, in words.
 use Rattle.std.specs.Prelude.{ℕ, List, codes}
-use Rattle.hx_target.specs.declared.faults.TargetFault.{TargetFault}
-use Rattle.hx_target.specs.declared.faults.TargetFault.TheVariants.{Form, Scheme, Host, Port, Userinfo, Escape}
-use Rattle.hx_target.specs.declared.faults.TargetFault.TheVariants.{DotSegment, TooLong, OutOfMemory}
+use Rattle.hx_target.specs.declared.target_fault.TargetFault.{TargetFault}
+use Rattle.hx_target.specs.declared.target_fault.TargetFault.TheVariants.{Form, Scheme, Host, Port, Userinfo, Escape}
+use Rattle.hx_target.specs.declared.target_fault.TargetFault.TheVariants.{DotSegment, TooLong, OutOfMemory}
 
 abbrev pub fault_text : TargetFault → List ℕ
 fault_text Form = codes "a target has to begin with / or http://, and to be visible ASCII without #"

@@ -1,9 +1,9 @@
 -- What a request's target and Host lines are judged to be (RFC 9112, sections 3.2 and 3.3; RFC 9110, section 7.1).
 --
 -- Question: the parts of a target, and the values of the Host lines
--- applies: the condition of each fault, faults: by their numbers
+-- target_fault_applies: the condition of each fault, faults: by their numbers
 -- judged_of: the least fault that stands, or the target
--- Judged: the same of a text, with the cut of `http_uri` as a relation
+-- TargetIsJudged: the same of a text, with the cut of `http_uri` as a relation
 use Rattle.std.specs.Prelude.{◌≡◌, ◌⊎◌, ℕ, ◌==◌, nat_lt, Bool, true, false, not, ◌&&◌, ◌||◌, if◌then◌else◌, List, []}
 use Rattle.std.specs.Prelude.{◌∷◌, length, slice_index, find, codes, bytes_eq, Option, Some, None, is_none, is_some}
 use Rattle.std.specs.Prelude.{unwrap_or, Result, Ok, Err}
@@ -15,9 +15,9 @@ use Rattle.http_uri.specs.Grammar.{path_of}
 use Rattle.http_uri.specs.ByteClasses.{slash, hash_sign, at_sign, rsplit_once_back}
 use Rattle.hx_target.specs.Hosts.{has_valid_host, host_part, port_part, lowercase}
 use Rattle.hx_target.specs.Paths.{has_bad_escape, has_dot_segment, table_path_of}
-use Rattle.hx_target.specs.declared.faults.TargetFault.{TargetFault}
-use Rattle.hx_target.specs.declared.faults.TargetFault.TheVariants.{Form, Scheme, Host, Port, Userinfo, Escape}
-use Rattle.hx_target.specs.declared.faults.TargetFault.TheVariants.{DotSegment, TooLong, OutOfMemory}
+use Rattle.hx_target.specs.declared.target_fault.TargetFault.{TargetFault}
+use Rattle.hx_target.specs.declared.target_fault.TargetFault.TheVariants.{Form, Scheme, Host, Port, Userinfo, Escape}
+use Rattle.hx_target.specs.declared.target_fault.TargetFault.TheVariants.{DotSegment, TooLong, OutOfMemory}
 use Rattle.hx_target.specs.declared.targets.Target.{Target}
 
 -- a byte that no target has: none of 21 to 7E (hex), or `#`
@@ -63,18 +63,18 @@ has_other_scheme None = false
 has_other_scheme (Some scheme) = not (is_http scheme)
 
 -- the only one of a list
-abbrev pub only : List (List ℕ) → Option (List ℕ)
-only [] = None
-only (x ∷ []) = Some x
-only (x ∷ (y ∷ ys)) = None
+abbrev pub only_one_of : List (List ℕ) → Option (List ℕ)
+only_one_of [] = None
+only_one_of (x ∷ []) = Some x
+only_one_of (x ∷ (y ∷ ys)) = None
 
 -- the value, where its host is valid
-abbrev pub if_valid : List ℕ → Option (List ℕ)
-if_valid value = if has_valid_host value then Some value else None
+abbrev pub host_if_valid : List ℕ → Option (List ℕ)
+host_if_valid value = if has_valid_host value then Some value else None
 
 -- the value of the Host line, where exactly one stands and its host is valid (RFC 9112, section 3.2)
 abbrev pub host_value : List (List ℕ) → Option (List ℕ)
-host_value hosts = option_and_then if_valid (only hosts)
+host_value hosts = option_and_then host_if_valid (only_one_of hosts)
 
 -- the port of that line
 abbrev pub host_port : List (List ℕ) → Option ℕ
@@ -82,20 +82,20 @@ host_port hosts = option_and_then port_part (host_value hosts)
 
 -- What names host and port: the authority behind its last `@`, which replaces the Host line, or this line (RFC 9112,
 -- section 3.2.2; RFC 3986, section 3.2).
-abbrev pub naming : Option (List ℕ) → List ℕ → List ℕ
-naming None value = value
-naming (Some authority) value = rsplit_once_back at_sign authority
+abbrev pub authority_or_host : Option (List ℕ) → List ℕ → List ℕ
+authority_or_host None value = value
+authority_or_host (Some authority) value = rsplit_once_back at_sign authority
 
-abbrev pub named : Question → List ℕ
-named q = naming q.authority (unwrap_or (host_value q.hosts) [])
+abbrev pub host_and_port_text : Question → List ℕ
+host_and_port_text q = authority_or_host q.authority (unwrap_or (host_value q.hosts) [])
 
 -- an `@` in the authority (RFC 9110, section 4.2.4)
 abbrev pub has_userinfo : Option (List ℕ) → Bool
 has_userinfo None = false
 has_userinfo (Some authority) = list_any (λ b. b == at_sign) authority
 
-abbrev pub table_path : Question → List ℕ
-table_path q = table_path_of (path_of q.kept)
+abbrev pub table_path_of_target : Question → List ℕ
+table_path_of_target q = table_path_of (path_of q.kept)
 
 -- path and query as they came, an empty path as `/` (RFC 9110, section 4.2.3)
 abbrev pub path_query_of : List ℕ → List ℕ
@@ -103,16 +103,16 @@ path_query_of kept = if slice_index kept 0 == slash then kept else slash ∷ kep
 
 -- the condition of each fault
 -- own: in absolute form the Host line is judged too, though it names nothing then ("Host lines are always judged")
-abbrev pub applies : TargetFault → Question → Bool
-applies Form q = not (has_read_form q)
-applies Scheme q = has_other_scheme q.scheme
-applies Host q = is_none (host_value q.hosts) || not (has_valid_host (named q))
-applies Port q = is_none (host_port q.hosts) || is_none (port_part (named q))
-applies Userinfo q = has_userinfo q.authority
-applies Escape q = has_bad_escape (path_of q.kept)
-applies DotSegment q = has_dot_segment (table_path q)
-applies TooLong q = nat_lt 8192 (length q.target)
-applies OutOfMemory q = false
+abbrev pub target_fault_applies : TargetFault → Question → Bool
+target_fault_applies Form q = not (has_read_form q)
+target_fault_applies Scheme q = has_other_scheme q.scheme
+target_fault_applies Host q = is_none (host_value q.hosts) || not (has_valid_host (host_and_port_text q))
+target_fault_applies Port q = is_none (host_port q.hosts) || is_none (port_part (host_and_port_text q))
+target_fault_applies Userinfo q = has_userinfo q.authority
+target_fault_applies Escape q = has_bad_escape (path_of q.kept)
+target_fault_applies DotSegment q = has_dot_segment (table_path_of_target q)
+target_fault_applies TooLong q = nat_lt 8192 (length q.target)
+target_fault_applies OutOfMemory q = false
 
 -- by their numbers
 abbrev pub faults : List TargetFault
@@ -120,17 +120,17 @@ faults = Form ∷ Scheme ∷ Host ∷ Port ∷ Userinfo ∷ Escape ∷ DotSegmen
 
 -- the least fault that stands
 abbrev pub first_fault : Question → Option TargetFault
-first_fault q = find (λ fault. applies fault q) faults
+first_fault q = find (λ fault. target_fault_applies fault q) faults
 
 -- what is asked for, where no fault stands
 abbrev pub target_of : Question → Target
 target_of q = record {
   key = record {
-    host = lowercase (host_part (named q));
-    port = unwrap_or (port_part (named q)) 80;
+    host = lowercase (host_part (host_and_port_text q));
+    port = unwrap_or (port_part (host_and_port_text q)) 80;
     path_query = path_query_of q.kept;
   };
-  table_path = table_path q;
+  table_path = table_path_of_target q;
 }
 
 abbrev pub fault_or_target : Option TargetFault → Question → Result Target TargetFault
@@ -143,8 +143,8 @@ judged_of q = fault_or_target (first_fault q) q
 
 -- What a target and the values of the Host lines are judged to be: Form where the text's bytes tell it or where the
 -- text spells no URI, else what its parts are judged to be.
-abbrev pub Judged : List ℕ → List (List ℕ) → Result Target TargetFault → Type 0
-Judged target hosts r =
+abbrev pub TargetIsJudged : List ℕ → List (List ℕ) → Result Target TargetFault → Type 0
+TargetIsJudged target hosts r =
     ((is_malformed target ≡ true) × (r ≡ Err Form))
     ⊎ ((SpellsNone target × (r ≡ Err Form))
     ⊎ ((is_malformed target ≡ false)

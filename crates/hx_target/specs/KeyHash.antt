@@ -16,8 +16,8 @@ both true b h = (refl, h)
 both false b h = absurd (false≢true h)
 
 -- keys that are the same are one
-pub one_key : (a b : Key) → same_key a b ≡ true → a ≡ b
-one_key a b h =
+pub same_keys_are_equal : (a b : Key) → same_key a b ≡ true → a ≡ b
+same_keys_are_equal a b h =
     let p = both _ _ h in
     let q = both _ _ p.0 in
     let host = (bytes_decides a.host b.host).0 q.0 in
@@ -25,5 +25,5 @@ one_key a b h =
     let path_query = (bytes_decides a.path_query b.path_query).0 p.1 in
     λ i. record { host = host i; port = port i; path_query = path_query i }
 
-pub one_hash : (a b : Key) → IsTrue (same_key a b) → key_writes a ≡ key_writes b
-one_hash a b h = ap key_writes (one_key a b h)
+pub same_keys_hash_alike : (a b : Key) → IsTrue (same_key a b) → key_writes a ≡ key_writes b
+same_keys_hash_alike a b h = ap key_writes (same_keys_are_equal a b h)

@@ -9,7 +9,7 @@ ghost use Rattle.std.specs.List.{list_all};
 ghost use Rattle.std.specs.Str.Parse.{digits_value};
 ghost use Rattle.http_uri.specs.ByteClasses.{index_of, index_after_last};
 ghost use Rattle.hx_target.specs.Hosts.{is_name_byte, is_address_byte, is_name, is_address, is_host, host_part};
-ghost use Rattle.hx_target.specs.Hosts.{after_host, has_valid_host, short_number, port_of, port_part, lowercase};
+ghost use Rattle.hx_target.specs.Hosts.{behind_host, has_valid_host, short_number, port_of, port_part, lowercase};
 
 use hx_fields::{Bytes, number_up_to};
 use std::alloc::{AllocError, Global};
@@ -114,8 +114,8 @@ pub fn host_part(value: &[u8]) -> &[u8]
 }
 
 /// What a Host value has after its host.
-fn after_host(value: &[u8]) -> &[u8]
-    ensures { result.now ≡ after_host value.now }
+fn behind_host(value: &[u8]) -> &[u8]
+    ensures { result.now ≡ behind_host value.now }
 {
     &value[host_part(value).len()..]
 }
@@ -168,7 +168,7 @@ fn port_of(text: &[u8]) -> Option<u16>
 pub fn port_part(value: &[u8]) -> Option<u16>
     ensures { result ≡ port_part value.now }
 {
-    let rest = after_host(value);
+    let rest = behind_host(value);
     if rest.is_empty() {
         port_of(rest)
     } else {

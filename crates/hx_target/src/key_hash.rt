@@ -1,6 +1,6 @@
 //! What a hash function is fed of a key, by which a shelf finds its entries. Keys that are one feed it the same
 //! (`specs/KeyHash.antt`).
-ghost use Rattle.hx_target.specs.KeyHash.{key_writes, one_hash};
+ghost use Rattle.hx_target.specs.KeyHash.{key_writes, same_keys_hash_alike};
 
 use crate::keys::Key;
 use std::hash::{Hash, Hasher};
@@ -8,7 +8,7 @@ use std::hash::{Hash, Hasher};
 impl Hash for Key {
     ghost hash_input = { key_writes };
 
-    ghost respects_eq = { one_hash };
+    ghost respects_eq = { same_keys_hash_alike };
 
     // The port stands between path and host, so that no byte of one counts as a byte of the other.
     fn hash<H: Hasher>(&self, state: &mut H) {

@@ -2,36 +2,37 @@
 ghost use Rattle.std.specs.Prelude.{◌≡◌, ◌<◌, ◌≤◌, List, ℕ, length, Result, Ok, Some, None, true, false, codes, []};
 ghost use Rattle.std.specs.Prelude.{◌∷◌};
 ghost use Rattle.std.specs.List.{list_all};
-ghost use Rattle.hx_target.specs.declared.faults.TargetFault.{TargetFault as Fault};
+ghost use Rattle.hx_target.specs.declared.target_fault.TargetFault.{TargetFault as Fault};
 ghost use Rattle.hx_target.specs.declared.targets.Target.{Target as Aim};
 ghost use Rattle.hx_target.specs.declared.keys.Key.{Key as StoreKey};
-ghost use Rattle.hx_target.specs.declared.faults.TargetFault.TheVariants.{Form, Scheme, Host, Port, Userinfo, Escape};
-ghost use Rattle.hx_target.specs.declared.faults.TargetFault.TheVariants.{DotSegment, TooLong};
-ghost use Rattle.hx_target.specs.Examples.{in_origin_form, in_absolute_form, of_text};
+ghost use Rattle.hx_target.specs.declared.target_fault.TargetFault.TheVariants.{Form, Scheme, Host, Port, Userinfo};
+ghost use Rattle.hx_target.specs.declared.target_fault.TargetFault.TheVariants.{Escape};
+ghost use Rattle.hx_target.specs.declared.target_fault.TargetFault.TheVariants.{DotSegment, TooLong};
+ghost use Rattle.hx_target.specs.Examples.{target_in_origin_form, target_in_absolute_form, target_of_text};
 ghost use Rattle.hx_target.specs.Hosts.{has_valid_host, host_part, is_host, is_name, is_name_byte, lowercase, port_of};
 ghost use Rattle.hx_target.specs.Hosts.{port_part};
 ghost use Rattle.hx_target.specs.Keys.{same_key};
 ghost use Rattle.hx_target.specs.Paths.{has_bad_escape, has_dot_segment, is_normal, table_path_of};
-ghost use Rattle.hx_target.specs.Judgement.{Judged, Question, is_malformed, judged_of};
+ghost use Rattle.hx_target.specs.Judgement.{TargetIsJudged, Question, is_malformed, judged_of};
 
 /// A target and its Host lines are judged in one way.
 pub fn a_target_is_judged_in_one_way()
-    ensures { (target : List ℕ) (hosts : List (List ℕ)) (r s : Result Aim Fault) → Judged target hosts r
-        → Judged target hosts s → r ≡ s }
+    ensures { (target : List ℕ) (hosts : List (List ℕ)) (r s : Result Aim Fault) → TargetIsJudged target hosts r
+        → TargetIsJudged target hosts s → r ≡ s }
 {}
 
 /// The table path of a target that is read has no dot segment.
 pub fn no_dot_segment_passes()
-    ensures { (target : List ℕ) (hosts : List (List ℕ)) (aim : Aim) → Judged target hosts (Ok aim)
+    ensures { (target : List ℕ) (hosts : List (List ℕ)) (aim : Aim) → TargetIsJudged target hosts (Ok aim)
         → has_dot_segment aim.table_path ≡ false }
 {}
 
 /// The table path of a target that is read has no escape of an unreserved character, and each escape in it
 /// is in upper case; so it is its own table path.
 pub fn a_table_path_is_normal()
-    ensures normal { (target : List ℕ) (hosts : List (List ℕ)) (aim : Aim) → Judged target hosts (Ok aim)
+    ensures normal { (target : List ℕ) (hosts : List (List ℕ)) (aim : Aim) → TargetIsJudged target hosts (Ok aim)
         → is_normal aim.table_path ≡ true }
-    ensures stays { (target : List ℕ) (hosts : List (List ℕ)) (aim : Aim) → Judged target hosts (Ok aim)
+    ensures stays { (target : List ℕ) (hosts : List (List ℕ)) (aim : Aim) → TargetIsJudged target hosts (Ok aim)
         → table_path_of aim.table_path ≡ aim.table_path }
 {}
 
@@ -61,23 +62,23 @@ pub fn worked_paths_are_normalised()
 /// Worked targets (RFC 9112, sections 3.2.1 and 3.2.2; RFC 3986, section 3.2): what their parts ask for.
 #[tactic(auto, unfolding(crate::specs::Judgement::judged_of, crate::specs::Hosts::is_host, crate::specs::Hosts::short_number, crate::specs::Hosts::port_of, crate::specs::Paths::has_dot_segment))]
 pub fn worked_targets_are_judged()
-    ensures origin_form { judged_of (in_origin_form (codes "/%61?%") (codes "H:08080"))
+    ensures origin_form { judged_of (target_in_origin_form (codes "/%61?%") (codes "H:08080"))
         ≡ Ok (record {
           key = record { host = codes "h"; port = 8080; path_query = codes "/%61?%" };
           table_path = codes "/a";
         }) }
-    ensures absolute_form { judged_of (in_absolute_form (codes "HTTP") (codes "[::1]:") (codes "?x") (codes "h"))
+    ensures absolute_form { judged_of (target_in_absolute_form (codes "HTTP") (codes "[::1]:") (codes "?x") (codes "h"))
         ≡ Ok (record {
           key = record { host = codes "[::1]"; port = 80; path_query = codes "/?x" };
           table_path = codes "/";
         }) }
-    ensures scheme { judged_of (in_absolute_form (codes "https") (codes "h") (codes "/") (codes "")) ≡ Err Scheme }
-    ensures empty_scheme { judged_of (in_absolute_form [] (codes "h") (codes "/") (codes "h")) ≡ Err Scheme }
-    ensures host { judged_of (in_absolute_form (codes "http") (codes "h:0") (codes "/..") (codes "")) ≡ Err Host }
-    ensures port { judged_of (in_absolute_form (codes "http") (codes "u@h:65536") (codes "/..") (codes "h")) ≡ Err Port }
-    ensures userinfo { judged_of (in_absolute_form (codes "http") (codes "u@h") (codes "/%/..") (codes "h")) ≡ Err Userinfo }
-    ensures escape { judged_of (in_origin_form (codes "/%/..") (codes "h")) ≡ Err Escape }
-    ensures dot_segment { judged_of (in_origin_form (codes "/%2e./a") (codes "h")) ≡ Err DotSegment }
+    ensures scheme { judged_of (target_in_absolute_form (codes "https") (codes "h") (codes "/") (codes "")) ≡ Err Scheme }
+    ensures empty_scheme { judged_of (target_in_absolute_form [] (codes "h") (codes "/") (codes "h")) ≡ Err Scheme }
+    ensures host { judged_of (target_in_absolute_form (codes "http") (codes "h:0") (codes "/..") (codes "")) ≡ Err Host }
+    ensures port { judged_of (target_in_absolute_form (codes "http") (codes "u@h:65536") (codes "/..") (codes "h")) ≡ Err Port }
+    ensures userinfo { judged_of (target_in_absolute_form (codes "http") (codes "u@h") (codes "/%/..") (codes "h")) ≡ Err Userinfo }
+    ensures escape { judged_of (target_in_origin_form (codes "/%/..") (codes "h")) ≡ Err Escape }
+    ensures dot_segment { judged_of (target_in_origin_form (codes "/%2e./a") (codes "h")) ≡ Err DotSegment }
 {}
 
 /// The case of the letters of a scheme, of an authority and of a Host line changes nothing (RFC 3986,
@@ -167,20 +168,20 @@ pub fn worked_segments_and_escapes()
 /// an authority replaces Host.
 #[tactic(auto, unfolding(crate::specs::Judgement::judged_of, crate::specs::Hosts::is_host, crate::specs::Hosts::short_number, crate::specs::Hosts::port_of, crate::specs::Paths::has_dot_segment))]
 pub fn worked_forms_are_judged()
-    ensures no_host { judged_of (record (in_origin_form (codes "/a") []) { hosts = [] }) ≡ Err Host }
-    ensures two_hosts { judged_of (record (in_origin_form (codes "/a") []) { hosts = codes "h" ∷ codes "h" ∷ [] })
+    ensures no_host { judged_of (record (target_in_origin_form (codes "/a") []) { hosts = [] }) ≡ Err Host }
+    ensures two_hosts { judged_of (record (target_in_origin_form (codes "/a") []) { hosts = codes "h" ∷ codes "h" ∷ [] })
         ≡ Err Host }
-    ensures bad_host_line { judged_of (in_absolute_form (codes "http") (codes "h") (codes "/a") (codes "x y")) ≡ Err Host }
-    ensures bad_host_of_authority { judged_of (in_absolute_form (codes "http") (codes "a%62") (codes "/a") (codes "h"))
+    ensures bad_host_line { judged_of (target_in_absolute_form (codes "http") (codes "h") (codes "/a") (codes "x y")) ≡ Err Host }
+    ensures bad_host_of_authority { judged_of (target_in_absolute_form (codes "http") (codes "a%62") (codes "/a") (codes "h"))
         ≡ Err Host }
-    ensures bad_port_of_host_line { judged_of (in_absolute_form (codes "http") (codes "h") (codes "/a") (codes "x:0"))
+    ensures bad_port_of_host_line { judged_of (target_in_absolute_form (codes "http") (codes "h") (codes "/a") (codes "x:0"))
         ≡ Err Port }
     ensures authority_form { judged_of
-        (record (in_origin_form (codes "h:80") (codes "h")) { authority = Some (codes "h:80") }) ≡ Err Form }
-    ensures asterisk_form { judged_of (in_origin_form (codes "*") (codes "h")) ≡ Err Form }
+        (record (target_in_origin_form (codes "h:80") (codes "h")) { authority = Some (codes "h:80") }) ≡ Err Form }
+    ensures asterisk_form { judged_of (target_in_origin_form (codes "*") (codes "h")) ≡ Err Form }
     ensures scheme_alone { judged_of
-        (record (in_origin_form (codes "mailto:a") (codes "h")) { scheme = Some (codes "mailto") }) ≡ Err Form }
-    ensures authority { judged_of (in_absolute_form (codes "http") (codes "H:81") (codes "/%41?b") (codes "x"))
+        (record (target_in_origin_form (codes "mailto:a") (codes "h")) { scheme = Some (codes "mailto") }) ≡ Err Form }
+    ensures authority { judged_of (target_in_absolute_form (codes "http") (codes "H:81") (codes "/%41?b") (codes "x"))
         ≡ Ok (record {
           key = record { host = codes "h"; port = 81; path_query = codes "/%41?b" };
           table_path = codes "/A";
@@ -193,8 +194,9 @@ pub fn lengths_are_limited()
     ensures names { (text : List ℕ) → is_name text ≡ true → length text ≤ 253 }
     ensures each_name { (text : List ℕ) → list_all is_name_byte text ≡ true → 1 ≤ length text → length text ≤ 253
         → is_name text ≡ true }
-    ensures longer { (text : List ℕ) → 8192 < length (47 ∷ text) → judged_of (of_text text (codes "/a")) ≡ Err TooLong }
-    ensures longest { (text : List ℕ) → length (47 ∷ text) ≤ 8192 → judged_of (of_text text (codes "/a")) ≡ Ok
+    ensures longer { (text : List ℕ) → 8192 < length (47 ∷ text) → judged_of (target_of_text text (codes "/a"))
+        ≡ Err TooLong }
+    ensures longest { (text : List ℕ) → length (47 ∷ text) ≤ 8192 → judged_of (target_of_text text (codes "/a")) ≡ Ok
         (record { key = record { host = codes "h"; port = 80; path_query = codes "/a" }; table_path = codes "/a" }) }
-    ensures dots { (text : List ℕ) → judged_of (of_text text (codes "/..")) ≡ Err DotSegment }
+    ensures dots { (text : List ℕ) → judged_of (target_of_text text (codes "/..")) ≡ Err DotSegment }
 {}

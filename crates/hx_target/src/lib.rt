@@ -1,12 +1,11 @@
 //! What a request asks for: the target and the Host field, read into a cache key and a path for the
 //! operator's table (RFC 9110, section 7.1; RFC 9112, section 3.2).
 //!
-//! A target is judged in one way, by `Judged` in `specs/Judgement.antt`; the least of the numbered faults
+//! A target is judged in one way, by `TargetIsJudged` in `specs/Judgement.antt`; the least of the numbered faults
 //! is answered. Nothing here knows the operator's table or the store.
 #![tactic(auto)]
 
 mod escapes;
-mod faults;
 mod hosts;
 mod key_hash;
 mod key_order;
@@ -14,12 +13,12 @@ mod keys;
 mod laws;
 mod limits;
 mod paths;
-mod reading;
 mod sharing;
+mod target_fault;
+mod target_reading;
 mod targets;
 
 pub use escapes::{has_bad_escape, table_path};
-pub use faults::TargetFault;
 pub use hosts::{is_host, short_number};
 pub use keys::Key;
 pub use laws::{
@@ -29,5 +28,6 @@ pub use laws::{
     worked_segments_and_escapes, worked_targets_are_judged,
 };
 pub use paths::{has_dot_segment, names_a_dot_segment};
-pub use reading::read_target;
+pub use target_fault::TargetFault;
+pub use target_reading::read_target;
 pub use targets::Target;

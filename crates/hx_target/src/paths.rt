@@ -73,7 +73,7 @@ fn after_dot(segment: &[u8]) -> Option<&[u8]>
 }
 
 /// Whether a segment is `.` or `..`, its dots escaped or not.
-fn names_dots(segment: &[u8]) -> bool
+fn is_dot_segment_escaped(segment: &[u8]) -> bool
     ensures { result ≡ is_dot_segment (table_path_of segment.now) }
 {
     match after_dot(segment) {
@@ -94,7 +94,7 @@ pub fn names_a_dot_segment(path: &[u8]) -> bool
     let mut rest = path;
     'segments: loop {
         let (segment, left) = cut_segment(rest);
-        if names_dots(segment) {
+        if is_dot_segment_escaped(segment) {
             return true;
         }
         match left {

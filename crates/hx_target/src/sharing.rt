@@ -3,7 +3,7 @@ ghost use Rattle.std.specs.Prelude.{◌≡◌, ◌==◌, IfOk, codes, slice_get}
 ghost use Rattle.std.specs.Option.{option_copied};
 ghost use Rattle.std.specs.List.{list_any};
 ghost use Rattle.std.specs.Char.{is_ascii_uppercase};
-ghost use Rattle.hx_fields.specs.Lines.{values_of};
+ghost use Rattle.hx_fields.specs.FieldLines.{values_of};
 ghost use Rattle.hx_target.specs.Hosts.{lowercase};
 ghost use Rattle.hx_target.specs.Paths.{table_path_of};
 

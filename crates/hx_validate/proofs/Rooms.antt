@@ -6,8 +6,8 @@ use Rattle.std.proofs.lemmas.Bool.{and_from, and_parts, leb-true, le-leb}
 use Rattle.std.proofs.lemmas.Bool.Decides.{nat_tests}
 use Rattle.hx_fields.specs.declared.field_line.Field.{Field}
 use Rattle.hx_fields.specs.Examples.{line}
-use Rattle.hx_framing.specs.Text.{field_line, field_lines}
-use Rattle.hx_validate.specs.Room.{LeavesRoomForAll, LeavesRoomForNoMore, LeavesRoomToTheByte, leaves_room}
+use Rattle.hx_framing.specs.Text.{field_line_text, field_lines_text}
+use Rattle.hx_validate.specs.Room.{LeavesRoomForAll, LeavesRoomForNoMore, LeavesRoomToTheByte, head_leaves_room}
 
 whole_length : (front lines behind : List ℕ) → length (front ++ lines ++ behind) ≡ length front + length lines + length behind
 whole_length front lines behind =
@@ -17,20 +17,20 @@ whole_length front lines behind =
 
 pub leaves_room_for_all : LeavesRoomForAll
 leaves_room_for_all fields beside front behind h few short =
-    let parts = and_parts (nat_le (length fields + 4) 100) (nat_le (length (field_lines fields) + 256) 32768) h in
+    let parts = and_parts (nat_le (length fields + 4) 100) (nat_le (length (field_lines_text fields) + 256) 32768) h in
     let lines = leb-true (length fields + 4) 100 parts.0 in
-    let bytes = leb-true (length (field_lines fields) + 256) 32768 parts.1 in
+    let bytes = leb-true (length (field_lines_text fields) + 256) 32768 parts.1 in
     let count = length-append fields beside in
-    let whole = whole_length front (field_lines fields) behind in
+    let whole = whole_length front (field_lines_text fields) behind in
     (omega (arith, lines, count, few), omega (arith, bytes, whole, short))
 
 pub leaves_room_for_no_more : LeavesRoomForNoMore
 leaves_room_for_no_more fields beside front behind four rest few short =
     let count = length-append fields beside in
-    let whole = whole_length front (field_lines fields) behind in
-    and_from _ _ (le-leb (length fields + 4) 100 (omega (arith, few, count, four))) (le-leb (length (field_lines fields) + 256) 32768 (omega (arith, short, whole, rest)))
+    let whole = whole_length front (field_lines_text fields) behind in
+    and_from _ _ (le-leb (length fields + 4) 100 (omega (arith, few, count, four))) (le-leb (length (field_lines_text fields) + 256) 32768 (omega (arith, short, whole, rest)))
 
-line_length : (value : List ℕ) (fields : List Field) (n : ℕ) → length (field_lines (line (codes "X") value ∷ fields)) ≡ n → n ≡ length value + length (field_lines fields) + 5
+line_length : (value : List ℕ) (fields : List Field) (n : ℕ) → length (field_lines_text (line (codes "X") value ∷ fields)) ≡ n → n ≡ length value + length (field_lines_text fields) + 5
 line_length value fields n whole = let parts = simp length-append at whole in omega (arith, parts)
 
 same_test : (a b : ℕ) → a ≡ b + 5 → nat_le (a + 256) 32768 ≡ nat_le b 32507
@@ -42,18 +42,18 @@ same_test a b is = by_test (nat_le b 32507) refl
 
 pub leaves_room_to_the_byte : LeavesRoomToTheByte
 leaves_room_to_the_byte value fields few =
-    let lines = length (field_lines (line (codes "X") value ∷ fields)) in
+    let lines = length (field_lines_text (line (codes "X") value ∷ fields)) in
     ap (λ (t : Bool). t && nat_le (lines + 256) 32768) (le-leb (length (line (codes "X") value ∷ fields) + 4) 100 (omega (arith, few)))
-    ∙ same_test lines (length value + length (field_lines fields)) (line_length value fields lines refl)
+    ∙ same_test lines (length value + length (field_lines_text fields)) (line_length value fields lines refl)
 
 -- where a line has more bytes than the lines before it leave of 32,512, no room is left
 pub no_room : (lines : List Field) (at room : ℕ) (item : Field) → item ≡ slice_index_or lines at item → at < length lines
-    → room + length (field_lines (take at lines)) ≡ 32512 → cond (nat_le (length (field_line item)) room) (Some (room - length (field_line item))) None ≡ None → leaves_room lines ≡ false
+    → room + length (field_lines_text (take at lines)) ≡ 32512 → cond (nat_le (length (field_line_text item)) room) (Some (room - length (field_line_text item))) None ≡ None → head_leaves_room lines ≡ false
 no_room lines at room item is inside sum none =
-    let some = length-flat_map-take field_line lines at item inside in
-    let one : length (field_line (slice_index_or lines at item)) ≡ length (field_line item) = ap (λ (f : Field). length (field_line f)) (sym is) in
-    let over = above (length (field_line item)) room none in
-    ap (λ (t : Bool). nat_le (length lines + 4) 100 && t) (past (length (field_lines lines)) (omega (arith, some, one, over, sum))) ∙ and_false (nat_le (length lines + 4) 100)
+    let some = length-flat_map-take field_line_text lines at item inside in
+    let one : length (field_line_text (slice_index_or lines at item)) ≡ length (field_line_text item) = ap (λ (f : Field). length (field_line_text f)) (sym is) in
+    let over = above (length (field_line_text item)) room none in
+    ap (λ (t : Bool). nat_le (length lines + 4) 100 && t) (past (length (field_lines_text lines)) (omega (arith, some, one, over, sum))) ∙ and_false (nat_le (length lines + 4) 100)
   where
     above : (n room : ℕ) → cond (nat_le n room) (Some (room - n)) None ≡ None → room < n
     above n room none = by_test (nat_le n room) refl none

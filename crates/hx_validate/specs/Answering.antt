@@ -5,7 +5,7 @@
 use Rattle.std.specs.Prelude.{ℕ, if◌then◌else◌, Bool, true, false, not, ◌&&◌, ◌||◌, List, [], ◌++◌, filter, bytes_eq}
 use Rattle.std.specs.Prelude.{codes, Option, Some, None}
 use Rattle.hx_fields.specs.declared.field_line.Field.{Field}
-use Rattle.hx_fields.specs.Lines.{has, is_named, only_value}
+use Rattle.hx_fields.specs.FieldLines.{has_field, is_named, only_value}
 use Rattle.hx_age.specs.declared.moments.Times.{Times}
 use Rattle.hx_vary.specs.Vary.{is_same_value, nominated_of}
 use Rattle.hx_vary.specs.declared.nominated_values.NominatedValue.{NominatedValue}
@@ -14,22 +14,22 @@ use Rattle.hx_vary.specs.declared.nominations.Nomination.TheVariants.{Star, Name
 use Rattle.hx_store.specs.Stored.{Stored}
 use Rattle.hx_hop.specs.declared.request_view.Asked.{Asked}
 use Rattle.hx_hop.specs.declared.response_view.Answered.{Answered}
-use Rattle.hx_hop.specs.declared.validators.Conditions.{Conditions}
-use Rattle.hx_validate.specs.EntityTags.{Tag, strong_eq, tag_of, weak_eq}
+use Rattle.hx_hop.specs.declared.conditions.Conditions.{Conditions}
+use Rattle.hx_validate.specs.EntityTags.{EntityTagParts, strong_eq, entity_tag_of, weak_eq}
 use Rattle.hx_validate.specs.Validators.{conditions_of}
 
 -- what was sent is what the stored response has now
-abbrev pub same_conditions : Conditions → Conditions → Bool
-same_conditions held sent = is_same_value held.etag sent.etag && is_same_value held.modified sent.modified
+abbrev pub are_same_conditions : Conditions → Conditions → Bool
+are_same_conditions held sent = is_same_value held.etag sent.etag && is_same_value held.modified sent.modified
 
 -- a strong entity tag asks for strong equality, a weak one for weak, and what is none equals nothing
-abbrev pub agrees_by : Option Tag → List ℕ → List ℕ → Bool
-agrees_by None held given = false
-agrees_by (Some tag) held given = if tag.weak then weak_eq held given else strong_eq held given
+abbrev pub tag_agrees_with : Option EntityTagParts → List ℕ → List ℕ → Bool
+tag_agrees_with None held given = false
+tag_agrees_with (Some tag) held given = if tag.weak then weak_eq held given else strong_eq held given
 
 -- an ETag that agrees with the entity tag that was sent
 abbrev pub tag_agrees : Option (List ℕ) → Option (List ℕ) → Bool
-tag_agrees (Some held) (Some given) = agrees_by (tag_of given) held given
+tag_agrees (Some held) (Some given) = tag_agrees_with (entity_tag_of given) held given
 tag_agrees (Some held) None = false
 tag_agrees None given = false
 
@@ -43,34 +43,36 @@ modified_agrees None given = false
 -- a name agree with nothing.
 -- own: without any it answers, though the standard says so only of a single stored response without validators
 -- ("A 304 without validators answers")
-abbrev pub agrees : Conditions → List Field → Bool
-agrees sent fields =
-    if has fields (codes "ETag") then tag_agrees sent.etag (only_value fields (codes "ETag"))
-    else if has fields (codes "Last-Modified") then modified_agrees sent.modified (only_value fields (codes "Last-Modified"))
+abbrev pub validators_agree : Conditions → List Field → Bool
+validators_agree sent fields =
+    if has_field fields (codes "ETag") then tag_agrees sent.etag (only_value fields (codes "ETag"))
+    else if has_field fields (codes "Last-Modified") then modified_agrees sent.modified (only_value fields (codes "Last-Modified"))
     else true
 
 -- whether a 304 to these conditions answers a stored response
 abbrev pub answers304 : Stored → Conditions → Answered → Bool
-answers304 entry sent answered = same_conditions (conditions_of entry.fields) sent && agrees sent answered.fields
+answers304 entry sent answered
+    = are_same_conditions (conditions_of entry.fields) sent && validators_agree sent answered.fields
 
 -- a line that a 304 can bring: the length is that of the stored content (RFC 9111, section 3.2)
 -- own: nor does it bring an Age, which is counted anew
-abbrev pub is_brought : Field → Bool
-is_brought line = not (is_named (codes "Content-Length") line || is_named (codes "Age") line)
+abbrev pub is_line_of_304 : Field → Bool
+is_line_of_304 line = not (is_named (codes "Content-Length") line || is_named (codes "Age") line)
 
 -- a stored line of a name that the 304 brings
-abbrev pub is_replaced : List Field → Field → Bool
-is_replaced fields line = is_brought line && has fields line.name
+abbrev pub is_replaced_by_304 : List Field → Field → Bool
+is_replaced_by_304 fields line = is_line_of_304 line && has_field fields line.name
 
 -- the stored lines of other names, then those of the 304
 abbrev pub freshened_fields : List Field → List Field → List Field
-freshened_fields stored fields = filter (λ line. not (is_replaced fields line)) stored ++ filter is_brought fields
+freshened_fields stored fields = filter (λ line. not (is_replaced_by_304 fields line)) stored
+    ++ filter is_line_of_304 fields
 
 -- own: where the new lines nominate everything, nothing is kept of the request, since the entry isn't kept
 -- ("What a star nominates is not kept")
-abbrev pub names_or_none : Nomination → List NominatedValue
-names_or_none Star = []
-names_or_none (Names values) = values
+abbrev pub nominated_or_none : Nomination → List NominatedValue
+nominated_or_none Star = []
+nominated_or_none (Names values) = values
 
 -- the stored response as a 304 to this request leaves it, with the moments of the 304
 unfoldable pub freshened_of : Stored → Answered → Asked → Times → Stored
@@ -79,7 +81,7 @@ freshened_of entry answered asked times =
     record {
       serial = entry.serial;
       key = entry.key;
-      nominated = names_or_none (nominated_of fields asked.fields);
+      nominated = nominated_or_none (nominated_of fields asked.fields);
       status = entry.status;
       fields = fields;
       content = entry.content;

@@ -6,14 +6,14 @@ use Rattle.hx_hop.specs.declared.response_view.Answered.{Answered}
 use Rattle.hx_hop.specs.declared.request_view.Asked.{Asked}
 use Rattle.hx_store.specs.Stored.{Stored}
 use Rattle.hx_validate.specs.Answering.{answers304}
-use Rattle.hx_validate.specs.NotModified.{wants_304}
+use Rattle.hx_validate.specs.NotModified.{gets_304}
 use Rattle.hx_validate.specs.Validators.{conditions_of}
 
-abbrev pub tag_line : List ℕ → Field
-tag_line value = line (codes "ETag") value
+abbrev pub etag_line : List ℕ → Field
+etag_line value = line (codes "ETag") value
 
-abbrev pub modified_line : List ℕ → Field
-modified_line value = line (codes "Last-Modified") value
+abbrev pub last_modified_line : List ℕ → Field
+last_modified_line value = line (codes "Last-Modified") value
 
 -- a stored response of these lines, made at 100
 abbrev pub stored_with : List Field → Stored
@@ -45,17 +45,17 @@ asked_with fields =
     }
 
 -- whether a 304 of these lines answers a stored response of those, of which both validators were sent
-abbrev pub is_answered : List Field → List Field → Bool
-is_answered stored given = answers304 (stored_with stored) (conditions_of stored) (answered_with given)
+abbrev pub is_answered_by_304 : List Field → List Field → Bool
+is_answered_by_304 stored given = answers304 (stored_with stored) (conditions_of stored) (answered_with given)
 
 -- the stored response of the first example, and a 304 to it at 160
-abbrev pub first_stored : List Field
-first_stored =
-    line (codes "Date") (codes "Thu, 01 Jan 1970 00:01:41 GMT") ∷ line (codes "Cache-Control") (codes "max-age=60") ∷ tag_line (codes "\"v1\"") ∷ []
+abbrev pub first_stored_fields : List Field
+first_stored_fields =
+    line (codes "Date") (codes "Thu, 01 Jan 1970 00:01:41 GMT") ∷ line (codes "Cache-Control") (codes "max-age=60") ∷ etag_line (codes "\"v1\"") ∷ []
 
-abbrev pub first_304 : List Field
-first_304 =
-    line (codes "Date") (codes "Thu, 01 Jan 1970 00:02:40 GMT") ∷ line (codes "Cache-Control") (codes "max-age=60") ∷ tag_line (codes "\"v1\"") ∷ []
+abbrev pub first_304_fields : List Field
+first_304_fields =
+    line (codes "Date") (codes "Thu, 01 Jan 1970 00:02:40 GMT") ∷ line (codes "Cache-Control") (codes "max-age=60") ∷ etag_line (codes "\"v1\"") ∷ []
 
 -- of two lines each of a name, and a name that only one has
 abbrev pub old_lines : List Field
@@ -67,17 +67,17 @@ abbrev pub new_lines : List Field
 new_lines = line (codes "Content-Length") (codes "0") ∷ line (codes "foo") (codes "6") ∷ line (codes "Age") (codes "7")
     ∷ line (codes "Foo") (codes "8") ∷ line (codes "Y") (codes "9") ∷ []
 
-abbrev pub none_match : List ℕ → Field
-none_match value = line (codes "If-None-Match") value
+abbrev pub if_none_match_line : List ℕ → Field
+if_none_match_line value = line (codes "If-None-Match") value
 
-abbrev pub since : List ℕ → Field
-since value = line (codes "If-Modified-Since") value
+abbrev pub if_modified_since_line : List ℕ → Field
+if_modified_since_line value = line (codes "If-Modified-Since") value
 
 -- whether a client that asks with these lines gets a 304 for a stored response of those
-abbrev pub wants_by : List Field → List Field → Bool
-wants_by asked stored = wants_304 (asked_with asked) (stored_with stored)
+abbrev pub wants_304_with : List Field → List Field → Bool
+wants_304_with asked stored = gets_304 (asked_with asked) (stored_with stored)
 
 -- so many lines of a name and value
-abbrev pub lines_of : ℕ → List Field
-lines_of zero = []
-lines_of (suc n) = line (codes "X") (codes "1") ∷ lines_of n
+abbrev pub many_lines : ℕ → List Field
+many_lines zero = []
+many_lines (suc n) = line (codes "X") (codes "1") ∷ many_lines n

@@ -1,7 +1,7 @@
 pub mod Answering
 pub mod Cases
 pub mod EntityTags
-pub mod Meaning
+pub mod TagsAndFreshening
 pub mod NotModified
 pub mod Validators
 pub mod Identified

@@ -2,9 +2,9 @@
 use Rattle.std.specs.Prelude.{◌≡◌, ℕ, List}
 use Rattle.std.specs.BTreeSet.{BTreeSet, contains}
 use Rattle.hx_fields.specs.Folded.{folded, folded_cmp}
-use Rattle.hx_fields.specs.Lines.{has}
+use Rattle.hx_fields.specs.FieldLines.{has_field}
 use Rattle.hx_fields.specs.declared.field_line.Field.{Field}
 
 -- each name that a line has, and no other
 abbrev pub HasEachName : List Field → BTreeSet (List ℕ) → Type 0
-HasEachName lines names = (name : List ℕ) → contains folded_cmp names (folded name) ≡ has lines name
+HasEachName lines names = (name : List ℕ) → contains folded_cmp names (folded name) ≡ has_field lines name

@@ -4,62 +4,63 @@ use Rattle.std.specs.Prelude.{ℕ, nat_le, ◌==◌, if◌then◌else◌, Bool, 
 use Rattle.std.specs.Prelude.{codes, option_and_then, unwrap_or, Option, Some, None}
 use Rattle.std.specs.List.{list_any}
 use Rattle.hx_fields.specs.declared.field_line.Field.{Field}
-use Rattle.hx_fields.specs.Lines.{combined_of, has, is_named, members_of, values_of}
+use Rattle.hx_fields.specs.FieldLines.{combined_of, has_field, is_named, members_of, values_of}
 use Rattle.hx_age.specs.Dates.{single_date}
 use Rattle.hx_store.specs.Stored.{Stored}
 use Rattle.hx_hop.specs.declared.request_view.Asked.{Asked}
-use Rattle.hx_validate.specs.EntityTags.{Tag, both, tag_of, weak_tags}
+use Rattle.hx_validate.specs.EntityTags.{EntityTagParts, both_are_tags_and, entity_tag_of, are_weakly_equal}
 use Rattle.hx_validate.specs.Validators.{tag_value}
 
 -- the whole value is this text
-abbrev pub is_value : List ℕ → Option (List ℕ) → Bool
-is_value text None = false
-is_value text (Some value) = bytes_eq value text
+abbrev pub is_whole_value : List ℕ → Option (List ℕ) → Bool
+is_whole_value text None = false
+is_whole_value text (Some value) = bytes_eq value text
 
 -- the entity tag of a stored response, if it has one
-abbrev pub held_tag : List Field → Option Tag
-held_tag fields = option_and_then tag_of (tag_value fields)
+abbrev pub tag_of_stored : List Field → Option EntityTagParts
+tag_of_stored fields = option_and_then entity_tag_of (tag_value fields)
 
 -- an entity tag is weakly equal to this member
-abbrev pub is_tag_of : Tag → List ℕ → Bool
-is_tag_of held member = both weak_tags (Some held) (tag_of member)
+abbrev pub is_weakly_equal_tag : EntityTagParts → List ℕ → Bool
+is_weakly_equal_tag held member = both_are_tags_and are_weakly_equal (Some held) (entity_tag_of member)
 
 -- a member of If-None-Match is the entity tag that is held
-abbrev pub lists_it : List Field → Option Tag → Bool
-lists_it request None = false
-lists_it request (Some held) = list_any (is_tag_of held) (members_of request (codes "If-None-Match"))
+abbrev pub if_none_match_lists : List Field → Option EntityTagParts → Bool
+if_none_match_lists request None = false
+if_none_match_lists request (Some held) = list_any (is_weakly_equal_tag held) (members_of request (codes "If-None-Match"))
 
 -- If-None-Match = "*" / #entity-tag: it names the stored response
-abbrev pub names_it : List Field → List Field → Bool
-names_it request fields =
-    is_value (codes "*") (combined_of request (codes "If-None-Match")) || lists_it request (held_tag fields)
+abbrev pub if_none_match_names : List Field → List Field → Bool
+if_none_match_names request fields =
+    is_whole_value (codes "*") (combined_of request (codes "If-None-Match")) || if_none_match_lists request (tag_of_stored fields)
 
 -- when the stored response last changed: by Last-Modified, where that is a validator, else by its Date
-abbrev pub changed_at : Stored → ℕ
-changed_at entry = unwrap_or (single_date (values_of entry.fields (codes "Last-Modified"))) entry.times.date
+abbrev pub last_changed : Stored → ℕ
+last_changed entry = unwrap_or (single_date (values_of entry.fields (codes "Last-Modified"))) entry.times.date
 
 -- a moment that isn't before another; without one there is none
-abbrev pub is_since : Option ℕ → ℕ → Bool
-is_since None changed = false
-is_since (Some moment) changed = nat_le changed moment
+abbrev pub is_not_before : Option ℕ → ℕ → Bool
+is_not_before None changed = false
+is_not_before (Some moment) changed = nat_le changed moment
 
 -- If-Modified-Since = HTTP-date: the stored response hasn't changed since
-abbrev pub unchanged : List Field → Stored → Bool
-unchanged request entry = is_since (single_date (values_of request (codes "If-Modified-Since"))) (changed_at entry)
+abbrev pub is_unchanged_since : List Field → Stored → Bool
+is_unchanged_since request entry = is_not_before (single_date (values_of request (codes "If-Modified-Since"))) (last_changed entry)
 
 -- If-None-Match hides If-Modified-Since (RFC 9110, section 13.1.3)
-abbrev pub wants_304 : Asked → Stored → Bool
-wants_304 asked entry =
+abbrev pub gets_304 : Asked → Stored → Bool
+gets_304 asked entry =
     (entry.status == 200)
-    && (if has asked.fields (codes "If-None-Match") then names_it asked.fields entry.fields else unchanged asked.fields entry)
+    && (if has_field asked.fields (codes "If-None-Match") then if_none_match_names asked.fields entry.fields
+    else is_unchanged_since asked.fields entry)
 
 -- a line that a 304 carries (RFC 9110, section 15.4.5)
 -- own: Last-Modified where no ETag line stands, which the standard leaves open ("A 304 carries few lines")
-abbrev pub is_carried : Bool → Field → Bool
-is_carried tagged line =
+abbrev pub is_carried_by_304 : Bool → Field → Bool
+is_carried_by_304 tagged line =
     is_named (codes "Cache-Control") line || is_named (codes "Content-Location") line || is_named (codes "Date") line
     || is_named (codes "ETag") line || is_named (codes "Expires") line || is_named (codes "Vary") line
     || (not tagged && is_named (codes "Last-Modified") line)
 
-abbrev pub not_modified_of : List Field → List Field
-not_modified_of fields = filter (is_carried (has fields (codes "ETag"))) fields
+abbrev pub fields_of_304 : List Field → List Field
+fields_of_304 fields = filter (is_carried_by_304 (has_field fields (codes "ETag"))) fields

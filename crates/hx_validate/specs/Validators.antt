@@ -5,21 +5,21 @@
 use Rattle.std.specs.Prelude.{ℕ, if◌then◌else◌, Bool, ◌||◌, List, codes, Option, Some, None, is_some}
 use Rattle.httpdate.specs.Date.{parse_secs}
 use Rattle.hx_fields.specs.declared.field_line.Field.{Field}
-use Rattle.hx_fields.specs.Lines.{only_value}
-use Rattle.hx_hop.specs.declared.validators.Conditions.{Conditions}
-use Rattle.hx_validate.specs.EntityTags.{tag_of}
+use Rattle.hx_fields.specs.FieldLines.{only_value}
+use Rattle.hx_hop.specs.declared.conditions.Conditions.{Conditions}
+use Rattle.hx_validate.specs.EntityTags.{entity_tag_of}
 
 -- a value, if it passes
-abbrev pub passing : (List ℕ → Bool) → Option (List ℕ) → Option (List ℕ)
-passing passes None = None
-passing passes (Some value) = if passes value then Some value else None
+abbrev pub value_if_passes : (List ℕ → Bool) → Option (List ℕ) → Option (List ℕ)
+value_if_passes passes None = None
+value_if_passes passes (Some value) = if passes value then Some value else None
 
 abbrev pub is_entity_tag : List ℕ → Bool
-is_entity_tag value = is_some (tag_of value)
+is_entity_tag value = is_some (entity_tag_of value)
 
 -- one line, and it is an entity tag (RFC 9110, section 8.8.3)
 abbrev pub tag_value : List Field → Option (List ℕ)
-tag_value fields = passing is_entity_tag (only_value fields (codes "ETag"))
+tag_value fields = value_if_passes is_entity_tag (only_value fields (codes "ETag"))
 
 -- HTTP-date (RFC 9110, section 5.6.7)
 abbrev pub is_date : List ℕ → Bool
@@ -27,7 +27,7 @@ is_date value = is_some (parse_secs value)
 
 -- one line, and it is a date (RFC 9110, section 8.8.2)
 abbrev pub modified_value : List Field → Option (List ℕ)
-modified_value fields = passing is_date (only_value fields (codes "Last-Modified"))
+modified_value fields = value_if_passes is_date (only_value fields (codes "Last-Modified"))
 
 abbrev pub has_validator : List Field → Bool
 has_validator fields = is_some (tag_value fields) || is_some (modified_value fields)

@@ -3,14 +3,15 @@
 //! The definitions are in `specs/NotModified.antt`. Whether a stored response may be sent at all is decided before.
 ghost use Rattle.std.specs.Prelude.{◌≡◌, codes, IfOk, Some, option_map};
 ghost use Rattle.std.specs.List.{list_any};
-ghost use Rattle.hx_fields.specs.Lines.{members_of};
+ghost use Rattle.hx_fields.specs.FieldLines.{members_of};
 ghost use Rattle.hx_fields.specs.Names.{members_of_value};
 ghost use Rattle.hx_validate.specs.EntityTags.{tagged};
-ghost use Rattle.hx_validate.specs.NotModified.{changed_at, held_tag, is_carried, is_since, is_tag_of, lists_it};
-ghost use Rattle.hx_validate.specs.NotModified.{names_it, not_modified_of, unchanged, wants_304};
+ghost use Rattle.hx_validate.specs.NotModified.{last_changed, tag_of_stored, is_carried_by_304, is_not_before};
+ghost use Rattle.hx_validate.specs.NotModified.{is_weakly_equal_tag, if_none_match_lists};
+ghost use Rattle.hx_validate.specs.NotModified.{if_none_match_names, fields_of_304, is_unchanged_since, gets_304};
 
 use crate::entity_tags::EntityTag;
-use crate::validators::tag_value;
+use crate::stored_validators::tag_value;
 use hx_age::single_date;
 use hx_fields::{Field, Fields, is_same_name, next_member};
 use hx_hop::Asked;
@@ -21,8 +22,8 @@ use std::alloc::{AllocError, Global};
 const OK: u16 = 200;
 
 /// The entity tag of a stored response, if it has one.
-fn held_tag(fields: &Fields) -> Option<EntityTag<'_>>
-    ensures { option_map (λ tag. tagged tag.weak tag.opaque.now) result ≡ held_tag fields.now }
+fn tag_of_stored(fields: &Fields) -> Option<EntityTag<'_>>
+    ensures { option_map (λ tag. tagged tag.weak tag.opaque.now) result ≡ tag_of_stored fields.now }
 {
     match tag_value(fields) {
         Some(value) => EntityTag::of(value),
@@ -30,8 +31,8 @@ fn held_tag(fields: &Fields) -> Option<EntityTag<'_>>
     }
 }
 
-fn is_tag_of(held: EntityTag, member: &[u8]) -> bool
-    ensures { result ≡ is_tag_of (tagged held.entry.weak held.entry.opaque.now) member.now }
+fn is_weakly_equal_tag(held: EntityTag, member: &[u8]) -> bool
+    ensures { result ≡ is_weakly_equal_tag (tagged held.entry.weak held.entry.opaque.now) member.now }
 {
     match EntityTag::of(member) {
         Some(tag) => held.opaque == tag.opaque,
@@ -40,13 +41,13 @@ fn is_tag_of(held: EntityTag, member: &[u8]) -> bool
 }
 
 /// Whether a member of this value is the entity tag that is held.
-fn value_lists(value: &[u8], held: EntityTag) -> bool
+fn value_lists_tag(value: &[u8], held: EntityTag) -> bool
     ensures { result
-        ≡ list_any (is_tag_of (tagged held.entry.weak held.entry.opaque.now)) (members_of_value value.now) }
+        ≡ list_any (is_weakly_equal_tag (tagged held.entry.weak held.entry.opaque.now)) (members_of_value value.now) }
 {
     let mut rest = value;
     while let Some((member, behind)) = next_member(rest) {
-        if is_tag_of(held, member) {
+        if is_weakly_equal_tag(held, member) {
             return true;
         }
         rest = behind;
@@ -55,12 +56,12 @@ fn value_lists(value: &[u8], held: EntityTag) -> bool
 }
 
 /// Whether a member of If-None-Match is the entity tag that is held.
-fn lists_it(request: &Fields, held: EntityTag) -> bool
-    ensures { result ≡ lists_it request.now (Some (tagged held.entry.weak held.entry.opaque.now)) }
+fn if_none_match_lists(request: &Fields, held: EntityTag) -> bool
+    ensures { result ≡ if_none_match_lists request.now (Some (tagged held.entry.weak held.entry.opaque.now)) }
 {
     for line in request.as_slice() {
         if is_same_name(line.name.as_slice(), b"If-None-Match")
-            && value_lists(line.value.as_slice(), held)
+            && value_lists_tag(line.value.as_slice(), held)
         {
             return true;
         }
@@ -69,31 +70,32 @@ fn lists_it(request: &Fields, held: EntityTag) -> bool
 }
 
 /// Whether a member of If-None-Match is the entity tag of a stored response.
-fn lists_tag_of(request: &Fields, fields: &Fields) -> bool
-    ensures { result ≡ lists_it request.now (held_tag fields.now) }
+fn if_none_match_lists_tag_of(request: &Fields, fields: &Fields) -> bool
+    ensures { result ≡ if_none_match_lists request.now (tag_of_stored fields.now) }
 {
-    match held_tag(fields) {
-        Some(held) => lists_it(request, held),
+    match tag_of_stored(fields) {
+        Some(held) => if_none_match_lists(request, held),
         None => false,
     }
 }
 
 /// Whether If-None-Match names a stored response.
-fn names_it(request: &Fields, fields: &Fields) -> bool
-    ensures { result ≡ names_it request.now fields.now }
+fn if_none_match_names(request: &Fields, fields: &Fields) -> bool
+    ensures { result ≡ if_none_match_names request.now fields.now }
 {
-    request.only_value(b"If-None-Match") == Some(b"*".as_slice()) || lists_tag_of(request, fields)
+    request.only_value(b"If-None-Match") == Some(b"*".as_slice())
+        || if_none_match_lists_tag_of(request, fields)
 }
 
 /// When a stored response last changed, in Unix seconds.
-fn changed_at(entry: &Entry) -> u64
-    ensures { result ≡ changed_at entry.now }
+fn last_changed(entry: &Entry) -> u64
+    ensures { result ≡ last_changed entry.now }
 {
     single_date(&entry.fields, b"Last-Modified").unwrap_or(entry.times.date)
 }
 
-fn is_since(moment: Option<u64>, changed: u64) -> bool
-    ensures { result ≡ is_since moment changed }
+fn is_not_before(moment: Option<u64>, changed: u64) -> bool
+    ensures { result ≡ is_not_before moment changed }
 {
     match moment {
         Some(moment) => changed <= moment,
@@ -102,31 +104,31 @@ fn is_since(moment: Option<u64>, changed: u64) -> bool
 }
 
 /// Whether If-Modified-Since finds a stored response unchanged.
-fn unchanged(request: &Fields, entry: &Entry) -> bool
-    ensures { result ≡ unchanged request.now entry.now }
+fn is_unchanged_since(request: &Fields, entry: &Entry) -> bool
+    ensures { result ≡ is_unchanged_since request.now entry.now }
 {
-    is_since(
+    is_not_before(
         single_date(request, b"If-Modified-Since"),
-        changed_at(entry),
+        last_changed(entry),
     )
 }
 
 /// Whether a client has a stored response already, so that a 304 is sent in its place. No memory is taken.
 pub fn client_wants_304(asked: &Asked, entry: &Entry) -> bool
-    ensures { result ≡ wants_304 asked.now entry.now }
+    ensures { result ≡ gets_304 asked.now entry.now }
 {
     if entry.status != OK {
         false
     } else if asked.fields.has(b"If-None-Match") {
-        names_it(&asked.fields, &entry.fields)
+        if_none_match_names(&asked.fields, &entry.fields)
     } else {
-        unchanged(&asked.fields, entry)
+        is_unchanged_since(&asked.fields, entry)
     }
 }
 
 /// Whether a 304 carries a line of a stored response, which has an ETag line or not.
-fn is_carried(line: &Field, tagged: bool) -> bool
-    ensures { result ≡ is_carried tagged line.now }
+fn is_carried_by_304(line: &Field, tagged: bool) -> bool
+    ensures { result ≡ is_carried_by_304 tagged line.now }
 {
     let name = line.name.as_slice();
     is_same_name(name, b"Cache-Control")
@@ -140,12 +142,12 @@ fn is_carried(line: &Field, tagged: bool) -> bool
 
 /// The lines of the 304 that stands for a stored response. Its only error is out of memory.
 pub fn not_modified(alloc: Global, entry: &Entry) -> Result<Fields, AllocError>
-    ensures { IfOk result (λ fields. fields ≡ not_modified_of entry.now.fields) }
+    ensures { IfOk result (λ fields. fields ≡ fields_of_304 entry.now.fields) }
 {
     let tagged = entry.fields.has(b"ETag");
     let mut carried = Fields::new(alloc);
     for line in entry.fields.as_slice() {
-        if is_carried(line, tagged) {
+        if is_carried_by_304(line, tagged) {
             carried.push(line.name.as_slice(), line.value.as_slice())?;
         }
     }

@@ -3,7 +3,8 @@
 //! The grammar and both comparisons are in `specs/EntityTags.antt`. No function here takes memory.
 ghost use Rattle.std.specs.Prelude.{◌≡◌, option_copied, option_map, is_some};
 ghost use Rattle.std.specs.List.{list_all};
-ghost use Rattle.hx_validate.specs.EntityTags.{inside, is_tag_byte, opaque_of, strong_eq, tag_of, tagged, weak_eq};
+ghost use Rattle.hx_validate.specs.EntityTags.{without_first_and_last, is_tag_byte, opaque_tag_of, strong_eq};
+ghost use Rattle.hx_validate.specs.EntityTags.{entity_tag_of, tagged, weak_eq};
 
 /// An entity tag of a field value.
 #[derive(Clone, Copy)]
@@ -16,7 +17,7 @@ pub(crate) struct EntityTag<'a> {
 impl<'a> EntityTag<'a> {
     /// The entity tag that a value is, if it is one.
     pub(crate) fn of(value: &'a [u8]) -> Option<EntityTag<'a>>
-        ensures { option_map (λ tag. tagged tag.weak tag.opaque.now) result ≡ tag_of value.now }
+        ensures { option_map (λ tag. tagged tag.weak tag.opaque.now) result ≡ entity_tag_of value.now }
     {
         match value.strip_prefix(b"W/") {
             Some(rest) => EntityTag::with(true, rest),
@@ -26,9 +27,9 @@ impl<'a> EntityTag<'a> {
 
     fn with(weak: bool, text: &'a [u8]) -> Option<EntityTag<'a>>
         ensures { option_map (λ tag. tagged tag.weak tag.opaque.now) result
-            ≡ option_map (tagged weak) (opaque_of text.now) }
+            ≡ option_map (tagged weak) (opaque_tag_of text.now) }
     {
-        match opaque_of(text) {
+        match opaque_tag_of(text) {
             Some(opaque) => Some(EntityTag { weak, opaque }),
             None => None,
         }
@@ -36,8 +37,8 @@ impl<'a> EntityTag<'a> {
 }
 
 /// What stands between the quotes of an opaque tag.
-fn opaque_of(text: &[u8]) -> Option<&[u8]>
-    ensures { option_copied result ≡ opaque_of text.now }
+fn opaque_tag_of(text: &[u8]) -> Option<&[u8]>
+    ensures { option_copied result ≡ opaque_tag_of text.now }
 {
     match text {
         [b'"', opaque @ .., b'"'] if are_tag_bytes(opaque) => Some(opaque),

@@ -4,7 +4,8 @@
 ghost use Rattle.std.specs.Prelude.{◌≡◌, ◌++◌, [], filter, not, IfOk, OnOk};
 ghost use Rattle.hx_vary.specs.Vary.{nominated_of};
 ghost use Rattle.hx_validate.specs.LineNames.{HasEachName};
-ghost use Rattle.hx_validate.specs.Answering.{freshened_fields, freshened_of, is_brought, is_replaced, names_or_none};
+ghost use Rattle.hx_validate.specs.Answering.{freshened_fields, freshened_of, is_line_of_304, is_replaced_by_304};
+ghost use Rattle.hx_validate.specs.Answering.{nominated_or_none};
 
 use hx_age::Times;
 use hx_directives::Directives;
@@ -16,20 +17,20 @@ use std::alloc::{AllocError, Global};
 use std::collections::BTreeSet;
 
 /// A 304 of more lines has its names looked up, so that the cost grows with the lines and not with their square.
-const FEW: usize = 16;
+const FEW_LINES: usize = 16;
 
 /// Whether a 304 can bring this line.
-fn is_brought(line: &Field) -> bool
-    ensures { result ≡ is_brought line.now }
+fn is_line_of_304(line: &Field) -> bool
+    ensures { result ≡ is_line_of_304 line.now }
 {
     !is_same_name(line.name.as_slice(), b"Content-Length")
         && !is_same_name(line.name.as_slice(), b"Age")
 }
 
-fn is_replaced(fields: &Fields, line: &Field) -> bool
-    ensures { result ≡ is_replaced fields.now line.now }
+fn is_replaced_by_304(fields: &Fields, line: &Field) -> bool
+    ensures { result ≡ is_replaced_by_304 fields.now line.now }
 {
-    is_brought(line) && fields.has(line.name.as_slice())
+    is_line_of_304(line) && fields.has(line.name.as_slice())
 }
 
 /// Puts the stored lines that stay at the end.
@@ -39,9 +40,10 @@ fn push_stored(
     stored: &[Field],
     answered: &Fields,
 ) -> Result<(), AllocError>
-    ensures { OnOk result (fields.new ≡ fields.old ++ filter (λ line. not (is_replaced answered.now line)) stored.now) }
+    ensures { OnOk result (fields.new ≡ fields.old ++ filter
+        (λ line. not (is_replaced_by_304 answered.now line)) stored.now) }
 {
-    if answered.len() > FEW {
+    if answered.len() > FEW_LINES {
         return push_stored_beside_many(alloc, fields, stored, answered);
     }
     push_stored_beside_few(fields, stored, answered)
@@ -53,10 +55,11 @@ fn push_stored_beside_few(
     stored: &[Field],
     answered: &Fields,
 ) -> Result<(), AllocError>
-    ensures { OnOk result (fields.new ≡ fields.old ++ filter (λ line. not (is_replaced answered.now line)) stored.now) }
+    ensures { OnOk result (fields.new ≡ fields.old ++ filter
+        (λ line. not (is_replaced_by_304 answered.now line)) stored.now) }
 {
     for line in stored {
-        if !is_replaced(answered, line) {
+        if !is_replaced_by_304(answered, line) {
             fields.push(line.name.as_slice(), line.value.as_slice())?;
         }
     }
@@ -70,13 +73,14 @@ fn push_stored_beside_many(
     stored: &[Field],
     answered: &Fields,
 ) -> Result<(), AllocError>
-    ensures { OnOk result (fields.new ≡ fields.old ++ filter (λ line. not (is_replaced answered.now line)) stored.now) }
+    ensures { OnOk result (fields.new ≡ fields.old ++ filter
+        (λ line. not (is_replaced_by_304 answered.now line)) stored.now) }
 {
     let names = line_names(alloc, answered.as_slice())?;
     let mut name = FoldedName::new(alloc);
     for line in stored {
         name.set(line.name.as_slice())?;
-        if !(is_brought(line) && names.contains(&name)) {
+        if !(is_line_of_304(line) && names.contains(&name)) {
             fields.push(line.name.as_slice(), line.value.as_slice())?;
         }
     }
@@ -96,10 +100,10 @@ fn line_names(alloc: Global, lines: &[Field]) -> Result<BTreeSet<FoldedName>, Al
 
 /// Puts the lines that a 304 brings at the end.
 fn push_brought(fields: &mut Fields, lines: &[Field]) -> Result<(), AllocError>
-    ensures { OnOk result (fields.new ≡ fields.old ++ filter is_brought lines.now) }
+    ensures { OnOk result (fields.new ≡ fields.old ++ filter is_line_of_304 lines.now) }
 {
     for line in lines {
-        if is_brought(line) {
+        if is_line_of_304(line) {
             fields.push(line.name.as_slice(), line.value.as_slice())?;
         }
     }
@@ -127,8 +131,12 @@ fn no_names(alloc: Global) -> Result<Nominated, AllocError>
 }
 
 /// What the new lines nominate of the request, which is nothing where they nominate everything.
-fn names_or_none(alloc: Global, fields: &Fields, request: &Fields) -> Result<Nominated, AllocError>
-    ensures { IfOk result (λ nominated. nominated ≡ names_or_none (nominated_of fields.now request.now)) }
+fn nominated_or_none(
+    alloc: Global,
+    fields: &Fields,
+    request: &Fields,
+) -> Result<Nominated, AllocError>
+    ensures { IfOk result (λ nominated. nominated ≡ nominated_or_none (nominated_of fields.now request.now)) }
 {
     match Nominated::of(alloc, fields, request)? {
         Nomination::Names(nominated) => Ok(nominated),
@@ -153,7 +161,7 @@ pub fn freshened(
     Ok(Entry {
         serial: entry.serial,
         key: entry.key.copy(alloc)?,
-        nominated: names_or_none(alloc, &fields, &asked.fields)?,
+        nominated: nominated_or_none(alloc, &fields, &asked.fields)?,
         status: entry.status,
         directives: Directives::of(alloc, &fields)?,
         fields,

@@ -6,15 +6,14 @@
 //! which rule forwarded a request.
 #![tactic(auto)]
 
-mod answering;
 mod client_conditions;
 mod entity_tags;
 mod freshening;
 mod laws;
+mod matching_304;
 mod room;
-mod validators;
+mod stored_validators;
 
-pub use answering::answers;
 pub use client_conditions::{client_wants_304, not_modified};
 pub use entity_tags::{strong_eq, weak_eq};
 pub use freshening::freshened;
@@ -26,5 +25,6 @@ pub use laws::{
     tags_are_compared, the_rest_of_it_stays, the_same_tag_answers, validators_come_once,
     which_304_answers,
 };
-pub use room::leaves_room;
-pub use validators::{conditions, has_validator};
+pub use matching_304::answers;
+pub use room::head_leaves_room;
+pub use stored_validators::{conditions, has_validator};

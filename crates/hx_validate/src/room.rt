@@ -2,8 +2,8 @@
 //!
 //! The definition is in `specs/Room.antt`. No function here takes memory.
 ghost use Rattle.std.specs.Prelude.{◌≡◌, ◌-◌, nat_le, length, cond, Some, None};
-ghost use Rattle.hx_framing.specs.Text.{field_line};
-ghost use Rattle.hx_validate.specs.Room.{leaves_room};
+ghost use Rattle.hx_framing.specs.Text.{field_line_text};
+ghost use Rattle.hx_validate.specs.Room.{head_leaves_room};
 
 use hx_fields::{Field, Fields};
 
@@ -17,9 +17,10 @@ const MOST_BYTES: usize = 32_512;
 const BYTES_BESIDE: usize = 4;
 
 /// What a line leaves of so many bytes.
-fn left_behind(room: usize, line: &Field) -> Option<usize>
+fn room_behind_line(room: usize, line: &Field) -> Option<usize>
     ensures { result
-        ≡ cond (nat_le (length (field_line line.now)) room) (Some (room - length (field_line line.now))) None }
+        ≡ cond (nat_le (length (field_line_text line.now)) room)
+        (Some (room - length (field_line_text line.now))) None }
 {
     room.checked_sub(BYTES_BESIDE)?
         .checked_sub(line.name.len())?
@@ -28,8 +29,8 @@ fn left_behind(room: usize, line: &Field) -> Option<usize>
 
 /// Whether lines are so few and short that what is added to them, where they are sent, stays within
 /// the limits of a head.
-pub fn leaves_room(fields: &Fields) -> bool
-    ensures { result ≡ leaves_room fields.now }
+pub fn head_leaves_room(fields: &Fields) -> bool
+    ensures { result ≡ head_leaves_room fields.now }
 {
     let lines = fields.as_slice();
     if lines.len() > MOST_LINES {
@@ -37,7 +38,7 @@ pub fn leaves_room(fields: &Fields) -> bool
     }
     let mut room = MOST_BYTES;
     for line in lines {
-        match left_behind(room, line) {
+        match room_behind_line(room, line) {
             Some(left) => room = left,
             None => return false,
         }

@@ -2,36 +2,36 @@
 use Rattle.std.proofs.Common.{◌≡◌, ℕ, ◌-◌, Bool, true, false, cond, eqb, List, [], ◌∷◌, Option, None, Some, refl, sym, ◌∙◌, ap, inl, inr}
 use Rattle.std.proofs.lemmas.Bool.{and_parts, cases_Bool, false≢true, or_right}
 use Rattle.std.proofs.lemmas.Slice.Eq.{bytes_eq-Decides}
-use Rattle.hx_fields.specs.Lines.{combined_of}
+use Rattle.hx_fields.specs.FieldLines.{combined_of}
 use Rattle.hx_fields.specs.declared.field_line.Field.{Field}
 use Rattle.hx_vary.specs.declared.nominated_values.NominatedValue.{NominatedValue}
 use Rattle.hx_vary.specs.Vary.{is_same_value, vary_matches}
-use Rattle.hx_vary.specs.Marks.{HasTags, mark_of, may_be, may_match, tag_at, tag_before, tag_of, tags_of}
+use Rattle.hx_vary.specs.Marks.{RequestHasTags, mark_of_values, tag_may_be, mark_may_match, value_tag_at, tags_with_value, value_tag, value_tags}
 
 same_value : (value : List ℕ) (other : Option (List ℕ)) → is_same_value (Some value) other ≡ true → other ≡ Some value
 same_value value None h = absurd (false≢true h)
 same_value value (Some w) h = ap Some (sym ((bytes_eq-Decides value w).0 h))
 
-passes : (seed : ℕ) (has : ℕ → Bool) (rest : List ℕ) (value : Option (List ℕ)) → ((v : List ℕ) → value ≡ Some v → has (tag_of seed v) ≡ true) →
-    ((n : ℕ) → may_be has (tag_at n rest) ≡ true) → (n : ℕ) → may_be has (tag_at n (tag_before seed rest value)) ≡ true
+passes : (seed : ℕ) (has : ℕ → Bool) (rest : List ℕ) (value : Option (List ℕ)) → ((v : List ℕ) → value ≡ Some v → has (value_tag seed v) ≡ true) →
+    ((n : ℕ) → tag_may_be has (value_tag_at n rest) ≡ true) → (n : ℕ) → tag_may_be has (value_tag_at n (tags_with_value seed rest value)) ≡ true
 passes seed has rest None h more n = more n
 passes seed has rest (Some v) h more n =
-    elim (eqb n 0) as (λ b. may_be has (cond b (tag_of seed v) (tag_at (n - 1) rest)) ≡ true) [
-      | true ↦ or_right (eqb (tag_of seed v) 0) (has (tag_of seed v)) (h v refl)
+    elim (eqb n 0) as (λ b. tag_may_be has (cond b (value_tag seed v) (value_tag_at (n - 1) rest)) ≡ true) [
+      | true ↦ or_right (eqb (value_tag seed v) 0) (has (value_tag seed v)) (h v refl)
       | false ↦ more (n - 1)
     ]
 
-each_passes : (seed : ℕ) (kept : List NominatedValue) (request : List Field) (has : ℕ → Bool) → HasTags seed request has →
-    vary_matches kept request ≡ true → (n : ℕ) → may_be has (tag_at n (tags_of seed kept)) ≡ true
+each_passes : (seed : ℕ) (kept : List NominatedValue) (request : List Field) (has : ℕ → Bool) → RequestHasTags seed request has →
+    vary_matches kept request ≡ true → (n : ℕ) → tag_may_be has (value_tag_at n (value_tags seed kept)) ≡ true
 each_passes seed [] request has tags h n = refl
 each_passes seed (k ∷ kept) request has tags h n =
     let p = and_parts (is_same_value k.value (combined_of request k.name)) (vary_matches kept request) h in
-    passes seed has (tags_of seed kept) k.value
+    passes seed has (value_tags seed kept) k.value
     (λ v e. tags k.name v (same_value v (combined_of request k.name) (ap (λ o. is_same_value o (combined_of request k.name)) (sym e) ∙ p.0)))
     (each_passes seed kept request has tags p.1) n
 
-pub misses_nothing : (seed : ℕ) (kept : List NominatedValue) (request : List Field) (has : ℕ → Bool) → HasTags seed request has →
-    vary_matches kept request ≡ true → may_match has (mark_of seed kept) ≡ true
+pub misses_nothing : (seed : ℕ) (kept : List NominatedValue) (request : List Field) (has : ℕ → Bool) → RequestHasTags seed request has →
+    vary_matches kept request ≡ true → mark_may_match has (mark_of_values seed kept) ≡ true
 misses_nothing seed kept request has tags h =
     let m = each_passes seed kept request has tags h in
     rw (m 0, m 1, m 2, m 3) refl

@@ -7,11 +7,11 @@ use Rattle.std.specs.BTreeMap.{get, is_at}
 use Rattle.std.proofs.lemmas.Bool.{cases_Bool, false≢true}
 use Rattle.std.proofs.lemmas.Slice.Eq.{bytes_eq-Decides}
 use Rattle.hx_fields.specs.Folded.{folded, folded_cmp, folded_ties}
-use Rattle.hx_fields.specs.Lines.{combined_of}
+use Rattle.hx_fields.specs.FieldLines.{combined_of}
 use Rattle.hx_fields.specs.Names.{joined}
 use Rattle.hx_fields.specs.declared.field_line.Field.{Field}
 use Rattle.hx_vary.specs.declared.nominated_values.NominatedValue.{NominatedValue}
-use Rattle.hx_vary.specs.Combined.{HasEachValue, all_kept_by, with_line}
+use Rattle.hx_vary.specs.Combined.{HasEachValue, all_kept_by, value_with_line}
 use Rattle.hx_vary.specs.Vary.{is_same_value, vary_matches}
 
 abbrev pub Values : Type 0
@@ -36,7 +36,7 @@ listed_more : (vs : List (List ℕ)) (v : List ℕ) → listed (vs ++ v ∷ []) 
 listed_more [] v = nothing_more (codes ", " ++ v)
 listed_more (w ∷ vs) v = ap (λ z. (codes ", " ++ w) ++ z) (listed_more vs v) ∙ sym (append_assoc (codes ", " ++ w) (listed vs) (codes ", " ++ v))
 
-joined_more : (vs : List (List ℕ)) (v : List ℕ) → joined (vs ++ v ∷ []) ≡ Some (with_line (joined vs) v)
+joined_more : (vs : List (List ℕ)) (v : List ℕ) → joined (vs ++ v ∷ []) ≡ Some (value_with_line (joined vs) v)
 joined_more [] v = ap Some (nothing_more v)
 joined_more (w ∷ vs) v =
     ap (λ z. Some (w ++ z)) (listed_more vs v)
@@ -57,12 +57,12 @@ values_more p (l ∷ lines) line =
 
 -- a line more, of this name or of another
 combined_more : (lines : List Field) (line : Field) (q : List ℕ) →
-    combined_at (lines ++ line ∷ []) q ≡ cond (bytes_eq (folded line.name) q) (Some (with_line (combined_at lines q) line.value)) (combined_at lines q)
+    combined_at (lines ++ line ∷ []) q ≡ cond (bytes_eq (folded line.name) q) (Some (value_with_line (combined_at lines q) line.value)) (combined_at lines q)
 combined_more lines line q =
     let p : Field → Bool = λ f. bytes_eq (folded f.name) q in
     let vs = map (λ (f : Field). f.value) (filter p lines) in
     ap joined (values_more p lines line)
-    ∙ (elim (p line) as (λ b. joined (vs ++ cond b (line.value ∷ []) []) ≡ cond b (Some (with_line (joined vs) line.value)) (joined vs)) [
+    ∙ (elim (p line) as (λ b. joined (vs ++ cond b (line.value ∷ []) []) ≡ cond b (Some (value_with_line (joined vs) line.value)) (joined vs)) [
       | true ↦ joined_more vs line.value
       | false ↦ ap joined (append-nil vs)
     ])
@@ -77,7 +77,7 @@ by_name true v none g = refl
 by_name false v none g = refl
 
 pub one_line_more : (lines : List Field) (line : Field) (v : List ℕ) (old without new : Values) → Gathered lines old →
-    v ≡ with_line (get folded_cmp old (folded line.name)) line.value →
+    v ≡ value_with_line (get folded_cmp old (folded line.name)) line.value →
     ((q : List ℕ) → get folded_cmp without q ≡ cond (is_at (folded_cmp (folded line.name)) q) None (get folded_cmp old q)) →
     ((q : List ℕ) → get folded_cmp new q ≡ cond (is_at (folded_cmp (folded line.name)) q) (Some v) (get folded_cmp without q)) →
     Gathered (lines ++ line ∷ []) new
@@ -89,11 +89,11 @@ one_line_more lines line v old without new h is out put q =
     ∙ ap (λ b. cond b (Some v) (get folded_cmp old q)) (sym (folded_ties name q))
     ∙ (elim (cases_Bool (bytes_eq name q)) [
       | inl t ↦ ap (λ b. cond b (Some v) (get folded_cmp old q)) t
-          ∙ ap Some (is ∙ ap (λ o. with_line o line.value) (h name ∙ ap (combined_at lines) (one name q t)))
-          ∙ sym (ap (λ b. cond b (Some (with_line (combined_at lines q) line.value)) (combined_at lines q)) t)
+          ∙ ap Some (is ∙ ap (λ o. value_with_line o line.value) (h name ∙ ap (combined_at lines) (one name q t)))
+          ∙ sym (ap (λ b. cond b (Some (value_with_line (combined_at lines q) line.value)) (combined_at lines q)) t)
       | inr f ↦ ap (λ b. cond b (Some v) (get folded_cmp old q)) f
           ∙ h q
-          ∙ sym (ap (λ b. cond b (Some (with_line (combined_at lines q) line.value)) (combined_at lines q)) f)
+          ∙ sym (ap (λ b. cond b (Some (value_with_line (combined_at lines q) line.value)) (combined_at lines q)) f)
     ])
     ∙ sym (combined_more lines line q)
 

@@ -6,13 +6,13 @@ use Rattle.hx_vary.specs.declared.nominated_values.NominatedValue.{NominatedValu
 use Rattle.hx_vary.specs.Vary.{kept_values}
 
 -- a response with one Vary line
-abbrev pub varying : List ℕ → List Field
-varying value = line (codes "Vary") value ∷ []
+abbrev pub vary_fields : List ℕ → List Field
+vary_fields value = line (codes "Vary") value ∷ []
 
 -- a line of the field that the cases nominate
-abbrev pub speaks : List ℕ → Field
-speaks value = line (codes "Accept-Language") value
+abbrev pub accept_language : List ℕ → Field
+accept_language value = line (codes "Accept-Language") value
 
 -- what a response that nominates this field keeps of a request
-abbrev pub kept_for : List Field → List NominatedValue
-kept_for request = kept_values (varying (codes "accept-language")) request
+abbrev pub values_kept_for : List Field → List NominatedValue
+values_kept_for request = kept_values (vary_fields (codes "accept-language")) request

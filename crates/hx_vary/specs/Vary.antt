@@ -2,11 +2,11 @@
 --
 -- nominated_of: what is kept of the earlier request
 -- vary_matches: a later request's values are those that were kept
--- selects_both: the same question, asked of the whole earlier request
+-- both_select_alike: the same question, asked of the whole earlier request
 use Rattle.std.specs.Prelude.{◌≡◌, ℕ, Bool, true, false, if◌then◌else◌, ◌||◌, not, List, [], ◌∷◌, map, filter, codes}
 use Rattle.std.specs.Prelude.{bytes_eq, Option, Some, None}
 use Rattle.std.specs.List.{list_all, list_any}
-use Rattle.hx_fields.specs.Lines.{combined_of, members_of}
+use Rattle.hx_fields.specs.FieldLines.{combined_of, members_of}
 use Rattle.hx_fields.specs.Names.{is_same_name}
 use Rattle.hx_fields.specs.Tokens.{is_token}
 use Rattle.hx_fields.specs.declared.field_line.Field.{Field}
@@ -56,24 +56,24 @@ abbrev pub vary_matches : List NominatedValue → List Field → Bool
 vary_matches kept request = list_all (λ k. is_same_value k.value (combined_of request k.name)) kept
 
 -- both requests have the same value of each name that the response nominates
-abbrev pub selects_both : List Field → List Field → List Field → Bool
-selects_both response earlier later =
+abbrev pub both_select_alike : List Field → List Field → List Field → Bool
+both_select_alike response earlier later =
     list_all (λ name. is_same_value (combined_of earlier name) (combined_of later name)) (vary_names response)
 
 -- what is kept of a request decides just as the whole request would
-abbrev pub KeptIsEnough : Type 0
-KeptIsEnough = (response earlier later : List Field) →
-    vary_matches (kept_values response earlier) later ≡ selects_both response earlier later
+abbrev pub KeptValuesAreEnough : Type 0
+KeptValuesAreEnough = (response earlier later : List Field) →
+    vary_matches (kept_values response earlier) later ≡ both_select_alike response earlier later
 
 -- the request that was answered matches what is kept of it
-abbrev pub MatchesItself : Type 0
-MatchesItself = (response request : List Field) → vary_matches (kept_values response request) request ≡ true
+abbrev pub RequestMatchesItself : Type 0
+RequestMatchesItself = (response request : List Field) → vary_matches (kept_values response request) request ≡ true
 
 -- "A stored response with a Vary header field value containing a member "*" always fails to match"
 -- (RFC 9111, section 4.1)
-abbrev pub KeepsNothingOfAStar : Type 0
-KeepsNothingOfAStar = (response request : List Field) → is_star response ≡ true → nominated_of response request ≡ Star
+abbrev pub NothingIsKeptForAStar : Type 0
+NothingIsKeptForAStar = (response request : List Field) → is_star response ≡ true → nominated_of response request ≡ Star
 
-abbrev pub KeepsEachName : Type 0
-KeepsEachName = (response request : List Field) → is_star response ≡ false
+abbrev pub EachNominatedNameIsKept : Type 0
+EachNominatedNameIsKept = (response request : List Field) → is_star response ≡ false
     → nominated_of response request ≡ Names (kept_values response request)

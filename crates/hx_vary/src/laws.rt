@@ -1,26 +1,27 @@
 //! What the definitions say of the standard's cases and of worked ones.
 
 ghost use Rattle.std.specs.Prelude.{◌≡◌, true, false, [], ◌∷◌, codes};
-ghost use Rattle.hx_vary.specs.Vary.{KeepsEachName, KeepsNothingOfAStar, KeptIsEnough, MatchesItself, each_once};
+ghost use Rattle.hx_vary.specs.Vary.{EachNominatedNameIsKept, NothingIsKeptForAStar, KeptValuesAreEnough};
+ghost use Rattle.hx_vary.specs.Vary.{RequestMatchesItself, each_once};
 ghost use Rattle.hx_vary.specs.Vary.{is_star, nominated_of, vary_matches};
-ghost use Rattle.hx_vary.specs.Marks.{MarksMissNothing, NoValueIsUnmarked};
-ghost use Rattle.hx_vary.specs.Cases.{kept_for, speaks, varying};
+ghost use Rattle.hx_vary.specs.Marks.{MarksMissNoMatch, NoValueIsUnmarked};
+ghost use Rattle.hx_vary.specs.Cases.{values_kept_for, accept_language, vary_fields};
 
 use crate::nominations::Nomination;
 
 /// What is kept of a request decides just as the whole request would.
 pub fn kept_is_enough()
-    ensures { KeptIsEnough }
+    ensures { KeptValuesAreEnough }
 {}
 
 /// The request that was answered has each value that is kept of it.
 pub fn a_request_matches_itself()
-    ensures { MatchesItself }
+    ensures { RequestMatchesItself }
 {}
 
 /// What a request matches is not passed over by its mark.
 pub fn marks_miss_nothing()
-    ensures { MarksMissNothing }
+    ensures { MarksMissNoMatch }
 {}
 
 /// A value that is there has a mark.
@@ -30,25 +31,27 @@ pub fn no_value_is_unmarked()
 
 /// Nothing is kept for a response with a star, and else each nominated name with its value (RFC 9111, section 4.1).
 pub fn a_star_is_kept_as_one()
-    ensures star { KeepsNothingOfAStar }
-    ensures names { KeepsEachName }
+    ensures star { NothingIsKeptForAStar }
+    ensures names { EachNominatedNameIsKept }
 {}
 
 /// Stored for a request in German: the same value, none, an empty one, two lines, and a response without Vary.
 pub fn vary_values_are_compared()
-    ensures same { vary_matches (kept_for (speaks (codes "de") ∷ [])) (speaks (codes "de") ∷ []) ≡ true }
-    ensures absent { vary_matches (kept_for (speaks (codes "de") ∷ [])) [] ≡ false }
-    ensures empty { vary_matches (kept_for []) (speaks [] ∷ []) ≡ false }
-    ensures both_absent { vary_matches (kept_for []) [] ≡ true }
-    ensures two_lines { vary_matches (kept_for (speaks (codes "de") ∷ [])) (speaks (codes "de") ∷ speaks (codes "en") ∷ [])
+    ensures same { vary_matches (values_kept_for (accept_language (codes "de") ∷ []))
+        (accept_language (codes "de") ∷ []) ≡ true }
+    ensures absent { vary_matches (values_kept_for (accept_language (codes "de") ∷ [])) [] ≡ false }
+    ensures empty { vary_matches (values_kept_for []) (accept_language [] ∷ []) ≡ false }
+    ensures both_absent { vary_matches (values_kept_for []) [] ≡ true }
+    ensures two_lines { vary_matches (values_kept_for (accept_language (codes "de") ∷ []))
+        (accept_language (codes "de") ∷ accept_language (codes "en") ∷ [])
         ≡ false }
     ensures twice { each_once (codes "a" ∷ codes "B" ∷ codes "A" ∷ codes "b" ∷ []) ≡ codes "a" ∷ codes "B" ∷ [] }
-    ensures no_vary { nominated_of [] (speaks (codes "de") ∷ []) ≡ Nomination.Names [] }
+    ensures no_vary { nominated_of [] (accept_language (codes "de") ∷ []) ≡ Nomination.Names [] }
 {}
 
 /// A star among names, and a member that is no token.
 pub fn star_nominates_everything()
-    ensures star { is_star (varying (codes "Accept, *")) ≡ true }
-    ensures no_token { is_star (varying (codes "\"Accept\"")) ≡ true }
-    ensures names { is_star (varying (codes "Accept, *a")) ≡ false }
+    ensures star { is_star (vary_fields (codes "Accept, *")) ≡ true }
+    ensures no_token { is_star (vary_fields (codes "\"Accept\"")) ≡ true }
+    ensures names { is_star (vary_fields (codes "Accept, *a")) ≡ false }
 {}

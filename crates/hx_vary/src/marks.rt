@@ -5,7 +5,7 @@
 //! tag; two of one tag cost a look, and change nothing.
 
 ghost use Rattle.std.specs.Prelude.{◌≡◌};
-ghost use Rattle.hx_vary.specs.Marks.{may_match, tag_at, tag_of, tags_of};
+ghost use Rattle.hx_vary.specs.Marks.{mark_may_match, value_tag_at, value_tag, value_tags};
 
 use crate::nominated_values::NominatedValue;
 use std::hash::{DefaultHasher, Hasher};
@@ -20,9 +20,9 @@ pub struct Mark {
 }
 
 /// A number of a value, never 0.
-#[tactic(auto, unfolding(crate::specs::Marks::tag_of))]
-pub(crate) fn tag_of(seed: u64, value: &[u8]) -> u64
-    ensures { result ≡ tag_of seed value.now }
+#[tactic(auto, unfolding(crate::specs::Marks::value_tag))]
+pub(crate) fn value_tag(seed: u64, value: &[u8]) -> u64
+    ensures { result ≡ value_tag seed value.now }
 {
     let mut hasher = DefaultHasher::new();
     hasher.write_u64(seed);
@@ -32,14 +32,14 @@ pub(crate) fn tag_of(seed: u64, value: &[u8]) -> u64
 }
 
 /// The tag at a place, from 0, among those of the values that are present.
-pub(crate) fn tag_at(values: &[NominatedValue], seed: u64, place: usize) -> u64
-    ensures { result ≡ tag_at place (tags_of seed values.now) }
+pub(crate) fn value_tag_at(values: &[NominatedValue], seed: u64, place: usize) -> u64
+    ensures { result ≡ value_tag_at place (value_tags seed values.now) }
 {
     let mut left = place;
     for kept in values {
         if let Some(value) = &kept.value {
             if left == 0 {
-                return tag_of(seed, value.as_slice());
+                return value_tag(seed, value.as_slice());
             }
             left -= 1;
         }

@@ -1,7 +1,7 @@
 //! One nominated field of an earlier request.
 
 ghost use Rattle.std.specs.Prelude.{◌≡◌, IfOk, option_copied};
-ghost use Rattle.hx_fields.specs.Lines.{combined_of};
+ghost use Rattle.hx_fields.specs.FieldLines.{combined_of};
 ghost use Rattle.hx_vary.specs.Vary.{is_same_value};
 
 use hx_fields::{Bytes, Fields};

@@ -3,9 +3,9 @@
 ghost use Rattle.std.specs.Prelude.{◌≡◌, map, IfOk};
 ghost use Rattle.std.specs.List.{list_any};
 ghost use Rattle.hx_vary.specs.Vary.{each_once, is_star_member, kept_value, vary_matches};
-ghost use Rattle.hx_vary.specs.Marks.{mark_of};
+ghost use Rattle.hx_vary.specs.Marks.{mark_of_values};
 
-use crate::marks::{Mark, tag_at};
+use crate::marks::{Mark, value_tag_at};
 use crate::nominated_values::NominatedValue;
 use crate::request_values::RequestValues;
 use hx_fields::{Bytes, Fields, FoldedName, is_token};
@@ -14,7 +14,7 @@ use std::collections::BTreeSet;
 use std::marker::Model;
 
 /// So many nominated values are looked for among the lines one by one; more by their names.
-const FEW: usize = 4;
+const FEW_VALUES: usize = 4;
 
 /// The nominated fields of the request that a response answered, with their values.
 #[derive(Debug, Drop)]
@@ -69,14 +69,14 @@ impl Nominated {
 
     /// The mark of these values by a seed, by which a request that can't match is told. No memory is taken.
     pub fn mark(&self, seed: u64) -> Mark
-        ensures { result ≡ mark_of seed self.now }
+        ensures { result ≡ mark_of_values seed self.now }
     {
         let values = self.values.as_slice();
         Mark {
-            first: tag_at(values, seed, 0),
-            second: tag_at(values, seed, 1),
-            third: tag_at(values, seed, 2),
-            fourth: tag_at(values, seed, 3),
+            first: value_tag_at(values, seed, 0),
+            second: value_tag_at(values, seed, 1),
+            third: value_tag_at(values, seed, 2),
+            fourth: value_tag_at(values, seed, 3),
         }
     }
 
@@ -114,7 +114,7 @@ fn kept_values(
 pub fn matches(alloc: Global, nominated: &Nominated, request: &Fields) -> Result<bool, AllocError>
     ensures { IfOk result (λ same. same ≡ vary_matches nominated.now request.now) }
 {
-    if nominated.values.len() > FEW {
+    if nominated.values.len() > FEW_VALUES {
         return RequestValues::of(alloc, request, 0)?.matches(nominated);
     }
     matches_few(alloc, nominated.as_slice(), request)

@@ -4,11 +4,12 @@ ghost use Rattle.std.specs.Prelude.{◌≡◌, nat_eq, IfOk, option_copied};
 ghost use Rattle.std.specs.BTreeMap.{get};
 ghost use Rattle.std.specs.HashSet.{contains};
 ghost use Rattle.hx_fields.specs.Folded.{folded, folded_cmp};
-ghost use Rattle.hx_vary.specs.Combined.{all_kept_by, AreTagged, folded_value, HasEachValue, with_line};
-ghost use Rattle.hx_vary.specs.Marks.{HasTags, may_be, may_match};
+ghost use Rattle.hx_vary.specs.Combined.{all_kept_by, ValuesAreTagged, value_of_folded_name, HasEachValue};
+ghost use Rattle.hx_vary.specs.Combined.{value_with_line};
+ghost use Rattle.hx_vary.specs.Marks.{RequestHasTags, tag_may_be, mark_may_match};
 ghost use Rattle.hx_vary.specs.Vary.{is_same_value};
 
-use crate::marks::{Mark, tag_of};
+use crate::marks::{Mark, value_tag};
 use crate::nominated_values::{NominatedValue, is_same_value, slice_of};
 use crate::nominations::Nominated;
 use hx_fields::{Bytes, Field, Fields, FoldedName};
@@ -44,15 +45,15 @@ fn combined_values(
     let mut name = FoldedName::new(alloc);
     for line in lines {
         name.set(line.name.as_slice())?;
-        let value = with_line(alloc, values.remove(&name), &line.value)?;
+        let value = value_with_line(alloc, values.remove(&name), &line.value)?;
         values.insert(FoldedName::of(alloc, line.name.as_slice())?, value)?;
     }
     Ok(values)
 }
 
 /// The combined value of a name, if it had one, with that of a further line (RFC 9110, section 5.3).
-fn with_line(alloc: Global, before: Option<Bytes>, value: &Bytes) -> Result<Bytes, AllocError>
-    ensures { IfOk result (λ all. all ≡ with_line before value.now) }
+fn value_with_line(alloc: Global, before: Option<Bytes>, value: &Bytes) -> Result<Bytes, AllocError>
+    ensures { IfOk result (λ all. all ≡ value_with_line before value.now) }
 {
     match before {
         Some(before) => before
@@ -63,16 +64,16 @@ fn with_line(alloc: Global, before: Option<Bytes>, value: &Bytes) -> Result<Byte
 }
 
 /// The tags of these values.
-fn tags_of(
+fn value_tags(
     alloc: Global,
     values: &BTreeMap<FoldedName, Bytes>,
     seed: u64,
 ) -> Result<HashSet<u64>, AllocError>
-    ensures { IfOk result (λ tags. AreTagged seed values.now (contains nat_eq tags)) }
+    ensures { IfOk result (λ tags. ValuesAreTagged seed values.now (contains nat_eq tags)) }
 {
     let mut tags = HashSet::new(alloc);
     for value in values.values() {
-        tags.insert(tag_of(seed, value.as_slice()))?;
+        tags.insert(value_tag(seed, value.as_slice()))?;
     }
     Ok(tags)
 }
@@ -81,10 +82,10 @@ impl RequestValues {
     /// Those of a request, with tags by a seed. Fails only where memory runs out.
     pub fn of(alloc: Global, request: &Fields, seed: u64) -> Result<RequestValues, AllocError>
         ensures values { IfOk result (λ asked. HasEachValue request.now asked.values) }
-        ensures tags { IfOk result (λ asked. HasTags seed request.now (contains nat_eq asked.tags)) }
+        ensures tags { IfOk result (λ asked. RequestHasTags seed request.now (contains nat_eq asked.tags)) }
     {
         let values = combined_values(alloc, request.as_slice())?;
-        let tags = tags_of(alloc, &values, seed)?;
+        let tags = value_tags(alloc, &values, seed)?;
         Ok(RequestValues {
             alloc,
             values,
@@ -94,7 +95,7 @@ impl RequestValues {
 
     /// Whether what was kept with this mark has to be looked at.
     pub fn may_match(&self, mark: &Mark) -> bool
-        ensures { result ≡ may_match (contains nat_eq self.now.tags) mark.now }
+        ensures { result ≡ mark_may_match (contains nat_eq self.now.tags) mark.now }
     {
         self.may_be(mark.first)
             && self.may_be(mark.second)
@@ -103,7 +104,7 @@ impl RequestValues {
     }
 
     fn may_be(&self, tag: u64) -> bool
-        ensures { result ≡ may_be (contains nat_eq self.now.tags) tag }
+        ensures { result ≡ tag_may_be (contains nat_eq self.now.tags) tag }
     {
         tag == 0 || self.tags.contains(&tag)
     }

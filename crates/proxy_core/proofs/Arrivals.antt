@@ -14,14 +14,14 @@ use Rattle.std.proofs.lemmas.Option.{same_Some}
 use Rattle.proxy_core.specs.declared.open.exchange.Exchange.{Exchange}
 use Rattle.std.specs.Prelude.{slice_get}
 use Rattle.proxy_core.specs.Leading.{is_released, ready_ids}
-use Rattle.proxy_core.specs.Waiting.{IsReady}
+use Rattle.proxy_core.specs.Waiting.{ExchangeMayBeWoken}
 use Rattle.proxy_core.specs.Outcomes.{find_exchange}
 use Rattle.std.specs.Prelude.{filter}
 use Rattle.hx_reuse.specs.declared.rule.ReuseRule.{ReuseRule}
 use Rattle.proxy_core.specs.declared.steps.condition.Condition.{Condition}
-use Rattle.proxy_core.specs.State.{goes_out, gone_out, sent_out}
+use Rattle.proxy_core.specs.State.{exchange_gone_forward, exchange_forwarded_again, exchange_sent_forward}
 use Rattle.proxy_core.proofs.ExchangeLists.{cond_none, nones, swap, not_both, found-id}
-use Rattle.proxy_core.specs.Arrivals.{arrival_of, on_all, AreApart, IsIndexed}
+use Rattle.proxy_core.specs.Arrivals.{arrival_of, map_exchanges, HaveDistinctArrivalsAndIds, IsIdIndexOf}
 
 abbrev Numbered : Type 0
 Numbered = List (ℕ × Exchange)
@@ -87,7 +87,7 @@ not_numbered id (e ∷ es) h = elim (cases_Bool (eqb e.1.id id)) [
 ]
 
 -- the exchange at the arrival of an id is the one of the id
-pub found : (id n : ℕ) (es : Numbered) → AreApart es → arrival_of id es ≡ Some n → lookup (at n) es ≡ find_exchange id (values_of es)
+pub found : (id n : ℕ) (es : Numbered) → HaveDistinctArrivalsAndIds es → arrival_of id es ≡ Some n → lookup (at n) es ≡ find_exchange id (values_of es)
 found id n [] a h = absurd (cc)
 found id n (e ∷ es) a h = elim (cases_Bool (eqb e.1.id id)) [
   | inl t ↦ (
@@ -104,11 +104,11 @@ found id n (e ∷ es) a h = elim (cases_Bool (eqb e.1.id id)) [
 ]
 
 -- the first that may be woken is found by its id
-pub first_found : (id : ℕ) (es : Numbered) → AreApart es → Some id ≡ slice_get (ready_ids (values_of es)) 0 → IsReady id (values_of es)
+pub first_found : (id : ℕ) (es : Numbered) → HaveDistinctArrivalsAndIds es → Some id ≡ slice_get (ready_ids (values_of es)) 0 → ExchangeMayBeWoken id (values_of es)
 first_found id [] a h = absurd (cc)
 first_found id (e ∷ es) a h = by_stage (λ k. first_found id es a.2 k) (is_released e.1.stage) refl h
   where
-    not_it : IsReady id (values_of es) → eqb e.1.id id ≡ false
+    not_it : ExchangeMayBeWoken id (values_of es) → eqb e.1.id id ≡ false
     not_it r = elim (cases_Bool (eqb e.1.id id)) [
       | inl t ↦ (
           let none : find_exchange id (values_of es) ≡ None = not_found id es (ap (λ i. arrival_of i es) (sym (eqb-true e.1.id id t)) ∙ a.1) in
@@ -118,8 +118,8 @@ first_found id (e ∷ es) a h = by_stage (λ k. first_found id es a.2 k) (is_rel
       | inr f ↦ f
     ]
 
-    by_stage : (Some id ≡ slice_get (ready_ids (values_of es)) 0 → IsReady id (values_of es)) → (b : Bool) → is_released e.1.stage ≡ b →
-        Some id ≡ slice_get (cond b (e.1.id ∷ ready_ids (values_of es)) (ready_ids (values_of es))) 0 → IsReady id (values_of (e ∷ es))
+    by_stage : (Some id ≡ slice_get (ready_ids (values_of es)) 0 → ExchangeMayBeWoken id (values_of es)) → (b : Bool) → is_released e.1.stage ≡ b →
+        Some id ≡ slice_get (cond b (e.1.id ∷ ready_ids (values_of es)) (ready_ids (values_of es))) 0 → ExchangeMayBeWoken id (values_of (e ∷ es))
     by_stage rest true s h =
         let same : e.1.id ≡ id = sym (same_Some id e.1.id h) in
         record { x = e.1; is_open = ap (λ b. cond b (Some e.1) (find_exchange id (values_of es))) (eq-eqb e.1.id id same); stage = s }
@@ -143,7 +143,7 @@ closed_none id (e ∷ es) h = elim (cases_Bool (eqb e.1.id id)) [
       )
 ]
 
-pub closed_one : (id n : ℕ) (es : Numbered) → AreApart es → arrival_of id es ≡ Some n → values_of (remove_entry (at n) es) ≡ but id (values_of es)
+pub closed_one : (id n : ℕ) (es : Numbered) → HaveDistinctArrivalsAndIds es → arrival_of id es ≡ Some n → values_of (remove_entry (at n) es) ≡ but id (values_of es)
 closed_one id n [] a h = absurd (cc)
 closed_one id n (e ∷ es) a h = elim (cases_Bool (eqb e.1.id id)) [
   | inl t ↦ (
@@ -178,14 +178,14 @@ no_arrival id test (e ∷ es) h =
       | false ↦ ap (λ b. cond b (Some e.0) (arrival_of id (remove_entry test es))) p.0 ∙ no_arrival id test es p.1
     ]
 
-apart_closed : (test : ℕ → Bool) (es : Numbered) → AreApart es → AreApart (remove_entry test es)
+apart_closed : (test : ℕ → Bool) (es : Numbered) → HaveDistinctArrivalsAndIds es → HaveDistinctArrivalsAndIds (remove_entry test es)
 apart_closed test [] a = a
-apart_closed test (e ∷ es) a = elim (test e.0) as (λ b. AreApart (cond b es (e ∷ remove_entry test es))) [
+apart_closed test (e ∷ es) a = elim (test e.0) as (λ b. HaveDistinctArrivalsAndIds (cond b es (e ∷ remove_entry test es))) [
   | true ↦ a.2
   | false ↦ (no_number e.0 test es a.0, no_arrival e.1.id test es a.1, apart_closed test es a.2)
 ]
 
-arrival_closed : (id n : ℕ) (es : Numbered) → AreApart es → arrival_of id es ≡ Some n → (q : ℕ) →
+arrival_closed : (id n : ℕ) (es : Numbered) → HaveDistinctArrivalsAndIds es → arrival_of id es ≡ Some n → (q : ℕ) →
     arrival_of q (remove_entry (at n) es) ≡ cond (eqb id q) None (arrival_of q es)
 arrival_closed id n [] a h q = nones (eqb id q)
 arrival_closed id n (e ∷ es) a h q = elim (cases_Bool (eqb e.1.id id)) [
@@ -212,7 +212,7 @@ arrival_closed id n (e ∷ es) a h q = elim (cases_Bool (eqb e.1.id id)) [
 abbrev Without : (ℕ → Option ℕ) → (ℕ → Option ℕ) → ℕ → Type 0
 Without f g id = (q : ℕ) → g q ≡ cond (at id q) None (f q)
 
-pub indexed_closed : (id n : ℕ) (es : Numbered) (f g : ℕ → Option ℕ) → IsIndexed es f → f id ≡ Some n → Without f g id → IsIndexed (remove_entry (at n) es) g
+pub indexed_closed : (id n : ℕ) (es : Numbered) (f g : ℕ → Option ℕ) → IsIdIndexOf es f → f id ≡ Some n → Without f g id → IsIdIndexOf (remove_entry (at n) es) g
 indexed_closed id n es f g s h w =
     let here : arrival_of id es ≡ Some n = sym (s.indexed id) ∙ h in
     record {
@@ -222,41 +222,41 @@ indexed_closed id n es f g s h w =
 
 -- ---- changing exchanges that keep their ids
 
-pub values_on_all : (f : Exchange → Exchange) (es : Numbered) → values_of (on_all f es) ≡ map f (values_of es)
+pub values_on_all : (f : Exchange → Exchange) (es : Numbered) → values_of (map_exchanges f es) ≡ map f (values_of es)
 values_on_all f [] = refl
 values_on_all f (e ∷ es) = ap (λ (xs : List Exchange). f e.1 ∷ xs) (values_on_all f es)
 
-number_on_all : (f : Exchange → Exchange) (n : ℕ) (es : Numbered) → lookup (at n) es ≡ None → lookup (at n) (on_all f es) ≡ None
+number_on_all : (f : Exchange → Exchange) (n : ℕ) (es : Numbered) → lookup (at n) es ≡ None → lookup (at n) (map_exchanges f es) ≡ None
 number_on_all f n [] h = refl
 number_on_all f n (e ∷ es) h =
     let p = cond_none (at n e.0) e.1 (lookup (at n) es) h in
-    ap (λ b. cond b (Some (f e.1)) (lookup (at n) (on_all f es))) p.0 ∙ number_on_all f n es p.1
+    ap (λ b. cond b (Some (f e.1)) (lookup (at n) (map_exchanges f es))) p.0 ∙ number_on_all f n es p.1
 
 module _ (f : Exchange → Exchange) (keeps : (x : Exchange) → (f x).id ≡ x.id) where
-  arrival_on_all : (id : ℕ) (es : Numbered) → arrival_of id (on_all f es) ≡ arrival_of id es
+  arrival_on_all : (id : ℕ) (es : Numbered) → arrival_of id (map_exchanges f es) ≡ arrival_of id es
   arrival_on_all id [] = refl
   arrival_on_all id (e ∷ es) =
-      ap (λ i. cond (eqb i id) (Some e.0) (arrival_of id (on_all f es))) (keeps e.1)
+      ap (λ i. cond (eqb i id) (Some e.0) (arrival_of id (map_exchanges f es))) (keeps e.1)
       ∙ ap (λ (o : Option ℕ). cond (eqb e.1.id id) (Some e.0) o) (arrival_on_all id es)
 
-  apart_on_all : (es : Numbered) → AreApart es → AreApart (on_all f es)
+  apart_on_all : (es : Numbered) → HaveDistinctArrivalsAndIds es → HaveDistinctArrivalsAndIds (map_exchanges f es)
   apart_on_all [] a = a
   apart_on_all (e ∷ es) a =
-      (number_on_all f e.0 es a.0, ap (λ i. arrival_of i (on_all f es)) (keeps e.1) ∙ (arrival_on_all e.1.id es ∙ a.1), apart_on_all es a.2)
+      (number_on_all f e.0 es a.0, ap (λ i. arrival_of i (map_exchanges f es)) (keeps e.1) ∙ (arrival_on_all e.1.id es ∙ a.1), apart_on_all es a.2)
 
-  pub indexed_on_all : (es : Numbered) (g : ℕ → Option ℕ) → IsIndexed es g → IsIndexed (on_all f es) g
+  pub indexed_on_all : (es : Numbered) (g : ℕ → Option ℕ) → IsIdIndexOf es g → IsIdIndexOf (map_exchanges f es) g
   indexed_on_all es g s = record { apart = apart_on_all es s.apart; indexed = λ q. s.indexed q ∙ sym (arrival_on_all q es) }
 
 -- a change of none but an exchange of this id
 module _ (id : ℕ) (f : Exchange → Exchange) (others : (x : Exchange) → eqb x.id id ≡ false → f x ≡ x) where
-  pub same_all : (es : Numbered) → arrival_of id es ≡ None → on_all f es ≡ es
+  pub same_all : (es : Numbered) → arrival_of id es ≡ None → map_exchanges f es ≡ es
   same_all [] h = refl
   same_all (e ∷ es) h =
       let p = cond_none (eqb e.1.id id) e.0 (arrival_of id es) h in
-      ap (λ (x : Exchange). (e.0, x) ∷ on_all f es) (others e.1 p.0) ∙ ap (λ (xs : Numbered). e ∷ xs) (same_all es p.1)
+      ap (λ (x : Exchange). (e.0, x) ∷ map_exchanges f es) (others e.1 p.0) ∙ ap (λ (xs : Numbered). e ∷ xs) (same_all es p.1)
 
   -- it is written at the arrival of the id
-  pub written : (n : ℕ) (es : Numbered) (x : Exchange) → AreApart es → arrival_of id es ≡ Some n → lookup (at n) es ≡ Some x → set_value (at n) es (f x) ≡ on_all f es
+  pub written : (n : ℕ) (es : Numbered) (x : Exchange) → HaveDistinctArrivalsAndIds es → arrival_of id es ≡ Some n → lookup (at n) es ≡ Some x → set_value (at n) es (f x) ≡ map_exchanges f es
   written n [] x a h here = absurd (cc)
   written n (e ∷ es) x a h here = elim (cases_Bool (eqb e.1.id id)) [
     | inl t ↦ (
@@ -273,34 +273,34 @@ module _ (id : ℕ) (f : Exchange → Exchange) (others : (x : Exchange) → eqb
         let later : at n e.0 ≡ false = not_first id n e es a.0 k in
         ap (λ b. cond b ((e.0, f x) ∷ es) (e ∷ set_value (at n) es (f x))) later
         ∙ ap (λ (xs : Numbered). e ∷ xs) (written n es x a.2 k (sym (ap (λ b. cond b (Some e.1) (lookup (at n) es)) later) ∙ here))
-        ∙ ap (λ (y : Exchange). (e.0, y) ∷ on_all f es) (sym (others e.1 n'))
+        ∙ ap (λ (y : Exchange). (e.0, y) ∷ map_exchanges f es) (sym (others e.1 n'))
         )
   ]
 
-pub gone_out-others : (id now : ℕ) (x : Exchange) → eqb x.id id ≡ false → gone_out id now x ≡ x
-gone_out-others id now x h = ap (λ b. cond b (goes_out now x.rule None x) x) h
+pub gone_out-others : (id now : ℕ) (x : Exchange) → eqb x.id id ≡ false → exchange_forwarded_again id now x ≡ x
+gone_out-others id now x h = ap (λ b. cond b (exchange_gone_forward now x.rule None x) x) h
 
-pub sent_out-others : (id now : ℕ) (rule : ReuseRule) (condition : Option Condition) (x : Exchange) → eqb x.id id ≡ false → sent_out id now rule condition x ≡ x
-sent_out-others id now rule condition x h = ap (λ b. cond b (goes_out now rule condition x) x) h
+pub sent_out-others : (id now : ℕ) (rule : ReuseRule) (condition : Option Condition) (x : Exchange) → eqb x.id id ≡ false → exchange_sent_forward id now rule condition x ≡ x
+sent_out-others id now rule condition x h = ap (λ b. cond b (exchange_gone_forward now rule condition x) x) h
 
 -- one goes forward at the arrival of its id
-pub sent_written : (id now : ℕ) (rule : ReuseRule) (condition : Option Condition) (n : ℕ) (x y : Exchange) (es : Numbered) (arrivals : ℕ → Option ℕ) → IsIndexed es arrivals →
-    Some n ≡ arrivals id → Some x ≡ lookup (at n) es → y ≡ goes_out now rule condition x → set_value (at n) es y ≡ on_all (sent_out id now rule condition) es
+pub sent_written : (id now : ℕ) (rule : ReuseRule) (condition : Option Condition) (n : ℕ) (x y : Exchange) (es : Numbered) (arrivals : ℕ → Option ℕ) → IsIdIndexOf es arrivals →
+    Some n ≡ arrivals id → Some x ≡ lookup (at n) es → y ≡ exchange_gone_forward now rule condition x → set_value (at n) es y ≡ map_exchanges (exchange_sent_forward id now rule condition) es
 sent_written id now rule condition n x y es arrivals s h there e =
     let here : arrival_of id es ≡ Some n = sym (s.indexed id) ∙ sym h in
     let is : find_exchange id (values_of es) ≡ Some x = sym (found id n es s.apart here) ∙ sym there in
-    let same : y ≡ sent_out id now rule condition x = e ∙ sym (ap (λ b. cond b (goes_out now rule condition x) x) (found-id id (values_of es) x is)) in
+    let same : y ≡ exchange_sent_forward id now rule condition x = e ∙ sym (ap (λ b. cond b (exchange_gone_forward now rule condition x) x) (found-id id (values_of es) x is)) in
     ap (λ (z : Exchange). set_value (at n) es z) same
-    ∙ written id (sent_out id now rule condition) (sent_out-others id now rule condition) n es x s.apart here (sym there)
+    ∙ written id (exchange_sent_forward id now rule condition) (sent_out-others id now rule condition) n es x s.apart here (sym there)
 
-pub gone_written : (id now n : ℕ) (x y : Exchange) (es : Numbered) (arrivals : ℕ → Option ℕ) → IsIndexed es arrivals →
-    Some n ≡ arrivals id → Some x ≡ lookup (at n) es → y ≡ goes_out now x.rule None x → set_value (at n) es y ≡ on_all (gone_out id now) es
+pub gone_written : (id now n : ℕ) (x y : Exchange) (es : Numbered) (arrivals : ℕ → Option ℕ) → IsIdIndexOf es arrivals →
+    Some n ≡ arrivals id → Some x ≡ lookup (at n) es → y ≡ exchange_gone_forward now x.rule None x → set_value (at n) es y ≡ map_exchanges (exchange_forwarded_again id now) es
 gone_written id now n x y es arrivals s h there e =
     let here : arrival_of id es ≡ Some n = sym (s.indexed id) ∙ sym h in
     let is : find_exchange id (values_of es) ≡ Some x = sym (found id n es s.apart here) ∙ sym there in
-    let same : y ≡ gone_out id now x = e ∙ sym (ap (λ b. cond b (goes_out now x.rule None x) x) (found-id id (values_of es) x is)) in
+    let same : y ≡ exchange_forwarded_again id now x = e ∙ sym (ap (λ b. cond b (exchange_gone_forward now x.rule None x) x) (found-id id (values_of es) x is)) in
     ap (λ (z : Exchange). set_value (at n) es z) same
-    ∙ written id (gone_out id now) (gone_out-others id now) n es x s.apart here (sym there)
+    ∙ written id (exchange_forwarded_again id now) (gone_out-others id now) n es x s.apart here (sym there)
 
 -- ---- opening
 
@@ -330,7 +330,7 @@ arrival_opened n x (e ∷ es) h q =
     ap (λ (o : Option ℕ). cond (eqb e.1.id q) (Some e.0) o) (arrival_opened n x es p.1 q)
     ∙ swap (eqb e.1.id q) (eqb x.id q) (Some e.0) (Some n) (arrival_of q es) (not_both e.1.id x.id q p.0)
 
-apart_opened : (n : ℕ) (x : Exchange) (es : Numbered) → All (λ k. k < n) (keys_of es) → arrival_of x.id es ≡ None → AreApart es → AreApart (es ++ (n, x) ∷ [])
+apart_opened : (n : ℕ) (x : Exchange) (es : Numbered) → All (λ k. k < n) (keys_of es) → arrival_of x.id es ≡ None → HaveDistinctArrivalsAndIds es → HaveDistinctArrivalsAndIds (es ++ (n, x) ∷ [])
 apart_opened n x [] l h a = (refl, refl, tt)
 apart_opened n x (e ∷ es) l h a =
     let p = cond_none (eqb e.1.id x.id) e.0 (arrival_of x.id es) h in
@@ -344,8 +344,8 @@ apart_opened n x (e ∷ es) l h a =
 abbrev With : (ℕ → Option ℕ) → (ℕ → Option ℕ) → ℕ → ℕ → Type 0
 With f g id n = (q : ℕ) → g q ≡ cond (at id q) (Some n) (f q)
 
-pub indexed_opened : (n : ℕ) (x : Exchange) (es : Numbered) (f g : ℕ → Option ℕ) → All (λ k. k < n) (keys_of es) → IsIndexed es f → find_exchange x.id (values_of es) ≡ None
-    → With f g x.id n → IsIndexed (es ++ (n, x) ∷ []) g
+pub indexed_opened : (n : ℕ) (x : Exchange) (es : Numbered) (f g : ℕ → Option ℕ) → All (λ k. k < n) (keys_of es) → IsIdIndexOf es f → find_exchange x.id (values_of es) ≡ None
+    → With f g x.id n → IsIdIndexOf (es ++ (n, x) ∷ []) g
 indexed_opened n x es f g l s free w =
     let none : arrival_of x.id es ≡ None = not_numbered x.id es free in
     record {
@@ -354,7 +354,7 @@ indexed_opened n x es f g l s free w =
     }
 
 -- what is inserted into the index and taken out again leaves it as it was
-pub indexed_again : (id n : ℕ) (es : Numbered) (f g h : ℕ → Option ℕ) → IsIndexed es f → find_exchange id (values_of es) ≡ None → With f g id n → Without g h id → IsIndexed es h
+pub indexed_again : (id n : ℕ) (es : Numbered) (f g h : ℕ → Option ℕ) → IsIdIndexOf es f → find_exchange id (values_of es) ≡ None → With f g id n → Without g h id → IsIdIndexOf es h
 indexed_again id n es f g h s free w wo = record { apart = s.apart; indexed = λ q. wo q ∙ (ap (λ (o : Option ℕ). cond (at id q) None o) (w q) ∙ (ap (λ b. cond b None (cond b (Some n) (f q))) (at_is id q) ∙ back q)) }
   where
     back : (q : ℕ) → cond (eqb id q) None (cond (eqb id q) (Some n) (f q)) ≡ arrival_of q es

@@ -7,13 +7,13 @@ use Rattle.hx_target.specs.declared.keys.Key.{Key}
 use Rattle.hx_target.specs.Keys.{same_key}
 use Rattle.hx_framing.specs.declared.messages.Response.{Response}
 use Rattle.hx_hop.specs.declared.request_view.Asked.{Asked}
-use Rattle.hx_allow.specs.Lines.{Table}
+use Rattle.hx_allow.specs.TableLines.{Table}
 use Rattle.hx_allow.specs.Matching.{verdict_of, policy_of}
 use Rattle.hx_allow.specs.declared.verdicts.Verdict.{Verdict}
 use Rattle.hx_allow.specs.declared.verdicts.Verdict.TheVariants as verdict
 use Rattle.hx_store.specs.Stored.{Stored}
 use Rattle.hx_reuse.specs.Rules.{decision_of}
-use Rattle.hx_reuse.specs.Meaning.{IsLeast, NamesTheResponse}
+use Rattle.hx_reuse.specs.ChosenAndNamed.{IsLeastReuseRule, RuleNamesTheResponse}
 use Rattle.hx_reuse.specs.declared.rule.ReuseRule.{ReuseRule}
 use Rattle.hx_reuse.specs.declared.decision.Decision.{Decision}
 use Rattle.hx_reuse.specs.declared.decision.Decision.TheVariants as decision
@@ -26,20 +26,20 @@ use Rattle.proxy_core.specs.declared.outcome.Outcome.{Outcome}
 use Rattle.proxy_core.specs.declared.outcome.Outcome.TheVariants.{Reply, Forward, Waits, Ended}
 use Rattle.proxy_core.specs.declared.event.Event.{Event}
 use Rattle.proxy_core.specs.declared.event.Event.TheVariants.{Arrive, Answer, Fail, Wake, Abandon}
-use Rattle.proxy_core.specs.Validating.{condition_at, is_validation, validated}
-use Rattle.proxy_core.specs.Storing.{is_unasked}
+use Rattle.proxy_core.specs.Validating.{condition_about_serial, is_validation, stored_response_validated}
+use Rattle.proxy_core.specs.Storing.{is_304_without_condition}
 use Rattle.proxy_core.specs.declared.open.stage.Stage.TheVariants.{Forwarded, Released}
 use Rattle.proxy_core.specs.declared.steps.condition.Condition.{Condition}
-use Rattle.proxy_core.specs.Leading.{leader_for, waits_for}
-use Rattle.proxy_core.specs.Outcomes.{find_exchange, id_of, arrived, allowed, sent_on, unanswered, woken, is_only_if_cached, forward_text, fallback_for, failed, is_error_status, passed_unless, revalidated, answered, outcome_of}
-use Rattle.proxy_core.specs.State.{State, overtake, release, opened, queued, line_of, rule_of, named_by, goes_out, gone_out, sent_out, woken_out, open_after}
-use Rattle.proxy_core.specs.Traces.{Item, begun, left, IsGood}
+use Rattle.proxy_core.specs.Leading.{leader_of_request, waits_for}
+use Rattle.proxy_core.specs.Outcomes.{find_exchange, exchange_id_of_event, outcome_of_arrival, outcome_of_allowed_request, outcome_of_waiting_or_forwarding, outcome_without_stored_response, outcome_of_wake, is_only_if_cached, forward_text, fallback_for, outcome_of_failure, is_error_status, outcome_of_passing_on_or_stale, outcome_of_304, outcome_of_answer, outcome_of}
+use Rattle.proxy_core.specs.State.{State, overtaken_exchange, released_exchange, forwarded_exchange, waiting_exchange, line_of_verdict, rule_of_decision, serial_named_by_decision, exchange_gone_forward, exchange_forwarded_again, exchange_sent_forward, exchanges_after_wake, open_exchanges_after}
+use Rattle.proxy_core.specs.Traces.{Item, initial_state, state_after_trace, IsGood}
 use Rattle.proxy_core.specs.Histories.{open_exchanges, IsGoodHistory}
-use Rattle.proxy_core.specs.Promises.{goes_forward, times}
-use Rattle.proxy_core.specs.Carrying.{judges, again_of, WentOnce, WentAgain, StillWaits, Judged, LeastWhenJudged, CarriesItsArrival}
+use Rattle.proxy_core.specs.Promises.{outcome_goes_forward, count_of_outcomes}
+use Rattle.proxy_core.specs.Carrying.{judges_a_request, second_forward_item, WentForwardOnce, WentForwardASecondTime, HasWaitedSinceItsArrival, ExchangeWasJudged, RuleWasLeastWhenJudged, OpenExchangeCarriesItsArrival}
 use Rattle.proxy_core.proofs.ExchangeLists.{overtaken_by, released_by, changed_by, find-map, find-push, find-gone_out, sent_out-id, found-id}
 use Rattle.proxy_core.proofs.Moves.{Move, apart, opens, queues, passes, again, wakes, closes, out_again, woken_form, asked_of, ended_by, move_of, and_none, failed_back}
-use Rattle.proxy_core.specs.Promises.{key_by_step}
+use Rattle.proxy_core.specs.Promises.{key_invalidated_by_step}
 use Rattle.proxy_core.proofs.Tracing.{same_table}
 use Rattle.proxy_core.proofs.HeldLaw.{good_plain, entries_are_held, exchanges_are_open}
 
@@ -59,16 +59,16 @@ module _ (table : Table) (es : List Stored) (xs : List Exchange) (now : ℕ) (as
 
   pub record WentBy (line : ℕ) (bytes : List ℕ) : Type 0 where
     pub on : IsSentOn line
-    pub bytes_are : bytes ≡ forward_text table asked (condition_at es on.against)
+    pub bytes_are : bytes ≡ forward_text table asked (condition_about_serial es on.against)
 
   -- what a request that arrives does, where it isn't answered
   Goes : Outcome → Type 0
   Goes (Forward line bytes) = WentBy line bytes
-  Goes (Waits leader) = IsSentOn (line_of (verdict_of table.lines asked.method asked.target))
+  Goes (Waits leader) = IsSentOn (line_of_verdict (verdict_of table.lines asked.method asked.target))
   Goes (Reply r) = Unit {0}
   Goes Ended = Unit {0}
 
-  goes_by : (v : Verdict) → verdict_of table.lines asked.method asked.target ≡ v → Goes (arrived table es xs now asked v)
+  goes_by : (v : Verdict) → verdict_of table.lines asked.method asked.target ≡ v → Goes (outcome_of_arrival table es xs now asked v)
   unfolding Goes
   goes_by (verdict.Allowed n) v = by_decision (decision_of (policy_of table.lines n) es asked now) refl
     where
@@ -76,16 +76,16 @@ module _ (table : Table) (es : List Stored) (xs : List Exchange) (now : ℕ) (as
       on rule against d = record { line_allows = v; rule = rule; against = against; decided = d }
 
       led : (rule : ReuseRule) (against leader : Option ℕ) → decision_of (policy_of table.lines n) es asked now ≡ decision.Forward rule against →
-          Goes (sent_on table n asked (condition_at es against) leader)
+          Goes (outcome_of_waiting_or_forwarding table n asked (condition_about_serial es against) leader)
       led rule against None d = record { on = on rule against d; bytes_are = refl }
-      led rule against (Some leader) d = subst IsSentOn (sym (ap line_of v)) (on rule against d)
+      led rule against (Some leader) d = subst IsSentOn (sym (ap line_of_verdict v)) (on rule against d)
 
       unless : (rule : ReuseRule) (against : Option ℕ) (b : Bool) → decision_of (policy_of table.lines n) es asked now ≡ decision.Forward rule against →
-          Goes (unanswered table xs n now asked rule (condition_at es against) b)
+          Goes (outcome_without_stored_response table xs n now asked rule (condition_about_serial es against) b)
       unless rule against true d = tt
-      unless rule against false d = led rule against (leader_for (policy_of table.lines n) xs asked rule) d
+      unless rule against false d = led rule against (leader_of_request (policy_of table.lines n) xs asked rule) d
 
-      by_decision : (d : Decision) → decision_of (policy_of table.lines n) es asked now ≡ d → Goes (allowed table es xs n now asked d)
+      by_decision : (d : Decision) → decision_of (policy_of table.lines n) es asked now ≡ d → Goes (outcome_of_allowed_request table es xs n now asked d)
       by_decision (decision.Hit t) k = tt
       by_decision (decision.Forward rule against) k = unless rule against (is_only_if_cached asked) k
   goes_by (verdict.DeniedBy n) v = tt
@@ -100,46 +100,46 @@ IsAgain table x (Waits leader) = Unit {0}
 IsAgain table x (Reply r) = Unit {0}
 IsAgain table x Ended = Unit {0}
 
-pub again_by : (table : Table) (es : List Stored) (now : ℕ) (x : Exchange) (r : Response) (next : Option ℕ) (d : Decision) → IsAgain table x (answered table es now x r next d)
+pub again_by : (table : Table) (es : List Stored) (now : ℕ) (x : Exchange) (r : Response) (next : Option ℕ) (d : Decision) → IsAgain table x (outcome_of_answer table es now x r next d)
 again_by table es now x r next d = by_304 (is_validation x r)
   where
-    by_validation : (o : Option Stored) (d : Decision) → IsAgain table x (revalidated table es now x r o d)
+    by_validation : (o : Option Stored) (d : Decision) → IsAgain table x (outcome_of_304 table es now x r o d)
     by_validation (Some e) d = tt
     by_validation None (decision.Hit s) = tt
     by_validation None (decision.Forward rule against) = (refl, refl)
 
-    by_fallback : (fallback : Fallback) → IsAgain table x (failed table es now x BadAnswer (Some r.status) fallback)
+    by_fallback : (fallback : Fallback) → IsAgain table x (outcome_of_failure table es now x BadAnswer (Some r.status) fallback)
     by_fallback (Sends s detail) = tt
     by_fallback (Refuses rule error) = tt
 
-    by_error : (b : Bool) (fallback : Fallback) → IsAgain table x (passed_unless table es now x r next b fallback)
+    by_error : (b : Bool) (fallback : Fallback) → IsAgain table x (outcome_of_passing_on_or_stale table es now x r next b fallback)
     by_error true (Sends s detail) = tt
     by_error true (Refuses rule error) = tt
     by_error false fallback = tt
 
-    by_unasked : (b : Bool) → IsAgain table x (cond b (failed table es now x BadAnswer (Some r.status) (fallback_for (policy_of table.lines x.line) es x.asked now d))
-        (passed_unless table es now x r next (is_error_status r.status) (fallback_for (policy_of table.lines x.line) es x.asked now d)))
+    by_unasked : (b : Bool) → IsAgain table x (cond b (outcome_of_failure table es now x BadAnswer (Some r.status) (fallback_for (policy_of table.lines x.line) es x.asked now d))
+        (outcome_of_passing_on_or_stale table es now x r next (is_error_status r.status) (fallback_for (policy_of table.lines x.line) es x.asked now d)))
     by_unasked true = by_fallback (fallback_for (policy_of table.lines x.line) es x.asked now d)
     by_unasked false = by_error (is_error_status r.status) (fallback_for (policy_of table.lines x.line) es x.asked now d)
 
-    by_304 : (b : Bool) → IsAgain table x (cond b (revalidated table es now x r (validated es x r now) d)
-        (cond (is_unasked x.asked r) (failed table es now x BadAnswer (Some r.status) (fallback_for (policy_of table.lines x.line) es x.asked now d))
-        (passed_unless table es now x r next (is_error_status r.status) (fallback_for (policy_of table.lines x.line) es x.asked now d))))
-    by_304 true = by_validation (validated es x r now) d
-    by_304 false = by_unasked (is_unasked x.asked r)
+    by_304 : (b : Bool) → IsAgain table x (cond b (outcome_of_304 table es now x r (stored_response_validated es x r now) d)
+        (cond (is_304_without_condition x.asked r) (outcome_of_failure table es now x BadAnswer (Some r.status) (fallback_for (policy_of table.lines x.line) es x.asked now d))
+        (outcome_of_passing_on_or_stale table es now x r next (is_error_status r.status) (fallback_for (policy_of table.lines x.line) es x.asked now d))))
+    by_304 true = by_validation (stored_response_validated es x r now) d
+    by_304 false = by_unasked (is_304_without_condition x.asked r)
 
 -- ---- an item more
 
-not_of : (id : ℕ) (event : Event) (p : Bool) → eqb (id_of event) id ≡ false → (eqb (id_of event) id && p) ≡ false
+not_of : (id : ℕ) (event : Event) (p : Bool) → eqb (exchange_id_of_event event) id ≡ false → (eqb (exchange_id_of_event event) id && p) ≡ false
 not_of id event p n = ap (λ b. b && p) n
 
 module _ (table : Table) (limit : ℕ) where
   -- what an exchange did since it was judged
   abbrev Went : Exchange → List Item → List Item → ℕ → Outcome → Type 0
-  Went x since before now o = WentOnce table limit x since before now o ⊎ (WentAgain table x since ⊎ StillWaits table limit x since before o)
+  Went x since before now o = WentForwardOnce table limit x since before now o ⊎ (WentForwardASecondTime table x since ⊎ HasWaitedSinceItsArrival table limit x since before o)
 
   -- of another id
-  further : (i : Item) (x : Exchange) (past : List Item) → eqb (id_of i.event) x.id ≡ false → Judged table limit x past → Judged table limit x (i ∷ past)
+  further : (i : Item) (x : Exchange) (past : List Item) → eqb (exchange_id_of_event i.event) x.id ≡ false → ExchangeWasJudged table limit x past → ExchangeWasJudged table limit x (i ∷ past)
   further i x past n h = record {
     since = i ∷ h.since;
     before = h.before;
@@ -147,14 +147,14 @@ module _ (table : Table) (limit : ℕ) where
     now = h.now;
     past_is = ap (λ zs. i ∷ zs) h.past_is;
     judged = h.judged;
-    none_since = (not_of x.id i.event (judges i.event) n, h.none_since);
+    none_since = (not_of x.id i.event (judges_a_request i.event) n, h.none_since);
     line_allows = h.line_allows;
     rule_is_least = h.rule_is_least;
     went = by_going h.went;
   }
     where
-      uncounted : (items : List Item) → times goes_forward x.id items ≡ 0 → times goes_forward x.id (i ∷ items) ≡ 0
-      uncounted items z = ap (λ b. cond b (times goes_forward x.id items + 1) (times goes_forward x.id items)) (not_of x.id i.event (goes_forward i.outcome) n) ∙ z
+      uncounted : (items : List Item) → count_of_outcomes outcome_goes_forward x.id items ≡ 0 → count_of_outcomes outcome_goes_forward x.id (i ∷ items) ≡ 0
+      uncounted items z = ap (λ b. cond b (count_of_outcomes outcome_goes_forward x.id items + 1) (count_of_outcomes outcome_goes_forward x.id items)) (not_of x.id i.event (outcome_goes_forward i.outcome) n) ∙ z
 
       by_going : Went x h.since h.before h.now h.item.outcome → Went x (i ∷ h.since) h.before h.now h.item.outcome
       by_going (inl w) = inl (record {
@@ -188,7 +188,7 @@ module _ (table : Table) (limit : ℕ) where
       }))
 
   -- the mark is no part of it
-  marked : (z : Exchange) (past : List Item) → Judged table limit z past → Judged table limit (record z { overtaken = true }) past
+  marked : (z : Exchange) (past : List Item) → ExchangeWasJudged table limit z past → ExchangeWasJudged table limit (record z { overtaken = true }) past
   marked z past h = record {
     since = h.since;
     before = h.before;
@@ -234,7 +234,7 @@ module _ (table : Table) (limit : ℕ) where
       }))
 
   -- one that waits is released
-  freed : (i : ℕ) (z : Exchange) (past : List Item) → waits_for i z.stage ≡ true → Judged table limit z past → Judged table limit (record z { stage = Released }) past
+  freed : (i : ℕ) (z : Exchange) (past : List Item) → waits_for i z.stage ≡ true → ExchangeWasJudged table limit z past → ExchangeWasJudged table limit (record z { stage = Released }) past
   freed i z past waits h = record {
     since = h.since;
     before = h.before;
@@ -264,26 +264,26 @@ module _ (table : Table) (limit : ℕ) where
         condition = w.condition;
       }))
 
-  overtakes : (key : Key) (z : Exchange) (past : List Item) → Judged table limit z past → Judged table limit (overtake key z) past
-  overtakes key z past h = elim (same_key z.asked.target.key key) as (λ b. Judged table limit (cond b (record z { overtaken = true }) z) past) [
+  overtakes : (key : Key) (z : Exchange) (past : List Item) → ExchangeWasJudged table limit z past → ExchangeWasJudged table limit (overtaken_exchange key z) past
+  overtakes key z past h = elim (same_key z.asked.target.key key) as (λ b. ExchangeWasJudged table limit (cond b (record z { overtaken = true }) z) past) [
     | true ↦ marked z past h
     | false ↦ h
   ]
 
-  overtake_id : (key : Key) (z : Exchange) → (overtake key z).id ≡ z.id
+  overtake_id : (key : Key) (z : Exchange) → (overtaken_exchange key z).id ≡ z.id
   overtake_id key z = elim (same_key z.asked.target.key key) as (λ b. (cond b (record z { overtaken = true }) z).id ≡ z.id) [
     | true ↦ refl
     | false ↦ refl
   ]
 
-  releases : (i : ℕ) (z : Exchange) (past : List Item) → Judged table limit z past → Judged table limit (release i z) past
+  releases : (i : ℕ) (z : Exchange) (past : List Item) → ExchangeWasJudged table limit z past → ExchangeWasJudged table limit (released_exchange i z) past
   releases i z past h = by_test (waits_for i z.stage) refl
     where
-      by_test : (b : Bool) → waits_for i z.stage ≡ b → Judged table limit (cond b (record z { stage = Released }) z) past
+      by_test : (b : Bool) → waits_for i z.stage ≡ b → ExchangeWasJudged table limit (cond b (record z { stage = Released }) z) past
       by_test true waits = freed i z past waits h
       by_test false waits = h
 
-  release_id : (i : ℕ) (z : Exchange) → (release i z).id ≡ z.id
+  release_id : (i : ℕ) (z : Exchange) → (released_exchange i z).id ≡ z.id
   release_id i z = elim (waits_for i z.stage) as (λ b. (cond b (record z { stage = Released }) z).id ≡ z.id) [
     | true ↦ refl
     | false ↦ refl
@@ -291,7 +291,7 @@ module _ (table : Table) (limit : ℕ) where
 
   -- carried by the exchange of an id
   abbrev Carried : ℕ → List Item → Exchange → Type 0
-  Carried id past x = Judged table limit x past × (x.id ≡ id)
+  Carried id past x = ExchangeWasJudged table limit x past × (x.id ≡ id)
 
   carried_released : (id : ℕ) (past : List Item) (gone : Option ℕ) (o : Option Exchange) (x : Exchange) →
       ((z : Exchange) → o ≡ Some z → Carried id past z) → released_by gone o ≡ Some x → Carried id past x
@@ -299,7 +299,7 @@ module _ (table : Table) (limit : ℕ) where
   carried_released id past (Some i) None x f h = absurd (cc)
   carried_released id past (Some i) (Some z) x f h =
       let c = f z refl in
-      let same : release i z ≡ x = same_Some (release i z) x h in
+      let same : released_exchange i z ≡ x = same_Some (released_exchange i z) x h in
       subst (Carried id past) same (releases i z past c.0, release_id i z ∙ c.1)
 
   carried_overtaken : (id : ℕ) (past : List Item) (key : Option Key) (o : Option Exchange) (x : Exchange) →
@@ -308,36 +308,36 @@ module _ (table : Table) (limit : ℕ) where
   carried_overtaken id past (Some key) None x f h = absurd (cc)
   carried_overtaken id past (Some key) (Some z) x f h =
       let c = f z refl in
-      let same : overtake key z ≡ x = same_Some (overtake key z) x h in
+      let same : overtaken_exchange key z ≡ x = same_Some (overtaken_exchange key z) x h in
       subst (Carried id past) same (overtakes key z past c.0, overtake_id key z ∙ c.1)
 
-  carried_apart : (id : ℕ) (i : Item) (past : List Item) (key : Option Key) (gone : Option ℕ) (o : Option Exchange) (x : Exchange) → eqb (id_of i.event) id ≡ false →
+  carried_apart : (id : ℕ) (i : Item) (past : List Item) (key : Option Key) (gone : Option ℕ) (o : Option Exchange) (x : Exchange) → eqb (exchange_id_of_event i.event) id ≡ false →
       ((z : Exchange) → o ≡ Some z → Carried id past z) → changed_by key gone o ≡ Some x → Carried id (i ∷ past) x
   carried_apart id i past key gone o x n f h =
       let c = carried_overtaken id past key (released_by gone o) x (λ z q. carried_released id past gone o z f q) h in
-      (further i x past (ap (eqb (id_of i.event)) c.1 ∙ n) c.0, c.1)
+      (further i x past (ap (eqb (exchange_id_of_event i.event)) c.1 ∙ n) c.0, c.1)
 
 module _ (table : Table) (limit first : ℕ) where
   abbrev exchange : ℕ → List Item → Option Exchange
-  exchange id past = find_exchange id (left (begun table limit first) past).exchanges
+  exchange id past = find_exchange id (state_after_trace (initial_state table limit first) past).exchanges
 
   -- at the arrival
-  carried_first : (past : List Item) → IsGood (begun table limit first) past → (now id : ℕ) (asked : Asked) (o : Outcome) (x : Exchange) →
-      Goes table (left (begun table limit first) past).entries (left (begun table limit first) past).exchanges now asked o → exchange id past ≡ None →
-      find_exchange id (open_after table (left (begun table limit first) past).entries (left (begun table limit first) past).exchanges (Arrive now id asked) o) ≡ Some x →
+  carried_first : (past : List Item) → IsGood (initial_state table limit first) past → (now id : ℕ) (asked : Asked) (o : Outcome) (x : Exchange) →
+      Goes table (state_after_trace (initial_state table limit first) past).entries (state_after_trace (initial_state table limit first) past).exchanges now asked o → exchange id past ≡ None →
+      find_exchange id (open_exchanges_after table (state_after_trace (initial_state table limit first) past).entries (state_after_trace (initial_state table limit first) past).exchanges (Arrive now id asked) o) ≡ Some x →
       Carried table limit id (record { event = Arrive now id asked; outcome = o } ∷ past) x
   unfolding Goes
   carried_first past g now id asked (Reply r) x h free found = absurd (none_some _ x free found)
   carried_first past g now id asked Ended x h free found = absurd (none_some _ x free found)
   carried_first past g now id asked (Waits leader) x on free found =
-      let s = left (begun table limit first) past in
-      let line = line_of (verdict_of table.lines asked.method asked.target) in
-      let y = queued table s.entries now id asked line leader in
+      let s = state_after_trace (initial_state table limit first) past in
+      let line = line_of_verdict (verdict_of table.lines asked.method asked.target) in
+      let y = waiting_exchange table s.entries now id asked line leader in
       let here : y ≡ x = same_Some y x (sym (find-push id s.exchanges y free ∙ ap (λ b. cond b (Some y) (find_exchange id s.exchanges)) (eq-eqb id id refl)) ∙ found) in
       let held = entries_are_held table limit first past g in
       let named = names_the_least (policy_of table.lines line) s.entries asked now on.rule on.against on.decided in
-      let rule : y.rule ≡ on.rule = ap rule_of on.decided in
-      let condition : y.condition ≡ condition_at s.entries on.against = ap (λ (d : Decision). condition_at s.entries (named_by d)) on.decided in
+      let rule : y.rule ≡ on.rule = ap rule_of_decision on.decided in
+      let condition : y.condition ≡ condition_about_serial s.entries on.against = ap (λ (d : Decision). condition_about_serial s.entries (serial_named_by_decision d)) on.decided in
       subst (Carried table limit id (record { event = Arrive now id asked; outcome = Waits leader } ∷ past)) here (
         record {
           since = [];
@@ -348,28 +348,28 @@ module _ (table : Table) (limit first : ℕ) where
           judged = inl refl;
           none_since = tt;
           line_allows = on.line_allows;
-          rule_is_least = subst (λ (es : List Stored). IsLeast (policy_of table.lines line) es asked now y.rule) held (subst (λ (q : ReuseRule). IsLeast (policy_of table.lines line) s.entries asked now q) (sym rule) named.0);
+          rule_is_least = subst (λ (es : List Stored). IsLeastReuseRule (policy_of table.lines line) es asked now y.rule) held (subst (λ (q : ReuseRule). IsLeastReuseRule (policy_of table.lines line) s.entries asked now q) (sym rule) named.0);
           went = inr (inr (record {
             leader = leader;
             outcome_is = refl;
             stage = inl refl;
             since_then = refl;
             against = on.against;
-            names = subst (λ (es : List Stored). NamesTheResponse es asked y.rule on.against) held (subst (λ (q : ReuseRule). NamesTheResponse s.entries asked q on.against) (sym rule) named.1);
-            condition = condition ∙ ap (λ (es : List Stored). condition_at es on.against) held;
+            names = subst (λ (es : List Stored). RuleNamesTheResponse es asked y.rule on.against) held (subst (λ (q : ReuseRule). RuleNamesTheResponse s.entries asked q on.against) (sym rule) named.1);
+            condition = condition ∙ ap (λ (es : List Stored). condition_about_serial es on.against) held;
           }));
         },
         refl,
       )
   carried_first past g now id asked (Forward line bytes) x w free found =
-      let s = left (begun table limit first) past in
-      let y = opened table s.entries now id asked line in
+      let s = state_after_trace (initial_state table limit first) past in
+      let y = forwarded_exchange table s.entries now id asked line in
       let on = w.on in
       let here : y ≡ x = same_Some y x (sym (find-push id s.exchanges y free ∙ ap (λ b. cond b (Some y) (find_exchange id s.exchanges)) (eq-eqb id id refl)) ∙ found) in
       let held = entries_are_held table limit first past g in
       let named = names_the_least (policy_of table.lines line) s.entries asked now on.rule on.against on.decided in
-      let rule : y.rule ≡ on.rule = ap rule_of on.decided in
-      let condition : y.condition ≡ condition_at s.entries on.against = ap (λ (d : Decision). condition_at s.entries (named_by d)) on.decided in
+      let rule : y.rule ≡ on.rule = ap rule_of_decision on.decided in
+      let condition : y.condition ≡ condition_about_serial s.entries on.against = ap (λ (d : Decision). condition_about_serial s.entries (serial_named_by_decision d)) on.decided in
       subst (Carried table limit id (record { event = Arrive now id asked; outcome = Forward line bytes } ∷ past)) here (
         record {
           since = [];
@@ -380,14 +380,14 @@ module _ (table : Table) (limit first : ℕ) where
           judged = inl refl;
           none_since = tt;
           line_allows = on.line_allows;
-          rule_is_least = subst (λ (es : List Stored). IsLeast (policy_of table.lines line) es asked now y.rule) held (subst (λ (q : ReuseRule). IsLeast (policy_of table.lines line) s.entries asked now q) (sym rule) named.0);
+          rule_is_least = subst (λ (es : List Stored). IsLeastReuseRule (policy_of table.lines line) es asked now y.rule) held (subst (λ (q : ReuseRule). IsLeastReuseRule (policy_of table.lines line) s.entries asked now q) (sym rule) named.0);
           went = inl (record {
             stage = refl;
             since_then = refl;
             request_time = refl;
             against = on.against;
-            names = subst (λ (es : List Stored). NamesTheResponse es asked y.rule on.against) held (subst (λ (q : ReuseRule). NamesTheResponse s.entries asked q on.against) (sym rule) named.1);
-            condition = condition ∙ ap (λ (es : List Stored). condition_at es on.against) held;
+            names = subst (λ (es : List Stored). RuleNamesTheResponse es asked y.rule on.against) held (subst (λ (q : ReuseRule). RuleNamesTheResponse s.entries asked q on.against) (sym rule) named.1);
+            condition = condition ∙ ap (λ (es : List Stored). condition_about_serial es on.against) held;
             outcome_is = ap (λ (b : List ℕ). Forward line b) (w.bytes_are ∙ ap (forward_text table asked) (sym condition));
           });
         },
@@ -395,29 +395,29 @@ module _ (table : Table) (limit first : ℕ) where
       )
 
   -- when it is woken
-  carried_woken : (past : List Item) → IsGood (begun table limit first) past → (now id : ℕ) (z : Exchange) (o : Outcome) (x : Exchange) (d : Decision) → Carried table limit id past z →
-      exchange id past ≡ Some z → decision_of (policy_of table.lines z.line) (left (begun table limit first) past).entries z.asked now ≡ d → o ≡ woken table (left (begun table limit first) past).entries now z d →
-      goes_forward o ≡ true →
-      find_exchange id (open_after table (left (begun table limit first) past).entries (left (begun table limit first) past).exchanges (Wake now id) o) ≡ Some x →
+  carried_woken : (past : List Item) → IsGood (initial_state table limit first) past → (now id : ℕ) (z : Exchange) (o : Outcome) (x : Exchange) (d : Decision) → Carried table limit id past z →
+      exchange id past ≡ Some z → decision_of (policy_of table.lines z.line) (state_after_trace (initial_state table limit first) past).entries z.asked now ≡ d → o ≡ outcome_of_wake table (state_after_trace (initial_state table limit first) past).entries now z d →
+      outcome_goes_forward o ≡ true →
+      find_exchange id (open_exchanges_after table (state_after_trace (initial_state table limit first) past).entries (state_after_trace (initial_state table limit first) past).exchanges (Wake now id) o) ≡ Some x →
       Carried table limit id (record { event = Wake now id; outcome = o } ∷ past) x
-  carried_woken past g now id z o x (decision.Hit t) c z_is d h out found = absurd (false≢true (sym (ap goes_forward h) ∙ out))
+  carried_woken past g now id z o x (decision.Hit t) c z_is d h out found = absurd (false≢true (sym (ap outcome_goes_forward h) ∙ out))
   carried_woken past g now id z o x (decision.Forward rule against) c z_is d h out found =
-      let s = left (begun table limit first) past in
+      let s = state_after_trace (initial_state table limit first) past in
       let es = s.entries in
       let xs = s.exchanges in
-      let bytes = forward_text table z.asked (condition_at es against) in
-      let q = rule_of (decision_of (policy_of table.lines z.line) es z.asked now) in
-      let k = condition_at es (named_by (decision_of (policy_of table.lines z.line) es z.asked now)) in
+      let bytes = forward_text table z.asked (condition_about_serial es against) in
+      let q = rule_of_decision (decision_of (policy_of table.lines z.line) es z.asked now) in
+      let k = condition_about_serial es (serial_named_by_decision (decision_of (policy_of table.lines z.line) es z.asked now)) in
       let y = woken_form table es now z in
-      let at : find_exchange id (woken_out table es id now (find_exchange id xs) xs) ≡ Some y =
-      ap (λ (w : Option Exchange). find_exchange id (woken_out table es id now w xs)) z_is
-      ∙ (find-map (sent_out id now q k) (sent_out-id id now q k) id xs
-      ∙ (ap (option_map (sent_out id now q k)) z_is ∙ ap (λ b. Some (cond b (goes_out now q k z) z)) (found-id id xs z z_is))) in
-      let here : y ≡ x = same_Some y x (sym at ∙ (ap (λ (o : Outcome). find_exchange id (open_after table es xs (Wake now id) o)) (sym h) ∙ found)) in
+      let at : find_exchange id (exchanges_after_wake table es id now (find_exchange id xs) xs) ≡ Some y =
+      ap (λ (w : Option Exchange). find_exchange id (exchanges_after_wake table es id now w xs)) z_is
+      ∙ (find-map (exchange_sent_forward id now q k) (sent_out-id id now q k) id xs
+      ∙ (ap (option_map (exchange_sent_forward id now q k)) z_is ∙ ap (λ b. Some (cond b (exchange_gone_forward now q k z) z)) (found-id id xs z z_is))) in
+      let here : y ≡ x = same_Some y x (sym at ∙ (ap (λ (o : Outcome). find_exchange id (open_exchanges_after table es xs (Wake now id) o)) (sym h) ∙ found)) in
       let held = entries_are_held table limit first past g in
       let named = names_the_least (policy_of table.lines z.line) es z.asked now rule against d in
-      let rule_is : y.rule ≡ rule = ap rule_of d in
-      let condition : y.condition ≡ condition_at es against = ap (λ (d : Decision). condition_at es (named_by d)) d in
+      let rule_is : y.rule ≡ rule = ap rule_of_decision d in
+      let condition : y.condition ≡ condition_about_serial es against = ap (λ (d : Decision). condition_about_serial es (serial_named_by_decision d)) d in
       subst (Carried table limit id (record { event = Wake now id; outcome = o } ∷ past)) here (
         record {
           since = [];
@@ -428,14 +428,14 @@ module _ (table : Table) (limit first : ℕ) where
           judged = inr (ap (λ n. Wake now n) (sym c.1));
           none_since = tt;
           line_allows = c.0.line_allows;
-          rule_is_least = subst (λ (es : List Stored). IsLeast (policy_of table.lines z.line) es z.asked now y.rule) held (subst (λ (q : ReuseRule). IsLeast (policy_of table.lines z.line) es z.asked now q) (sym rule_is) named.0);
+          rule_is_least = subst (λ (es : List Stored). IsLeastReuseRule (policy_of table.lines z.line) es z.asked now y.rule) held (subst (λ (q : ReuseRule). IsLeastReuseRule (policy_of table.lines z.line) es z.asked now q) (sym rule_is) named.0);
           went = inl (record {
             stage = refl;
             since_then = refl;
             request_time = refl;
             against = against;
-            names = subst (λ (es : List Stored). NamesTheResponse es z.asked y.rule against) held (subst (λ (q : ReuseRule). NamesTheResponse es z.asked q against) (sym rule_is) named.1);
-            condition = condition ∙ ap (λ (es : List Stored). condition_at es against) held;
+            names = subst (λ (es : List Stored). RuleNamesTheResponse es z.asked y.rule against) held (subst (λ (q : ReuseRule). RuleNamesTheResponse es z.asked q against) (sym rule_is) named.1);
+            condition = condition ∙ ap (λ (es : List Stored). condition_about_serial es against) held;
             outcome_is = h ∙ ap (λ (c : Option Condition). Forward z.line (forward_text table z.asked c)) (sym condition);
           });
         },
@@ -445,15 +445,15 @@ module _ (table : Table) (limit first : ℕ) where
   -- behind an answer
   carried_again : (past : List Item) (now id : ℕ) (r : Response) (z : Exchange) (line : ℕ) (bytes : List ℕ) (x : Exchange) → Carried table limit id past z →
       exchange id past ≡ Some z → IsAgain table z (Forward line bytes) →
-      find_exchange id (map (gone_out id now) (left (begun table limit first) past).exchanges) ≡ Some x →
+      find_exchange id (map (exchange_forwarded_again id now) (state_after_trace (initial_state table limit first) past).exchanges) ≡ Some x →
       Carried table limit id (record { event = Answer now id r; outcome = Forward line bytes } ∷ past) x
   carried_again past now id r z line bytes x c z_is goes found =
-      let xs = (left (begun table limit first) past).exchanges in
+      let xs = (state_after_trace (initial_state table limit first) past).exchanges in
       let h = c.0 in
       let y = out_again now z in
-      let here : y ≡ x = same_Some y x (sym (find-gone_out id now id xs ∙ ap (option_map (gone_out id now)) z_is ∙ ap (λ b. Some (cond b (out_again now z) z)) (found-id id xs z z_is)) ∙ found) in
+      let here : y ≡ x = same_Some y x (sym (find-gone_out id now id xs ∙ ap (option_map (exchange_forwarded_again id now)) z_is ∙ ap (λ b. Some (cond b (out_again now z) z)) (found-id id xs z z_is)) ∙ found) in
       let item : Item = record { event = Answer now id r; outcome = Forward line bytes } in
-      let same : item ≡ again_of table y now r =
+      let same : item ≡ second_forward_item table y now r =
       ap (λ n. record { event = Answer now n r; outcome = Forward line bytes }) (sym c.1)
       ∙ ap (λ n. record { event = Answer now z.id r; outcome = Forward n bytes }) goes.0
       ∙ ap (λ (b : List ℕ). record { event = Answer now z.id r; outcome = Forward z.line b }) goes.1
@@ -484,34 +484,34 @@ module _ (table : Table) (limit first : ℕ) where
         c.1,
       )
 
-  again_at : (past : List Item) (id : ℕ) (i : Item) (z x : Exchange) → Carried table limit id past z → exchange id past ≡ Some z → eqb (id_of i.event) id ≡ true →
-      judges i.event ≡ false → goes_forward i.outcome ≡ true →
-      i.outcome ≡ outcome_of table (left (begun table limit first) past).entries (left (begun table limit first) past).exchanges (exchange (id_of i.event) past) (left (begun table limit first) past).next i.event →
-      find_exchange id (open_after table (left (begun table limit first) past).entries (left (begun table limit first) past).exchanges i.event i.outcome) ≡ Some x →
+  again_at : (past : List Item) (id : ℕ) (i : Item) (z x : Exchange) → Carried table limit id past z → exchange id past ≡ Some z → eqb (exchange_id_of_event i.event) id ≡ true →
+      judges_a_request i.event ≡ false → outcome_goes_forward i.outcome ≡ true →
+      i.outcome ≡ outcome_of table (state_after_trace (initial_state table limit first) past).entries (state_after_trace (initial_state table limit first) past).exchanges (exchange (exchange_id_of_event i.event) past) (state_after_trace (initial_state table limit first) past).next i.event →
+      find_exchange id (open_exchanges_after table (state_after_trace (initial_state table limit first) past).entries (state_after_trace (initial_state table limit first) past).exchanges i.event i.outcome) ≡ Some x →
       Carried table limit id (i ∷ past) x
   again_at past id i z x c z_is same late out is found = by_event i.event i.outcome same late out is found
     where
       es : List Stored
-      es = (left (begun table limit first) past).entries
+      es = (state_after_trace (initial_state table limit first) past).entries
 
       xs : List Exchange
-      xs = (left (begun table limit first) past).exchanges
+      xs = (state_after_trace (initial_state table limit first) past).exchanges
 
       next : Option ℕ
-      next = (left (begun table limit first) past).next
+      next = (state_after_trace (initial_state table limit first) past).next
 
-      by_answer : (now n : ℕ) (r : Response) (o : Outcome) → n ≡ id → goes_forward o ≡ true → o ≡ answered table es now z r next (decision_of (policy_of table.lines z.line) es z.asked now) →
-          find_exchange id (open_after table es xs (Answer now n r) o) ≡ Some x → Carried table limit id (record { event = Answer now n r; outcome = o } ∷ past) x
+      by_answer : (now n : ℕ) (r : Response) (o : Outcome) → n ≡ id → outcome_goes_forward o ≡ true → o ≡ outcome_of_answer table es now z r next (decision_of (policy_of table.lines z.line) es z.asked now) →
+          find_exchange id (open_exchanges_after table es xs (Answer now n r) o) ≡ Some x → Carried table limit id (record { event = Answer now n r; outcome = o } ∷ past) x
       by_answer now n r (Reply reply) e out is found = absurd (false≢true out)
       by_answer now n r (Waits leader) e out is found = absurd (false≢true out)
       by_answer now n r Ended e out is found = absurd (false≢true out)
       by_answer now n r (Forward line bytes) e out is found =
           subst (λ m. Carried table limit id (record { event = Answer now m r; outcome = Forward line bytes } ∷ past) x) (sym e)
           (carried_again past now id r z line bytes x c z_is (subst (IsAgain table z) (sym is) (again_by table es now z r next (decision_of (policy_of table.lines z.line) es z.asked now)))
-          (ap (λ m. find_exchange id (map (gone_out m now) xs)) (sym e) ∙ found))
+          (ap (λ m. find_exchange id (map (exchange_forwarded_again m now) xs)) (sym e) ∙ found))
 
-      by_event : (event : Event) (o : Outcome) → eqb (id_of event) id ≡ true → judges event ≡ false → goes_forward o ≡ true →
-          o ≡ outcome_of table es xs (exchange (id_of event) past) next event → find_exchange id (open_after table es xs event o) ≡ Some x →
+      by_event : (event : Event) (o : Outcome) → eqb (exchange_id_of_event event) id ≡ true → judges_a_request event ≡ false → outcome_goes_forward o ≡ true →
+          o ≡ outcome_of table es xs (exchange (exchange_id_of_event event) past) next event → find_exchange id (open_exchanges_after table es xs event o) ≡ Some x →
           Carried table limit id (record { event = event; outcome = o } ∷ past) x
       by_event (Arrive now n asked) o same late out is found = absurd (false≢true (sym late))
       by_event (Answer now n r) o same late out is found =
@@ -519,42 +519,42 @@ module _ (table : Table) (limit first : ℕ) where
           by_answer now n r o e out (is ∙ ap (λ (w : Option Exchange). outcome_of table es xs w next (Answer now n r)) (ap (λ m. exchange m past) e ∙ z_is)) found
       by_event (Fail now n kind) o same late out is found =
           let w : exchange n past ≡ Some z = ap (λ m. exchange m past) (eqb-true n id same) ∙ z_is in
-          let back : goes_forward o ≡ false =
-          ap goes_forward (is ∙ ap (λ (w : Option Exchange). outcome_of table es xs w next (Fail now n kind)) w)
+          let back : outcome_goes_forward o ≡ false =
+          ap outcome_goes_forward (is ∙ ap (λ (w : Option Exchange). outcome_of table es xs w next (Fail now n kind)) w)
           ∙ failed_back table es now z kind None (fallback_for (policy_of table.lines z.line) es z.asked now (decision_of (policy_of table.lines z.line) es z.asked now)) in
           absurd (false≢true (sym back ∙ out))
       by_event (Wake now n) o same late out is found = absurd (false≢true (sym late))
-      by_event (Abandon n) o same late out is found = absurd (false≢true (sym (ap goes_forward is) ∙ out))
+      by_event (Abandon n) o same late out is found = absurd (false≢true (sym (ap outcome_goes_forward is) ∙ out))
 
-  carries : (past : List Item) → IsGood (begun table limit first) past → (id : ℕ) (x : Exchange) → exchange id past ≡ Some x → Carried table limit id past x
+  carries : (past : List Item) → IsGood (initial_state table limit first) past → (id : ℕ) (x : Exchange) → exchange id past ≡ Some x → Carried table limit id past x
   carries [] g id x h = absurd (cc)
-  carries (i ∷ past) g id x h = by_move (λ z q. carries past g.1 id z q) (exchange id (i ∷ past)) (move_of table (left (begun table limit first) past) i id (same_table (begun table limit first) past) g.0) h refl
+  carries (i ∷ past) g id x h = by_move (λ z q. carries past g.1 id z q) (exchange id (i ∷ past)) (move_of table (state_after_trace (initial_state table limit first) past) i id (same_table (initial_state table limit first) past) g.0) h refl
     where
       s : State
-      s = left (begun table limit first) past
+      s = state_after_trace (initial_state table limit first) past
 
-      at_table : find_exchange id (open_after table s.entries s.exchanges i.event i.outcome) ≡ exchange id (i ∷ past)
-      at_table = ap (λ (t : Table). find_exchange id (open_after t s.entries s.exchanges i.event i.outcome)) (sym (same_table (begun table limit first) past))
+      at_table : find_exchange id (open_exchanges_after table s.entries s.exchanges i.event i.outcome) ≡ exchange id (i ∷ past)
+      at_table = ap (λ (t : Table). find_exchange id (open_exchanges_after t s.entries s.exchanges i.event i.outcome)) (sym (same_table (initial_state table limit first) past))
 
-      at_arrival : (now : ℕ) (asked : Asked) → i.event ≡ Arrive now id asked → exchange id past ≡ None → find_exchange id (open_after table s.entries s.exchanges (Arrive now id asked) i.outcome) ≡ Some x →
+      at_arrival : (now : ℕ) (asked : Asked) → i.event ≡ Arrive now id asked → exchange id past ≡ None → find_exchange id (open_exchanges_after table s.entries s.exchanges (Arrive now id asked) i.outcome) ≡ Some x →
           Carried table limit id (record { event = Arrive now id asked; outcome = i.outcome } ∷ past) x
       at_arrival now asked e x_is found =
           carried_first past g.1 now id asked i.outcome x
-          (subst (Goes table s.entries s.exchanges now asked) (sym (g.0.outcome_is ∙ ap (λ (v : Event). outcome_of table s.entries s.exchanges (find_exchange (id_of v) s.exchanges) s.next v) e))
+          (subst (Goes table s.entries s.exchanges now asked) (sym (g.0.outcome_is ∙ ap (λ (v : Event). outcome_of table s.entries s.exchanges (find_exchange (exchange_id_of_event v) s.exchanges) s.next v) e))
           (goes_by table s.entries s.exchanges now asked (verdict_of table.lines asked.method asked.target) refl)) x_is found
 
-      by_move : ((z : Exchange) → exchange id past ≡ Some z → Carried table limit id past z) → (y : Option Exchange) → Move id (find_exchange (id_of i.event) s.exchanges) i.event i.outcome (exchange id past) y → y ≡ Some x → exchange id (i ∷ past) ≡ y →
+      by_move : ((z : Exchange) → exchange id past ≡ Some z → Carried table limit id past z) → (y : Option Exchange) → Move id (find_exchange (exchange_id_of_event i.event) s.exchanges) i.event i.outcome (exchange id past) y → y ≡ Some x → exchange id (i ∷ past) ≡ y →
           Carried table limit id (i ∷ past) x
       by_move was y (apart n e) h k =
-          carried_apart table limit id i past (key_by_step (asked_of (find_exchange (id_of i.event) s.exchanges)) i.event i.outcome) (ended_by i.event i.outcome) (exchange id past) x n was (sym e ∙ h)
+          carried_apart table limit id i past (key_invalidated_by_step (asked_of (find_exchange (exchange_id_of_event i.event) s.exchanges)) i.event i.outcome) (ended_by i.event i.outcome) (exchange id past) x n was (sym e ∙ h)
       by_move was y (opens at es now asked line e x_is f q) h k =
           let item : record { event = Arrive now id asked; outcome = i.outcome } ≡ i = ap (λ (v : Event). record { event = v; outcome = i.outcome }) (sym e) in
           subst (λ (j : Item). Carried table limit id (j ∷ past) x) item
-          (at_arrival now asked e x_is (ap (λ (v : Event). find_exchange id (open_after table s.entries s.exchanges v i.outcome)) (sym e) ∙ at_table ∙ k ∙ h))
+          (at_arrival now asked e x_is (ap (λ (v : Event). find_exchange id (open_exchanges_after table s.entries s.exchanges v i.outcome)) (sym e) ∙ at_table ∙ k ∙ h))
       by_move was y (queues at es now asked line leader e x_is f l q) h k =
           let item : record { event = Arrive now id asked; outcome = i.outcome } ≡ i = ap (λ (v : Event). record { event = v; outcome = i.outcome }) (sym e) in
           subst (λ (j : Item). Carried table limit id (j ∷ past) x) item
-          (at_arrival now asked e x_is (ap (λ (v : Event). find_exchange id (open_after table s.entries s.exchanges v i.outcome)) (sym e) ∙ at_table ∙ k ∙ h))
+          (at_arrival now asked e x_is (ap (λ (v : Event). find_exchange id (open_exchanges_after table s.entries s.exchanges v i.outcome)) (sym e) ∙ at_table ∙ k ∙ h))
       by_move was y (passes t e x_is f q) h k = absurd (none_some y x q h)
       by_move was y (again z now t e z_is c f q j r) h k =
           again_at past id i z x (was z z_is) z_is t j f g.0.outcome_is (at_table ∙ k ∙ h)
@@ -562,17 +562,17 @@ module _ (table : Table) (limit first : ℕ) where
           let item : record { event = Wake now id; outcome = i.outcome } ≡ i = ap (λ (v : Event). record { event = v; outcome = i.outcome }) (sym e) in
           subst (λ (j : Item). Carried table limit id (j ∷ past) x) item
           (carried_woken past g.1 now id z i.outcome x (decision_of (policy_of table.lines z.line) s.entries z.asked now) (was z z_is) z_is refl
-          (g.0.outcome_is ∙ (ap (λ (v : Event). outcome_of table s.entries s.exchanges (find_exchange (id_of v) s.exchanges) s.next v) e ∙ ap (λ (w : Option Exchange). outcome_of table s.entries s.exchanges w s.next (Wake now id)) z_is)) f
-          (ap (λ (v : Event). find_exchange id (open_after table s.entries s.exchanges v i.outcome)) (sym e) ∙ at_table ∙ k ∙ h))
+          (g.0.outcome_is ∙ (ap (λ (v : Event). outcome_of table s.entries s.exchanges (find_exchange (exchange_id_of_event v) s.exchanges) s.next v) e ∙ ap (λ (w : Option Exchange). outcome_of table s.entries s.exchanges w s.next (Wake now id)) z_is)) f
+          (ap (λ (v : Event). find_exchange id (open_exchanges_after table s.entries s.exchanges v i.outcome)) (sym e) ∙ at_table ∙ k ∙ h))
       by_move was y (closes z t e x_is f q) h k = absurd (none_some y x q h)
 
-pub carries_its_arrival : CarriesItsArrival
+pub carries_its_arrival : OpenExchangeCarriesItsArrival
 carries_its_arrival table limit first id trace x g h =
     let p = good_plain table limit first trace g in
     carries table limit first trace p id x (ap (find_exchange id) (exchanges_are_open table limit first trace p) ∙ h)
 
 pub least_when_judged : (table : Table) (limit first id : ℕ) (trace : List Item) (x : Exchange) → IsGoodHistory table limit first trace →
-    find_exchange id (open_exchanges table limit trace) ≡ Some x → LeastWhenJudged table limit x trace
+    find_exchange id (open_exchanges table limit trace) ≡ Some x → RuleWasLeastWhenJudged table limit x trace
 least_when_judged table limit first id trace x g h =
     let a = (carries_its_arrival table limit first id trace x g h).0 in
     record {

@@ -1,30 +1,30 @@
 -- A core that was begun and went through steps has gone through a good trace.
 use Rattle.std.proofs.Common.{◌≡◌, ℕ, List, [], ◌∷◌, ◌∙◌, ap, subst}
-use Rattle.hx_allow.specs.Lines.{Table}
-use Rattle.proxy_core.specs.State.{State, Steps, after}
-use Rattle.proxy_core.specs.Traces.{Item, begun, left, Accepts, IsGood}
-use Rattle.proxy_core.specs.Driving.{HasRun, PromisesOfADrivenCore}
+use Rattle.hx_allow.specs.TableLines.{Table}
+use Rattle.proxy_core.specs.State.{State, StepIsAccepted, state_after}
+use Rattle.proxy_core.specs.Traces.{Item, initial_state, state_after_trace, ItemIsAccepted, IsGood}
+use Rattle.proxy_core.specs.Driving.{CoreWentThrough, PromisesOfADrivenCore}
 use Rattle.proxy_core.proofs.Tracing.{same_table, same_limit}
 use Rattle.proxy_core.proofs.HeldLaw.{good_held, entries_are_held, exchanges_are_open, next_is_counted}
 use Rattle.proxy_core.proofs.Headlines.{headline}
 
 -- good over the list that the core keeps
 record IsDriven (table : Table) (limit first : ℕ) (trace : List Item) (core : State) : Type 0 where
-  good : IsGood (begun table limit first) trace
-  leaves : core ≡ left (begun table limit first) trace
+  good : IsGood (initial_state table limit first) trace
+  leaves : core ≡ state_after_trace (initial_state table limit first) trace
 
-driven : (table : Table) (limit first : ℕ) (trace : List Item) (core : State) → HasRun table limit first trace core → IsDriven table limit first trace core
+driven : (table : Table) (limit first : ℕ) (trace : List Item) (core : State) → CoreWentThrough table limit first trace core → IsDriven table limit first trace core
 driven table limit first [] core h = record { good = tt; leaves = h }
 driven table limit first (item ∷ past) core h =
-    let start = begun table limit first in
+    let start = initial_state table limit first in
     let was = driven table limit first past h.0 h.1 in
-    let here : Steps (left start past) item.event item.outcome core = subst (λ (s : State). Steps s item.event item.outcome core) was.leaves h.2 in
-    let accepts : Accepts table (left start past).entries (left start past).exchanges (left start past).next item =
-    subst (λ (t : Table). Accepts t (left start past).entries (left start past).exchanges (left start past).next item) (same_table start past)
+    let here : StepIsAccepted (state_after_trace start past) item.event item.outcome core = subst (λ (s : State). StepIsAccepted s item.event item.outcome core) was.leaves h.2 in
+    let accepts : ItemIsAccepted table (state_after_trace start past).entries (state_after_trace start past).exchanges (state_after_trace start past).next item =
+    subst (λ (t : Table). ItemIsAccepted t (state_after_trace start past).entries (state_after_trace start past).exchanges (state_after_trace start past).next item) (same_table start past)
     record { allowed = here.allowed; outcome_is = here.outcome_is } in
     record {
       good = (accepts, was.good);
-      leaves = h.2.leaves ∙ ap (λ (s : State). after s item.event item.outcome) was.leaves;
+      leaves = h.2.leaves ∙ ap (λ (s : State). state_after s item.event item.outcome) was.leaves;
     }
 
 pub promises_of_a_driven_core : PromisesOfADrivenCore
@@ -32,8 +32,8 @@ promises_of_a_driven_core table limit first trace core h =
     let d = driven table limit first trace core h in
     let good = good_held table limit first trace d.good in
     record {
-      table_is = ap (λ (s : State). s.table) d.leaves ∙ same_table (begun table limit first) trace;
-      limit_is = ap (λ (s : State). s.limit) d.leaves ∙ same_limit (begun table limit first) trace;
+      table_is = ap (λ (s : State). s.table) d.leaves ∙ same_table (initial_state table limit first) trace;
+      limit_is = ap (λ (s : State). s.limit) d.leaves ∙ same_limit (initial_state table limit first) trace;
       good = good;
       headline = headline table limit first trace good;
       entries_are = ap (λ (s : State). s.entries) d.leaves ∙ entries_are_held table limit first trace d.good;

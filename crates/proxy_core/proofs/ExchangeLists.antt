@@ -11,7 +11,7 @@ use Rattle.hx_reuse.specs.declared.rule.ReuseRule.{ReuseRule}
 use Rattle.proxy_core.specs.declared.steps.condition.Condition.{Condition}
 use Rattle.proxy_core.specs.declared.open.stage.Stage.TheVariants.{Released}
 use Rattle.proxy_core.specs.Leading.{waits_for}
-use Rattle.proxy_core.specs.State.{closed, release, overtake, left_open, goes_out, gone_out, sent_out}
+use Rattle.proxy_core.specs.State.{exchanges_after_close, released_exchange, overtaken_exchange, exchanges_after_end, exchange_gone_forward, exchange_forwarded_again, exchange_sent_forward}
 
 pub find-map : (f : Exchange → Exchange) → ((x : Exchange) → (f x).id ≡ x.id) → (id : ℕ) (xs : List Exchange) →
     find_exchange id (map f xs) ≡ option_map f (find_exchange id xs)
@@ -23,50 +23,50 @@ find-map f k id (x ∷ xs) =
       | false ↦ find-map f k id xs
     ]
 
-pub gone_out-id : (i now : ℕ) (x : Exchange) → (gone_out i now x).id ≡ x.id
-gone_out-id i now x = elim (eqb x.id i) as (λ b. (cond b (goes_out now x.rule None x) x).id ≡ x.id) [
+pub gone_out-id : (i now : ℕ) (x : Exchange) → (exchange_forwarded_again i now x).id ≡ x.id
+gone_out-id i now x = elim (eqb x.id i) as (λ b. (cond b (exchange_gone_forward now x.rule None x) x).id ≡ x.id) [
   | true ↦ refl
   | false ↦ refl
 ]
 
-pub sent_out-id : (i now : ℕ) (rule : ReuseRule) (condition : Option Condition) (x : Exchange) → (sent_out i now rule condition x).id ≡ x.id
-sent_out-id i now rule condition x = elim (eqb x.id i) as (λ b. (cond b (goes_out now rule condition x) x).id ≡ x.id) [
+pub sent_out-id : (i now : ℕ) (rule : ReuseRule) (condition : Option Condition) (x : Exchange) → (exchange_sent_forward i now rule condition x).id ≡ x.id
+sent_out-id i now rule condition x = elim (eqb x.id i) as (λ b. (cond b (exchange_gone_forward now rule condition x) x).id ≡ x.id) [
   | true ↦ refl
   | false ↦ refl
 ]
 
-pub release-id : (i : ℕ) (x : Exchange) → (release i x).id ≡ x.id
+pub release-id : (i : ℕ) (x : Exchange) → (released_exchange i x).id ≡ x.id
 release-id i x = elim (waits_for i x.stage) as (λ b. (cond b (record x { stage = Released }) x).id ≡ x.id) [
   | true ↦ refl
   | false ↦ refl
 ]
 
-pub overtake-id : (key : Key) (x : Exchange) → (overtake key x).id ≡ x.id
+pub overtake-id : (key : Key) (x : Exchange) → (overtaken_exchange key x).id ≡ x.id
 overtake-id key x = elim (same_key x.asked.target.key key) as (λ b. (cond b (record x { overtaken = true }) x).id ≡ x.id) [
   | true ↦ refl
   | false ↦ refl
 ]
 
 pub find-gone_out : (i now : ℕ) (id : ℕ) (xs : List Exchange) →
-    find_exchange id (map (gone_out i now) xs) ≡ option_map (gone_out i now) (find_exchange id xs)
-find-gone_out i now id xs = find-map (gone_out i now) (gone_out-id i now) id xs
+    find_exchange id (map (exchange_forwarded_again i now) xs) ≡ option_map (exchange_forwarded_again i now) (find_exchange id xs)
+find-gone_out i now id xs = find-map (exchange_forwarded_again i now) (gone_out-id i now) id xs
 
 -- what an invalidation does to an exchange
 abbrev pub overtaken_by : Option Key → Option Exchange → Option Exchange
 overtaken_by None o = o
-overtaken_by (Some key) o = option_map (overtake key) o
+overtaken_by (Some key) o = option_map (overtaken_exchange key) o
 
 -- what the end of another does to it
 abbrev pub released_by : Option ℕ → Option Exchange → Option Exchange
 released_by None o = o
-released_by (Some i) o = option_map (release i) o
+released_by (Some i) o = option_map (released_exchange i) o
 
 -- and what a step of another does
 abbrev pub changed_by : Option Key → Option ℕ → Option Exchange → Option Exchange
 changed_by key gone o = overtaken_by key (released_by gone o)
 
-find-overtake : (key : Key) (id : ℕ) (xs : List Exchange) → find_exchange id (map (overtake key) xs) ≡ option_map (overtake key) (find_exchange id xs)
-find-overtake key id xs = find-map (overtake key) (overtake-id key) id xs
+find-overtake : (key : Key) (id : ℕ) (xs : List Exchange) → find_exchange id (map (overtaken_exchange key) xs) ≡ option_map (overtaken_exchange key) (find_exchange id xs)
+find-overtake key id xs = find-map (overtaken_exchange key) (overtake-id key) id xs
 
 collapse : (b : Bool) (o p q : Option Exchange) → cond b o (cond b p q) ≡ cond b o q
 collapse true o p q = refl
@@ -109,22 +109,22 @@ find-but i id (x ∷ xs) =
           )
     ]
 
-pub find-closed : (i id : ℕ) (xs : List Exchange) → find_exchange id (closed i xs) ≡ cond (eqb i id) None (released_by (Some i) (find_exchange id xs))
+pub find-closed : (i id : ℕ) (xs : List Exchange) → find_exchange id (exchanges_after_close i xs) ≡ cond (eqb i id) None (released_by (Some i) (find_exchange id xs))
 find-closed i id xs =
-    find-map (release i) (release-id i) id (but i xs)
-    ∙ ap (option_map (release i)) (find-but i id xs)
-    ∙ elim (eqb i id) as (λ b. option_map (release i) (cond b None (find_exchange id xs)) ≡ cond b None (option_map (release i) (find_exchange id xs))) [
+    find-map (released_exchange i) (release-id i) id (but i xs)
+    ∙ ap (option_map (released_exchange i)) (find-but i id xs)
+    ∙ elim (eqb i id) as (λ b. option_map (released_exchange i) (cond b None (find_exchange id xs)) ≡ cond b None (option_map (released_exchange i) (find_exchange id xs))) [
       | true ↦ refl
       | false ↦ refl
     ]
 
 -- an end, by which others may be overtaken
 pub find-left_open : (key : Option Key) (i id : ℕ) (xs : List Exchange) →
-    find_exchange id (left_open key i xs) ≡ cond (eqb i id) None (changed_by key (Some i) (find_exchange id xs))
+    find_exchange id (exchanges_after_end key i xs) ≡ cond (eqb i id) None (changed_by key (Some i) (find_exchange id xs))
 find-left_open None i id xs = find-closed i id xs
 find-left_open (Some key) i id xs =
-    find-overtake key id (closed i xs) ∙ ap (option_map (overtake key)) (find-closed i id xs)
-    ∙ elim (eqb i id) as (λ b. option_map (overtake key) (cond b None (released_by (Some i) (find_exchange id xs))) ≡ cond b None (option_map (overtake key) (released_by (Some i) (find_exchange id xs)))) [
+    find-overtake key id (exchanges_after_close i xs) ∙ ap (option_map (overtaken_exchange key)) (find-closed i id xs)
+    ∙ elim (eqb i id) as (λ b. option_map (overtaken_exchange key) (cond b None (released_by (Some i) (find_exchange id xs))) ≡ cond b None (option_map (overtaken_exchange key) (released_by (Some i) (find_exchange id xs)))) [
       | true ↦ refl
       | false ↦ refl
     ]

@@ -7,7 +7,7 @@ use Rattle.hx_policy.specs.declared.words.Policy.{Policy}
 use Rattle.hx_directives.specs.Occurrences.{occurrences_of}
 use Rattle.hx_framing.specs.declared.messages.Response.{Response}
 use Rattle.hx_hop.specs.declared.request_view.Asked.{Asked}
-use Rattle.hx_allow.specs.Lines.{Table}
+use Rattle.hx_allow.specs.TableLines.{Table}
 use Rattle.hx_allow.specs.Matching.{verdict_of, policy_of}
 use Rattle.hx_allow.specs.declared.verdicts.Verdict.{Verdict}
 use Rattle.hx_allow.specs.declared.verdicts.Verdict.TheVariants as verdict
@@ -17,7 +17,7 @@ use Rattle.hx_store.specs.Shelf.{serials, find_entry}
 use Rattle.hx_store.proofs.Recency.{Distinct-filter, Distinct-recent}
 use Rattle.hx_reuse.specs.Rules.{decision_of}
 use Rattle.hx_reuse.specs.ErrorRules.{error_rule_on}
-use Rattle.hx_reuse.specs.Meaning.{IsLeast, NamesTheResponse}
+use Rattle.hx_reuse.specs.ChosenAndNamed.{IsLeastReuseRule, RuleNamesTheResponse}
 use Rattle.hx_reuse.specs.declared.rule.ReuseRule.{ReuseRule}
 use Rattle.hx_reuse.specs.declared.rule.ErrorRule.{ErrorRule}
 use Rattle.hx_reuse.specs.declared.decision.Decision.{Decision}
@@ -33,22 +33,22 @@ use Rattle.proxy_core.specs.declared.steps.fallback.Fallback.{Fallback}
 use Rattle.proxy_core.specs.declared.steps.fallback.Fallback.TheVariants.{Sends, Refuses}
 use Rattle.proxy_core.specs.declared.event.Event.{Event}
 use Rattle.proxy_core.specs.declared.event.Event.TheVariants.{Arrive, Answer, Fail, Wake, Abandon}
-use Rattle.proxy_core.specs.Validating.{condition_at, is_validation, validated}
-use Rattle.proxy_core.specs.Storing.{is_unasked}
-use Rattle.proxy_core.specs.Leading.{leader_for}
-use Rattle.proxy_core.specs.Outcomes.{find_exchange, id_of, arrived, allowed, sent_on, unanswered, woken, is_only_if_cached, error_rule_at, fallback_by, fallback_for, failed, is_error_status, passed_unless, revalidated, answered, outcome_of}
+use Rattle.proxy_core.specs.Validating.{condition_about_serial, is_validation, stored_response_validated}
+use Rattle.proxy_core.specs.Storing.{is_304_without_condition}
+use Rattle.proxy_core.specs.Leading.{leader_of_request}
+use Rattle.proxy_core.specs.Outcomes.{find_exchange, exchange_id_of_event, outcome_of_arrival, outcome_of_allowed_request, outcome_of_waiting_or_forwarding, outcome_without_stored_response, outcome_of_wake, is_only_if_cached, error_rule_at, fallback_with_error_rule, fallback_for, outcome_of_failure, is_error_status, outcome_of_passing_on_or_stale, outcome_of_304, outcome_of_answer, outcome_of}
 use Rattle.proxy_core.specs.Traces.{Item}
-use Rattle.proxy_core.specs.Histories.{IsGoodHistory, done_by, held_entries, open_exchanges, next_serial}
-use Rattle.proxy_core.specs.Carrying.{LeastWhenJudged}
-use Rattle.proxy_core.specs.Naming.{NamesErrorRule, NamesFirst, NamesFirstRules}
+use Rattle.proxy_core.specs.Histories.{IsGoodHistory, store_change_of, held_entries, open_exchanges, next_serial}
+use Rattle.proxy_core.specs.Carrying.{RuleWasLeastWhenJudged}
+use Rattle.proxy_core.specs.Naming.{AnswerNamesErrorRule, AnswerNamesFirstRule, EachOtherAnswerNamesTheFirstRule}
 use Rattle.proxy_core.proofs.Carries.{least_when_judged}
 use Rattle.proxy_core.proofs.HeldLaw.{good_plain, entries_are_held, stands_for}
 
 module _ (policy : Policy) (es : List Stored) (distinct : Distinct (serials es)) (now : ℕ) (asked : Asked) where
   -- where nothing is sent after a failure: the rule, and the error rule beside it
   record IsRefused (rule : ReuseRule) (error : Option ErrorRule) : Type 0 where
-    least : IsLeast policy es asked now rule
-    named : NamesErrorRule policy es now asked rule error
+    least : IsLeastReuseRule policy es asked now rule
+    named : AnswerNamesErrorRule policy es now asked rule error
 
   never_one : (s : ℕ) → ◌≡◌ {A = Option ℕ} None (Some s) → ⊥
   never_one s h = cc
@@ -58,7 +58,7 @@ module _ (policy : Policy) (es : List Stored) (distinct : Distinct (serials es))
       let r = names_the_least policy es asked now rule None h in
       record { least = r.0; named = by_number r.1 }
     where
-      by_number : NamesTheResponse es asked rule None → NamesErrorRule policy es now asked rule None
+      by_number : RuleNamesTheResponse es asked rule None → AnswerNamesErrorRule policy es now asked rule None
       by_number (inl low) = inl (low.0, refl)
       by_number (inr high) = absurd (never_one high.1.0.serial high.1.2)
 
@@ -67,7 +67,7 @@ module _ (policy : Policy) (es : List Stored) (distinct : Distinct (serials es))
       let r = names_the_least policy es asked now rule (Some s) h in
       record { least = r.0; named = by_number r.1 }
     where
-      by_number : NamesTheResponse es asked rule (Some s) → NamesErrorRule policy es now asked rule (Some e)
+      by_number : RuleNamesTheResponse es asked rule (Some s) → AnswerNamesErrorRule policy es now asked rule (Some e)
       by_number (inl low) = absurd (never_one s (sym low.1))
       by_number (inr high) =
           let response = high.1.0 in
@@ -88,7 +88,7 @@ module _ (policy : Policy) (es : List Stored) (distinct : Distinct (serials es))
       subst (IsRefused rule) none (subst (λ (r : ReuseRule). IsRefused r None) same (refused_alone q d_is))
   refuses_is (decision.Forward q (Some s)) rule error d_is h = by_rule (error_rule_at policy es s asked now) refl h
     where
-      by_rule : (o : Option ErrorRule) → error_rule_at policy es s asked now ≡ o → fallback_by q s o ≡ Refuses rule error → IsRefused rule error
+      by_rule : (o : Option ErrorRule) → error_rule_at policy es s asked now ≡ o → fallback_with_error_rule q s o ≡ Refuses rule error → IsRefused rule error
       by_rule None k h = absurd (cc)
       by_rule (Some e) k h =
           let same : q ≡ rule = cc in
@@ -100,75 +100,75 @@ module _ (table : Table) (limit : ℕ) (past : List Item) (distinct : Distinct (
   abbrev es : List Stored
   es = held_entries table limit past
 
-  arrival_names : (xs : List Exchange) (x : Option Exchange) (now id : ℕ) (asked : Asked) → NamesFirst table limit past next x (Arrive now id asked) (arrived table es xs now asked (verdict_of table.lines asked.method asked.target))
+  arrival_names : (xs : List Exchange) (x : Option Exchange) (now id : ℕ) (asked : Asked) → AnswerNamesFirstRule table limit past next x (Arrive now id asked) (outcome_of_arrival table es xs now asked (verdict_of table.lines asked.method asked.target))
   arrival_names xs x now id asked = by_verdict (verdict_of table.lines asked.method asked.target) refl
     where
-      on : (line : ℕ) (condition : Option Condition) (leader : Option ℕ) → NamesFirst table limit past next x (Arrive now id asked) (sent_on table line asked condition leader)
+      on : (line : ℕ) (condition : Option Condition) (leader : Option ℕ) → AnswerNamesFirstRule table limit past next x (Arrive now id asked) (outcome_of_waiting_or_forwarding table line asked condition leader)
       on line condition None = tt
       on line condition (Some leader) = tt
 
       unless : (line : ℕ) (rule : ReuseRule) (against : Option ℕ) (b : Bool) → verdict_of table.lines asked.method asked.target ≡ verdict.Allowed line →
           decision_of (policy_of table.lines line) es asked now ≡ decision.Forward rule against → is_only_if_cached asked ≡ b →
-          NamesFirst table limit past next x (Arrive now id asked) (unanswered table xs line now asked rule (condition_at es against) b)
+          AnswerNamesFirstRule table limit past next x (Arrive now id asked) (outcome_without_stored_response table xs line now asked rule (condition_about_serial es against) b)
       unless line rule against true v d k = λ h. inr (inr (line, rule, v, k, (names_the_least (policy_of table.lines line) es asked now rule against d).0, refl))
-      unless line rule against false v d k = on line (condition_at es against) (leader_for (policy_of table.lines line) xs asked rule)
+      unless line rule against false v d k = on line (condition_about_serial es against) (leader_of_request (policy_of table.lines line) xs asked rule)
 
       by_decision : (line : ℕ) (d : Decision) → verdict_of table.lines asked.method asked.target ≡ verdict.Allowed line → decision_of (policy_of table.lines line) es asked now ≡ d →
-          NamesFirst table limit past next x (Arrive now id asked) (allowed table es xs line now asked d)
+          AnswerNamesFirstRule table limit past next x (Arrive now id asked) (outcome_of_allowed_request table es xs line now asked d)
       by_decision line (decision.Hit s) v k = λ h. absurd (false≢true h)
       by_decision line (decision.Forward rule against) v k = unless line rule against (is_only_if_cached asked) v k refl
 
-      by_verdict : (v : Verdict) → verdict_of table.lines asked.method asked.target ≡ v → NamesFirst table limit past next x (Arrive now id asked) (arrived table es xs now asked v)
+      by_verdict : (v : Verdict) → verdict_of table.lines asked.method asked.target ≡ v → AnswerNamesFirstRule table limit past next x (Arrive now id asked) (outcome_of_arrival table es xs now asked v)
       by_verdict (verdict.Allowed line) v = by_decision line (decision_of (policy_of table.lines line) es asked now) v refl
       by_verdict (verdict.DeniedBy line) v = λ h. inl (line, v, refl)
       by_verdict verdict.NoLine v = λ h. inr (inl (v, refl))
 
   failure_names : (x : Exchange) (now id : ℕ) (kind : FailKind) (fallback : Fallback) → fallback_for (policy_of table.lines x.line) es x.asked now (decision_of (policy_of table.lines x.line) es x.asked now) ≡ fallback →
-      NamesFirst table limit past next (Some x) (Fail now id kind) (failed table es now x kind None fallback)
+      AnswerNamesFirstRule table limit past next (Some x) (Fail now id kind) (outcome_of_failure table es now x kind None fallback)
   failure_names x now id kind (Sends s detail) k = λ h. absurd (false≢true h)
   failure_names x now id kind (Refuses rule error) k = λ h.
       let r = refuses_is (policy_of table.lines x.line) es distinct now x.asked (decision_of (policy_of table.lines x.line) es x.asked now) rule error refl k in
       (rule, error, r.least, r.named, refl)
 
-  module _ (x : Exchange) (kept : LeastWhenJudged table limit x past) (now id : ℕ) (r : Response) where
-    unasked_names : (fallback : Fallback) → is_unasked x.asked r ≡ true → fallback_for (policy_of table.lines x.line) es x.asked now (decision_of (policy_of table.lines x.line) es x.asked now) ≡ fallback →
-        NamesFirst table limit past next (Some x) (Answer now id r) (failed table es now x BadAnswer (Some r.status) fallback)
+  module _ (x : Exchange) (kept : RuleWasLeastWhenJudged table limit x past) (now id : ℕ) (r : Response) where
+    unasked_names : (fallback : Fallback) → is_304_without_condition x.asked r ≡ true → fallback_for (policy_of table.lines x.line) es x.asked now (decision_of (policy_of table.lines x.line) es x.asked now) ≡ fallback →
+        AnswerNamesFirstRule table limit past next (Some x) (Answer now id r) (outcome_of_failure table es now x BadAnswer (Some r.status) fallback)
     unasked_names (Sends s detail) u k = λ h. absurd (false≢true h)
     unasked_names (Refuses rule error) u k = λ h.
         let q = refuses_is (policy_of table.lines x.line) es distinct now x.asked (decision_of (policy_of table.lines x.line) es x.asked now) rule error refl k in
         inr (u, (rule, error, q.least, q.named, refl))
 
-    passed_names : (b : Bool) (fallback : Fallback) → is_unasked x.asked r ≡ false → NamesFirst table limit past next (Some x) (Answer now id r) (passed_unless table es now x r next b fallback)
+    passed_names : (b : Bool) (fallback : Fallback) → is_304_without_condition x.asked r ≡ false → AnswerNamesFirstRule table limit past next (Some x) (Answer now id r) (outcome_of_passing_on_or_stale table es now x r next b fallback)
     passed_names true (Sends s detail) n = λ h. absurd (false≢true h)
     passed_names true (Refuses rule error) n = λ h. inl (n, (kept, refl))
     passed_names false fallback n = λ h. inl (n, (kept, refl))
 
-    validation_names : (o : Option Stored) (d : Decision) → NamesFirst table limit past next (Some x) (Answer now id r) (revalidated table es now x r o d)
+    validation_names : (o : Option Stored) (d : Decision) → AnswerNamesFirstRule table limit past next (Some x) (Answer now id r) (outcome_of_304 table es now x r o d)
     validation_names (Some e) d = λ h. absurd (false≢true h)
     validation_names None (decision.Hit s) = λ h. absurd (false≢true h)
     validation_names None (decision.Forward rule against) = tt
 
-    answer_names : NamesFirst table limit past next (Some x) (Answer now id r) (answered table es now x r next (decision_of (policy_of table.lines x.line) es x.asked now))
+    answer_names : AnswerNamesFirstRule table limit past next (Some x) (Answer now id r) (outcome_of_answer table es now x r next (decision_of (policy_of table.lines x.line) es x.asked now))
     answer_names = by_304 (is_validation x r)
       where
-        by_unasked : (b : Bool) → is_unasked x.asked r ≡ b →
-            NamesFirst table limit past next (Some x) (Answer now id r) (cond b (failed table es now x BadAnswer (Some r.status) (fallback_for (policy_of table.lines x.line) es x.asked now (decision_of (policy_of table.lines x.line) es x.asked now)))
-            (passed_unless table es now x r next (is_error_status r.status) (fallback_for (policy_of table.lines x.line) es x.asked now (decision_of (policy_of table.lines x.line) es x.asked now))))
+        by_unasked : (b : Bool) → is_304_without_condition x.asked r ≡ b →
+            AnswerNamesFirstRule table limit past next (Some x) (Answer now id r) (cond b (outcome_of_failure table es now x BadAnswer (Some r.status) (fallback_for (policy_of table.lines x.line) es x.asked now (decision_of (policy_of table.lines x.line) es x.asked now)))
+            (outcome_of_passing_on_or_stale table es now x r next (is_error_status r.status) (fallback_for (policy_of table.lines x.line) es x.asked now (decision_of (policy_of table.lines x.line) es x.asked now))))
         by_unasked true k = unasked_names (fallback_for (policy_of table.lines x.line) es x.asked now (decision_of (policy_of table.lines x.line) es x.asked now)) k refl
         by_unasked false k = passed_names (is_error_status r.status) (fallback_for (policy_of table.lines x.line) es x.asked now (decision_of (policy_of table.lines x.line) es x.asked now)) k
 
-        by_304 : (b : Bool) → NamesFirst table limit past next (Some x) (Answer now id r) (cond b (revalidated table es now x r (validated es x r now) (decision_of (policy_of table.lines x.line) es x.asked now))
-            (cond (is_unasked x.asked r) (failed table es now x BadAnswer (Some r.status) (fallback_for (policy_of table.lines x.line) es x.asked now (decision_of (policy_of table.lines x.line) es x.asked now)))
-            (passed_unless table es now x r next (is_error_status r.status) (fallback_for (policy_of table.lines x.line) es x.asked now (decision_of (policy_of table.lines x.line) es x.asked now)))))
-        by_304 true = validation_names (validated es x r now) (decision_of (policy_of table.lines x.line) es x.asked now)
-        by_304 false = by_unasked (is_unasked x.asked r) refl
+        by_304 : (b : Bool) → AnswerNamesFirstRule table limit past next (Some x) (Answer now id r) (cond b (outcome_of_304 table es now x r (stored_response_validated es x r now) (decision_of (policy_of table.lines x.line) es x.asked now))
+            (cond (is_304_without_condition x.asked r) (outcome_of_failure table es now x BadAnswer (Some r.status) (fallback_for (policy_of table.lines x.line) es x.asked now (decision_of (policy_of table.lines x.line) es x.asked now)))
+            (outcome_of_passing_on_or_stale table es now x r next (is_error_status r.status) (fallback_for (policy_of table.lines x.line) es x.asked now (decision_of (policy_of table.lines x.line) es x.asked now)))))
+        by_304 true = validation_names (stored_response_validated es x r now) (decision_of (policy_of table.lines x.line) es x.asked now)
+        by_304 false = by_unasked (is_304_without_condition x.asked r) refl
 
-  woken_names : (x : Exchange) (now id : ℕ) (d : Decision) → NamesFirst table limit past next (Some x) (Wake now id) (woken table es now x d)
+  woken_names : (x : Exchange) (now id : ℕ) (d : Decision) → AnswerNamesFirstRule table limit past next (Some x) (Wake now id) (outcome_of_wake table es now x d)
   woken_names x now id (decision.Hit s) = λ h. absurd (false≢true h)
   woken_names x now id (decision.Forward rule against) = tt
 
-  names_by_event : (xs : List Exchange) (x : Option Exchange) (event : Event) → ((z : Exchange) → x ≡ Some z → LeastWhenJudged table limit z past) →
-      NamesFirst table limit past next x event (outcome_of table es xs x next event)
+  names_by_event : (xs : List Exchange) (x : Option Exchange) (event : Event) → ((z : Exchange) → x ≡ Some z → RuleWasLeastWhenJudged table limit z past) →
+      AnswerNamesFirstRule table limit past next x event (outcome_of table es xs x next event)
   names_by_event xs x (Arrive now id asked) kept = arrival_names xs x now id asked
   names_by_event xs (Some x) (Answer now id r) kept = answer_names x (kept x refl) now id r
   names_by_event xs None (Answer now id r) kept = tt
@@ -183,12 +183,12 @@ pub held_distinct : (table : Table) (limit first : ℕ) (past : List Item) → I
 held_distinct table limit first past g =
     let p = good_plain table limit first past g in
     subst Distinct (sym (ap serials (sym (entries_are_held table limit first past p)) ∙ (stands_for table limit first past p).serials_are))
-    (Distinct-filter _ _ (Distinct-recent (map done_by past)))
+    (Distinct-filter _ _ (Distinct-recent (map store_change_of past)))
 
-pub names_first_rules : NamesFirstRules
+pub names_first_rules : EachOtherAnswerNamesTheFirstRule
 names_first_rules table limit first item past g =
     let xs = open_exchanges table limit past in
-    let x = find_exchange (id_of item.event) xs in
-    subst (NamesFirst table limit past (next_serial first past) x item.event) (sym g.0.outcome_is)
+    let x = find_exchange (exchange_id_of_event item.event) xs in
+    subst (AnswerNamesFirstRule table limit past (next_serial first past) x item.event) (sym g.0.outcome_is)
     (names_by_event table limit past (held_distinct table limit first past g.1) (next_serial first past) xs x item.event
-    (λ z h. least_when_judged table limit first (id_of item.event) past z g.1 h))
+    (λ z h. least_when_judged table limit first (exchange_id_of_event item.event) past z g.1 h))

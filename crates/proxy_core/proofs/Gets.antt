@@ -18,10 +18,10 @@ use Rattle.proxy_core.specs.declared.steps.condition.Condition.{Condition}
 use Rattle.proxy_core.specs.declared.open.exchange.Exchange.{Exchange}
 use Rattle.proxy_core.specs.declared.open.get_index.GetIndex.{GetIndex}
 use Rattle.proxy_core.specs.declared.open.stage.Stage.TheVariants.{Released}
-use Rattle.proxy_core.specs.Leading.{is_get, goes_alike, may_lead, is_forwarded, waits_for, leads, leader}
-use Rattle.proxy_core.specs.State.{release, overtake, goes_out, gone_out, sent_out}
-use Rattle.proxy_core.specs.Arrivals.{AreApart, Pass, Indexes, on_all}
-use Rattle.proxy_core.specs.Gets.{asks_for, gets_in, GetsPass, IsGetEntered, GetHasLeft, AreSame, AreWithout}
+use Rattle.proxy_core.specs.Leading.{is_get, goes_forward_for_same_reason, may_lead_waiters, is_forwarded, waits_for, leads_waiters, leader}
+use Rattle.proxy_core.specs.State.{released_exchange, overtaken_exchange, exchange_gone_forward, exchange_forwarded_again, exchange_sent_forward}
+use Rattle.proxy_core.specs.Arrivals.{HaveDistinctArrivalsAndIds, SelectedArrivalsPass, IsExactIndexOfSelected, map_exchanges}
+use Rattle.proxy_core.specs.Gets.{is_get_for_key, is_in_get_index, GetArrivalsPass, GetArrivalIsEntered, GetArrivalHasLeft, AreSameGetIndex, IsNotInGetIndex}
 use Rattle.proxy_core.proofs.Indexed.{lookup-removed, not_indexed, indexes-entered, indexes-left, indexes-on_all}
 use Rattle.proxy_core.proofs.Waiters.{pass-but, none_has, none_behind, not_at, at_is}
 
@@ -32,61 +32,61 @@ abbrev at : ℕ → ℕ → Bool
 at n k = is_at (nat_cmp n) k
 
 abbrev pub AllIndexed : GetIndex → Numbered → Type 0
-AllIndexed index es = (key : Key) → Indexes (λ x. asks_for key x.asked) (gets_in index key) es
+AllIndexed index es = (key : Key) → IsExactIndexOfSelected (λ x. is_get_for_key key x.asked) (is_in_get_index index key) es
 
-pub gets-not : (n : ℕ) (es : Numbered) (index : GetIndex) → All (λ k. k < n) (keys_of es) → AllIndexed index es → AreWithout n index
-gets-not n es index l h key = not_indexed (λ x. asks_for key x.asked) (gets_in index key) n es (none_has n es l) (h key)
+pub gets-not : (n : ℕ) (es : Numbered) (index : GetIndex) → All (λ k. k < n) (keys_of es) → AllIndexed index es → IsNotInGetIndex n index
+gets-not n es index l h key = not_indexed (λ x. is_get_for_key key x.asked) (is_in_get_index index key) n es (none_has n es l) (h key)
 
-pub gets-entered : (n : ℕ) (x : Exchange) (es : Numbered) (old new : GetIndex) → All (λ k. k < n) (keys_of es) → IsGetEntered x.asked n old new →
+pub gets-entered : (n : ℕ) (x : Exchange) (es : Numbered) (old new : GetIndex) → All (λ k. k < n) (keys_of es) → GetArrivalIsEntered x.asked n old new →
     AllIndexed old es → AllIndexed new (es ++ (n, x) ∷ [])
-gets-entered n x es old new l k h key = indexes-entered (λ y. asks_for key y.asked) n x (gets_in old key) (gets_in new key) es (none_has n es l) (k key) (h key)
+gets-entered n x es old new l k h key = indexes-entered (λ y. is_get_for_key key y.asked) n x (is_in_get_index old key) (is_in_get_index new key) es (none_has n es l) (k key) (h key)
 
-pub gets-again : (es : Numbered) (old new : GetIndex) → AreSame old new → AllIndexed old es → AllIndexed new es
+pub gets-again : (es : Numbered) (old new : GetIndex) → AreSameGetIndex old new → AllIndexed old es → AllIndexed new es
 gets-again es old new k h key m = k key m ∙ h key m
 
-pub gets-closed : (n : ℕ) (x : Exchange) (es : Numbered) (old new : GetIndex) → AreApart es → lookup (at n) es ≡ Some x → GetHasLeft x.asked n old new →
+pub gets-closed : (n : ℕ) (x : Exchange) (es : Numbered) (old new : GetIndex) → HaveDistinctArrivalsAndIds es → lookup (at n) es ≡ Some x → GetArrivalHasLeft x.asked n old new →
     AllIndexed old es → AllIndexed new (remove_entry (at n) es)
 gets-closed n x es old new a there k h key =
-    indexes-left (λ y. asks_for key y.asked) n x None (gets_in old key) (gets_in new key) es (remove_entry (at n) es) there refl (λ m. lookup-removed m n es a) (k key) (h key)
+    indexes-left (λ y. is_get_for_key key y.asked) n x None (is_in_get_index old key) (is_in_get_index new key) es (remove_entry (at n) es) there refl (λ m. lookup-removed m n es a) (k key) (h key)
 
-pub gets-on_all : (f : Exchange → Exchange) → ((x : Exchange) → (f x).asked ≡ x.asked) → (es : Numbered) (index : GetIndex) → AllIndexed index es → AllIndexed index (on_all f es)
+pub gets-on_all : (f : Exchange → Exchange) → ((x : Exchange) → (f x).asked ≡ x.asked) → (es : Numbered) (index : GetIndex) → AllIndexed index es → AllIndexed index (map_exchanges f es)
 gets-on_all f k es index h key =
-    indexes-on_all (λ x. asks_for key x.asked) f (λ b. b) (gets_in index key) (gets_in index key) es refl (λ x. ap (asks_for key) (k x)) (λ m. refl) (h key)
+    indexes-on_all (λ x. is_get_for_key key x.asked) f (λ b. b) (is_in_get_index index key) (is_in_get_index index key) es refl (λ x. ap (is_get_for_key key) (k x)) (λ m. refl) (h key)
 
-pub sent_out-asked : (id now : ℕ) (rule : ReuseRule) (condition : Option Condition) (x : Exchange) → (sent_out id now rule condition x).asked ≡ x.asked
-sent_out-asked id now rule condition x = elim (eqb x.id id) as (λ b. (cond b (goes_out now rule condition x) x).asked ≡ x.asked) [ true ↦ refl | false ↦ refl ]
+pub sent_out-asked : (id now : ℕ) (rule : ReuseRule) (condition : Option Condition) (x : Exchange) → (exchange_sent_forward id now rule condition x).asked ≡ x.asked
+sent_out-asked id now rule condition x = elim (eqb x.id id) as (λ b. (cond b (exchange_gone_forward now rule condition x) x).asked ≡ x.asked) [ true ↦ refl | false ↦ refl ]
 
-pub gone_out-asked : (id now : ℕ) (x : Exchange) → (gone_out id now x).asked ≡ x.asked
-gone_out-asked id now x = elim (eqb x.id id) as (λ b. (cond b (goes_out now x.rule None x) x).asked ≡ x.asked) [ true ↦ refl | false ↦ refl ]
+pub gone_out-asked : (id now : ℕ) (x : Exchange) → (exchange_forwarded_again id now x).asked ≡ x.asked
+gone_out-asked id now x = elim (eqb x.id id) as (λ b. (cond b (exchange_gone_forward now x.rule None x) x).asked ≡ x.asked) [ true ↦ refl | false ↦ refl ]
 
-pub release-asked : (q : ℕ) (x : Exchange) → (release q x).asked ≡ x.asked
+pub release-asked : (q : ℕ) (x : Exchange) → (released_exchange q x).asked ≡ x.asked
 release-asked q x = elim (waits_for q x.stage) as (λ b. (cond b (record x { stage = Released }) x).asked ≡ x.asked) [ true ↦ refl | false ↦ refl ]
 
-pub overtake-asked : (key : Key) (x : Exchange) → (overtake key x).asked ≡ x.asked
+pub overtake-asked : (key : Key) (x : Exchange) → (overtaken_exchange key x).asked ≡ x.asked
 overtake-asked key x = elim (same_key x.asked.target.key key) as (λ b. (cond b (record x { overtaken = true }) x).asked ≡ x.asked) [ true ↦ refl | false ↦ refl ]
 
 -- ---- the first that leads
 
 -- those that lead have numbers that are still to come, and these ascend
 abbrev pub LeadersLeft : Policy → ReuseRule → Key → List ℕ → Numbered → Type 0
-LeadersLeft policy why key ns es = Pass (leads policy why key) (λ k. list_any (λ n. at k n) ns) es × IsStrictlySortedBy nat_cmp ns
+LeadersLeft policy why key ns es = SelectedArrivalsPass (leads_waiters policy why key) (λ k. list_any (λ n. at k n) ns) es × IsStrictlySortedBy nat_cmp ns
 
 parts : (a b c : Bool) → (a && (b && c)) ≡ true → (a && b) ≡ true
 parts true true c h = refl
 parts true false c h = absurd (false≢true h)
 parts false b c h = absurd (false≢true h)
 
-gets_lead : (policy : Policy) (why : ReuseRule) (key : Key) (p : ℕ → Bool) (es : Numbered) → GetsPass key p es → Pass (leads policy why key) p es
+gets_lead : (policy : Policy) (why : ReuseRule) (key : Key) (p : ℕ → Bool) (es : Numbered) → GetArrivalsPass key p es → SelectedArrivalsPass (leads_waiters policy why key) p es
 gets_lead policy why key p [] h = tt
 gets_lead policy why key p (e ∷ es) h =
-    (λ w. h.0 (parts (same_key e.1.asked.target.key key) (is_get e.1.asked) (goes_alike e.1.rule why && (is_forwarded e.1.stage && may_lead policy e.1.for_others)) w), gets_lead policy why key p es h.1)
+    (λ w. h.0 (parts (same_key e.1.asked.target.key key) (is_get e.1.asked) (goes_forward_for_same_reason e.1.rule why && (is_forwarded e.1.stage && may_lead_waiters policy e.1.for_others)) w), gets_lead policy why key p es h.1)
 
-pub leaders : (policy : Policy) (why : ReuseRule) (key : Key) (ns : List ℕ) (es : Numbered) → IsStrictlySortedBy nat_cmp ns → GetsPass key (λ k. list_any (λ n. at k n) ns) es → LeadersLeft policy why key ns es
+pub leaders : (policy : Policy) (why : ReuseRule) (key : Key) (ns : List ℕ) (es : Numbered) → IsStrictlySortedBy nat_cmp ns → GetArrivalsPass key (λ k. list_any (λ n. at k n) ns) es → LeadersLeft policy why key ns es
 leaders policy why key ns es s h = (gets_lead policy why key (λ k. list_any (λ n. at k n) ns) es h, s)
 
-nobody : (policy : Policy) (why : ReuseRule) (key : Key) (es : Numbered) → Pass (leads policy why key) (λ k. false) es → leader policy why key (values_of es) ≡ None
+nobody : (policy : Policy) (why : ReuseRule) (key : Key) (es : Numbered) → SelectedArrivalsPass (leads_waiters policy why key) (λ k. false) es → leader policy why key (values_of es) ≡ None
 nobody policy why key [] h = refl
-nobody policy why key (e ∷ es) h = elim (cases_Bool (leads policy why key e.1)) [
+nobody policy why key (e ∷ es) h = elim (cases_Bool (leads_waiters policy why key e.1)) [
   | inl t ↦ absurd (false≢true (h.0 t))
   | inr f ↦ ap (λ b. cond b (Some e.1.id) (leader policy why key (values_of es))) f ∙ nobody policy why key es h.1
 ]
@@ -94,7 +94,7 @@ nobody policy why key (e ∷ es) h = elim (cases_Bool (leads policy why key e.1)
 pub none_leads : (policy : Policy) (why : ReuseRule) (key : Key) (es : Numbered) → LeadersLeft policy why key [] es → leader policy why key (values_of es) ≡ None
 none_leads policy why key es h = nobody policy why key es h.0
 
-pub none_asks : (policy : Policy) (why : ReuseRule) (key : Key) (es : Numbered) → GetsPass key (λ k. false) es → leader policy why key (values_of es) ≡ None
+pub none_asks : (policy : Policy) (why : ReuseRule) (key : Key) (es : Numbered) → GetArrivalsPass key (λ k. false) es → leader policy why key (values_of es) ≡ None
 none_asks policy why key es h = nobody policy why key es (gets_lead policy why key (λ k. false) es h)
 
 rest_of : (n m : ℕ) (ns : List ℕ) → eqb n m ≡ false → list_any (λ k. at m k) (n ∷ ns) ≡ true → list_any (λ k. at m k) ns ≡ true
@@ -103,24 +103,24 @@ rest_of n m ns o t = sym (ap (λ b. b || list_any (λ k. at m k) ns) (not_at n m
 -- one that isn't open
 pub not_open : (policy : Policy) (why : ReuseRule) (key : Key) (n : ℕ) (ns : List ℕ) (es : Numbered) → None ≡ lookup (at n) es → LeadersLeft policy why key (n ∷ ns) es → LeadersLeft policy why key ns es
 not_open policy why key n ns es none h = (
-  pass-but (leads policy why key) n (λ k. list_any (λ m. at k m) (n ∷ ns)) (λ k. list_any (λ m. at k m) ns) es (sym none) (λ m o t. rest_of n m ns o t) h.0,
+  pass-but (leads_waiters policy why key) n (λ k. list_any (λ m. at k m) (n ∷ ns)) (λ k. list_any (λ m. at k m) ns) es (sym none) (λ m o t. rest_of n m ns o t) h.0,
   sorted_tail nat_cmp n ns h.1,
 )
 
 -- one that doesn't lead
-pub not_leading : (policy : Policy) (why : ReuseRule) (key : Key) (n : ℕ) (x : Exchange) (ns : List ℕ) (es : Numbered) → IsStrictlySortedBy nat_cmp (keys_of es) → Some x ≡ lookup (at n) es → leads policy why key x ≡ false →
+pub not_leading : (policy : Policy) (why : ReuseRule) (key : Key) (n : ℕ) (x : Exchange) (ns : List ℕ) (es : Numbered) → IsStrictlySortedBy nat_cmp (keys_of es) → Some x ≡ lookup (at n) es → leads_waiters policy why key x ≡ false →
     LeadersLeft policy why key (n ∷ ns) es → LeadersLeft policy why key ns es
 not_leading policy why key n x ns es s there idle h = (go es s there h.0, sorted_tail nat_cmp n ns h.1)
   where
-    go : (es : Numbered) → IsStrictlySortedBy nat_cmp (keys_of es) → Some x ≡ lookup (at n) es → Pass (leads policy why key) (λ k. list_any (λ m. at k m) (n ∷ ns)) es → Pass (leads policy why key) (λ k. list_any (λ m. at k m) ns) es
+    go : (es : Numbered) → IsStrictlySortedBy nat_cmp (keys_of es) → Some x ≡ lookup (at n) es → SelectedArrivalsPass (leads_waiters policy why key) (λ k. list_any (λ m. at k m) (n ∷ ns)) es → SelectedArrivalsPass (leads_waiters policy why key) (λ k. list_any (λ m. at k m) ns) es
     go [] s there h = tt
     go (e ∷ es) s there h = elim (cases_Bool (at n e.0)) [
       | inl t ↦ (
           let is : x ≡ e.1 = same_Some x e.1 (there ∙ ap (λ b. cond b (Some e.1) (lookup (at n) es)) t) in
           let k : n ≡ e.0 = eqb-true n e.0 (sym (at_is n e.0) ∙ t) in
           let none : lookup (at n) es ≡ None = ap (λ i. lookup (at i) es) k ∙ none_behind e.0 es (sorted_head nat_cmp e.0 (keys_of es) s) in (
-            λ w. absurd (false≢true (sym idle ∙ ap (leads policy why key) is ∙ w)),
-            pass-but (leads policy why key) n (λ k. list_any (λ m. at k m) (n ∷ ns)) (λ k. list_any (λ m. at k m) ns) es none (λ m o t. rest_of n m ns o t) h.1,
+            λ w. absurd (false≢true (sym idle ∙ ap (leads_waiters policy why key) is ∙ w)),
+            pass-but (leads_waiters policy why key) n (λ k. list_any (λ m. at k m) (n ∷ ns)) (λ k. list_any (λ m. at k m) ns) es none (λ m o t. rest_of n m ns o t) h.1,
           )
           )
       | inr f ↦ ((
@@ -131,7 +131,7 @@ not_leading policy why key n x ns es s there idle h = (go es s there h.0, sorted
     ]
 
 -- one that does
-pub it_leads : (policy : Policy) (why : ReuseRule) (key : Key) (n : ℕ) (x : Exchange) (ns : List ℕ) (es : Numbered) → IsStrictlySortedBy nat_cmp (keys_of es) → Some x ≡ lookup (at n) es → leads policy why key x ≡ true →
+pub it_leads : (policy : Policy) (why : ReuseRule) (key : Key) (n : ℕ) (x : Exchange) (ns : List ℕ) (es : Numbered) → IsStrictlySortedBy nat_cmp (keys_of es) → Some x ≡ lookup (at n) es → leads_waiters policy why key x ≡ true →
     LeadersLeft policy why key (n ∷ ns) es → Some x.id ≡ leader policy why key (values_of es)
 it_leads policy why key n x ns es s there active h = go (sorted_head nat_cmp n ns h.1) es s there h.0
   where
@@ -149,16 +149,16 @@ it_leads policy why key n x ns es s there active h = go (sorted_head nat_cmp n n
         through : (m k : ℕ) → nat_cmp n m ≡ Less → nat_cmp m k ≡ Less → nat_cmp n k ≡ Less
         through m k a b = grind (arith, nat_tests, a, b)
 
-    go : AllByRecursion (λ k. nat_cmp n k ≡ Less) ns → (es : Numbered) → IsStrictlySortedBy nat_cmp (keys_of es) → Some x ≡ lookup (at n) es → Pass (leads policy why key) (λ k. list_any (λ m. at k m) (n ∷ ns)) es → Some x.id ≡ leader policy why key (values_of es)
+    go : AllByRecursion (λ k. nat_cmp n k ≡ Less) ns → (es : Numbered) → IsStrictlySortedBy nat_cmp (keys_of es) → Some x ≡ lookup (at n) es → SelectedArrivalsPass (leads_waiters policy why key) (λ k. list_any (λ m. at k m) (n ∷ ns)) es → Some x.id ≡ leader policy why key (values_of es)
     go a [] s there h = absurd (cc)
     go a (e ∷ es) s there h = elim (cases_Bool (at n e.0)) [
       | inl t ↦ (
           let is : x ≡ e.1 = same_Some x e.1 (there ∙ ap (λ b. cond b (Some e.1) (lookup (at n) es)) t) in
-          ap (λ (y : Exchange). Some y.id) is ∙ sym (ap (λ b. cond b (Some e.1.id) (leader policy why key (values_of es))) (sym (ap (leads policy why key) is) ∙ active))
+          ap (λ (y : Exchange). Some y.id) is ∙ sym (ap (λ b. cond b (Some e.1.id) (leader policy why key (values_of es))) (sym (ap (leads_waiters policy why key) is) ∙ active))
           )
       | inr f ↦ (
           let rest : Some x ≡ lookup (at n) es = there ∙ ap (λ b. cond b (Some e.1) (lookup (at n) es)) f in
-          elim (cases_Bool (leads policy why key e.1)) [
+          elim (cases_Bool (leads_waiters policy why key e.1)) [
             | inl t ↦ (
                 let l : nat_cmp n e.0 ≡ Less = later e.0 ns a (rest_of n e.0 ns (sym (at_is n e.0) ∙ f) (h.0 t)) in
                 let none : lookup (at n) es ≡ None = none_behind n es (before e.0 es l (sorted_head nat_cmp e.0 (keys_of es) s)) in

@@ -5,7 +5,7 @@ use Rattle.std.proofs.lemmas.Bool.Decides.{nat_tests}
 use Rattle.hx_fields.specs.declared.limits.TheConstants.{END_OF_TIME}
 use Rattle.hx_framing.specs.declared.messages.Response.{Response}
 use Rattle.hx_hop.specs.declared.request_view.Asked.{Asked}
-use Rattle.hx_allow.specs.Lines.{Table}
+use Rattle.hx_allow.specs.TableLines.{Table}
 use Rattle.hx_allow.specs.Matching.{verdict_of, policy_of}
 use Rattle.hx_allow.specs.declared.verdicts.Verdict.{Verdict}
 use Rattle.hx_allow.specs.declared.verdicts.Verdict.TheVariants as verdict
@@ -13,7 +13,7 @@ use Rattle.hx_allow.specs.declared.verdicts.Verdict.TheVariants.{Allowed}
 use Rattle.hx_store.specs.Stored.{Stored}
 use Rattle.hx_store.specs.Serials.{Distinct}
 use Rattle.hx_store.specs.Shelf.{serials}
-use Rattle.hx_reuse.specs.Meaning.{IsLeast}
+use Rattle.hx_reuse.specs.ChosenAndNamed.{IsLeastReuseRule}
 use Rattle.hx_reuse.specs.Rules.{decision_of}
 use Rattle.hx_reuse.specs.declared.rule.ReuseRule.{ReuseRule}
 use Rattle.hx_reuse.specs.declared.decision.Decision.{Decision}
@@ -28,24 +28,24 @@ use Rattle.proxy_core.specs.declared.open.stage.Stage.TheVariants.{Forwarded, Wa
 use Rattle.proxy_core.specs.declared.open.exchange.Exchange.{Exchange}
 use Rattle.proxy_core.specs.declared.steps.fallback.Fallback.{Fallback}
 use Rattle.proxy_core.specs.declared.steps.fallback.Fallback.TheVariants.{Sends, Refuses}
-use Rattle.proxy_core.specs.declared.fault.CoreFault.{CoreFault}
-use Rattle.proxy_core.specs.declared.fault.CoreFault.TheVariants.{MomentTooLate}
+use Rattle.proxy_core.specs.declared.core_fault.CoreFault.{CoreFault}
+use Rattle.proxy_core.specs.declared.core_fault.CoreFault.TheVariants.{MomentTooLate}
 use Rattle.proxy_core.specs.declared.outcome.Outcome.{Outcome}
 use Rattle.proxy_core.specs.declared.outcome.Outcome.TheVariants.{Reply as Replied, Forward, Waits, Ended}
 use Rattle.proxy_core.specs.declared.event.Event.{Event}
 use Rattle.proxy_core.specs.declared.event.Event.TheVariants.{Arrive, Answer, Fail, Wake, Abandon}
-use Rattle.proxy_core.specs.Moments.{too_late}
-use Rattle.proxy_core.specs.Leading.{is_forwarded, is_released, leader_for}
-use Rattle.proxy_core.specs.Storing.{is_unasked}
-use Rattle.proxy_core.specs.Validating.{condition_at, is_validation, validated}
-use Rattle.proxy_core.specs.Outcomes.{find_exchange, id_of, outcome_by, outcome_of, fallback_for, woken, arrived, allowed, unanswered, sent_on, failed, passed_unless, revalidated, answered, is_error_status, is_only_if_cached, forward_text, or_fault, not_forwarded, not_ready, fault_of}
-use Rattle.proxy_core.specs.State.{used_in}
-use Rattle.proxy_core.specs.Traces.{Item, begun}
+use Rattle.proxy_core.specs.Moments.{moment_too_late_fault}
+use Rattle.proxy_core.specs.Leading.{is_forwarded, is_released, leader_of_request}
+use Rattle.proxy_core.specs.Storing.{is_304_without_condition}
+use Rattle.proxy_core.specs.Validating.{condition_about_serial, is_validation, stored_response_validated}
+use Rattle.proxy_core.specs.Outcomes.{find_exchange, exchange_id_of_event, outcome_of_event, outcome_of, fallback_for, outcome_of_wake, outcome_of_arrival, outcome_of_allowed_request, outcome_without_stored_response, outcome_of_waiting_or_forwarding, outcome_of_failure, outcome_of_passing_on_or_stale, outcome_of_304, outcome_of_answer, is_error_status, is_only_if_cached, forward_text, or_fault, fault_if_not_forwarded, fault_if_not_released, fault_at_exchange}
+use Rattle.proxy_core.specs.State.{serial_used_by_outcome}
+use Rattle.proxy_core.specs.Traces.{Item, initial_state}
 use Rattle.proxy_core.specs.Histories.{held_entries, open_exchanges, next_serial, IsGoodHistory}
-use Rattle.proxy_core.specs.Promises.{goes_forward, asked_at, asked_by}
-use Rattle.proxy_core.specs.Sending.{MayBeSentAt, IsReached}
-use Rattle.proxy_core.specs.GoingOn.{MayCome, AsksAgain, IsReply, GoesOnBy, IsItsCondition}
-use Rattle.proxy_core.specs.Headline.{EachStep, ComesWhereItMay, ReachesExactly, GoesWhereAllowed, GoesOn, SendsExactly, SendsThatResponse, NamesTheFirst, StoresExactly, RemovesExactly, ClosesAsAsked, Headline, EveryGoodTraceHasIt}
+use Rattle.proxy_core.specs.Promises.{outcome_goes_forward, request_after_event, latest_request_of}
+use Rattle.proxy_core.specs.Sending.{StoredResponseMayBeSentAt, RequestReachesCacheOrOrigin}
+use Rattle.proxy_core.specs.GoingOn.{EventMayCome, NeedsSecondForward, IsClientReply, ExchangeGoesOnBy, IsConditionOfEvent}
+use Rattle.proxy_core.specs.Headline.{HoldsAtEachItem, EventComesWhereItMay, RequestReachesExactlyWhereAllowed, RequestGoesForwardWhereAllowed, ExchangeGoesOnToItsAnswer, StoredResponseIsSentExactlyWhereItMayBe, SentResponseIsTheStoredOne, OtherAnswerNamesTheFirstRule, AnswerIsStoredExactlyWhereItMayBe, StoredResponsesAreRemovedExactlyWhereTheyMustBe, ConnectionClosesAsAsked, Headline, EveryGoodTraceHasTheHeadline}
 use Rattle.proxy_core.proofs.Carries.{IsAgain, again_by, carries_its_arrival}
 use Rattle.proxy_core.proofs.FirstRules.{held_distinct, names_first_rules}
 use Rattle.proxy_core.proofs.HeldLaw.{good_plain}
@@ -58,16 +58,16 @@ use Rattle.proxy_core.proofs.Tracing.{denied_leave_no_trace}
 use Rattle.proxy_core.proofs.TwiceForward.{twice_forward_one_reply}
 use Rattle.proxy_core.proofs.Unsent.{nothing_invalidated_is_sent}
 
-not_forward : {P : Type 0} (o : Outcome) (line : ℕ) (bytes : List ℕ) → goes_forward o ≡ false → o ≡ Forward line bytes → P
+not_forward : {P : Type 0} (o : Outcome) (line : ℕ) (bytes : List ℕ) → outcome_goes_forward o ≡ false → o ≡ Forward line bytes → P
 not_forward {P} o line bytes back h =
-    let out : false ≡ true = sym back ∙ ap goes_forward h in
+    let out : false ≡ true = sym back ∙ ap outcome_goes_forward h in
     absurd (cc)
 
 -- the request of an event goes to a line that allows it, with the conditions of that moment
 abbrev Goes : Table → List Stored → List Item → ℕ → List ℕ → Event → Type 0
 Goes table es past line bytes event =
-    (asked : Asked) × (condition : Option Condition) × (asked_at (id_of event) event (asked_by (id_of event) past) ≡ Some asked) × (verdict_of table.lines asked.method asked.target ≡ Allowed line)
-    × IsItsCondition (policy_of table.lines line) es asked event condition × (bytes ≡ forward_text table asked condition)
+    (asked : Asked) × (condition : Option Condition) × (request_after_event (exchange_id_of_event event) event (latest_request_of (exchange_id_of_event event) past) ≡ Some asked) × (verdict_of table.lines asked.method asked.target ≡ Allowed line)
+    × IsConditionOfEvent (policy_of table.lines line) es asked event condition × (bytes ≡ forward_text table asked condition)
 
 abbrev bytes_in : Outcome → List ℕ
 bytes_in (Forward line bytes) = bytes
@@ -87,7 +87,7 @@ no_true {P} h = absurd (false≢true h)
 
 -- ---- when an event may come
 
-in_time : (now : ℕ) → too_late now ≡ None → now < END_OF_TIME
+in_time : (now : ℕ) → moment_too_late_fault now ≡ None → now < END_OF_TIME
 in_time now h = by_test (ltb now END_OF_TIME) refl h
   where
     by_test : (b : Bool) → ltb now END_OF_TIME ≡ b → cond b None (Some MomentTooLate) ≡ None → now < END_OF_TIME
@@ -98,24 +98,24 @@ neither_fault : (a b : Option CoreFault) → or_fault a b ≡ None → (a ≡ No
 neither_fault None b h = (refl, h)
 neither_fault (Some fault) b h = absurd (cc)
 
-at_its_origin : (stage : Stage) → not_forwarded stage ≡ None → is_forwarded stage ≡ true
+at_its_origin : (stage : Stage) → fault_if_not_forwarded stage ≡ None → is_forwarded stage ≡ true
 at_its_origin Forwarded h = refl
 at_its_origin (Waiting leader) h = absurd (cc)
 at_its_origin Released h = absurd (cc)
 
-may_be_woken : (stage : Stage) → not_ready stage ≡ None → is_released stage ≡ true
+may_be_woken : (stage : Stage) → fault_if_not_released stage ≡ None → is_released stage ≡ true
 may_be_woken Forwarded h = absurd (cc)
 may_be_woken (Waiting leader) h = absurd (cc)
 may_be_woken Released h = refl
 
-may_come : (x : Option Exchange) (event : Event) → fault_of x event ≡ None → MayCome x event
+may_come : (x : Option Exchange) (event : Event) → fault_at_exchange x event ≡ None → EventMayCome x event
 may_come None (Arrive now id asked) h = in_time now h
 may_come (Some x) (Arrive now id asked) h = absurd (cc)
-may_come (Some x) (Answer now id r) h = let parts = neither_fault (too_late now) (not_forwarded x.stage) h in (in_time now parts.0, at_its_origin x.stage parts.1)
+may_come (Some x) (Answer now id r) h = let parts = neither_fault (moment_too_late_fault now) (fault_if_not_forwarded x.stage) h in (in_time now parts.0, at_its_origin x.stage parts.1)
 may_come None (Answer now id r) h = absurd (cc)
-may_come (Some x) (Fail now id kind) h = let parts = neither_fault (too_late now) (not_forwarded x.stage) h in (in_time now parts.0, at_its_origin x.stage parts.1)
+may_come (Some x) (Fail now id kind) h = let parts = neither_fault (moment_too_late_fault now) (fault_if_not_forwarded x.stage) h in (in_time now parts.0, at_its_origin x.stage parts.1)
 may_come None (Fail now id kind) h = absurd (cc)
-may_come (Some x) (Wake now id) h = let parts = neither_fault (too_late now) (not_ready x.stage) h in (in_time now parts.0, may_be_woken x.stage parts.1)
+may_come (Some x) (Wake now id) h = let parts = neither_fault (moment_too_late_fault now) (fault_if_not_released x.stage) h in (in_time now parts.0, may_be_woken x.stage parts.1)
 may_come None (Wake now id) h = absurd (cc)
 may_come (Some x) (Abandon id) h = tt
 may_come None (Abandon id) h = absurd (cc)
@@ -123,11 +123,11 @@ may_come None (Abandon id) h = absurd (cc)
 -- ---- what follows
 
 module _ (table : Table) (es : List Stored) where
-  failed_replies : (now : ℕ) (x : Exchange) (kind : FailKind) (came : Option ℕ) (fallback : Fallback) → IsReply (failed table es now x kind came fallback)
+  failed_replies : (now : ℕ) (x : Exchange) (kind : FailKind) (came : Option ℕ) (fallback : Fallback) → IsClientReply (outcome_of_failure table es now x kind came fallback)
   failed_replies now x kind came (Sends serial detail) = (_, refl)
   failed_replies now x kind came (Refuses rule error) = (_, refl)
 
-  passed_replies : (now : ℕ) (x : Exchange) (r : Response) (next : Option ℕ) (b : Bool) (fallback : Fallback) → IsReply (passed_unless table es now x r next b fallback)
+  passed_replies : (now : ℕ) (x : Exchange) (r : Response) (next : Option ℕ) (b : Bool) (fallback : Fallback) → IsClientReply (outcome_of_passing_on_or_stale table es now x r next b fallback)
   passed_replies now x r next true (Sends serial detail) = (_, refl)
   passed_replies now x r next true (Refuses rule error) = (_, refl)
   passed_replies now x r next false fallback = (_, refl)
@@ -139,43 +139,43 @@ module _ (table : Table) (es : List Stored) where
   some_or_not e h = cc
 
   answer_goes_on : Distinct (serials es) → (now id : ℕ) (x : Exchange) (r : Response) (next : Option ℕ) →
-      GoesOnBy table es (Some x) (Answer now id r) (answered table es now x r next (decision_of (policy_of table.lines x.line) es x.asked now))
+      ExchangeGoesOnBy table es (Some x) (Answer now id r) (outcome_of_answer table es now x r next (decision_of (policy_of table.lines x.line) es x.asked now))
   answer_goes_on distinct now id x r next = by_304 (is_validation x r) refl
     where
       d : Decision
       d = decision_of (policy_of table.lines x.line) es x.asked now
 
       Is : Outcome → Type 0
-      Is o = (AsksAgain table es x now id r → o ≡ Forward x.line (forward_text table x.asked None)) × ((AsksAgain table es x now id r → ⊥) → IsReply o)
+      Is o = (NeedsSecondForward table es x now id r → o ≡ Forward x.line (forward_text table x.asked None)) × ((NeedsSecondForward table es x now id r → ⊥) → IsClientReply o)
 
-      validates : is_validation x r ≡ true → (o : Option Stored) → validated es x r now ≡ o → (k : Decision) → d ≡ k → Is (revalidated table es now x r o k)
+      validates : is_validation x r ≡ true → (o : Option Stored) → stored_response_validated es x r now ≡ o → (k : Decision) → d ≡ k → Is (outcome_of_304 table es now x r o k)
       validates y (Some e) v k dk = (λ asks. absurd (asks.1 e.serial (inl (y, (e, v, refl)))), λ no. (_, refl))
       validates y None v (decision.Hit s) dk =
           (λ asks. absurd (asks.1 s (inr (inl (y, v, reused_is_allowed (policy_of table.lines x.line) es x.asked now s dk)))), λ no. (_, refl))
       validates y None v (decision.Forward rule against) dk = (λ asks. refl, λ no. absurd (no (y, none_may)))
         where
-          none_may : (s : ℕ) → MayBeSentAt table es (Some x) (Answer now id r) s → ⊥
+          none_may : (s : ℕ) → StoredResponseMayBeSentAt table es (Some x) (Answer now id r) s → ⊥
           none_may s (inl may) = some_or_not may.1.0 (sym may.1.1 ∙ v)
           none_may s (inr (inl may)) = hit_or_not s rule against (sym (reusable_hit (policy_of table.lines x.line) es distinct x.asked now s may.2) ∙ dk)
           none_may s (inr (inr may)) = no_true (sym may.0 ∙ y)
 
       by_304 : (b : Bool) → is_validation x r ≡ b →
-          Is (cond b (revalidated table es now x r (validated es x r now) d)
-          (cond (is_unasked x.asked r) (failed table es now x BadAnswer (Some r.status) (fallback_for (policy_of table.lines x.line) es x.asked now d)) (passed_unless table es now x r next (is_error_status r.status) (fallback_for (policy_of table.lines x.line) es x.asked now d))))
-      by_304 true k = validates k (validated es x r now) refl d refl
-      by_304 false k = (λ asks. no_true (sym k ∙ asks.0), λ no. by_unasked (is_unasked x.asked r))
+          Is (cond b (outcome_of_304 table es now x r (stored_response_validated es x r now) d)
+          (cond (is_304_without_condition x.asked r) (outcome_of_failure table es now x BadAnswer (Some r.status) (fallback_for (policy_of table.lines x.line) es x.asked now d)) (outcome_of_passing_on_or_stale table es now x r next (is_error_status r.status) (fallback_for (policy_of table.lines x.line) es x.asked now d))))
+      by_304 true k = validates k (stored_response_validated es x r now) refl d refl
+      by_304 false k = (λ asks. no_true (sym k ∙ asks.0), λ no. by_unasked (is_304_without_condition x.asked r))
         where
-          by_unasked : (b : Bool) → IsReply (cond b (failed table es now x BadAnswer (Some r.status) (fallback_for (policy_of table.lines x.line) es x.asked now d)) (passed_unless table es now x r next (is_error_status r.status) (fallback_for (policy_of table.lines x.line) es x.asked now d)))
+          by_unasked : (b : Bool) → IsClientReply (cond b (outcome_of_failure table es now x BadAnswer (Some r.status) (fallback_for (policy_of table.lines x.line) es x.asked now d)) (outcome_of_passing_on_or_stale table es now x r next (is_error_status r.status) (fallback_for (policy_of table.lines x.line) es x.asked now d)))
           by_unasked true = failed_replies now x BadAnswer (Some r.status) (fallback_for (policy_of table.lines x.line) es x.asked now d)
           by_unasked false = passed_replies now x r next (is_error_status r.status) (fallback_for (policy_of table.lines x.line) es x.asked now d)
 
-  wake_goes_on : (now id : ℕ) (x : Exchange) (k : Decision) → decision_of (policy_of table.lines x.line) es x.asked now ≡ k → GoesOnBy table es (Some x) (Wake now id) (woken table es now x k)
+  wake_goes_on : (now id : ℕ) (x : Exchange) (k : Decision) → decision_of (policy_of table.lines x.line) es x.asked now ≡ k → ExchangeGoesOnBy table es (Some x) (Wake now id) (outcome_of_wake table es now x k)
   wake_goes_on now id x (decision.Hit s) dk = inl (_, refl)
   wake_goes_on now id x (decision.Forward rule against) dk =
       let named = names_the_least (policy_of table.lines x.line) es x.asked now rule against dk in
       inr (rule, record { is_least = named.0; against = against; names = named.1; outcome_is = refl })
 
-  goes_on_by : Distinct (serials es) → (xs : List Exchange) (x : Option Exchange) (next : Option ℕ) (event : Event) → fault_of x event ≡ None → GoesOnBy table es x event (outcome_of table es xs x next event)
+  goes_on_by : Distinct (serials es) → (xs : List Exchange) (x : Option Exchange) (next : Option ℕ) (event : Event) → fault_at_exchange x event ≡ None → ExchangeGoesOnBy table es x event (outcome_of table es xs x next event)
   goes_on_by distinct xs x next (Arrive now id asked) h = tt
   goes_on_by distinct xs (Some x) next (Answer now id r) h = answer_goes_on distinct now id x r next
   goes_on_by distinct xs None next (Answer now id r) h = absurd (cc)
@@ -188,50 +188,50 @@ module _ (table : Table) (es : List Stored) where
 
   -- ---- what closes
 
-  arrival_closes : (xs : List Exchange) (now : ℕ) (asked : Asked) (v : Verdict) → close_in asked.close (arrived table es xs now asked v) ≡ asked.close
+  arrival_closes : (xs : List Exchange) (now : ℕ) (asked : Asked) (v : Verdict) → close_in asked.close (outcome_of_arrival table es xs now asked v) ≡ asked.close
   arrival_closes xs now asked (verdict.Allowed line) = by_decision (decision_of (policy_of table.lines line) es asked now)
     where
-      on : (condition : Option Condition) (leader : Option ℕ) → close_in asked.close (sent_on table line asked condition leader) ≡ asked.close
+      on : (condition : Option Condition) (leader : Option ℕ) → close_in asked.close (outcome_of_waiting_or_forwarding table line asked condition leader) ≡ asked.close
       on condition None = refl
       on condition (Some leader) = refl
 
-      unless : (rule : ReuseRule) (condition : Option Condition) (b : Bool) → close_in asked.close (unanswered table xs line now asked rule condition b) ≡ asked.close
+      unless : (rule : ReuseRule) (condition : Option Condition) (b : Bool) → close_in asked.close (outcome_without_stored_response table xs line now asked rule condition b) ≡ asked.close
       unless rule condition true = refl
-      unless rule condition false = on condition (leader_for (policy_of table.lines line) xs asked rule)
+      unless rule condition false = on condition (leader_of_request (policy_of table.lines line) xs asked rule)
 
-      by_decision : (d : Decision) → close_in asked.close (allowed table es xs line now asked d) ≡ asked.close
+      by_decision : (d : Decision) → close_in asked.close (outcome_of_allowed_request table es xs line now asked d) ≡ asked.close
       by_decision (decision.Hit s) = refl
-      by_decision (decision.Forward rule against) = unless rule (condition_at es against) (is_only_if_cached asked)
+      by_decision (decision.Forward rule against) = unless rule (condition_about_serial es against) (is_only_if_cached asked)
   arrival_closes xs now asked (verdict.DeniedBy line) = refl
   arrival_closes xs now asked verdict.NoLine = refl
 
-  failed_closes : (now : ℕ) (x : Exchange) (kind : FailKind) (came : Option ℕ) (fallback : Fallback) → close_in x.asked.close (failed table es now x kind came fallback) ≡ x.asked.close
+  failed_closes : (now : ℕ) (x : Exchange) (kind : FailKind) (came : Option ℕ) (fallback : Fallback) → close_in x.asked.close (outcome_of_failure table es now x kind came fallback) ≡ x.asked.close
   failed_closes now x kind came (Sends serial detail) = refl
   failed_closes now x kind came (Refuses rule error) = refl
 
-  answer_closes : (now : ℕ) (x : Exchange) (r : Response) (next : Option ℕ) (d : Decision) → close_in x.asked.close (answered table es now x r next d) ≡ x.asked.close
+  answer_closes : (now : ℕ) (x : Exchange) (r : Response) (next : Option ℕ) (d : Decision) → close_in x.asked.close (outcome_of_answer table es now x r next d) ≡ x.asked.close
   answer_closes now x r next d = by_304 (is_validation x r)
     where
-      validates : (o : Option Stored) (k : Decision) → close_in x.asked.close (revalidated table es now x r o k) ≡ x.asked.close
+      validates : (o : Option Stored) (k : Decision) → close_in x.asked.close (outcome_of_304 table es now x r o k) ≡ x.asked.close
       validates (Some e) k = refl
       validates None (decision.Hit s) = refl
       validates None (decision.Forward rule against) = refl
 
-      passes : (b : Bool) (fallback : Fallback) → close_in x.asked.close (passed_unless table es now x r next b fallback) ≡ x.asked.close
+      passes : (b : Bool) (fallback : Fallback) → close_in x.asked.close (outcome_of_passing_on_or_stale table es now x r next b fallback) ≡ x.asked.close
       passes true (Sends serial detail) = refl
       passes true (Refuses rule error) = refl
       passes false fallback = refl
 
-      by_unasked : (b : Bool) → close_in x.asked.close (cond b (failed table es now x BadAnswer (Some r.status) (fallback_for (policy_of table.lines x.line) es x.asked now d)) (passed_unless table es now x r next (is_error_status r.status) (fallback_for (policy_of table.lines x.line) es x.asked now d))) ≡ x.asked.close
+      by_unasked : (b : Bool) → close_in x.asked.close (cond b (outcome_of_failure table es now x BadAnswer (Some r.status) (fallback_for (policy_of table.lines x.line) es x.asked now d)) (outcome_of_passing_on_or_stale table es now x r next (is_error_status r.status) (fallback_for (policy_of table.lines x.line) es x.asked now d))) ≡ x.asked.close
       by_unasked true = failed_closes now x BadAnswer (Some r.status) (fallback_for (policy_of table.lines x.line) es x.asked now d)
       by_unasked false = passes (is_error_status r.status) (fallback_for (policy_of table.lines x.line) es x.asked now d)
 
-      by_304 : (b : Bool) → close_in x.asked.close (cond b (revalidated table es now x r (validated es x r now) d)
-          (cond (is_unasked x.asked r) (failed table es now x BadAnswer (Some r.status) (fallback_for (policy_of table.lines x.line) es x.asked now d)) (passed_unless table es now x r next (is_error_status r.status) (fallback_for (policy_of table.lines x.line) es x.asked now d)))) ≡ x.asked.close
-      by_304 true = validates (validated es x r now) d
-      by_304 false = by_unasked (is_unasked x.asked r)
+      by_304 : (b : Bool) → close_in x.asked.close (cond b (outcome_of_304 table es now x r (stored_response_validated es x r now) d)
+          (cond (is_304_without_condition x.asked r) (outcome_of_failure table es now x BadAnswer (Some r.status) (fallback_for (policy_of table.lines x.line) es x.asked now d)) (outcome_of_passing_on_or_stale table es now x r next (is_error_status r.status) (fallback_for (policy_of table.lines x.line) es x.asked now d)))) ≡ x.asked.close
+      by_304 true = validates (stored_response_validated es x r now) d
+      by_304 false = by_unasked (is_304_without_condition x.asked r)
 
-  wake_closes : (now : ℕ) (x : Exchange) (d : Decision) → close_in x.asked.close (woken table es now x d) ≡ x.asked.close
+  wake_closes : (now : ℕ) (x : Exchange) (d : Decision) → close_in x.asked.close (outcome_of_wake table es now x d) ≡ x.asked.close
   wake_closes now x (decision.Hit s) = refl
   wake_closes now x (decision.Forward rule against) = refl
 
@@ -246,7 +246,7 @@ module _ (table : Table) (es : List Stored) where
   Closes None (Wake now id) o = ⊥
   Closes x (Abandon id) o = o ≡ Ended
 
-  closes_by : (xs : List Exchange) (x : Option Exchange) (next : Option ℕ) (event : Event) → fault_of x event ≡ None → Closes x event (outcome_of table es xs x next event)
+  closes_by : (xs : List Exchange) (x : Option Exchange) (next : Option ℕ) (event : Event) → fault_at_exchange x event ≡ None → Closes x event (outcome_of table es xs x next event)
   closes_by xs x next (Arrive now id asked) h = arrival_closes xs now asked (verdict_of table.lines asked.method asked.target)
   closes_by xs (Some x) next (Answer now id r) h = answer_closes now x r next (decision_of (policy_of table.lines x.line) es x.asked now)
   closes_by xs None next (Answer now id r) h = absurd (cc)
@@ -259,10 +259,10 @@ module _ (table : Table) (es : List Stored) where
 module _ (table : Table) (limit first : ℕ) where
   -- the outcome, where the event is known
   outcome_at : (item : Item) (past : List Item) → IsGoodHistory table limit first (item ∷ past) → (event : Event) → item.event ≡ event →
-      item.outcome ≡ outcome_by table (held_entries table limit past) (open_exchanges table limit past) (next_serial first past) event
-  outcome_at item past g event e = g.0.outcome_is ∙ ap (λ (v : Event). outcome_by table (held_entries table limit past) (open_exchanges table limit past) (next_serial first past) v) e
+      item.outcome ≡ outcome_of_event table (held_entries table limit past) (open_exchanges table limit past) (next_serial first past) event
+  outcome_at item past g event e = g.0.outcome_is ∙ ap (λ (v : Event). outcome_of_event table (held_entries table limit past) (open_exchanges table limit past) (next_serial first past) v) e
 
-  goes : (item : Item) (past : List Item) → IsGoodHistory table limit first (item ∷ past) → GoesWhereAllowed table limit item past
+  goes : (item : Item) (past : List Item) → IsGoodHistory table limit first (item ∷ past) → RequestGoesForwardWhereAllowed table limit item past
   goes item past g line bytes h = by_event item.event refl
     where
       es : List Stored
@@ -271,22 +271,22 @@ module _ (table : Table) (limit first : ℕ) where
       xs : List Exchange
       xs = open_exchanges table limit past
 
-      by_arrival : (now id : ℕ) (asked : Asked) → verdict_of table.lines asked.method asked.target ≡ Allowed line → IsReached table es xs now asked line item.outcome →
+      by_arrival : (now id : ℕ) (asked : Asked) → verdict_of table.lines asked.method asked.target ≡ Allowed line → RequestReachesCacheOrOrigin table es xs now asked line item.outcome →
           Goes table es past line bytes (Arrive now id asked)
-      by_arrival now id asked v (inl (s, used)) = absurd (never_used s (sym (ap used_in h) ∙ used))
+      by_arrival now id asked v (inl (s, used)) = absurd (never_used s (sym (ap serial_used_by_outcome h) ∙ used))
         where
           never_used : (s : ℕ) → ◌≡◌ {A = Option ℕ} None (Some s) → ⊥
           never_used s h = cc
       by_arrival now id asked v (inr (inl (rule, goes, others, nobody))) = (
         asked,
-        condition_at es goes.against,
-        ap (λ b. cond b (Some asked) (asked_by id past)) (eq-eqb id id refl),
+        condition_about_serial es goes.against,
+        ap (λ b. cond b (Some asked) (latest_request_of id past)) (eq-eqb id id refl),
         v,
         (rule, goes.against, goes.is_least, goes.names, refl),
         ap bytes_in (sym h ∙ goes.outcome_is),
       )
-      by_arrival now id asked v (inr (inr (inl waits))) = not_forward item.outcome line bytes (ap goes_forward waits.outcome_is) h
-      by_arrival now id asked v (inr (inr (inr (rule, only, least, is)))) = not_forward item.outcome line bytes (ap goes_forward is) h
+      by_arrival now id asked v (inr (inr (inl waits))) = not_forward item.outcome line bytes (ap outcome_goes_forward waits.outcome_is) h
+      by_arrival now id asked v (inr (inr (inr (rule, only, least, is)))) = not_forward item.outcome line bytes (ap outcome_goes_forward is) h
 
       by_answer : (now id : ℕ) (r : Response) (w : Option Exchange) → find_exchange id xs ≡ w →
           Forward line bytes ≡ outcome_of table es xs w (next_serial first past) (Answer now id r) → Goes table es past line bytes (Answer now id r)
@@ -306,17 +306,17 @@ module _ (table : Table) (limit first : ℕ) where
       by_wake now id None w_is o = absurd (cc)
       by_wake now id (Some x) w_is o = by_decision (decision_of (policy_of table.lines x.line) es x.asked now) refl o
         where
-          by_decision : (d : Decision) → decision_of (policy_of table.lines x.line) es x.asked now ≡ d → Forward line bytes ≡ woken table es now x d → Goes table es past line bytes (Wake now id)
+          by_decision : (d : Decision) → decision_of (policy_of table.lines x.line) es x.asked now ≡ d → Forward line bytes ≡ outcome_of_wake table es now x d → Goes table es past line bytes (Wake now id)
           by_decision (decision.Hit s) k h = absurd (cc)
           by_decision (decision.Forward rule against) k h =
               let same : line ≡ x.line = cc in
               let carried = (carries_its_arrival table limit first id past x g.1 w_is).0 in
               let named = names_the_least (policy_of table.lines x.line) es x.asked now rule against k in (
                 x.asked,
-                condition_at es against,
+                condition_about_serial es against,
                 has_its_request table limit first id past x g.1 w_is,
                 carried.line_allows ∙ ap (λ n. Allowed n) (sym same),
-                (rule, against, subst (λ n. IsLeast (policy_of table.lines n) es x.asked now rule) (sym same) named.0, named.1, refl),
+                (rule, against, subst (λ n. IsLeastReuseRule (policy_of table.lines n) es x.asked now rule) (sym same) named.0, named.1, refl),
                 ap bytes_in h,
               )
 
@@ -338,52 +338,52 @@ module _ (table : Table) (limit first : ℕ) where
           let none : Forward line bytes ≡ Ended = sym h ∙ outcome_at item past g (Abandon id) e in
           absurd (cc)
 
-  comes : (item : Item) (past : List Item) → IsGoodHistory table limit first (item ∷ past) → ComesWhereItMay table limit item past
-  comes item past g = may_come (find_exchange (id_of item.event) (open_exchanges table limit past)) item.event g.0.allowed
+  comes : (item : Item) (past : List Item) → IsGoodHistory table limit first (item ∷ past) → EventComesWhereItMay table limit item past
+  comes item past g = may_come (find_exchange (exchange_id_of_event item.event) (open_exchanges table limit past)) item.event g.0.allowed
 
-  goes_on : (item : Item) (past : List Item) → IsGoodHistory table limit first (item ∷ past) → GoesOn table limit item past
+  goes_on : (item : Item) (past : List Item) → IsGoodHistory table limit first (item ∷ past) → ExchangeGoesOnToItsAnswer table limit item past
   goes_on item past g =
       let es = held_entries table limit past in
       let xs = open_exchanges table limit past in
-      let x = find_exchange (id_of item.event) xs in
-      subst (GoesOnBy table es x item.event) (sym g.0.outcome_is) (goes_on_by table es (held_distinct table limit first past g.1) xs x (next_serial first past) item.event g.0.allowed)
+      let x = find_exchange (exchange_id_of_event item.event) xs in
+      subst (ExchangeGoesOnBy table es x item.event) (sym g.0.outcome_is) (goes_on_by table es (held_distinct table limit first past g.1) xs x (next_serial first past) item.event g.0.allowed)
 
-  stores : (item : Item) (past : List Item) → IsGoodHistory table limit first (item ∷ past) → StoresExactly table limit first item past
+  stores : (item : Item) (past : List Item) → IsGoodHistory table limit first (item ∷ past) → AnswerIsStoredExactlyWhereItMayBe table limit first item past
   stores item past g = (
     λ now id x r e found unused may. stores_where_it_may table limit first now id x r item past g e found unused may,
     λ s stored. (stores_the_next table limit first s item past g stored, stores_nowhere_else table limit first s item past g stored),
   )
 
   -- a reply closes as its request says
-  closes : (item : Item) (past : List Item) → IsGoodHistory table limit first (item ∷ past) → ClosesAsAsked item past
+  closes : (item : Item) (past : List Item) → IsGoodHistory table limit first (item ∷ past) → ConnectionClosesAsAsked item past
   closes item past g reply h =
-      by_event item.event refl (find_exchange (id_of item.event) (open_exchanges table limit past)) refl
-      (subst (Closes table (held_entries table limit past) (find_exchange (id_of item.event) (open_exchanges table limit past)) item.event) (sym g.0.outcome_is)
-      (closes_by table (held_entries table limit past) (open_exchanges table limit past) (find_exchange (id_of item.event) (open_exchanges table limit past)) (next_serial first past) item.event g.0.allowed))
+      by_event item.event refl (find_exchange (exchange_id_of_event item.event) (open_exchanges table limit past)) refl
+      (subst (Closes table (held_entries table limit past) (find_exchange (exchange_id_of_event item.event) (open_exchanges table limit past)) item.event) (sym g.0.outcome_is)
+      (closes_by table (held_entries table limit past) (open_exchanges table limit past) (find_exchange (exchange_id_of_event item.event) (open_exchanges table limit past)) (next_serial first past) item.event g.0.allowed))
     where
       Is : Event → Type 0
-      Is event = (asked : Asked) × (asked_at (id_of event) event (asked_by (id_of event) past) ≡ Some asked) × (reply.close ≡ asked.close)
+      Is event = (asked : Asked) × (request_after_event (exchange_id_of_event event) event (latest_request_of (exchange_id_of_event event) past) ≡ Some asked) × (reply.close ≡ asked.close)
 
       closed_by : (c : Bool) → close_in c item.outcome ≡ c → reply.close ≡ c
       closed_by c k = sym (ap (close_in c) h) ∙ k
 
-      by_event : (event : Event) → item.event ≡ event → (w : Option Exchange) → find_exchange (id_of item.event) (open_exchanges table limit past) ≡ w → Closes table (held_entries table limit past) w event item.outcome → Is event
-      by_event (Arrive now id asked) e w w_is k = (asked, ap (λ b. cond b (Some asked) (asked_by id past)) (eq-eqb id id refl), closed_by asked.close k)
+      by_event : (event : Event) → item.event ≡ event → (w : Option Exchange) → find_exchange (exchange_id_of_event item.event) (open_exchanges table limit past) ≡ w → Closes table (held_entries table limit past) w event item.outcome → Is event
+      by_event (Arrive now id asked) e w w_is k = (asked, ap (λ b. cond b (Some asked) (latest_request_of id past)) (eq-eqb id id refl), closed_by asked.close k)
       by_event (Answer now id r) e (Some x) w_is k =
-          (x.asked, has_its_request table limit first id past x g.1 (sym (ap (λ (v : Event). find_exchange (id_of v) (open_exchanges table limit past)) e) ∙ w_is), closed_by x.asked.close k)
+          (x.asked, has_its_request table limit first id past x g.1 (sym (ap (λ (v : Event). find_exchange (exchange_id_of_event v) (open_exchanges table limit past)) e) ∙ w_is), closed_by x.asked.close k)
       by_event (Answer now id r) e None w_is k = absurd k
       by_event (Fail now id kind) e (Some x) w_is k =
-          (x.asked, has_its_request table limit first id past x g.1 (sym (ap (λ (v : Event). find_exchange (id_of v) (open_exchanges table limit past)) e) ∙ w_is), closed_by x.asked.close k)
+          (x.asked, has_its_request table limit first id past x g.1 (sym (ap (λ (v : Event). find_exchange (exchange_id_of_event v) (open_exchanges table limit past)) e) ∙ w_is), closed_by x.asked.close k)
       by_event (Fail now id kind) e None w_is k = absurd k
       by_event (Wake now id) e (Some x) w_is k =
-          (x.asked, has_its_request table limit first id past x g.1 (sym (ap (λ (v : Event). find_exchange (id_of v) (open_exchanges table limit past)) e) ∙ w_is), closed_by x.asked.close k)
+          (x.asked, has_its_request table limit first id past x g.1 (sym (ap (λ (v : Event). find_exchange (exchange_id_of_event v) (open_exchanges table limit past)) e) ∙ w_is), closed_by x.asked.close k)
       by_event (Wake now id) e None w_is k = absurd k
       by_event (Abandon id) e w w_is k =
           let none : Replied reply ≡ Ended = sym h ∙ k in
           absurd (cc)
 
   each : (P : Item → List Item → Type 0) → ((item : Item) (past : List Item) → IsGoodHistory table limit first (item ∷ past) → P item past) →
-      (trace : List Item) → IsGoodHistory table limit first trace → EachStep P trace
+      (trace : List Item) → IsGoodHistory table limit first trace → HoldsAtEachItem P trace
   each P f [] g = tt
   each P f (item ∷ past) g = (f item past g, each P f past g.1)
 
@@ -391,22 +391,22 @@ module _ (table : Table) (limit first : ℕ) where
   headline trace g =
       let plain = good_plain table limit first trace g in
       record {
-        comes_where_it_may = each (ComesWhereItMay table limit) comes trace g;
-        reaches_where_allowed = each (ReachesExactly table limit)
+        comes_where_it_may = each (EventComesWhereItMay table limit) comes trace g;
+        reaches_where_allowed = each (RequestReachesExactlyWhereAllowed table limit)
             (λ item past g now id asked e. (λ line v. reaches_where_allowed table limit first now id line asked item past g e v, λ n. refuses_where_not_allowed table limit first now id asked item past g e n)) trace g;
-        goes_where_allowed = each (GoesWhereAllowed table limit) goes trace g;
-        goes_on_to_its_answer = each (GoesOn table limit) goes_on trace g;
-        sends_where_one_may_be = each (SendsExactly table limit)
+        goes_where_allowed = each (RequestGoesForwardWhereAllowed table limit) goes trace g;
+        goes_on_to_its_answer = each (ExchangeGoesOnToItsAnswer table limit) goes_on trace g;
+        sends_where_one_may_be = each (StoredResponseIsSentExactlyWhereItMayBe table limit)
             (λ item past g s. (λ may. sends_what_may_be_sent table limit first s item past g may, λ h. sends_nothing_else table limit first s item past g h)) trace g;
-        sends_that_response = each (SendsThatResponse table limit) (λ item past g s h. sends_what_is_held table limit first s item past g h) trace g;
-        names_the_first_rule = each (NamesTheFirst table limit first) (λ item past g. names_first_rules table limit first item past g) trace g;
-        stores_where_it_may = each (StoresExactly table limit first) stores trace g;
-        removes_what_goes = each (RemovesExactly table limit) (λ item past g. removes_just_that table limit first item past g) trace g;
-        closes_as_asked = each ClosesAsAsked closes trace g;
+        sends_that_response = each (SentResponseIsTheStoredOne table limit) (λ item past g s h. sends_what_is_held table limit first s item past g h) trace g;
+        names_the_first_rule = each (OtherAnswerNamesTheFirstRule table limit first) (λ item past g. names_first_rules table limit first item past g) trace g;
+        stores_where_it_may = each (AnswerIsStoredExactlyWhereItMayBe table limit first) stores trace g;
+        removes_what_goes = each (StoredResponsesAreRemovedExactlyWhereTheyMustBe table limit) (λ item past g. removes_just_that table limit first item past g) trace g;
+        closes_as_asked = each ConnectionClosesAsAsked closes trace g;
         nothing_invalidated_is_sent = nothing_invalidated_is_sent table limit first trace plain;
-        twice_forward_one_reply = twice_forward_one_reply (begun table limit first) trace plain;
-        denied_leave_no_trace = denied_leave_no_trace (begun table limit first) trace plain;
+        twice_forward_one_reply = twice_forward_one_reply (initial_state table limit first) trace plain;
+        denied_leave_no_trace = denied_leave_no_trace (initial_state table limit first) trace plain;
       }
 
-pub every_good_trace_has_it : EveryGoodTraceHasIt
+pub every_good_trace_has_it : EveryGoodTraceHasTheHeadline
 every_good_trace_has_it table limit first trace g = headline table limit first trace g

@@ -6,11 +6,11 @@ use Rattle.std.proofs.lemmas.Option.{same_Some}
 use Rattle.hx_target.specs.declared.keys.Key.{Key}
 use Rattle.hx_target.specs.Keys.{same_key}
 use Rattle.hx_store.specs.Stored.{Stored}
-use Rattle.hx_store.specs.Serials.{is_in}
-use Rattle.hx_store.specs.Shelf.{serials, holds, find_entry, without, serials_of}
+use Rattle.hx_store.specs.Serials.{serial_is_in}
+use Rattle.hx_store.specs.Shelf.{serials, holds_serial, find_entry, without_serials, serials_of}
 use Rattle.hx_store.proofs.FoundSerials.{finds_those}
 use Rattle.hx_store.proofs.EntryLists.{length-filter_le}
-use Rattle.proxy_core.specs.State.{taken}
+use Rattle.proxy_core.specs.State.{entries_without_serials}
 
 pub serials-filter : (p : ℕ → Bool) (es : List Stored) → serials (filter (λ e. p e.serial) es) ≡ filter p (serials es)
 serials-filter p [] = refl
@@ -28,20 +28,20 @@ pub length-serials : (es : List Stored) → length (serials es) ≡ length es
 length-serials [] = refl
 length-serials (e ∷ es) = ap suc (length-serials es)
 
-without_nil : (es : List Stored) → without [] es ≡ es
+without_nil : (es : List Stored) → without_serials [] es ≡ es
 without_nil [] = refl
 without_nil (e ∷ es) = ap (λ zs. e ∷ zs) (without_nil es)
 
-pub taken_is : (gone : List ℕ) (es : List Stored) → taken gone es ≡ without gone es
+pub taken_is : (gone : List ℕ) (es : List Stored) → entries_without_serials gone es ≡ without_serials gone es
 taken_is [] es = sym (without_nil es)
 taken_is (s ∷ gone) es = refl
 
-pub length-taken : (rm : List ℕ) (es : List Stored) → length (taken rm es) ≤ length es
+pub length-taken : (rm : List ℕ) (es : List Stored) → length (entries_without_serials rm es) ≤ length es
 length-taken [] es = omega arith
-length-taken (s ∷ rm) es = length-filter_le (λ e. not (is_in e.serial (s ∷ rm))) es
+length-taken (s ∷ rm) es = length-filter_le (λ e. not (serial_is_in e.serial (s ∷ rm))) es
 
-pub serials-taken : (rm : List ℕ) (es : List Stored) → serials (taken rm es) ≡ filter (λ s. not (is_in s rm)) (serials es)
-serials-taken rm es = ap serials (taken_is rm es) ∙ serials-filter (λ s. not (is_in s rm)) es
+pub serials-taken : (rm : List ℕ) (es : List Stored) → serials (entries_without_serials rm es) ≡ filter (λ s. not (serial_is_in s rm)) (serials es)
+serials-taken rm es = ap serials (taken_is rm es) ∙ serials-filter (λ s. not (serial_is_in s rm)) es
 
 -- each response is what the function gives at its serial
 pub EachIs : (ℕ → Option Stored) → List Stored → Type 0
@@ -71,21 +71,21 @@ EachIs-take look zero es h = tt
 EachIs-take look (suc n) [] h = tt
 EachIs-take look (suc n) (e ∷ es) h = (h.0, EachIs-take look n es h.1)
 
-pub EachIs-taken : (look : ℕ → Option Stored) (rm : List ℕ) (es : List Stored) → EachIs look es → EachIs look (taken rm es)
+pub EachIs-taken : (look : ℕ → Option Stored) (rm : List ℕ) (es : List Stored) → EachIs look es → EachIs look (entries_without_serials rm es)
 EachIs-taken look [] es h = h
-EachIs-taken look (s ∷ rm) es h = EachIs-filter look (λ e. not (is_in e.serial (s ∷ rm))) es h
+EachIs-taken look (s ∷ rm) es h = EachIs-filter look (λ e. not (serial_is_in e.serial (s ∷ rm))) es h
 
 pub EachIs-cons : (look : ℕ → Option Stored) (e : Stored) (es : List Stored) → look e.serial ≡ Some e → EachIs look es → EachIs look (e ∷ es)
 unfolding EachIs
 EachIs-cons look e es k h = (k, h)
 
 -- another function that gives the same but at a serial that none of these has
-pub EachIs-but : (look other : ℕ → Option Stored) (s : ℕ) (es : List Stored) → holds s es ≡ false → ((t : ℕ) → eqb s t ≡ false → other t ≡ look t) →
+pub EachIs-but : (look other : ℕ → Option Stored) (s : ℕ) (es : List Stored) → holds_serial s es ≡ false → ((t : ℕ) → eqb s t ≡ false → other t ≡ look t) →
     EachIs look es → EachIs other es
 unfolding EachIs
 EachIs-but look other s [] h k g = tt
 EachIs-but look other s (e ∷ es) h k g =
-    let p = or_parts (eqb e.serial s) (holds s es) h in
+    let p = or_parts (eqb e.serial s) (holds_serial s es) h in
     let off : eqb s e.serial ≡ false = false_from_ne_true _ (λ q. false≢true (sym p.0 ∙ eq-eqb e.serial s (sym (eqb-true s e.serial q)))) in
     (k e.serial off ∙ g.0, EachIs-but look other s es p.1 k g.1)
 
@@ -107,29 +107,29 @@ EachIs-find look s (x ∷ es) e f g = elim (cases_Bool (eqb x.serial s)) [
 ]
 
 -- a held serial has its response
-pub held_found : (s : ℕ) (es : List Stored) → holds s es ≡ true → (e : Stored) × (find_entry s es ≡ Some e)
+pub held_found : (s : ℕ) (es : List Stored) → holds_serial s es ≡ true → (e : Stored) × (find_entry s es ≡ Some e)
 held_found s [] h = absurd (false≢true h)
 held_found s (e ∷ es) h = go (eqb e.serial s) refl (held_found s es)
   where
-    go : (b : Bool) → eqb e.serial s ≡ b → (holds s es ≡ true → (x : Stored) × (find_entry s es ≡ Some x)) → (x : Stored) × (find_entry s (e ∷ es) ≡ Some x)
+    go : (b : Bool) → eqb e.serial s ≡ b → (holds_serial s es ≡ true → (x : Stored) × (find_entry s es ≡ Some x)) → (x : Stored) × (find_entry s (e ∷ es) ≡ Some x)
     go true k f = (e, ap (λ b. cond b (Some e) (find_entry s es)) k)
     go false k f =
-        let r = f (sym (ap (λ b. b || holds s es) k) ∙ h) in (r.0, ap (λ b. cond b (Some e) (find_entry s es)) k ∙ r.1)
+        let r = f (sym (ap (λ b. b || holds_serial s es) k) ∙ h) in (r.0, ap (λ b. cond b (Some e) (find_entry s es)) k ∙ r.1)
 
 and_none : (a : Bool) → (a && false) ≡ false
 and_none true = refl
 and_none false = refl
 
-none_any : (key : Key) (s : ℕ) (es : List Stored) → holds s es ≡ false → list_any (λ (e : Stored). same_key e.key key && eqb e.serial s) es ≡ false
+none_any : (key : Key) (s : ℕ) (es : List Stored) → holds_serial s es ≡ false → list_any (λ (e : Stored). same_key e.key key && eqb e.serial s) es ≡ false
 none_any key s [] h = refl
 none_any key s (e ∷ es) h =
-    let p = or_parts (eqb e.serial s) (holds s es) h in
+    let p = or_parts (eqb e.serial s) (holds_serial s es) h in
     ap (λ b. (same_key e.key key && b) || list_any (λ (e : Stored). same_key e.key key && eqb e.serial s) es) p.0
     ∙ ap (λ b. b || list_any (λ (e : Stored). same_key e.key key && eqb e.serial s) es) (and_none (same_key e.key key))
     ∙ none_any key s es p.1
 
 -- what isn't held isn't found of a key
-pub none_of_key : (key : Key) (s : ℕ) (es : List Stored) → holds s es ≡ false → is_in s (serials_of key es) ≡ false
+pub none_of_key : (key : Key) (s : ℕ) (es : List Stored) → holds_serial s es ≡ false → serial_is_in s (serials_of key es) ≡ false
 none_of_key key s es h = finds_those key s es ∙ none_any key s es h
 
 some_any : (key : Key) (s : ℕ) (es : List Stored) (e : Stored) → find_entry s es ≡ Some e → same_key e.key key ≡ true →
@@ -150,5 +150,5 @@ some_any key s (x ∷ es) e f h = elim (cases_Bool (eqb x.serial s)) [
 ]
 
 -- what is held and has the key is found of it
-pub some_of_key : (key : Key) (s : ℕ) (es : List Stored) (e : Stored) → find_entry s es ≡ Some e → same_key e.key key ≡ true → is_in s (serials_of key es) ≡ true
+pub some_of_key : (key : Key) (s : ℕ) (es : List Stored) (e : Stored) → find_entry s es ≡ Some e → same_key e.key key ≡ true → serial_is_in s (serials_of key es) ≡ true
 some_of_key key s es e f h = finds_those key s es ∙ some_any key s es e f h

@@ -5,30 +5,30 @@ use Rattle.std.specs.List.{AllByRecursion}
 use Rattle.std.proofs.lemmas.Bool.{eqb-true, eq-eqb, false_from_ne_true, false≢true}
 use Rattle.hx_target.specs.declared.keys.Key.{Key}
 use Rattle.hx_hop.specs.declared.request_view.Asked.{Asked}
-use Rattle.hx_allow.specs.Lines.{Table}
+use Rattle.hx_allow.specs.TableLines.{Table}
 use Rattle.hx_store.specs.Stored.{Stored}
 use Rattle.proxy_core.specs.declared.open.exchange.Exchange.{Exchange}
 use Rattle.proxy_core.specs.declared.outcome.Outcome.{Outcome}
 use Rattle.proxy_core.specs.declared.outcome.Outcome.TheVariants.{Reply, Forward, Waits, Ended}
 use Rattle.proxy_core.specs.declared.event.Event.{Event}
 use Rattle.proxy_core.specs.declared.event.Event.TheVariants.{Arrive, Answer, Fail, Wake, Abandon}
-use Rattle.proxy_core.specs.Outcomes.{find_exchange, id_of, fault_of}
+use Rattle.proxy_core.specs.Outcomes.{find_exchange, exchange_id_of_event, fault_at_exchange}
 use Rattle.hx_allow.specs.Matching.{verdict_of, policy_of}
 use Rattle.hx_reuse.specs.Rules.{decision_of}
-use Rattle.proxy_core.specs.Validating.{condition_at}
-use Rattle.proxy_core.specs.State.{overtake, release, left_open, closed, opened, queued, line_of, rule_of, named_by, gone_out, woken_out, invalidated_by, open_after}
-use Rattle.proxy_core.specs.Traces.{Item, begun, left, IsGood}
-use Rattle.proxy_core.specs.Promises.{is_arrival, NoneArrives}
-use Rattle.proxy_core.specs.Carrying.{ArrivesBefore, AreInOrder, ids_of, OpenInOrderOfArrival}
+use Rattle.proxy_core.specs.Validating.{condition_about_serial}
+use Rattle.proxy_core.specs.State.{overtaken_exchange, released_exchange, exchanges_after_end, exchanges_after_close, forwarded_exchange, waiting_exchange, line_of_verdict, rule_of_decision, serial_named_by_decision, exchange_forwarded_again, exchanges_after_wake, key_invalidated_by_response, open_exchanges_after}
+use Rattle.proxy_core.specs.Traces.{Item, initial_state, state_after_trace, IsGood}
+use Rattle.proxy_core.specs.Promises.{is_arrival_event, NoRequestArrives}
+use Rattle.proxy_core.specs.Carrying.{ArrivesBefore, IdsAreInOrderOfArrival, exchange_ids, ExchangesAreOpenInOrderOfArrival}
 use Rattle.proxy_core.proofs.ExchangeLists.{gone_out-id, sent_out-id, release-id, overtake-id}
 use Rattle.proxy_core.proofs.Moves.{and_none}
 use Rattle.proxy_core.proofs.HeldLaw.{good_plain, exchanges_are_open}
 
 -- ---- the ids of a list that was changed
 
-ids-map : (f : Exchange → Exchange) → ((x : Exchange) → (f x).id ≡ x.id) → (xs : List Exchange) → ids_of (map f xs) ≡ ids_of xs
+ids-map : (f : Exchange → Exchange) → ((x : Exchange) → (f x).id ≡ x.id) → (xs : List Exchange) → exchange_ids (map f xs) ≡ exchange_ids xs
 ids-map f k [] = refl
-ids-map f k (x ∷ xs) = ap (λ n. n ∷ ids_of (map f xs)) (k x) ∙ ap (λ ns. x.id ∷ ns) (ids-map f k xs)
+ids-map f k (x ∷ xs) = ap (λ n. n ∷ exchange_ids (map f xs)) (k x) ∙ ap (λ ns. x.id ∷ ns) (ids-map f k xs)
 
 abbrev but : ℕ → List ℕ → List ℕ
 but id ids = filter (λ n. not (eqb n id)) ids
@@ -36,27 +36,27 @@ but id ids = filter (λ n. not (eqb n id)) ids
 abbrev left_by : ℕ → List Exchange → List Exchange
 left_by id xs = filter (λ (x : Exchange). not (eqb x.id id)) xs
 
-ids-left : (id : ℕ) (xs : List Exchange) → ids_of (left_by id xs) ≡ but id (ids_of xs)
+ids-left : (id : ℕ) (xs : List Exchange) → exchange_ids (left_by id xs) ≡ but id (exchange_ids xs)
 ids-left id [] = refl
 ids-left id (x ∷ xs) = by_id (eqb x.id id) (ids-left id xs)
   where
-    by_id : (b : Bool) → ids_of (left_by id xs) ≡ but id (ids_of xs) → ids_of (cond (not b) (x ∷ left_by id xs) (left_by id xs)) ≡ cond (not b) (x.id ∷ but id (ids_of xs)) (but id (ids_of xs))
+    by_id : (b : Bool) → exchange_ids (left_by id xs) ≡ but id (exchange_ids xs) → exchange_ids (cond (not b) (x ∷ left_by id xs) (left_by id xs)) ≡ cond (not b) (x.id ∷ but id (exchange_ids xs)) (but id (exchange_ids xs))
     by_id true rest = rest
     by_id false rest = ap (λ ns. x.id ∷ ns) rest
 
-ids-closed : (id : ℕ) (xs : List Exchange) → ids_of (closed id xs) ≡ but id (ids_of xs)
-ids-closed id xs = ids-map (release id) (release-id id) (left_by id xs) ∙ ids-left id xs
+ids-closed : (id : ℕ) (xs : List Exchange) → exchange_ids (exchanges_after_close id xs) ≡ but id (exchange_ids xs)
+ids-closed id xs = ids-map (released_exchange id) (release-id id) (left_by id xs) ∙ ids-left id xs
 
-ids-left_open : (key : Option Key) (id : ℕ) (xs : List Exchange) → ids_of (left_open key id xs) ≡ but id (ids_of xs)
+ids-left_open : (key : Option Key) (id : ℕ) (xs : List Exchange) → exchange_ids (exchanges_after_end key id xs) ≡ but id (exchange_ids xs)
 ids-left_open None id xs = ids-closed id xs
-ids-left_open (Some key) id xs = ids-map (overtake key) (overtake-id key) (closed id xs) ∙ ids-closed id xs
+ids-left_open (Some key) id xs = ids-map (overtaken_exchange key) (overtake-id key) (exchanges_after_close id xs) ∙ ids-closed id xs
 
-ids-woken : (table : Table) (es : List Stored) (id now : ℕ) (w : Option Exchange) (xs : List Exchange) → ids_of (woken_out table es id now w xs) ≡ ids_of xs
+ids-woken : (table : Table) (es : List Stored) (id now : ℕ) (w : Option Exchange) (xs : List Exchange) → exchange_ids (exchanges_after_wake table es id now w xs) ≡ exchange_ids xs
 ids-woken table es id now None xs = refl
 ids-woken table es id now (Some x) xs =
-    ids-map _ (sent_out-id id now (rule_of (decision_of (policy_of table.lines x.line) es x.asked now)) (condition_at es (named_by (decision_of (policy_of table.lines x.line) es x.asked now)))) xs
+    ids-map _ (sent_out-id id now (rule_of_decision (decision_of (policy_of table.lines x.line) es x.asked now)) (condition_about_serial es (serial_named_by_decision (decision_of (policy_of table.lines x.line) es x.asked now)))) xs
 
-ids-push : (xs : List Exchange) (x : Exchange) → ids_of (xs ++ x ∷ []) ≡ ids_of xs ++ x.id ∷ []
+ids-push : (xs : List Exchange) (x : Exchange) → exchange_ids (xs ++ x ∷ []) ≡ exchange_ids xs ++ x.id ∷ []
 ids-push [] x = refl
 ids-push (y ∷ ys) x = ap (λ ns. y.id ∷ ns) (ids-push ys x)
 
@@ -67,13 +67,13 @@ record HasArrived (past : List Item) (id : ℕ) : Type 0 where
   before : List Item
   arrival : Item
   past_is : past ≡ since ++ arrival ∷ before
-  arrives : is_arrival arrival.event ≡ true
-  id_is : id_of arrival.event ≡ id
-  none_since : NoneArrives id since
+  arrives : is_arrival_event arrival.event ≡ true
+  id_is : exchange_id_of_event arrival.event ≡ id
+  none_since : NoRequestArrives id since
 
 -- the item is no arrival of the id
 abbrev Apart : Item → ℕ → Type 0
-Apart i id = (eqb (id_of i.event) id && is_arrival i.event) ≡ false
+Apart i id = (eqb (exchange_id_of_event i.event) id && is_arrival_event i.event) ≡ false
 
 arrived_more : (i : Item) (past : List Item) (id : ℕ) → Apart i id → HasArrived past id → HasArrived (i ∷ past) id
 arrived_more i past id n h = record {
@@ -103,7 +103,7 @@ before_more i past id other n m h = record {
 }
 
 -- of one that arrives now
-before_first : (i : Item) (past : List Item) (id : ℕ) → is_arrival i.event ≡ true → Apart i id → HasArrived past id → ArrivesBefore id (id_of i.event) (i ∷ past)
+before_first : (i : Item) (past : List Item) (id : ℕ) → is_arrival_event i.event ≡ true → Apart i id → HasArrived past id → ArrivesBefore id (exchange_id_of_event i.event) (i ∷ past)
 before_first i past id a n h = record {
   since = [];
   between = h.since;
@@ -146,9 +146,9 @@ all_but P id (n ∷ ids) h = by_id (eqb n id) (all_but P id ids h.1)
 -- the ids arrived, each before those behind it
 record InOrder (ids : List ℕ) (past : List Item) : Type 0 where
   arrived : AllByRecursion (HasArrived past) ids
-  order : AreInOrder ids past
+  order : IdsAreInOrderOfArrival ids past
 
-in_order_more : (i : Item) (past : List Item) (ids : List ℕ) → AllByRecursion (Apart i) ids → AreInOrder ids past → AreInOrder ids (i ∷ past)
+in_order_more : (i : Item) (past : List Item) (ids : List ℕ) → AllByRecursion (Apart i) ids → IdsAreInOrderOfArrival ids past → IdsAreInOrderOfArrival ids (i ∷ past)
 in_order_more i past [] n h = tt
 in_order_more i past (id ∷ ids) n h =
     (all_both (Apart i) (λ m. ArrivesBefore id m past) (λ m. ArrivesBefore id m (i ∷ past)) ids (λ m. before_more i past id m n.0) n.1 h.0, in_order_more i past ids n.1 h.1)
@@ -156,29 +156,29 @@ in_order_more i past (id ∷ ids) n h =
 further : (i : Item) (past : List Item) (ids : List ℕ) → AllByRecursion (Apart i) ids → InOrder ids past → InOrder ids (i ∷ past)
 further i past ids n h = record { arrived = all_both (Apart i) (HasArrived past) (HasArrived (i ∷ past)) ids (arrived_more i past) n h.arrived; order = in_order_more i past ids n h.order }
 
-in_order_but : (id : ℕ) (ids : List ℕ) (past : List Item) → AreInOrder ids past → AreInOrder (but id ids) past
+in_order_but : (id : ℕ) (ids : List ℕ) (past : List Item) → IdsAreInOrderOfArrival ids past → IdsAreInOrderOfArrival (but id ids) past
 in_order_but id [] past h = tt
 in_order_but id (n ∷ ids) past h = by_id (eqb n id) (in_order_but id ids past h.1)
   where
-    by_id : (b : Bool) → AreInOrder (but id ids) past → AreInOrder (cond (not b) (n ∷ but id ids) (but id ids)) past
+    by_id : (b : Bool) → IdsAreInOrderOfArrival (but id ids) past → IdsAreInOrderOfArrival (cond (not b) (n ∷ but id ids) (but id ids)) past
     by_id true rest = rest
     by_id false rest = (all_but (λ m. ArrivesBefore n m past) id ids h.0, rest)
 
 without_one : (id : ℕ) (ids : List ℕ) (past : List Item) → InOrder ids past → InOrder (but id ids) past
 without_one id ids past h = record { arrived = all_but (HasArrived past) id ids h.arrived; order = in_order_but id ids past h.order }
 
-in_order_push : (i : Item) (past : List Item) (ids : List ℕ) → is_arrival i.event ≡ true → AllByRecursion (Apart i) ids → AllByRecursion (HasArrived past) ids → AreInOrder ids past →
-    AreInOrder (ids ++ id_of i.event ∷ []) (i ∷ past)
+in_order_push : (i : Item) (past : List Item) (ids : List ℕ) → is_arrival_event i.event ≡ true → AllByRecursion (Apart i) ids → AllByRecursion (HasArrived past) ids → IdsAreInOrderOfArrival ids past →
+    IdsAreInOrderOfArrival (ids ++ exchange_id_of_event i.event ∷ []) (i ∷ past)
 in_order_push i past [] a n h o = (tt, tt)
 in_order_push i past (id ∷ ids) a n h o = (
-  all_push (λ m. ArrivesBefore id m (i ∷ past)) ids (id_of i.event)
+  all_push (λ m. ArrivesBefore id m (i ∷ past)) ids (exchange_id_of_event i.event)
       (all_both (Apart i) (λ m. ArrivesBefore id m past) (λ m. ArrivesBefore id m (i ∷ past)) ids (λ m. before_more i past id m n.0) n.1 o.0) (before_first i past id a n.0 h.0),
   in_order_push i past ids a n.1 h.1 o.1,
 )
 
-with_one : (i : Item) (past : List Item) (ids : List ℕ) → is_arrival i.event ≡ true → AllByRecursion (Apart i) ids → InOrder ids past → InOrder (ids ++ id_of i.event ∷ []) (i ∷ past)
+with_one : (i : Item) (past : List Item) (ids : List ℕ) → is_arrival_event i.event ≡ true → AllByRecursion (Apart i) ids → InOrder ids past → InOrder (ids ++ exchange_id_of_event i.event ∷ []) (i ∷ past)
 with_one i past ids a n h = record {
-  arrived = all_push (HasArrived (i ∷ past)) ids (id_of i.event) (all_both (Apart i) (HasArrived past) (HasArrived (i ∷ past)) ids (arrived_more i past) n h.arrived) (record {
+  arrived = all_push (HasArrived (i ∷ past)) ids (exchange_id_of_event i.event) (all_both (Apart i) (HasArrived past) (HasArrived (i ∷ past)) ids (arrived_more i past) n h.arrived) (record {
     since = [];
     before = past;
     arrival = i;
@@ -192,81 +192,81 @@ with_one i past ids a n h = record {
 
 -- ---- a step
 
-late_apart : (i : Item) (ids : List ℕ) → is_arrival i.event ≡ false → AllByRecursion (Apart i) ids
-late_apart i ids n = all_each (Apart i) ids (λ m. ap (λ b. eqb (id_of i.event) m && b) n ∙ and_none (eqb (id_of i.event) m))
+late_apart : (i : Item) (ids : List ℕ) → is_arrival_event i.event ≡ false → AllByRecursion (Apart i) ids
+late_apart i ids n = all_each (Apart i) ids (λ m. ap (λ b. eqb (exchange_id_of_event i.event) m && b) n ∙ and_none (eqb (exchange_id_of_event i.event) m))
 
 other_way : (a b : ℕ) → eqb b a ≡ false → eqb a b ≡ false
 other_way a b e = false_from_ne_true _ (λ q. false≢true (sym e ∙ eq-eqb b a (sym (eqb-true a b q))))
 
 -- an id under which no exchange is found
-new_apart : (now id : ℕ) (asked : Asked) (o : Outcome) (xs : List Exchange) → find_exchange id xs ≡ None → AllByRecursion (Apart (record { event = Arrive now id asked; outcome = o })) (ids_of xs)
+new_apart : (now id : ℕ) (asked : Asked) (o : Outcome) (xs : List Exchange) → find_exchange id xs ≡ None → AllByRecursion (Apart (record { event = Arrive now id asked; outcome = o })) (exchange_ids xs)
 new_apart now id asked o [] h = tt
 new_apart now id asked o (x ∷ xs) h = by_id (λ k. new_apart now id asked o xs k) (eqb x.id id) refl h
   where
-    by_id : (find_exchange id xs ≡ None → AllByRecursion (Apart (record { event = Arrive now id asked; outcome = o })) (ids_of xs)) →
+    by_id : (find_exchange id xs ≡ None → AllByRecursion (Apart (record { event = Arrive now id asked; outcome = o })) (exchange_ids xs)) →
         (b : Bool) → eqb x.id id ≡ b → cond b (Some x) (find_exchange id xs) ≡ None →
-        AllByRecursion (Apart (record { event = Arrive now id asked; outcome = o })) (x.id ∷ ids_of xs)
+        AllByRecursion (Apart (record { event = Arrive now id asked; outcome = o })) (x.id ∷ exchange_ids xs)
     by_id rest true e h = absurd (cc)
     by_id rest false e h = (ap (λ b. b && true) (other_way id x.id e), rest h)
 
 same_ids : {past : List Item} {a b : List ℕ} → a ≡ b → InOrder b past → InOrder a past
 same_ids {past} {a} {b} e h = subst (λ ids. InOrder ids past) (sym e) h
 
-in_order_step : (table : Table) (es : List Stored) (xs : List Exchange) (past : List Item) (event : Event) (o : Outcome) → fault_of (find_exchange (id_of event) xs) event ≡ None → InOrder (ids_of xs) past →
-    InOrder (ids_of (open_after table es xs event o)) (record { event = event; outcome = o } ∷ past)
+in_order_step : (table : Table) (es : List Stored) (xs : List Exchange) (past : List Item) (event : Event) (o : Outcome) → fault_at_exchange (find_exchange (exchange_id_of_event event) xs) event ≡ None → InOrder (exchange_ids xs) past →
+    InOrder (exchange_ids (open_exchanges_after table es xs event o)) (record { event = event; outcome = o } ∷ past)
 in_order_step table es xs past (Arrive now id asked) o free h = by_outcome o (was_free (find_exchange id xs) refl free)
   where
-    was_free : (w : Option Exchange) → find_exchange id xs ≡ w → fault_of w (Arrive now id asked) ≡ None → find_exchange id xs ≡ None
+    was_free : (w : Option Exchange) → find_exchange id xs ≡ w → fault_at_exchange w (Arrive now id asked) ≡ None → find_exchange id xs ≡ None
     was_free None e f = e
     was_free (Some x) e f = absurd (cc)
 
-    by_outcome : (o : Outcome) → find_exchange id xs ≡ None → InOrder (ids_of (open_after table es xs (Arrive now id asked) o)) (record { event = Arrive now id asked; outcome = o } ∷ past)
+    by_outcome : (o : Outcome) → find_exchange id xs ≡ None → InOrder (exchange_ids (open_exchanges_after table es xs (Arrive now id asked) o)) (record { event = Arrive now id asked; outcome = o } ∷ past)
     by_outcome (Forward line bytes) f =
         let i : Item = record { event = Arrive now id asked; outcome = Forward line bytes } in
-        same_ids (ids-push xs (opened table es now id asked line)) (with_one i past (ids_of xs) refl (new_apart now id asked (Forward line bytes) xs f) h)
+        same_ids (ids-push xs (forwarded_exchange table es now id asked line)) (with_one i past (exchange_ids xs) refl (new_apart now id asked (Forward line bytes) xs f) h)
     by_outcome (Waits leader) f =
         let i : Item = record { event = Arrive now id asked; outcome = Waits leader } in
-        same_ids (ids-push xs (queued table es now id asked (line_of (verdict_of table.lines asked.method asked.target)) leader)) (with_one i past (ids_of xs) refl (new_apart now id asked (Waits leader) xs f) h)
-    by_outcome (Reply r) f = further (record { event = Arrive now id asked; outcome = Reply r }) past (ids_of xs) (new_apart now id asked (Reply r) xs f) h
-    by_outcome Ended f = further (record { event = Arrive now id asked; outcome = Ended }) past (ids_of xs) (new_apart now id asked Ended xs f) h
+        same_ids (ids-push xs (waiting_exchange table es now id asked (line_of_verdict (verdict_of table.lines asked.method asked.target)) leader)) (with_one i past (exchange_ids xs) refl (new_apart now id asked (Waits leader) xs f) h)
+    by_outcome (Reply r) f = further (record { event = Arrive now id asked; outcome = Reply r }) past (exchange_ids xs) (new_apart now id asked (Reply r) xs f) h
+    by_outcome Ended f = further (record { event = Arrive now id asked; outcome = Ended }) past (exchange_ids xs) (new_apart now id asked Ended xs f) h
 in_order_step table es xs past (Answer now id r) (Forward line bytes) free h =
     let i : Item = record { event = Answer now id r; outcome = Forward line bytes } in
-    same_ids (ids-map (gone_out id now) (gone_out-id id now) xs) (further i past (ids_of xs) (late_apart i (ids_of xs) refl) h)
+    same_ids (ids-map (exchange_forwarded_again id now) (gone_out-id id now) xs) (further i past (exchange_ids xs) (late_apart i (exchange_ids xs) refl) h)
 in_order_step table es xs past (Answer now id r) (Reply reply) free h =
     let i : Item = record { event = Answer now id r; outcome = Reply reply } in
-    same_ids (ids-left_open (invalidated_by (find_exchange id xs) r) id xs) (without_one id (ids_of xs) (i ∷ past) (further i past (ids_of xs) (late_apart i (ids_of xs) refl) h))
+    same_ids (ids-left_open (key_invalidated_by_response (find_exchange id xs) r) id xs) (without_one id (exchange_ids xs) (i ∷ past) (further i past (exchange_ids xs) (late_apart i (exchange_ids xs) refl) h))
 in_order_step table es xs past (Answer now id r) (Waits leader) free h =
     let i : Item = record { event = Answer now id r; outcome = Waits leader } in
-    same_ids (ids-left_open (invalidated_by (find_exchange id xs) r) id xs) (without_one id (ids_of xs) (i ∷ past) (further i past (ids_of xs) (late_apart i (ids_of xs) refl) h))
+    same_ids (ids-left_open (key_invalidated_by_response (find_exchange id xs) r) id xs) (without_one id (exchange_ids xs) (i ∷ past) (further i past (exchange_ids xs) (late_apart i (exchange_ids xs) refl) h))
 in_order_step table es xs past (Answer now id r) Ended free h =
     let i : Item = record { event = Answer now id r; outcome = Ended } in
-    same_ids (ids-left_open (invalidated_by (find_exchange id xs) r) id xs) (without_one id (ids_of xs) (i ∷ past) (further i past (ids_of xs) (late_apart i (ids_of xs) refl) h))
+    same_ids (ids-left_open (key_invalidated_by_response (find_exchange id xs) r) id xs) (without_one id (exchange_ids xs) (i ∷ past) (further i past (exchange_ids xs) (late_apart i (exchange_ids xs) refl) h))
 in_order_step table es xs past (Fail now id kind) o free h =
     let i : Item = record { event = Fail now id kind; outcome = o } in
-    same_ids (ids-closed id xs) (without_one id (ids_of xs) (i ∷ past) (further i past (ids_of xs) (late_apart i (ids_of xs) refl) h))
+    same_ids (ids-closed id xs) (without_one id (exchange_ids xs) (i ∷ past) (further i past (exchange_ids xs) (late_apart i (exchange_ids xs) refl) h))
 in_order_step table es xs past (Wake now id) (Forward line bytes) free h =
     let i : Item = record { event = Wake now id; outcome = Forward line bytes } in
-    same_ids (ids-woken table es id now (find_exchange id xs) xs) (further i past (ids_of xs) (late_apart i (ids_of xs) refl) h)
+    same_ids (ids-woken table es id now (find_exchange id xs) xs) (further i past (exchange_ids xs) (late_apart i (exchange_ids xs) refl) h)
 in_order_step table es xs past (Wake now id) (Reply reply) free h =
     let i : Item = record { event = Wake now id; outcome = Reply reply } in
-    same_ids (ids-closed id xs) (without_one id (ids_of xs) (i ∷ past) (further i past (ids_of xs) (late_apart i (ids_of xs) refl) h))
+    same_ids (ids-closed id xs) (without_one id (exchange_ids xs) (i ∷ past) (further i past (exchange_ids xs) (late_apart i (exchange_ids xs) refl) h))
 in_order_step table es xs past (Wake now id) (Waits leader) free h =
     let i : Item = record { event = Wake now id; outcome = Waits leader } in
-    same_ids (ids-closed id xs) (without_one id (ids_of xs) (i ∷ past) (further i past (ids_of xs) (late_apart i (ids_of xs) refl) h))
+    same_ids (ids-closed id xs) (without_one id (exchange_ids xs) (i ∷ past) (further i past (exchange_ids xs) (late_apart i (exchange_ids xs) refl) h))
 in_order_step table es xs past (Wake now id) Ended free h =
     let i : Item = record { event = Wake now id; outcome = Ended } in
-    same_ids (ids-closed id xs) (without_one id (ids_of xs) (i ∷ past) (further i past (ids_of xs) (late_apart i (ids_of xs) refl) h))
+    same_ids (ids-closed id xs) (without_one id (exchange_ids xs) (i ∷ past) (further i past (exchange_ids xs) (late_apart i (exchange_ids xs) refl) h))
 in_order_step table es xs past (Abandon id) o free h =
     let i : Item = record { event = Abandon id; outcome = o } in
-    same_ids (ids-closed id xs) (without_one id (ids_of xs) (i ∷ past) (further i past (ids_of xs) (late_apart i (ids_of xs) refl) h))
+    same_ids (ids-closed id xs) (without_one id (exchange_ids xs) (i ∷ past) (further i past (exchange_ids xs) (late_apart i (exchange_ids xs) refl) h))
 
-in_order_all : (table : Table) (limit first : ℕ) (past : List Item) → IsGood (begun table limit first) past → InOrder (ids_of (left (begun table limit first) past).exchanges) past
+in_order_all : (table : Table) (limit first : ℕ) (past : List Item) → IsGood (initial_state table limit first) past → InOrder (exchange_ids (state_after_trace (initial_state table limit first) past).exchanges) past
 in_order_all table limit first [] g = record { arrived = tt; order = tt }
 in_order_all table limit first (i ∷ past) g =
-    let s = left (begun table limit first) past in
+    let s = state_after_trace (initial_state table limit first) past in
     in_order_step s.table s.entries s.exchanges past i.event i.outcome g.0.allowed (in_order_all table limit first past g.1)
 
-pub open_in_order_of_arrival : OpenInOrderOfArrival
+pub open_in_order_of_arrival : ExchangesAreOpenInOrderOfArrival
 open_in_order_of_arrival table limit first trace g =
     let p = good_plain table limit first trace g in
-    subst (λ (xs : List Exchange). AreInOrder (ids_of xs) trace) (exchanges_are_open table limit first trace p) (in_order_all table limit first trace p).order
+    subst (λ (xs : List Exchange). IdsAreInOrderOfArrival (exchange_ids xs) trace) (exchanges_are_open table limit first trace p) (in_order_all table limit first trace p).order

@@ -7,7 +7,7 @@ use Rattle.std.specs.Map.{lookup, remove_entry, set_value}
 use Rattle.std.proofs.lemmas.Bool.{cases_Bool, eqb-true}
 use Rattle.std.proofs.lemmas.Bool.Decides.{nat_tests}
 use Rattle.proxy_core.specs.declared.open.exchange.Exchange.{Exchange}
-use Rattle.proxy_core.specs.Arrivals.{AreApart, Pass, has, Indexes, on_all}
+use Rattle.proxy_core.specs.Arrivals.{HaveDistinctArrivalsAndIds, SelectedArrivalsPass, is_arrival_of_selected, IsExactIndexOfSelected, map_exchanges}
 use Rattle.proxy_core.proofs.ExchangeLists.{cond_none, nones, swap}
 
 abbrev Numbered : Type 0
@@ -40,7 +40,7 @@ lookup-opened m n x (e ∷ es) h =
     ap (λ (o : Option Exchange). cond (at m e.0) (Some e.1) o) (lookup-opened m n x es p.1)
     ∙ swap (at m e.0) (eqb n m) (Some e.1) (Some x) (lookup (at m) es) (λ k. other m n e.0 p.0 k)
 
-pub lookup-removed : (m n : ℕ) (es : Numbered) → AreApart es → lookup (at m) (remove_entry (at n) es) ≡ cond (eqb n m) None (lookup (at m) es)
+pub lookup-removed : (m n : ℕ) (es : Numbered) → HaveDistinctArrivalsAndIds es → lookup (at m) (remove_entry (at n) es) ≡ cond (eqb n m) None (lookup (at m) es)
 lookup-removed m n [] a = nones (eqb n m)
 lookup-removed m n (e ∷ es) a = elim (cases_Bool (at n e.0)) [
   | inl t ↦ ap (λ b. lookup (at m) (cond b es (e ∷ remove_entry (at n) es))) t ∙ here t (cases_Bool (eqb n m))
@@ -79,7 +79,7 @@ lookup-set m n x y (e ∷ es) h = elim (cases_Bool (at n e.0)) [
     twice true o = refl
     twice false o = refl
 
-lookup-on_all : (f : Exchange → Exchange) (m : ℕ) (es : Numbered) → lookup (at m) (on_all f es) ≡ option_map f (lookup (at m) es)
+lookup-on_all : (f : Exchange → Exchange) (m : ℕ) (es : Numbered) → lookup (at m) (map_exchanges f es) ≡ option_map f (lookup (at m) es)
 lookup-on_all f m [] = refl
 lookup-on_all f m (e ∷ es) =
     ap (λ (o : Option Exchange). cond (at m e.0) (Some (f e.1)) o) (lookup-on_all f m es)
@@ -87,8 +87,8 @@ lookup-on_all f m (e ∷ es) =
 
 -- ---- what is told passes
 
-among : (which : Exchange → Bool) (test : ℕ → Bool) (es : Numbered) → AreApart es →
-    ((m : ℕ) (x : Exchange) → lookup (at m) es ≡ Some x → which x ≡ true → test m ≡ true) → Pass which test es
+among : (which : Exchange → Bool) (test : ℕ → Bool) (es : Numbered) → HaveDistinctArrivalsAndIds es →
+    ((m : ℕ) (x : Exchange) → lookup (at m) es ≡ Some x → which x ≡ true → test m ≡ true) → SelectedArrivalsPass which test es
 among which test [] a h = tt
 among which test (e ∷ es) a h = (
   λ w. h e.0 e.1 (ap (λ b. cond b (Some e.1) (lookup (at e.0) es)) (itself e.0)) w,
@@ -104,20 +104,20 @@ among which test (e ∷ es) a h = (
 abbrev is_one : (Exchange → Bool) → Option Exchange → Bool
 is_one which o = option_map_or which o false
 
-pub passes : (which : Exchange → Bool) (test : ℕ → Bool) (es : Numbered) → AreApart es → Indexes which test es → Pass which test es
+pub passes : (which : Exchange → Bool) (test : ℕ → Bool) (es : Numbered) → HaveDistinctArrivalsAndIds es → IsExactIndexOfSelected which test es → SelectedArrivalsPass which test es
 passes which test es a h = among which test es a (λ m x t w. h m ∙ ap (is_one which) t ∙ w)
 
-pub not_indexed : (which : Exchange → Bool) (test : ℕ → Bool) (n : ℕ) (es : Numbered) → lookup (at n) es ≡ None → Indexes which test es → test n ≡ false
+pub not_indexed : (which : Exchange → Bool) (test : ℕ → Bool) (n : ℕ) (es : Numbered) → lookup (at n) es ≡ None → IsExactIndexOfSelected which test es → test n ≡ false
 not_indexed which test n es none h = h n ∙ ap (is_one which) none
 
 -- ---- entering, leaving and changing
 
 pub indexes-entered : (which : Exchange → Bool) (n : ℕ) (x : Exchange) (old new : ℕ → Bool) (es : Numbered) → lookup (at n) es ≡ None →
-    ((m : ℕ) → new m ≡ ((which x && eqb n m) || old m)) → Indexes which old es → Indexes which new (es ++ (n, x) ∷ [])
+    ((m : ℕ) → new m ≡ ((which x && eqb n m) || old m)) → IsExactIndexOfSelected which old es → IsExactIndexOfSelected which new (es ++ (n, x) ∷ [])
 indexes-entered which n x old new es none k h m = elim (cases_Bool (eqb n m)) [
   | inl t ↦ (
       k m ∙ ap (λ b. (which x && b) || old m) t
-      ∙ ap (λ b. (which x && true) || b) (h m ∙ ap (λ i. has which es i) (sym (eqb-true n m t)) ∙ ap (is_one which) none)
+      ∙ ap (λ b. (which x && true) || b) (h m ∙ ap (λ i. is_arrival_of_selected which es i) (sym (eqb-true n m t)) ∙ ap (is_one which) none)
       ∙ plain (which x)
       ∙ sym (ap (is_one which) (lookup-opened m n x es none ∙ ap (λ b. cond b (Some x) (lookup (at m) es)) t))
       )
@@ -138,11 +138,11 @@ indexes-entered which n x old new es none k h m = elim (cases_Bool (eqb n m)) [
 -- one left the index: nothing that belongs there has its number now
 pub indexes-left : (which : Exchange → Bool) (n : ℕ) (x : Exchange) (w : Option Exchange) (old new : ℕ → Bool) (es after : Numbered) → lookup (at n) es ≡ Some x →
     is_one which w ≡ false → ((m : ℕ) → lookup (at m) after ≡ cond (eqb n m) w (lookup (at m) es)) →
-    ((m : ℕ) → new m ≡ (not (which x && eqb n m) && old m)) → Indexes which old es → Indexes which new after
+    ((m : ℕ) → new m ≡ (not (which x && eqb n m) && old m)) → IsExactIndexOfSelected which old es → IsExactIndexOfSelected which new after
 indexes-left which n x w old new es after there none l k h m = elim (cases_Bool (eqb n m)) [
   | inl t ↦ (
       k m ∙ ap (λ b. not (which x && b) && old m) t
-      ∙ ap (λ b. not (which x && true) && b) (h m ∙ ap (λ i. has which es i) (sym (eqb-true n m t)) ∙ ap (is_one which) there)
+      ∙ ap (λ b. not (which x && true) && b) (h m ∙ ap (λ i. is_arrival_of_selected which es i) (sym (eqb-true n m t)) ∙ ap (is_one which) there)
       ∙ gone (which x)
       ∙ sym (ap (is_one which) (l m ∙ ap (λ b. cond b w (lookup (at m) es)) t) ∙ none)
       )
@@ -161,7 +161,7 @@ indexes-left which n x w old new es after there none l k h m = elim (cases_Bool 
     stays false b = refl
 
 pub indexes-on_all : (which : Exchange → Bool) (f : Exchange → Exchange) (g : Bool → Bool) (old new : ℕ → Bool) (es : Numbered) → g false ≡ false →
-    ((x : Exchange) → which (f x) ≡ g (which x)) → ((m : ℕ) → new m ≡ g (old m)) → Indexes which old es → Indexes which new (on_all f es)
+    ((x : Exchange) → which (f x) ≡ g (which x)) → ((m : ℕ) → new m ≡ g (old m)) → IsExactIndexOfSelected which old es → IsExactIndexOfSelected which new (map_exchanges f es)
 indexes-on_all which f g old new es z c k h m =
     k m ∙ ap g (h m)
     ∙ (elim (lookup (at m) es) as (λ o. g (is_one which o) ≡ is_one which (option_map f o)) [ None ↦ z | Some x ↦ sym (c x) ])

@@ -5,25 +5,25 @@ use Rattle.std.proofs.lemmas.Option.{same_Some}
 use Rattle.hx_target.specs.declared.keys.Key.{Key}
 use Rattle.hx_target.specs.Keys.{same_key}
 use Rattle.hx_hop.specs.declared.request_view.Asked.{Asked}
-use Rattle.hx_allow.specs.Lines.{Table}
+use Rattle.hx_allow.specs.TableLines.{Table}
 use Rattle.proxy_core.specs.declared.open.exchange.Exchange.{Exchange}
 use Rattle.proxy_core.specs.declared.outcome.Outcome.{Outcome}
 use Rattle.proxy_core.specs.declared.event.Event.{Event}
 use Rattle.proxy_core.specs.declared.event.Event.TheVariants.{Arrive, Answer, Fail, Wake, Abandon}
-use Rattle.proxy_core.specs.Outcomes.{find_exchange, id_of, fault_of}
-use Rattle.proxy_core.specs.State.{overtake}
-use Rattle.proxy_core.specs.Traces.{Item, begun, left, IsGood}
-use Rattle.proxy_core.specs.Promises.{goes_forward, is_arrival, times, asked_at, asked_by, key_by_step, is_key, invalidates_key, NoneInvalidates, some_invalidates}
+use Rattle.proxy_core.specs.Outcomes.{find_exchange, exchange_id_of_event, fault_at_exchange}
+use Rattle.proxy_core.specs.State.{overtaken_exchange}
+use Rattle.proxy_core.specs.Traces.{Item, initial_state, state_after_trace, IsGood}
+use Rattle.proxy_core.specs.Promises.{outcome_goes_forward, is_arrival_event, count_of_outcomes, request_after_event, latest_request_of, key_invalidated_by_step, is_invalidated_key, invalidates_key, NoItemInvalidates, some_item_invalidates}
 use Rattle.proxy_core.specs.declared.open.stage.Stage.TheVariants.{Forwarded, Waiting, Released}
 use Rattle.proxy_core.specs.Leading.{waits_for}
-use Rattle.proxy_core.specs.State.{release}
+use Rattle.proxy_core.specs.State.{released_exchange}
 use Rattle.proxy_core.proofs.ExchangeLists.{overtaken_by, released_by}
 use Rattle.proxy_core.proofs.Moves.{Move, apart, opens, queues, passes, again, wakes, closes, asked_of, ended_by, move_of}
 use Rattle.proxy_core.proofs.Tracing.{same_table}
 
 -- ---- the request of an open exchange is that of the latest arrival of its id
 
-overtake_asked : (key : Key) (x : Exchange) → (overtake key x).asked ≡ x.asked
+overtake_asked : (key : Key) (x : Exchange) → (overtaken_exchange key x).asked ≡ x.asked
 overtake_asked key x = elim (same_key x.asked.target.key key) as (λ b. (cond b (record x { overtaken = true }) x).asked ≡ x.asked) [
   | true ↦ refl
   | false ↦ refl
@@ -34,21 +34,21 @@ asked_overtaken None x = refl
 asked_overtaken (Some key) None = refl
 asked_overtaken (Some key) (Some x) = ap (λ (a : Asked). Some a) (overtake_asked key x)
 
-asked_apart : (id : ℕ) (event : Event) (b : Option Asked) → eqb (id_of event) id ≡ false → asked_at id event b ≡ b
+asked_apart : (id : ℕ) (event : Event) (b : Option Asked) → eqb (exchange_id_of_event event) id ≡ false → request_after_event id event b ≡ b
 asked_apart id (Arrive now i asked) b n = ap (λ c. cond c (Some asked) b) n
 asked_apart id (Answer now i r) b n = refl
 asked_apart id (Fail now i kind) b n = refl
 asked_apart id (Wake now i) b n = refl
 asked_apart id (Abandon i) b n = refl
 
-asked_late : (id : ℕ) (event : Event) (b : Option Asked) → is_arrival event ≡ false → asked_at id event b ≡ b
+asked_late : (id : ℕ) (event : Event) (b : Option Asked) → is_arrival_event event ≡ false → request_after_event id event b ≡ b
 asked_late id (Arrive now i asked) b n = absurd (false≢true (sym n))
 asked_late id (Answer now i r) b n = refl
 asked_late id (Fail now i kind) b n = refl
 asked_late id (Wake now i) b n = refl
 asked_late id (Abandon i) b n = refl
 
-release_asked : (i : ℕ) (x : Exchange) → (release i x).asked ≡ x.asked
+release_asked : (i : ℕ) (x : Exchange) → (released_exchange i x).asked ≡ x.asked
 release_asked i x = elim (waits_for i x.stage) as (λ b. (cond b (record x { stage = Released }) x).asked ≡ x.asked) [
   | true ↦ refl
   | false ↦ refl
@@ -64,29 +64,29 @@ none_asked None a h g = cc
 none_asked (Some z) a h g = cc
 
 asked_more : (id : ℕ) (w : Option Exchange) (event : Event) (o : Outcome) (x y : Option Exchange) (b : Option Asked) (a : Asked) → Move id w event o x y →
-    ((a : Asked) → asked_of x ≡ Some a → b ≡ Some a) → asked_of y ≡ Some a → asked_at id event b ≡ Some a
+    ((a : Asked) → asked_of x ≡ Some a → b ≡ Some a) → asked_of y ≡ Some a → request_after_event id event b ≡ Some a
 asked_more id w event o x y b a (apart n h) f g =
-    asked_apart id event b n ∙ f a (sym (asked_released (ended_by event o) x) ∙ sym (asked_overtaken (key_by_step (asked_of w) event o) (released_by (ended_by event o) x)) ∙ sym (ap asked_of h) ∙ g)
+    asked_apart id event b n ∙ f a (sym (asked_released (ended_by event o) x) ∙ sym (asked_overtaken (key_invalidated_by_step (asked_of w) event o) (released_by (ended_by event o) x)) ∙ sym (ap asked_of h) ∙ g)
 asked_more id w event o x y b a (opens table es now asked line e x_is k h) f g =
-    ap (λ v. asked_at id v b) e ∙ ap (λ c. cond c (Some asked) b) (eq-eqb id id refl) ∙ sym (ap asked_of h) ∙ g
+    ap (λ v. request_after_event id v b) e ∙ ap (λ c. cond c (Some asked) b) (eq-eqb id id refl) ∙ sym (ap asked_of h) ∙ g
 asked_more id w event o x y b a (queues table es now asked line leader e x_is k l h) f g =
-    ap (λ v. asked_at id v b) e ∙ ap (λ c. cond c (Some asked) b) (eq-eqb id id refl) ∙ sym (ap asked_of h) ∙ g
+    ap (λ v. request_after_event id v b) e ∙ ap (λ c. cond c (Some asked) b) (eq-eqb id id refl) ∙ sym (ap asked_of h) ∙ g
 asked_more id w event o x y b a (passes t e x_is k h) f g = absurd (none_asked y a h g)
 asked_more id w event o x y b a (again z now t e q c k h j s) f g = asked_late id event b e ∙ f a (ap asked_of q ∙ sym (ap asked_of h) ∙ g)
-asked_more id w event o x y b a (wakes table es z now e q s k h) f g = ap (λ v. asked_at id v b) e ∙ f a (ap asked_of q ∙ sym (ap asked_of h) ∙ g)
+asked_more id w event o x y b a (wakes table es z now e q s k h) f g = ap (λ v. request_after_event id v b) e ∙ f a (ap asked_of q ∙ sym (ap asked_of h) ∙ g)
 asked_more id w event o x y b a (closes z t e q k h) f g = absurd (none_asked y a h g)
 
-pub asked_is : (table : Table) (limit first : ℕ) (past : List Item) → IsGood (begun table limit first) past → (id : ℕ) (a : Asked) →
-    asked_of (find_exchange id (left (begun table limit first) past).exchanges) ≡ Some a → asked_by id past ≡ Some a
+pub asked_is : (table : Table) (limit first : ℕ) (past : List Item) → IsGood (initial_state table limit first) past → (id : ℕ) (a : Asked) →
+    asked_of (find_exchange id (state_after_trace (initial_state table limit first) past).exchanges) ≡ Some a → latest_request_of id past ≡ Some a
 asked_is table limit first [] g id a h = absurd (cc)
 asked_is table limit first (i ∷ past) g id a k =
-    asked_more id _ i.event i.outcome _ _ (asked_by id past) a (move_of table (left (begun table limit first) past) i id (same_table (begun table limit first) past) g.0)
+    asked_more id _ i.event i.outcome _ _ (latest_request_of id past) a (move_of table (state_after_trace (initial_state table limit first) past) i id (same_table (initial_state table limit first) past) g.0)
     (λ a q. asked_is table limit first past g.1 id a q) k
 
 -- what an item invalidates, by the exchange and by the items before
-key_is : (w : Option Exchange) (event : Event) (o : Outcome) (b : Option Asked) → fault_of w event ≡ None → ((a : Asked) → asked_of w ≡ Some a → b ≡ Some a) →
-    key_by_step b event o ≡ key_by_step (asked_of w) event o
-key_is (Some w) event o b f h = ap (λ b. key_by_step b event o) (h w.asked refl)
+key_is : (w : Option Exchange) (event : Event) (o : Outcome) (b : Option Asked) → fault_at_exchange w event ≡ None → ((a : Asked) → asked_of w ≡ Some a → b ≡ Some a) →
+    key_invalidated_by_step b event o ≡ key_invalidated_by_step (asked_of w) event o
+key_is (Some w) event o b f h = ap (λ b. key_invalidated_by_step b event o) (h w.asked refl)
 key_is None (Arrive now i asked) o None f h = refl
 key_is None (Arrive now i asked) o (Some a) f h = refl
 key_is None (Answer now i r) o b f h = absurd (cc)
@@ -94,10 +94,10 @@ key_is None (Fail now i kind) o b f h = absurd (cc)
 key_is None (Wake now i) o b f h = absurd (cc)
 key_is None (Abandon i) o b f h = absurd (cc)
 
-pub same_key_of_step : (table : Table) (limit first : ℕ) (i : Item) (past : List Item) → IsGood (begun table limit first) (i ∷ past) →
-    key_by_step (asked_by (id_of i.event) past) i.event i.outcome
-    ≡ key_by_step (asked_of (find_exchange (id_of i.event) (left (begun table limit first) past).exchanges)) i.event i.outcome
-same_key_of_step table limit first i past g = key_is _ i.event i.outcome _ g.0.allowed (λ a q. asked_is table limit first past g.1 (id_of i.event) a q)
+pub same_key_of_step : (table : Table) (limit first : ℕ) (i : Item) (past : List Item) → IsGood (initial_state table limit first) (i ∷ past) →
+    key_invalidated_by_step (latest_request_of (exchange_id_of_event i.event) past) i.event i.outcome
+    ≡ key_invalidated_by_step (asked_of (find_exchange (exchange_id_of_event i.event) (state_after_trace (initial_state table limit first) past).exchanges)) i.event i.outcome
+same_key_of_step table limit first i past g = key_is _ i.event i.outcome _ g.0.allowed (λ a q. asked_is table limit first past g.1 (exchange_id_of_event i.event) a q)
 
 -- ---- from a going forward on
 
@@ -105,7 +105,7 @@ record Unmarked (key : Option Key) (x : Option Exchange) (z : Exchange) : Type 0
   was : Exchange
   x_is : x ≡ Some was
   asked : z.asked ≡ was.asked
-  overtaken : z.overtaken ≡ (was.overtaken || is_key key was.asked.target.key)
+  overtaken : z.overtaken ≡ (was.overtaken || is_invalidated_key key was.asked.target.key)
   stage : z.stage ≡ was.stage
 
 or_none : (b : Bool) → b ≡ (b || false)
@@ -116,14 +116,14 @@ or_all : (b : Bool) → true ≡ (b || true)
 or_all true = refl
 or_all false = refl
 
-overtake_marks : (key : Key) (x : Exchange) → (overtake key x).overtaken ≡ (x.overtaken || same_key x.asked.target.key key)
+overtake_marks : (key : Key) (x : Exchange) → (overtaken_exchange key x).overtaken ≡ (x.overtaken || same_key x.asked.target.key key)
 overtake_marks key x =
     elim (same_key x.asked.target.key key) as (λ b. (cond b (record x { overtaken = true }) x).overtaken ≡ (x.overtaken || b)) [
       | true ↦ or_all x.overtaken
       | false ↦ or_none x.overtaken
     ]
 
-overtake_stage : (key : Key) (x : Exchange) → (overtake key x).stage ≡ x.stage
+overtake_stage : (key : Key) (x : Exchange) → (overtaken_exchange key x).stage ≡ x.stage
 overtake_stage key x = elim (same_key x.asked.target.key key) as (λ b. (cond b (record x { overtaken = true }) x).stage ≡ x.stage) [
   | true ↦ refl
   | false ↦ refl
@@ -133,7 +133,7 @@ unmarked : (key : Option Key) (x : Option Exchange) (z : Exchange) → overtaken
 unmarked None x z h = record { was = z; x_is = h; asked = refl; overtaken = or_none z.overtaken; stage = refl }
 unmarked (Some key) None z h = absurd (cc)
 unmarked (Some key) (Some u) z h =
-    let e : overtake key u ≡ z = same_Some (overtake key u) z h in
+    let e : overtaken_exchange key u ≡ z = same_Some (overtaken_exchange key u) z h in
     record {
       was = u;
       x_is = refl;
@@ -146,7 +146,7 @@ unmarked (Some key) (Some u) z h =
 unreleased : (gone : Option ℕ) (x : Option Exchange) (z : Exchange) → released_by gone x ≡ Some z → z.stage ≡ Forwarded → x ≡ Some z
 unreleased None x z h s = h
 unreleased (Some i) None z h s = absurd (cc)
-unreleased (Some i) (Some u) z h s = by_test (waits_for i u.stage) refl (same_Some (release i u) z h)
+unreleased (Some i) (Some u) z h s = by_test (waits_for i u.stage) refl (same_Some (released_exchange i u) z h)
   where
     by_test : (b : Bool) → waits_for i u.stage ≡ b → cond b (record u { stage = Released }) u ≡ z → Some u ≡ Some z
     by_test true k e =
@@ -163,10 +163,10 @@ none_some None z h g = cc
 none_some (Some x) z h g = cc
 
 out_now : (id : ℕ) (w : Option Exchange) (event : Event) (o : Outcome) (x y : Option Exchange) (z : Exchange) → Move id w event o x y →
-    eqb (id_of event) id ≡ true → goes_forward o ≡ true → y ≡ Some z → z.overtaken ≡ false
+    eqb (exchange_id_of_event event) id ≡ true → outcome_goes_forward o ≡ true → y ≡ Some z → z.overtaken ≡ false
 out_now id w event o x y z (apart n h) t f g = absurd (false≢true (sym n ∙ t))
 out_now id w event o x y z (opens table es now asked line e x_is q h) t f g = ap (λ (z : Exchange). z.overtaken) (same_Some z _ (sym g ∙ h))
-out_now id w event o x y z (queues table es now asked line leader e x_is q l h) t f g = absurd (false≢true (sym (ap goes_forward q) ∙ f))
+out_now id w event o x y z (queues table es now asked line leader e x_is q l h) t f g = absurd (false≢true (sym (ap outcome_goes_forward q) ∙ f))
 out_now id w event o x y z (passes u e x_is q h) t f g = absurd (none_some y z h g)
 out_now id w event o x y z (again v now u e q c p h j s) t f g = ap (λ (z : Exchange). z.overtaken) (same_Some z _ (sym g ∙ h))
 out_now id w event o x y z (wakes table es v now e q s p h) t f g = ap (λ (z : Exchange). z.overtaken) (same_Some z _ (sym g ∙ h))
@@ -178,61 +178,61 @@ or_swap true false = refl
 or_swap false true = refl
 or_swap false false = refl
 
-pub none_of_some : (key : Key) (items past : List Item) → some_invalidates key items past ≡ false → NoneInvalidates key items past
+pub none_of_some : (key : Key) (items past : List Item) → some_item_invalidates key items past ≡ false → NoItemInvalidates key items past
 none_of_some key [] past h = tt
 none_of_some key (i ∷ items) past h =
-    let p = or_parts (invalidates_key key i (items ++ past)) (some_invalidates key items past) h in (p.0, none_of_some key items past p.1)
+    let p = or_parts (invalidates_key key i (items ++ past)) (some_item_invalidates key items past) h in (p.0, none_of_some key items past p.1)
 
 module _ (table : Table) (limit first : ℕ) (f : Item) (before : List Item) (id : ℕ) where
   abbrev exchange : List Item → Option Exchange
-  exchange items = find_exchange id (left (begun table limit first) (items ++ f ∷ before)).exchanges
+  exchange items = find_exchange id (state_after_trace (initial_state table limit first) (items ++ f ∷ before)).exchanges
 
   -- the exchange, where its request is at the origin: that request, and its mark
   abbrev IsOut : List Item → Type 0
   IsOut items = (z : Exchange) → exchange items ≡ Some z → z.stage ≡ Forwarded →
-      (asked_by id (f ∷ before) ≡ Some z.asked) × (z.overtaken ≡ some_invalidates z.asked.target.key items (f ∷ before))
+      (latest_request_of id (f ∷ before) ≡ Some z.asked) × (z.overtaken ≡ some_item_invalidates z.asked.target.key items (f ∷ before))
 
-  out_step : (i : Item) (items : List Item) → IsGood (begun table limit first) (i ∷ (items ++ f ∷ before)) → (eqb (id_of i.event) id && goes_forward i.outcome) ≡ false →
+  out_step : (i : Item) (items : List Item) → IsGood (initial_state table limit first) (i ∷ (items ++ f ∷ before)) → (eqb (exchange_id_of_event i.event) id && outcome_goes_forward i.outcome) ≡ false →
       IsOut items → (y : Option Exchange) →
-      Move id (find_exchange (id_of i.event) (left (begun table limit first) (items ++ f ∷ before)).exchanges) i.event i.outcome (exchange items) y →
-      (z : Exchange) → y ≡ Some z → z.stage ≡ Forwarded → (asked_by id (f ∷ before) ≡ Some z.asked) × (z.overtaken ≡ some_invalidates z.asked.target.key (i ∷ items) (f ∷ before))
+      Move id (find_exchange (exchange_id_of_event i.event) (state_after_trace (initial_state table limit first) (items ++ f ∷ before)).exchanges) i.event i.outcome (exchange items) y →
+      (z : Exchange) → y ≡ Some z → z.stage ≡ Forwarded → (latest_request_of id (f ∷ before) ≡ Some z.asked) × (z.overtaken ≡ some_item_invalidates z.asked.target.key (i ∷ items) (f ∷ before))
   out_step i items g n out y (apart a e) z q stage =
-      let key = key_by_step (asked_of (find_exchange (id_of i.event) (left (begun table limit first) (items ++ f ∷ before)).exchanges)) i.event i.outcome in
+      let key = key_invalidated_by_step (asked_of (find_exchange (exchange_id_of_event i.event) (state_after_trace (initial_state table limit first) (items ++ f ∷ before)).exchanges)) i.event i.outcome in
       let u = unmarked key (released_by (ended_by i.event i.outcome) (exchange items)) z (sym e ∙ q) in
       let stays = sym u.stage ∙ stage in
       let was = out u.was (unreleased (ended_by i.event i.outcome) (exchange items) u.was u.x_is stays) stays in (
         was.0 ∙ ap (λ r. Some r) (sym u.asked),
         u.overtaken
-            ∙ ap (λ b. b || is_key key u.was.asked.target.key) was.1
-            ∙ or_swap (some_invalidates u.was.asked.target.key items (f ∷ before)) (is_key key u.was.asked.target.key)
-            ∙ ap (λ o. is_key o u.was.asked.target.key || some_invalidates u.was.asked.target.key items (f ∷ before)) (sym (same_key_of_step table limit first i (items ++ f ∷ before) g))
-            ∙ ap (λ (r : Asked). some_invalidates r.target.key (i ∷ items) (f ∷ before)) (sym u.asked),
+            ∙ ap (λ b. b || is_invalidated_key key u.was.asked.target.key) was.1
+            ∙ or_swap (some_item_invalidates u.was.asked.target.key items (f ∷ before)) (is_invalidated_key key u.was.asked.target.key)
+            ∙ ap (λ o. is_invalidated_key o u.was.asked.target.key || some_item_invalidates u.was.asked.target.key items (f ∷ before)) (sym (same_key_of_step table limit first i (items ++ f ∷ before) g))
+            ∙ ap (λ (r : Asked). some_item_invalidates r.target.key (i ∷ items) (f ∷ before)) (sym u.asked),
       )
   out_step i items g n out y (queues table es now asked line leader e x_is q l p) z r stage =
       let no : Waiting leader ≡ Forwarded = ap (λ (z : Exchange). z.stage) (same_Some _ z (sym p ∙ r)) ∙ stage in
       absurd (cc)
   out_step i items g n out y (wakes table es v now e q s u p) z r stage =
-      let t : (eqb (id_of i.event) id && goes_forward i.outcome) ≡ true =
-      ap (λ v. eqb (id_of v) id && goes_forward i.outcome) e ∙ ap (λ b. eqb id id && b) u ∙ ap (λ b. b && true) (eq-eqb id id refl) in
+      let t : (eqb (exchange_id_of_event i.event) id && outcome_goes_forward i.outcome) ≡ true =
+      ap (λ v. eqb (exchange_id_of_event v) id && outcome_goes_forward i.outcome) e ∙ ap (λ b. eqb id id && b) u ∙ ap (λ b. b && true) (eq-eqb id id refl) in
       absurd (false≢true (sym n ∙ t))
   out_step i items g n out y (opens table es now asked line e x_is q p) z r stage =
-      let t : (eqb (id_of i.event) id && goes_forward i.outcome) ≡ true =
-      ap (λ v. eqb (id_of v) id && goes_forward i.outcome) e ∙ ap (λ b. eqb id id && b) q ∙ ap (λ b. b && true) (eq-eqb id id refl) in
+      let t : (eqb (exchange_id_of_event i.event) id && outcome_goes_forward i.outcome) ≡ true =
+      ap (λ v. eqb (exchange_id_of_event v) id && outcome_goes_forward i.outcome) e ∙ ap (λ b. eqb id id && b) q ∙ ap (λ b. b && true) (eq-eqb id id refl) in
       absurd (false≢true (sym n ∙ t))
   out_step i items g n out y (passes u e x_is q p) z r stage = absurd (none_some y z p r)
   out_step i items g n out y (again v now u e q c p t j s) z r stage =
-      let t : (eqb (id_of i.event) id && goes_forward i.outcome) ≡ true = ap (λ b. eqb (id_of i.event) id && b) p ∙ ap (λ b. b && true) u in
+      let t : (eqb (exchange_id_of_event i.event) id && outcome_goes_forward i.outcome) ≡ true = ap (λ b. eqb (exchange_id_of_event i.event) id && b) p ∙ ap (λ b. b && true) u in
       absurd (false≢true (sym n ∙ t))
   out_step i items g n out y (closes v u e q p t) z r stage = absurd (none_some y z t r)
 
   -- since f, by which the exchange went forward last
-  pub out_since : (items : List Item) → IsGood (begun table limit first) (items ++ f ∷ before) → goes_forward f.outcome ≡ true → id_of f.event ≡ id →
-      times goes_forward id items ≡ 0 → (z : Exchange) → exchange items ≡ Some z → z.stage ≡ Forwarded →
-      (asked_by id (f ∷ before) ≡ Some z.asked) × (z.overtaken ≡ some_invalidates z.asked.target.key items (f ∷ before))
+  pub out_since : (items : List Item) → IsGood (initial_state table limit first) (items ++ f ∷ before) → outcome_goes_forward f.outcome ≡ true → exchange_id_of_event f.event ≡ id →
+      count_of_outcomes outcome_goes_forward id items ≡ 0 → (z : Exchange) → exchange items ≡ Some z → z.stage ≡ Forwarded →
+      (latest_request_of id (f ∷ before) ≡ Some z.asked) × (z.overtaken ≡ some_item_invalidates z.asked.target.key items (f ∷ before))
   out_since [] g o e n = λ z q stage. (
     asked_is table limit first (f ∷ before) g id z.asked (ap asked_of q),
-    out_now id _ f.event f.outcome _ _ z (move_of table (left (begun table limit first) before) f id (same_table (begun table limit first) before) g.0) (eq-eqb (id_of f.event) id e) o q,
+    out_now id _ f.event f.outcome _ _ z (move_of table (state_after_trace (initial_state table limit first) before) f id (same_table (initial_state table limit first) before) g.0) (eq-eqb (exchange_id_of_event f.event) id e) o q,
   )
   out_since (i ∷ items) g o e n =
       let m = none_more _ _ n in
-      out_step i items g m.0 (out_since items g.1 o e m.1) _ (move_of table (left (begun table limit first) (items ++ f ∷ before)) i id (same_table (begun table limit first) (items ++ f ∷ before)) g.0)
+      out_step i items g m.0 (out_since items g.1 o e m.1) _ (move_of table (state_after_trace (initial_state table limit first) (items ++ f ∷ before)) i id (same_table (initial_state table limit first) (items ++ f ∷ before)) g.0)

@@ -6,21 +6,21 @@ use Rattle.std.proofs.lemmas.Bool.Decides.{nat_tests}
 use Rattle.http.specs.Method.{safe_methods, is_among}
 use Rattle.hx_framing.specs.declared.messages.Response.{Response}
 use Rattle.hx_hop.specs.declared.request_view.Asked.{Asked}
-use Rattle.hx_allow.specs.Lines.{Table}
+use Rattle.hx_allow.specs.TableLines.{Table}
 use Rattle.hx_allow.specs.Matching.{verdict_of, policy_of}
 use Rattle.hx_store.specs.Stored.{Stored}
 use Rattle.hx_reuse.specs.Rules.{decision_of}
 use Rattle.hx_reuse.specs.declared.rule.ReuseRule.{ReuseRule}
 use Rattle.proxy_core.specs.declared.steps.condition.Condition.{Condition}
-use Rattle.proxy_core.specs.declared.fault.CoreFault.TheVariants.{NotForwarded, NotReady}
+use Rattle.proxy_core.specs.declared.core_fault.CoreFault.TheVariants.{NotForwarded, NotReady}
 use Rattle.hx_reuse.specs.declared.decision.Decision.{Decision}
 use Rattle.hx_reuse.specs.declared.decision.Decision.TheVariants as decision
 use Rattle.hx_status.specs.declared.cause.FailKind.{FailKind}
 use Rattle.hx_status.specs.declared.cause.FailKind.TheVariants.{BadAnswer}
 use Rattle.proxy_core.specs.declared.open.stage.Stage.{Stage}
 use Rattle.proxy_core.specs.declared.open.exchange.Exchange.{Exchange}
-use Rattle.proxy_core.specs.declared.fault.CoreFault.{CoreFault}
-use Rattle.proxy_core.specs.Moments.{too_late}
+use Rattle.proxy_core.specs.declared.core_fault.CoreFault.{CoreFault}
+use Rattle.proxy_core.specs.Moments.{moment_too_late_fault}
 use Rattle.proxy_core.specs.Leading.{is_forwarded, is_released}
 use Rattle.proxy_core.specs.declared.steps.fallback.Fallback.{Fallback}
 use Rattle.proxy_core.specs.declared.steps.fallback.Fallback.TheVariants.{Sends, Refuses}
@@ -28,13 +28,13 @@ use Rattle.proxy_core.specs.declared.outcome.Outcome.{Outcome}
 use Rattle.proxy_core.specs.declared.outcome.Outcome.TheVariants.{Reply, Forward, Waits, Ended}
 use Rattle.proxy_core.specs.declared.event.Event.{Event}
 use Rattle.proxy_core.specs.declared.event.Event.TheVariants.{Arrive, Answer, Fail, Wake, Abandon}
-use Rattle.proxy_core.specs.Validating.{condition_at, is_validation, validated}
-use Rattle.proxy_core.specs.Storing.{is_unasked, key_invalidated}
-use Rattle.proxy_core.specs.Outcomes.{find_exchange, id_of, fallback_for, failed, is_error_status, passed_unless, revalidated, answered, woken, outcome_of, or_fault, not_forwarded, not_ready, fault_of}
-use Rattle.proxy_core.specs.State.{State, after, open_after, opened, queued, line_of, rule_of, named_by, goes_out, gone_out, sent_out, woken_out, invalidated_by}
-use Rattle.proxy_core.specs.Traces.{Item, Accepts}
-use Rattle.proxy_core.specs.Promises.{goes_forward, is_reply, ends, is_arrival, sends_nothing_held, key_by_answer, key_by_step}
-use Rattle.proxy_core.specs.Carrying.{judges}
+use Rattle.proxy_core.specs.Validating.{condition_about_serial, is_validation, stored_response_validated}
+use Rattle.proxy_core.specs.Storing.{is_304_without_condition, key_invalidated}
+use Rattle.proxy_core.specs.Outcomes.{find_exchange, exchange_id_of_event, fallback_for, outcome_of_failure, is_error_status, outcome_of_passing_on_or_stale, outcome_of_304, outcome_of_answer, outcome_of_wake, outcome_of, or_fault, fault_if_not_forwarded, fault_if_not_released, fault_at_exchange}
+use Rattle.proxy_core.specs.State.{State, state_after, open_exchanges_after, forwarded_exchange, waiting_exchange, line_of_verdict, rule_of_decision, serial_named_by_decision, exchange_gone_forward, exchange_forwarded_again, exchange_sent_forward, exchanges_after_wake, key_invalidated_by_response}
+use Rattle.proxy_core.specs.Traces.{Item, ItemIsAccepted}
+use Rattle.proxy_core.specs.Promises.{outcome_goes_forward, outcome_is_reply, outcome_ends_exchange, is_arrival_event, reply_uses_no_stored_response, key_invalidated_by_answer, key_invalidated_by_step}
+use Rattle.proxy_core.specs.Carrying.{judges_a_request}
 use Rattle.proxy_core.proofs.ExchangeLists.{find-map, find-closed, find-push, find-gone_out, find-left_open, found-id, sent_out-id, overtaken_by, changed_by}
 
 abbrev pub asked_of : Option Exchange → Option Asked
@@ -43,24 +43,24 @@ asked_of (Some x) = Some x.asked
 
 -- the exchange that went forward once more
 abbrev pub out_again : ℕ → Exchange → Exchange
-out_again now z = goes_out now z.rule None z
+out_again now z = exchange_gone_forward now z.rule None z
 
 -- the exchange that was woken and went forward
 abbrev pub woken_form : Table → List Stored → ℕ → Exchange → Exchange
 woken_form table es now z =
-    goes_out now (rule_of (decision_of (policy_of table.lines z.line) es z.asked now)) (condition_at es (named_by (decision_of (policy_of table.lines z.line) es z.asked now))) z
+    exchange_gone_forward now (rule_of_decision (decision_of (policy_of table.lines z.line) es z.asked now)) (condition_about_serial es (serial_named_by_decision (decision_of (policy_of table.lines z.line) es z.asked now))) z
 
 -- the exchange that ends by a step
 abbrev pub ended_by : Event → Outcome → Option ℕ
-ended_by event o = cond (not (is_arrival event) && ends o) (Some (id_of event)) None
+ended_by event o = cond (not (is_arrival_event event) && outcome_ends_exchange o) (Some (exchange_id_of_event event)) None
 
-pub ends_back : (o : Outcome) → ends o ≡ true → goes_forward o ≡ false
+pub ends_back : (o : Outcome) → outcome_ends_exchange o ≡ true → outcome_goes_forward o ≡ false
 ends_back (Reply r) h = refl
 ends_back (Forward line bytes) h = absurd (false≢true h)
 ends_back (Waits leader) h = refl
 ends_back Ended h = refl
 
-pub forward_goes_on : (o : Outcome) → goes_forward o ≡ true → ends o ≡ false
+pub forward_goes_on : (o : Outcome) → outcome_goes_forward o ≡ true → outcome_ends_exchange o ≡ false
 forward_goes_on (Reply r) h = absurd (false≢true h)
 forward_goes_on (Forward line bytes) h = refl
 forward_goes_on (Waits leader) h = refl
@@ -68,16 +68,16 @@ forward_goes_on Ended h = absurd (false≢true h)
 
 -- of a step of the exchange w of its own id, what becomes of the exchange x of an id
 pub data Move (id : ℕ) (w : Option Exchange) (event : Event) (o : Outcome) (x y : Option Exchange) : Type 0 where
-  apart : eqb (id_of event) id ≡ false → y ≡ changed_by (key_by_step (asked_of w) event o) (ended_by event o) x → Move id w event o x y
-  opens : (table : Table) (es : List Stored) (now : ℕ) (asked : Asked) (line : ℕ) → event ≡ Arrive now id asked → x ≡ None → goes_forward o ≡ true → y ≡ Some (opened table es now id asked line) → Move id w event o x y
+  apart : eqb (exchange_id_of_event event) id ≡ false → y ≡ changed_by (key_invalidated_by_step (asked_of w) event o) (ended_by event o) x → Move id w event o x y
+  opens : (table : Table) (es : List Stored) (now : ℕ) (asked : Asked) (line : ℕ) → event ≡ Arrive now id asked → x ≡ None → outcome_goes_forward o ≡ true → y ≡ Some (forwarded_exchange table es now id asked line) → Move id w event o x y
   queues : (table : Table) (es : List Stored) (now : ℕ) (asked : Asked) (line leader : ℕ) → event ≡ Arrive now id asked → x ≡ None → o ≡ Waits leader →
-      line ≡ line_of (verdict_of table.lines asked.method asked.target) → y ≡ Some (queued table es now id asked line leader) → Move id w event o x y
-  passes : eqb (id_of event) id ≡ true → is_arrival event ≡ true → x ≡ None → ends o ≡ true → y ≡ None → Move id w event o x y
-  again : (z : Exchange) (now : ℕ) → eqb (id_of event) id ≡ true → is_arrival event ≡ false → x ≡ Some z → is_some z.condition ≡ true →
-      goes_forward o ≡ true → y ≡ Some (out_again now z) → judges event ≡ false → is_forwarded z.stage ≡ true → Move id w event o x y
-  wakes : (table : Table) (es : List Stored) (z : Exchange) (now : ℕ) → event ≡ Wake now id → x ≡ Some z → is_released z.stage ≡ true → goes_forward o ≡ true →
+      line ≡ line_of_verdict (verdict_of table.lines asked.method asked.target) → y ≡ Some (waiting_exchange table es now id asked line leader) → Move id w event o x y
+  passes : eqb (exchange_id_of_event event) id ≡ true → is_arrival_event event ≡ true → x ≡ None → outcome_ends_exchange o ≡ true → y ≡ None → Move id w event o x y
+  again : (z : Exchange) (now : ℕ) → eqb (exchange_id_of_event event) id ≡ true → is_arrival_event event ≡ false → x ≡ Some z → is_some z.condition ≡ true →
+      outcome_goes_forward o ≡ true → y ≡ Some (out_again now z) → judges_a_request event ≡ false → is_forwarded z.stage ≡ true → Move id w event o x y
+  wakes : (table : Table) (es : List Stored) (z : Exchange) (now : ℕ) → event ≡ Wake now id → x ≡ Some z → is_released z.stage ≡ true → outcome_goes_forward o ≡ true →
       y ≡ Some (woken_form table es now z) → Move id w event o x y
-  closes : (z : Exchange) → eqb (id_of event) id ≡ true → is_arrival event ≡ false → x ≡ Some z → ends o ≡ true → y ≡ None → Move id w event o x y
+  closes : (z : Exchange) → eqb (exchange_id_of_event event) id ≡ true → is_arrival_event event ≡ false → x ≡ Some z → outcome_ends_exchange o ≡ true → y ≡ None → Move id w event o x y
 
 -- ---- what an answer gives
 
@@ -85,40 +85,40 @@ pub and_none : (a : Bool) → (a && false) ≡ false
 and_none true = refl
 and_none false = refl
 
-failed_reply : (table : Table) (es : List Stored) (now : ℕ) (x : Exchange) (kind : FailKind) (came : Option ℕ) (fallback : Fallback) → is_reply (failed table es now x kind came fallback) ≡ true
+failed_reply : (table : Table) (es : List Stored) (now : ℕ) (x : Exchange) (kind : FailKind) (came : Option ℕ) (fallback : Fallback) → outcome_is_reply (outcome_of_failure table es now x kind came fallback) ≡ true
 failed_reply table es now x kind came (Sends serial detail) = refl
 failed_reply table es now x kind came (Refuses rule error) = refl
 
-failed_ends : (table : Table) (es : List Stored) (now : ℕ) (x : Exchange) (kind : FailKind) (came : Option ℕ) (fallback : Fallback) → ends (failed table es now x kind came fallback) ≡ true
+failed_ends : (table : Table) (es : List Stored) (now : ℕ) (x : Exchange) (kind : FailKind) (came : Option ℕ) (fallback : Fallback) → outcome_ends_exchange (outcome_of_failure table es now x kind came fallback) ≡ true
 failed_ends table es now x kind came (Sends serial detail) = refl
 failed_ends table es now x kind came (Refuses rule error) = refl
 
-pub failed_back : (table : Table) (es : List Stored) (now : ℕ) (x : Exchange) (kind : FailKind) (came : Option ℕ) (fallback : Fallback) → goes_forward (failed table es now x kind came fallback) ≡ false
+pub failed_back : (table : Table) (es : List Stored) (now : ℕ) (x : Exchange) (kind : FailKind) (came : Option ℕ) (fallback : Fallback) → outcome_goes_forward (outcome_of_failure table es now x kind came fallback) ≡ false
 failed_back table es now x kind came (Sends serial detail) = refl
 failed_back table es now x kind came (Refuses rule error) = refl
 
-passed_back : (table : Table) (es : List Stored) (now : ℕ) (x : Exchange) (r : Response) (next : Option ℕ) (b : Bool) (fallback : Fallback) → goes_forward (passed_unless table es now x r next b fallback) ≡ false
+passed_back : (table : Table) (es : List Stored) (now : ℕ) (x : Exchange) (r : Response) (next : Option ℕ) (b : Bool) (fallback : Fallback) → outcome_goes_forward (outcome_of_passing_on_or_stale table es now x r next b fallback) ≡ false
 passed_back table es now x r next true (Sends serial detail) = refl
 passed_back table es now x r next true (Refuses rule error) = refl
 passed_back table es now x r next false fallback = refl
 
-held_sent : (table : Table) (es : List Stored) (now : ℕ) (x : Exchange) (r : Response) (o : Option Stored) (d : Decision) → sends_nothing_held (revalidated table es now x r o d) ≡ false
+held_sent : (table : Table) (es : List Stored) (now : ℕ) (x : Exchange) (r : Response) (o : Option Stored) (d : Decision) → reply_uses_no_stored_response (outcome_of_304 table es now x r o d) ≡ false
 held_sent table es now x r (Some e) d = refl
 held_sent table es now x r None (decision.Hit serial) = refl
 held_sent table es now x r None (decision.Forward rule against) = refl
 
 -- what goes forward again was asked about
-again_asked : (table : Table) (es : List Stored) (now : ℕ) (x : Exchange) (r : Response) (next : Option ℕ) (d : Decision) → goes_forward (answered table es now x r next d) ≡ true → is_validation x r ≡ true
+again_asked : (table : Table) (es : List Stored) (now : ℕ) (x : Exchange) (r : Response) (next : Option ℕ) (d : Decision) → outcome_goes_forward (outcome_of_answer table es now x r next d) ≡ true → is_validation x r ≡ true
 again_asked table es now x r next d h = by_304 (is_validation x r) h
   where
-    by_304 : (b : Bool) → goes_forward (cond b (revalidated table es now x r (validated es x r now) d)
-        (cond (is_unasked x.asked r) (failed table es now x BadAnswer (Some r.status) (fallback_for (policy_of table.lines x.line) es x.asked now d))
-        (passed_unless table es now x r next (is_error_status r.status) (fallback_for (policy_of table.lines x.line) es x.asked now d)))) ≡ true → b ≡ true
+    by_304 : (b : Bool) → outcome_goes_forward (cond b (outcome_of_304 table es now x r (stored_response_validated es x r now) d)
+        (cond (is_304_without_condition x.asked r) (outcome_of_failure table es now x BadAnswer (Some r.status) (fallback_for (policy_of table.lines x.line) es x.asked now d))
+        (outcome_of_passing_on_or_stale table es now x r next (is_error_status r.status) (fallback_for (policy_of table.lines x.line) es x.asked now d)))) ≡ true → b ≡ true
     by_304 true h = refl
-    by_304 false h = absurd (by_unasked (is_unasked x.asked r) h)
+    by_304 false h = absurd (by_unasked (is_304_without_condition x.asked r) h)
       where
-        by_unasked : (b : Bool) → goes_forward (cond b (failed table es now x BadAnswer (Some r.status) (fallback_for (policy_of table.lines x.line) es x.asked now d))
-            (passed_unless table es now x r next (is_error_status r.status) (fallback_for (policy_of table.lines x.line) es x.asked now d))) ≡ true → ⊥
+        by_unasked : (b : Bool) → outcome_goes_forward (cond b (outcome_of_failure table es now x BadAnswer (Some r.status) (fallback_for (policy_of table.lines x.line) es x.asked now d))
+            (outcome_of_passing_on_or_stale table es now x r next (is_error_status r.status) (fallback_for (policy_of table.lines x.line) es x.asked now d))) ≡ true → ⊥
         by_unasked true h = false≢true (sym (failed_back table es now x BadAnswer (Some r.status) (fallback_for (policy_of table.lines x.line) es x.asked now d)) ∙ h)
         by_unasked false h = false≢true (sym (passed_back table es now x r next (is_error_status r.status) (fallback_for (policy_of table.lines x.line) es x.asked now d)) ∙ h)
 
@@ -130,7 +130,7 @@ and_right false b h = absurd (false≢true h)
 pub error_is_none : (status : ℕ) → is_error_status status ≡ true → (nat_le 200 status && nat_le status 399) ≡ false
 error_is_none status h = grind (arith, nat_tests)
 
-passed_sends : (table : Table) (es : List Stored) (now : ℕ) (x : Exchange) (r : Response) (next : Option ℕ) (fallback : Fallback) → sends_nothing_held (passed_unless table es now x r next false fallback) ≡ true
+passed_sends : (table : Table) (es : List Stored) (now : ℕ) (x : Exchange) (r : Response) (next : Option ℕ) (fallback : Fallback) → reply_uses_no_stored_response (outcome_of_passing_on_or_stale table es now x r next false fallback) ≡ true
 passed_sends table es now x r next fallback = refl
 
 -- the tests of both definitions: u unsafe, c no error, v a 304 to the proxy's conditions, n one that nobody asked for
@@ -143,8 +143,8 @@ same_tests true true false false s h k = sym (ap (λ b. b && true) (k refl refl 
 
 answer_sends : (table : Table) (es : List Stored) (now : ℕ) (x : Exchange) (r : Response) (next : Option ℕ) (d : Decision)
     → (v n e : Bool) → v ≡ false → n ≡ false → e ≡ false
-    → sends_nothing_held (cond v (revalidated table es now x r (validated es x r now) d)
-    (cond n (failed table es now x BadAnswer (Some r.status) (fallback_for (policy_of table.lines x.line) es x.asked now d)) (passed_unless table es now x r next e (fallback_for (policy_of table.lines x.line) es x.asked now d)))) ≡ true
+    → reply_uses_no_stored_response (cond v (outcome_of_304 table es now x r (stored_response_validated es x r now) d)
+    (cond n (outcome_of_failure table es now x BadAnswer (Some r.status) (fallback_for (policy_of table.lines x.line) es x.asked now d)) (outcome_of_passing_on_or_stale table es now x r next e (fallback_for (policy_of table.lines x.line) es x.asked now d)))) ≡ true
 answer_sends table es now x r next d true n e hv hn he = absurd (false≢true (sym hv))
 answer_sends table es now x r next d false true e hv hn he = absurd (false≢true (sym hn))
 answer_sends table es now x r next d false false true hv hn he = absurd (false≢true (sym he))
@@ -152,26 +152,26 @@ answer_sends table es now x r next d false false false hv hn he = refl
 
 -- the key that an answer invalidates, by the exchange and by the outcome
 pub same_key_invalidated : (table : Table) (es : List Stored) (now : ℕ) (x : Exchange) (r : Response) (next : Option ℕ) (d : Decision) →
-    key_invalidated x r ≡ key_by_answer x.asked r (answered table es now x r next d)
+    key_invalidated x r ≡ key_invalidated_by_answer x.asked r (outcome_of_answer table es now x r next d)
 same_key_invalidated table es now x r next d =
-    let o = answered table es now x r next d in
+    let o = outcome_of_answer table es now x r next d in
     let v = is_validation x r in
-    let n = is_unasked x.asked r in
+    let n = is_304_without_condition x.asked r in
     let e = is_error_status r.status in
     let c = nat_le 200 r.status && nat_le r.status 399 in
-    let by_304 : v ≡ true → sends_nothing_held o ≡ false = λ h.
-    ap (λ b. sends_nothing_held (cond b (revalidated table es now x r (validated es x r now) d)
-    (cond n (failed table es now x BadAnswer (Some r.status) (fallback_for (policy_of table.lines x.line) es x.asked now d)) (passed_unless table es now x r next e (fallback_for (policy_of table.lines x.line) es x.asked now d))))) h
-    ∙ held_sent table es now x r (validated es x r now) d
+    let by_304 : v ≡ true → reply_uses_no_stored_response o ≡ false = λ h.
+    ap (λ b. reply_uses_no_stored_response (cond b (outcome_of_304 table es now x r (stored_response_validated es x r now) d)
+    (cond n (outcome_of_failure table es now x BadAnswer (Some r.status) (fallback_for (policy_of table.lines x.line) es x.asked now d)) (outcome_of_passing_on_or_stale table es now x r next e (fallback_for (policy_of table.lines x.line) es x.asked now d))))) h
+    ∙ held_sent table es now x r (stored_response_validated es x r now) d
     in
-    let by_passing : v ≡ false → n ≡ false → c ≡ true → sends_nothing_held o ≡ true = λ hv hn hc.
+    let by_passing : v ≡ false → n ≡ false → c ≡ true → reply_uses_no_stored_response o ≡ true = λ hv hn hc.
     answer_sends table es now x r next d v n e hv hn (elim (cases_Bool e) [ inl t ↦ absurd (false≢true (sym (error_is_none r.status t) ∙ hc)) | inr f ↦ f ])
     in
-    ap (λ b. cond b (Some x.asked.target.key) None) (same_tests (not (is_among safe_methods x.asked.method)) c v n (sends_nothing_held o) by_304 by_passing)
+    ap (λ b. cond b (Some x.asked.target.key) None) (same_tests (not (is_among safe_methods x.asked.method)) c v n (reply_uses_no_stored_response o) by_304 by_passing)
 
 -- what is done to an exchange of another id
 other_out : (i now : ℕ) (id : ℕ) (o : Option Exchange) → eqb i id ≡ false → ((z : Exchange) → o ≡ Some z → eqb z.id id ≡ true) →
-    option_map (gone_out i now) o ≡ o
+    option_map (exchange_forwarded_again i now) o ≡ o
 other_out i now id None n h = refl
 other_out i now id (Some z) n h =
     let e = eqb-true z.id id (h z refl) in
@@ -179,15 +179,15 @@ other_out i now id (Some z) n h =
     ap (λ b. Some (cond b (out_again now z) z)) off
 
 other_sent : (i now : ℕ) (q : ReuseRule) (c : Option Condition) (id : ℕ) (o : Option Exchange) → eqb i id ≡ false → ((z : Exchange) → o ≡ Some z → eqb z.id id ≡ true) →
-    option_map (sent_out i now q c) o ≡ o
+    option_map (exchange_sent_forward i now q c) o ≡ o
 other_sent i now q c id None n h = refl
 other_sent i now q c id (Some z) n h =
     let e = eqb-true z.id id (h z refl) in
     let off : eqb z.id i ≡ false = grind (arith, nat_tests) in
-    ap (λ b. Some (cond b (goes_out now q c z) z)) off
+    ap (λ b. Some (cond b (exchange_gone_forward now q c z) z)) off
 
 -- no fault stands of an answer or a failure
-pub forwarded_by : (a : Option CoreFault) (s : Stage) → or_fault a (not_forwarded s) ≡ None → is_forwarded s ≡ true
+pub forwarded_by : (a : Option CoreFault) (s : Stage) → or_fault a (fault_if_not_forwarded s) ≡ None → is_forwarded s ≡ true
 forwarded_by (Some fault) s h = absurd (cc)
 forwarded_by None s h = by_test (is_forwarded s) h
   where
@@ -196,7 +196,7 @@ forwarded_by None s h = by_test (is_forwarded s) h
     by_test false h = absurd (cc)
 
 -- nor of a wake
-pub released_from : (a : Option CoreFault) (s : Stage) → or_fault a (not_ready s) ≡ None → is_released s ≡ true
+pub released_from : (a : Option CoreFault) (s : Stage) → or_fault a (fault_if_not_released s) ≡ None → is_released s ≡ true
 released_from (Some fault) s h = absurd (cc)
 released_from None s h = by_test (is_released s) h
   where
@@ -204,7 +204,7 @@ released_from None s h = by_test (is_released s) h
     by_test true h = refl
     by_test false h = absurd (cc)
 
-no_key : (asked : Asked) (r : Response) (line : ℕ) (bytes : List ℕ) → key_by_answer asked r (Forward line bytes) ≡ None
+no_key : (asked : Asked) (r : Response) (line : ℕ) (bytes : List ℕ) → key_invalidated_by_answer asked r (Forward line bytes) ≡ None
 no_key asked r line bytes = ap (λ b. cond b (Some asked.target.key) None)
     (ap (λ b. not (is_among safe_methods asked.method) && b) (and_none (nat_le 200 r.status && nat_le r.status 399)) ∙ and_none (not (is_among safe_methods asked.method)))
 
@@ -214,70 +214,70 @@ is_either (Forward line bytes) = true
 is_either (Waits leader) = false
 is_either Ended = false
 
-pub answer_either : (table : Table) (es : List Stored) (now : ℕ) (x : Exchange) (r : Response) (next : Option ℕ) (d : Decision) → is_either (answered table es now x r next d) ≡ true
+pub answer_either : (table : Table) (es : List Stored) (now : ℕ) (x : Exchange) (r : Response) (next : Option ℕ) (d : Decision) → is_either (outcome_of_answer table es now x r next d) ≡ true
 answer_either table es now x r next d = by_304 (is_validation x r)
   where
-    again_or_sent : (o : Option Stored) (d : Decision) → is_either (revalidated table es now x r o d) ≡ true
+    again_or_sent : (o : Option Stored) (d : Decision) → is_either (outcome_of_304 table es now x r o d) ≡ true
     again_or_sent (Some e) d = refl
     again_or_sent None (decision.Hit serial) = refl
     again_or_sent None (decision.Forward rule against) = refl
 
-    by_fallback : (fallback : Fallback) → is_either (failed table es now x BadAnswer (Some r.status) fallback) ≡ true
+    by_fallback : (fallback : Fallback) → is_either (outcome_of_failure table es now x BadAnswer (Some r.status) fallback) ≡ true
     by_fallback (Sends serial detail) = refl
     by_fallback (Refuses rule error) = refl
 
-    by_error : (e : Bool) (fallback : Fallback) → is_either (passed_unless table es now x r next e fallback) ≡ true
+    by_error : (e : Bool) (fallback : Fallback) → is_either (outcome_of_passing_on_or_stale table es now x r next e fallback) ≡ true
     by_error true (Sends serial detail) = refl
     by_error true (Refuses rule error) = refl
     by_error false fallback = refl
 
-    by_unasked : (b : Bool) → is_either (cond b (failed table es now x BadAnswer (Some r.status) (fallback_for (policy_of table.lines x.line) es x.asked now d))
-        (passed_unless table es now x r next (is_error_status r.status) (fallback_for (policy_of table.lines x.line) es x.asked now d))) ≡ true
+    by_unasked : (b : Bool) → is_either (cond b (outcome_of_failure table es now x BadAnswer (Some r.status) (fallback_for (policy_of table.lines x.line) es x.asked now d))
+        (outcome_of_passing_on_or_stale table es now x r next (is_error_status r.status) (fallback_for (policy_of table.lines x.line) es x.asked now d))) ≡ true
     by_unasked true = by_fallback (fallback_for (policy_of table.lines x.line) es x.asked now d)
     by_unasked false = by_error (is_error_status r.status) (fallback_for (policy_of table.lines x.line) es x.asked now d)
 
-    by_304 : (b : Bool) → is_either (cond b (revalidated table es now x r (validated es x r now) d)
-        (cond (is_unasked x.asked r) (failed table es now x BadAnswer (Some r.status) (fallback_for (policy_of table.lines x.line) es x.asked now d))
-        (passed_unless table es now x r next (is_error_status r.status) (fallback_for (policy_of table.lines x.line) es x.asked now d)))) ≡ true
-    by_304 true = again_or_sent (validated es x r now) d
-    by_304 false = by_unasked (is_unasked x.asked r)
+    by_304 : (b : Bool) → is_either (cond b (outcome_of_304 table es now x r (stored_response_validated es x r now) d)
+        (cond (is_304_without_condition x.asked r) (outcome_of_failure table es now x BadAnswer (Some r.status) (fallback_for (policy_of table.lines x.line) es x.asked now d))
+        (outcome_of_passing_on_or_stale table es now x r next (is_error_status r.status) (fallback_for (policy_of table.lines x.line) es x.asked now d)))) ≡ true
+    by_304 true = again_or_sent (stored_response_validated es x r now) d
+    by_304 false = by_unasked (is_304_without_condition x.asked r)
 
 module _ (table : Table) (es : List Stored) (xs : List Exchange) (next : Option ℕ) (id : ℕ) where
   -- the exchange of the step's id ends
-  gone : (w : Exchange) (event : Event) (o : Outcome) → find_exchange (id_of event) xs ≡ Some w → is_arrival event ≡ false → ends o ≡ true →
+  gone : (w : Exchange) (event : Event) (o : Outcome) → find_exchange (exchange_id_of_event event) xs ≡ Some w → is_arrival_event event ≡ false → outcome_ends_exchange o ≡ true →
       (y : Option Exchange) →
-      y ≡ cond (eqb (id_of event) id) None (changed_by (key_by_step (Some w.asked) event o) (Some (id_of event)) (find_exchange id xs)) →
+      y ≡ cond (eqb (exchange_id_of_event event) id) None (changed_by (key_invalidated_by_step (Some w.asked) event o) (Some (exchange_id_of_event event)) (find_exchange id xs)) →
       Move id (Some w) event o (find_exchange id xs) y
   gone w event o f a g y h =
-      let rest = changed_by (key_by_step (Some w.asked) event o) (Some (id_of event)) (find_exchange id xs) in
-      let by : Some (id_of event) ≡ ended_by event o = sym (ap (λ b. cond (not b && ends o) (Some (id_of event)) None) a ∙ ap (λ b. cond b (Some (id_of event)) None) g) in
-      elim (cases_Bool (eqb (id_of event) id)) [
-        | inl t ↦ closes w t a (ap (λ n. find_exchange n xs) (sym (eqb-true (id_of event) id t)) ∙ f) g (h ∙ ap (λ b. cond b None rest) t)
-        | inr n ↦ apart n (h ∙ ap (λ b. cond b None rest) n ∙ ap (λ k. changed_by (key_by_step (Some w.asked) event o) k (find_exchange id xs)) by)
+      let rest = changed_by (key_invalidated_by_step (Some w.asked) event o) (Some (exchange_id_of_event event)) (find_exchange id xs) in
+      let by : Some (exchange_id_of_event event) ≡ ended_by event o = sym (ap (λ b. cond (not b && outcome_ends_exchange o) (Some (exchange_id_of_event event)) None) a ∙ ap (λ b. cond b (Some (exchange_id_of_event event)) None) g) in
+      elim (cases_Bool (eqb (exchange_id_of_event event) id)) [
+        | inl t ↦ closes w t a (ap (λ n. find_exchange n xs) (sym (eqb-true (exchange_id_of_event event) id t)) ∙ f) g (h ∙ ap (λ b. cond b None rest) t)
+        | inr n ↦ apart n (h ∙ ap (λ b. cond b None rest) n ∙ ap (λ k. changed_by (key_invalidated_by_step (Some w.asked) event o) k (find_exchange id xs)) by)
       ]
 
   arrives : (now i : ℕ) (asked : Asked) (o : Outcome) → find_exchange i xs ≡ None →
-      Move id None (Arrive now i asked) o (find_exchange id xs) (find_exchange id (open_after table es xs (Arrive now i asked) o))
+      Move id None (Arrive now i asked) o (find_exchange id xs) (find_exchange id (open_exchanges_after table es xs (Arrive now i asked) o))
   arrives now i asked (Forward line bytes) f =
-      let p = find-push id xs (opened table es now i asked line) f in
+      let p = find-push id xs (forwarded_exchange table es now i asked line) f in
       elim (cases_Bool (eqb i id)) [
         | inl t ↦ (
             let same = eqb-true i id t in
             opens table es now asked line (ap (λ n. Arrive now n asked) same) (ap (λ n. find_exchange n xs) (sym same) ∙ f) refl
-            (p ∙ ap (λ b. cond b (Some (opened table es now i asked line)) (find_exchange id xs)) t ∙ ap (λ n. Some (opened table es now n asked line)) same)
+            (p ∙ ap (λ b. cond b (Some (forwarded_exchange table es now i asked line)) (find_exchange id xs)) t ∙ ap (λ n. Some (forwarded_exchange table es now n asked line)) same)
             )
-        | inr n ↦ apart n (p ∙ ap (λ b. cond b (Some (opened table es now i asked line)) (find_exchange id xs)) n)
+        | inr n ↦ apart n (p ∙ ap (λ b. cond b (Some (forwarded_exchange table es now i asked line)) (find_exchange id xs)) n)
       ]
   arrives now i asked (Waits leader) f =
-      let line : ℕ = line_of (verdict_of table.lines asked.method asked.target) in
-      let p = find-push id xs (queued table es now i asked line leader) f in
+      let line : ℕ = line_of_verdict (verdict_of table.lines asked.method asked.target) in
+      let p = find-push id xs (waiting_exchange table es now i asked line leader) f in
       elim (cases_Bool (eqb i id)) [
         | inl t ↦ (
             let same = eqb-true i id t in
             queues table es now asked line leader (ap (λ n. Arrive now n asked) same) (ap (λ n. find_exchange n xs) (sym same) ∙ f) refl refl
-            (p ∙ ap (λ b. cond b (Some (queued table es now i asked line leader)) (find_exchange id xs)) t ∙ ap (λ n. Some (queued table es now n asked line leader)) same)
+            (p ∙ ap (λ b. cond b (Some (waiting_exchange table es now i asked line leader)) (find_exchange id xs)) t ∙ ap (λ n. Some (waiting_exchange table es now n asked line leader)) same)
             )
-        | inr n ↦ apart n (p ∙ ap (λ b. cond b (Some (queued table es now i asked line leader)) (find_exchange id xs)) n)
+        | inr n ↦ apart n (p ∙ ap (λ b. cond b (Some (waiting_exchange table es now i asked line leader)) (find_exchange id xs)) n)
       ]
   arrives now i asked (Reply r) f = elim (cases_Bool (eqb i id)) [
     | inl t ↦ passes t refl (ap (λ n. find_exchange n xs) (sym (eqb-true i id t)) ∙ f) refl (ap (λ n. find_exchange n xs) (sym (eqb-true i id t)) ∙ f)
@@ -288,80 +288,80 @@ module _ (table : Table) (es : List Stored) (xs : List Exchange) (next : Option 
     | inr n ↦ apart n refl
   ]
 
-  answers : (now i : ℕ) (r : Response) (z : Exchange) (o : Outcome) → find_exchange i xs ≡ Some z → is_forwarded z.stage ≡ true → o ≡ answered table es now z r next (decision_of (policy_of table.lines z.line) es z.asked now) →
-      Move id (Some z) (Answer now i r) o (find_exchange id xs) (find_exchange id (open_after table es xs (Answer now i r) o))
+  answers : (now i : ℕ) (r : Response) (z : Exchange) (o : Outcome) → find_exchange i xs ≡ Some z → is_forwarded z.stage ≡ true → o ≡ outcome_of_answer table es now z r next (decision_of (policy_of table.lines z.line) es z.asked now) →
+      Move id (Some z) (Answer now i r) o (find_exchange id xs) (find_exchange id (open_exchanges_after table es xs (Answer now i r) o))
   answers now i r z (Forward line bytes) f s h =
       let d = decision_of (policy_of table.lines z.line) es z.asked now in
       let p = find-gone_out i now id xs in
-      let v = again_asked table es now z r next d (ap goes_forward (sym h)) in
+      let v = again_asked table es now z r next d (ap outcome_goes_forward (sym h)) in
       elim (cases_Bool (eqb i id)) [
         | inl t ↦ (
             let x_is : find_exchange id xs ≡ Some z = ap (λ n. find_exchange n xs) (sym (eqb-true i id t)) ∙ f in
             again z now t refl x_is (and_right (r.status == 304) (is_some z.condition) v) refl
-            (p ∙ ap (option_map (gone_out i now)) x_is ∙ ap (λ b. Some (cond b (out_again now z) z)) (found-id i xs z f)) refl s
+            (p ∙ ap (option_map (exchange_forwarded_again i now)) x_is ∙ ap (λ b. Some (cond b (out_again now z) z)) (found-id i xs z f)) refl s
             )
         | inr n ↦ apart n (p ∙ other_out i now id (find_exchange id xs) n (λ z g. found-id id xs z g)
             ∙ sym (ap (λ k. overtaken_by k (find_exchange id xs)) (no_key z.asked r line bytes)))
       ]
   answers now i r z (Reply p) f s h = gone z (Answer now i r) (Reply p) f refl refl _ (
-      find-left_open (invalidated_by (find_exchange i xs) r) i id xs
+      find-left_open (key_invalidated_by_response (find_exchange i xs) r) i id xs
       ∙ ap (λ k. cond (eqb i id) None (changed_by k (Some i) (find_exchange id xs)))
-      (ap (λ w. invalidated_by w r) f ∙ same_key_invalidated table es now z r next (decision_of (policy_of table.lines z.line) es z.asked now) ∙ ap (key_by_answer z.asked r) (sym h))
+      (ap (λ w. key_invalidated_by_response w r) f ∙ same_key_invalidated table es now z r next (decision_of (policy_of table.lines z.line) es z.asked now) ∙ ap (key_invalidated_by_answer z.asked r) (sym h))
       )
   answers now i r z (Waits leader) f s h = absurd (false≢true (ap is_either h ∙ answer_either table es now z r next (decision_of (policy_of table.lines z.line) es z.asked now)))
   answers now i r z Ended f s h = absurd (false≢true (ap is_either h ∙ answer_either table es now z r next (decision_of (policy_of table.lines z.line) es z.asked now)))
 
   -- what waited and is woken
   wakes_up : (now i : ℕ) (z : Exchange) (o : Outcome) (d : Decision) → decision_of (policy_of table.lines z.line) es z.asked now ≡ d → find_exchange i xs ≡ Some z → is_released z.stage ≡ true →
-      o ≡ woken table es now z d → Move id (Some z) (Wake now i) o (find_exchange id xs) (find_exchange id (open_after table es xs (Wake now i) o))
+      o ≡ outcome_of_wake table es now z d → Move id (Some z) (Wake now i) o (find_exchange id xs) (find_exchange id (open_exchanges_after table es xs (Wake now i) o))
   wakes_up now i z o (decision.Hit serial) d_is f s h =
-      subst (λ (o : Outcome). Move id (Some z) (Wake now i) o (find_exchange id xs) (find_exchange id (open_after table es xs (Wake now i) o))) (sym h)
-      (gone z (Wake now i) (woken table es now z (decision.Hit serial)) f refl refl _ (find-closed i id xs))
+      subst (λ (o : Outcome). Move id (Some z) (Wake now i) o (find_exchange id xs) (find_exchange id (open_exchanges_after table es xs (Wake now i) o))) (sym h)
+      (gone z (Wake now i) (outcome_of_wake table es now z (decision.Hit serial)) f refl refl _ (find-closed i id xs))
   wakes_up now i z o (decision.Forward rule against) d_is f s h =
-      subst (λ (o : Outcome). Move id (Some z) (Wake now i) o (find_exchange id xs) (find_exchange id (open_after table es xs (Wake now i) o))) (sym h)
-      (by_id (ap (λ (w : Option Exchange). find_exchange id (woken_out table es i now w xs)) f ∙ find-map out (sent_out-id i now q c) id xs))
+      subst (λ (o : Outcome). Move id (Some z) (Wake now i) o (find_exchange id xs) (find_exchange id (open_exchanges_after table es xs (Wake now i) o))) (sym h)
+      (by_id (ap (λ (w : Option Exchange). find_exchange id (exchanges_after_wake table es i now w xs)) f ∙ find-map out (sent_out-id i now q c) id xs))
     where
       q : ReuseRule
-      q = rule_of (decision_of (policy_of table.lines z.line) es z.asked now)
+      q = rule_of_decision (decision_of (policy_of table.lines z.line) es z.asked now)
 
       c : Option Condition
-      c = condition_at es (named_by (decision_of (policy_of table.lines z.line) es z.asked now))
+      c = condition_about_serial es (serial_named_by_decision (decision_of (policy_of table.lines z.line) es z.asked now))
 
       out : Exchange → Exchange
-      out x = sent_out i now q c x
+      out x = exchange_sent_forward i now q c x
 
       o' : Outcome
-      o' = woken table es now z (decision.Forward rule against)
+      o' = outcome_of_wake table es now z (decision.Forward rule against)
 
-      by_id : find_exchange id (woken_out table es i now (find_exchange i xs) xs) ≡ option_map (sent_out i now q c) (find_exchange id xs) →
-          Move id (Some z) (Wake now i) (woken table es now z (decision.Forward rule against)) (find_exchange id xs) (find_exchange id (woken_out table es i now (find_exchange i xs) xs))
+      by_id : find_exchange id (exchanges_after_wake table es i now (find_exchange i xs) xs) ≡ option_map (exchange_sent_forward i now q c) (find_exchange id xs) →
+          Move id (Some z) (Wake now i) (outcome_of_wake table es now z (decision.Forward rule against)) (find_exchange id xs) (find_exchange id (exchanges_after_wake table es i now (find_exchange i xs) xs))
       by_id p = elim (cases_Bool (eqb i id)) [
         | inl t ↦ (
             let same = eqb-true i id t in
             let x_is : find_exchange id xs ≡ Some z = ap (λ n. find_exchange n xs) (sym same) ∙ f in
             wakes table es z now (ap (λ n. Wake now n) same) x_is s refl
-            (p ∙ ap (option_map (sent_out i now q c)) x_is ∙ ap (λ b. Some (cond b (goes_out now q c z) z)) (found-id i xs z f))
+            (p ∙ ap (option_map (exchange_sent_forward i now q c)) x_is ∙ ap (λ b. Some (cond b (exchange_gone_forward now q c z) z)) (found-id i xs z f))
             )
         | inr n ↦ apart n (p ∙ other_sent i now q c id (find_exchange id xs) n (λ y g. found-id id xs y g))
       ]
 
-  step : (event : Event) (o : Outcome) (w : Option Exchange) → find_exchange (id_of event) xs ≡ w → fault_of w event ≡ None → o ≡ outcome_of table es xs w next event →
-      Move id w event o (find_exchange id xs) (find_exchange id (open_after table es xs event o))
+  step : (event : Event) (o : Outcome) (w : Option Exchange) → find_exchange (exchange_id_of_event event) xs ≡ w → fault_at_exchange w event ≡ None → o ≡ outcome_of table es xs w next event →
+      Move id w event o (find_exchange id xs) (find_exchange id (open_exchanges_after table es xs event o))
   step (Arrive now i asked) o None f a h = arrives now i asked o f
   step (Arrive now i asked) o (Some w) f a h = absurd (cc)
   step (Answer now i r) o None f a h = absurd (cc)
-  step (Answer now i r) o (Some w) f a h = answers now i r w o f (forwarded_by (too_late now) w.stage a) h
+  step (Answer now i r) o (Some w) f a h = answers now i r w o f (forwarded_by (moment_too_late_fault now) w.stage a) h
   step (Fail now i kind) o None f a h = absurd (cc)
   step (Fail now i kind) o (Some w) f a h =
-      gone w (Fail now i kind) o f refl (ap ends h ∙ failed_ends table es now w kind None (fallback_for (policy_of table.lines w.line) es w.asked now (decision_of (policy_of table.lines w.line) es w.asked now))) _ (find-closed i id xs)
+      gone w (Fail now i kind) o f refl (ap outcome_ends_exchange h ∙ failed_ends table es now w kind None (fallback_for (policy_of table.lines w.line) es w.asked now (decision_of (policy_of table.lines w.line) es w.asked now))) _ (find-closed i id xs)
   step (Wake now i) o None f a h = absurd (cc)
   step (Wake now i) o (Some w) f a h =
-      wakes_up now i w o (decision_of (policy_of table.lines w.line) es w.asked now) refl f (released_from (too_late now) w.stage a) h
+      wakes_up now i w o (decision_of (policy_of table.lines w.line) es w.asked now) refl f (released_from (moment_too_late_fault now) w.stage a) h
   step (Abandon i) o None f a h = absurd (cc)
-  step (Abandon i) o (Some w) f a h = gone w (Abandon i) o f refl (ap ends h) _ (find-closed i id xs)
+  step (Abandon i) o (Some w) f a h = gone w (Abandon i) o f refl (ap outcome_ends_exchange h) _ (find-closed i id xs)
 
-pub move_of : (table : Table) (s : State) (i : Item) (id : ℕ) → s.table ≡ table → Accepts table s.entries s.exchanges s.next i →
-    Move id (find_exchange (id_of i.event) s.exchanges) i.event i.outcome (find_exchange id s.exchanges) (find_exchange id (after s i.event i.outcome).exchanges)
+pub move_of : (table : Table) (s : State) (i : Item) (id : ℕ) → s.table ≡ table → ItemIsAccepted table s.entries s.exchanges s.next i →
+    Move id (find_exchange (exchange_id_of_event i.event) s.exchanges) i.event i.outcome (find_exchange id s.exchanges) (find_exchange id (state_after s i.event i.outcome).exchanges)
 move_of table s i id same h =
-    let a = subst (λ (t : Table). Accepts t s.entries s.exchanges s.next i) (sym same) h in
-    step s.table s.entries s.exchanges s.next id i.event i.outcome (find_exchange (id_of i.event) s.exchanges) refl a.allowed a.outcome_is
+    let a = subst (λ (t : Table). ItemIsAccepted t s.entries s.exchanges s.next i) (sym same) h in
+    step s.table s.entries s.exchanges s.next id i.event i.outcome (find_exchange (exchange_id_of_event i.event) s.exchanges) refl a.allowed a.outcome_is

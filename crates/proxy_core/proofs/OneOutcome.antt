@@ -11,7 +11,7 @@ use Rattle.hx_directives.specs.Occurrences.{occurrences_of}
 use Rattle.hx_framing.specs.declared.messages.Response.{Response}
 use Rattle.hx_hop.specs.declared.request_view.Asked.{Asked}
 use Rattle.hx_hop.specs.Moments.{date_text_of}
-use Rattle.hx_allow.specs.Lines.{Table}
+use Rattle.hx_allow.specs.TableLines.{Table}
 use Rattle.hx_allow.specs.Matching.{verdict_of, policy_of}
 use Rattle.hx_allow.specs.declared.verdicts.Verdict.{Verdict}
 use Rattle.hx_allow.specs.declared.verdicts.Verdict.TheVariants as verdict
@@ -19,7 +19,7 @@ use Rattle.hx_store.specs.Stored.{Stored}
 use Rattle.hx_store.specs.Serials.{Distinct}
 use Rattle.hx_store.specs.Shelf.{serials}
 use Rattle.hx_reuse.specs.Rules.{decision_of}
-use Rattle.hx_reuse.specs.Meaning.{IsLeast, NamesTheResponse}
+use Rattle.hx_reuse.specs.ChosenAndNamed.{IsLeastReuseRule, RuleNamesTheResponse}
 use Rattle.hx_reuse.specs.ErrorRules.{error_rule_on}
 use Rattle.hx_reuse.specs.declared.rule.ReuseRule.{ReuseRule}
 use Rattle.hx_reuse.specs.declared.rule.ErrorRule.{ErrorRule}
@@ -34,27 +34,27 @@ use Rattle.hx_status.specs.declared.cause.FailKind.TheVariants.{BadAnswer}
 use Rattle.hx_status.specs.declared.cause.Cause.TheVariants.{Denied, OnlyIfCached, Origin}
 use Rattle.proxy_core.specs.declared.open.exchange.Exchange.{Exchange}
 use Rattle.proxy_core.specs.declared.replies.stored_reply.CacheStatusInfo.{CacheStatusInfo}
-use Rattle.proxy_core.specs.declared.fault.CoreFault.TheVariants.{MomentTooLate, NotForwarded, NotReady}
+use Rattle.proxy_core.specs.declared.core_fault.CoreFault.TheVariants.{MomentTooLate, NotForwarded, NotReady}
 use Rattle.proxy_core.specs.declared.outcome.Reply.{Reply}
 use Rattle.proxy_core.specs.declared.outcome.Outcome.{Outcome}
 use Rattle.proxy_core.specs.declared.outcome.Outcome.TheVariants.{Reply as Replied, Forward, Waits}
 use Rattle.proxy_core.specs.declared.event.Event.{Event}
 use Rattle.proxy_core.specs.declared.event.Event.TheVariants.{Arrive, Answer, Fail, Wake, Abandon}
-use Rattle.proxy_core.specs.Moments.{too_late}
-use Rattle.proxy_core.specs.Leading.{leader_for}
-use Rattle.proxy_core.specs.Storing.{rule_shown, is_unasked, replaced_by}
-use Rattle.proxy_core.specs.Validating.{condition_at, is_validation, validated}
-use Rattle.proxy_core.specs.Replies.{stored_text, passed_text, refused_text, is_head}
-use Rattle.proxy_core.specs.Outcomes.{as_hit, find_exchange, id_of, outcome_by, refused, forwarded_as, forward_text, or_fault, not_forwarded, not_ready, fault_of, fault_by}
-use Rattle.proxy_core.specs.State.{stored_in, used_in, removed_in, used_form}
+use Rattle.proxy_core.specs.Moments.{moment_too_late_fault}
+use Rattle.proxy_core.specs.Leading.{leader_of_request}
+use Rattle.proxy_core.specs.Storing.{storing_rule_to_explain, is_304_without_condition, replaced_by}
+use Rattle.proxy_core.specs.Validating.{condition_about_serial, is_validation, stored_response_validated}
+use Rattle.proxy_core.specs.Replies.{stored_text, passed_answer_text, refusal_reply_text, is_head}
+use Rattle.proxy_core.specs.Outcomes.{hit_status_info, find_exchange, exchange_id_of_event, outcome_of_event, outcome_of_refusal, forwarded_status_info, forward_text, or_fault, fault_if_not_forwarded, fault_if_not_released, fault_at_exchange, step_fault}
+use Rattle.proxy_core.specs.State.{serial_stored_by_outcome, serial_used_by_outcome, serials_removed_by_outcome, stored_response_as_used}
 use Rattle.proxy_core.specs.Traces.{Item}
 use Rattle.proxy_core.specs.Histories.{held_entries, open_exchanges, next_serial, IsGoodHistory}
-use Rattle.proxy_core.specs.Promises.{key_by_answer}
-use Rattle.proxy_core.specs.Sending.{IsReusable, MayBeSentAt, GoesForward, NobodyLeads, WaitsForTheFirst, IsReached, IsTurnedAway, WordAfterError, WordAtAnswer, ShowsHow, IsAbout, IsThatResponse}
-use Rattle.proxy_core.specs.GoingOn.{MayCome, IsReply, GoesOnBy}
-use Rattle.proxy_core.specs.Naming.{NamesErrorRule, NamesOnError, NamesByEvent, NamesFirst}
-use Rattle.proxy_core.specs.StoredAnswers.{held_for, not_kept, removed_at}
-use Rattle.proxy_core.specs.Headline.{EachStep, GoesOn, ReachesExactly, SendsExactly, SendsThatResponse, NamesTheFirst, StoresExactly, RemovesExactly, ClosesAsAsked, Headline, HasFinalAnswer, NoOtherTraceHasIt}
+use Rattle.proxy_core.specs.Promises.{key_invalidated_by_answer}
+use Rattle.proxy_core.specs.Sending.{StoredResponseIsReusable, StoredResponseMayBeSentAt, RequestGoesForward, NoLeaderIsOpen, RequestWaitsForTheFirst, RequestReachesCacheOrOrigin, RequestIsTurnedAway, DetailWordAfterError, DetailWordAtAnswer, CacheStatusShowsHow, IsAbout, ReplyIsThatStoredResponse}
+use Rattle.proxy_core.specs.GoingOn.{EventMayCome, IsClientReply, ExchangeGoesOnBy}
+use Rattle.proxy_core.specs.Naming.{AnswerNamesErrorRule, AnswerAfterFailureNames, AnswerNamesByEvent, AnswerNamesFirstRule}
+use Rattle.proxy_core.specs.StoredAnswers.{serials_held_for_key, serial_not_kept_after_304, serials_removed_at}
+use Rattle.proxy_core.specs.Headline.{HoldsAtEachItem, ExchangeGoesOnToItsAnswer, RequestReachesExactlyWhereAllowed, StoredResponseIsSentExactlyWhereItMayBe, SentResponseIsTheStoredOne, OtherAnswerNamesTheFirstRule, AnswerIsStoredExactlyWhereItMayBe, StoredResponsesAreRemovedExactlyWhereTheyMustBe, ConnectionClosesAsAsked, Headline, AnswerHasFinalStatus, NoOtherTraceHasTheHeadline}
 use Rattle.proxy_core.proofs.FirstRules.{held_distinct}
 use Rattle.proxy_core.proofs.Leads.{leads_for_none, leads_for}
 use Rattle.proxy_core.proofs.SendLaws.{reusable_hit}
@@ -76,21 +76,21 @@ rule_named (decision.Forward rule against) other = rule
 rule_named (decision.Hit s) other = other
 
 module _ (policy : Policy) (es : List Stored) (asked : Asked) (now : ℕ) where
-  pub one_rule : (a b : ReuseRule) → IsLeast policy es asked now a → IsLeast policy es asked now b → a ≡ b
+  pub one_rule : (a b : ReuseRule) → IsLeastReuseRule policy es asked now a → IsLeastReuseRule policy es asked now b → a ≡ b
   one_rule a b least more =
       let one = forwards policy es asked now a least in
       let other = forwards policy es asked now b more in
       let same : decision.Forward a one.0 ≡ decision.Forward b other.0 = sym one.1 ∙ other.1 in
       cc
 
-  pub one_named : (rule : ReuseRule) (a b : Option ℕ) → NamesTheResponse es asked rule a → NamesTheResponse es asked rule b → a ≡ b
+  pub one_named : (rule : ReuseRule) (a b : Option ℕ) → RuleNamesTheResponse es asked rule a → RuleNamesTheResponse es asked rule b → a ≡ b
   one_named rule a b (inl m) (inl n) = m.1 ∙ sym n.1
   one_named rule a b (inl m) (inr n) = no_true (sym m.0 ∙ n.0)
   one_named rule a b (inr m) (inl n) = no_true (sym n.0 ∙ m.0)
   one_named rule a b (inr m) (inr n) =
       m.1.2 ∙ ap (λ (e : Stored). Some e.serial) (same_Some m.1.0 n.1.0 (sym m.1.1 ∙ n.1.1)) ∙ sym n.1.2
 
-  one_error : (rule : ReuseRule) (a b : Option ErrorRule) → NamesErrorRule policy es now asked rule a → NamesErrorRule policy es now asked rule b → a ≡ b
+  one_error : (rule : ReuseRule) (a b : Option ErrorRule) → AnswerNamesErrorRule policy es now asked rule a → AnswerNamesErrorRule policy es now asked rule b → a ≡ b
   one_error rule a b (inl m) (inl n) = m.1 ∙ sym n.1
   one_error rule a b (inl m) (inr n) = no_true (sym m.0 ∙ n.0)
   one_error rule a b (inr m) (inl n) = no_true (sym n.0 ∙ m.0)
@@ -101,56 +101,56 @@ module _ (policy : Policy) (es : List Stored) (asked : Asked) (now : ℕ) where
       is ∙ sym one ∙ ap (λ (x : Stored). error_rule_on policy x (occurrences_of asked.fields) now) same ∙ other ∙ sym is2
 
   -- a held response may be reused or not
-  reusable_or_not : Distinct (serials es) → (s : ℕ) → IsReusable policy es asked now s ⊎ (IsReusable policy es asked now s → ⊥)
+  reusable_or_not : Distinct (serials es) → (s : ℕ) → StoredResponseIsReusable policy es asked now s ⊎ (StoredResponseIsReusable policy es asked now s → ⊥)
   reusable_or_not distinct s = by_decision (decision_of policy es asked now) refl
     where
-      by_decision : (d : Decision) → decision_of policy es asked now ≡ d → IsReusable policy es asked now s ⊎ (IsReusable policy es asked now s → ⊥)
+      by_decision : (d : Decision) → decision_of policy es asked now ≡ d → StoredResponseIsReusable policy es asked now s ⊎ (StoredResponseIsReusable policy es asked now s → ⊥)
       by_decision (decision.Forward rule against) k = inr (λ may.
           let hit : decision.Forward rule against ≡ decision.Hit s = sym k ∙ reusable_hit policy es distinct asked now s may in
           absurd (cc))
       by_decision (decision.Hit t) k = by_test (eqb t s) refl
         where
-          by_test : (b : Bool) → eqb t s ≡ b → IsReusable policy es asked now s ⊎ (IsReusable policy es asked now s → ⊥)
-          by_test true same = inl (subst (λ n. IsReusable policy es asked now n) (eqb-true t s same) (reused_is_allowed policy es asked now t k))
+          by_test : (b : Bool) → eqb t s ≡ b → StoredResponseIsReusable policy es asked now s ⊎ (StoredResponseIsReusable policy es asked now s → ⊥)
+          by_test true same = inl (subst (λ n. StoredResponseIsReusable policy es asked now n) (eqb-true t s same) (reused_is_allowed policy es asked now t k))
           by_test false other = inr (λ may.
               let hit : decision.Hit t ≡ decision.Hit s = sym k ∙ reusable_hit policy es distinct asked now s may in
               let same : t ≡ s = cc in
               no_true (sym other ∙ ap (λ n. eqb n s) same ∙ eq-eqb s s refl))
 
-  one_word : Distinct (serials es) → (s : ℕ) (a b : Option Detail) → WordAfterError policy es asked now s a → WordAfterError policy es asked now s b → a ≡ b
+  one_word : Distinct (serials es) → (s : ℕ) (a b : Option Detail) → DetailWordAfterError policy es asked now s a → DetailWordAfterError policy es asked now s b → a ≡ b
   one_word distinct s a b v w = by_test (reusable_or_not distinct s)
     where
-      by_test : IsReusable policy es asked now s ⊎ (IsReusable policy es asked now s → ⊥) → a ≡ b
+      by_test : StoredResponseIsReusable policy es asked now s ⊎ (StoredResponseIsReusable policy es asked now s → ⊥) → a ≡ b
       by_test (inl may) = v.0 may ∙ sym (w.0 may)
       by_test (inr never) = v.1 never ∙ sym (w.1 never)
 
 -- ---- outcomes of a request that arrives
 
-forward_same : (table : Table) (es : List Stored) (asked : Asked) (now line : ℕ) (a b : ReuseRule) (o p : Outcome) → GoesForward table es asked now line a o → GoesForward table es asked now line b p → o ≡ p
+forward_same : (table : Table) (es : List Stored) (asked : Asked) (now line : ℕ) (a b : ReuseRule) (o p : Outcome) → RequestGoesForward table es asked now line a o → RequestGoesForward table es asked now line b p → o ≡ p
 forward_same table es asked now line a b o p m n =
     let rule : a ≡ b = one_rule (policy_of table.lines line) es asked now a b m.is_least n.is_least in
-    let against : m.against ≡ n.against = one_named (policy_of table.lines line) es asked now b m.against n.against (subst (λ r. NamesTheResponse es asked r m.against) rule m.names) n.names in
-    m.outcome_is ∙ ap (λ c. Forward line (forward_text table asked (condition_at es c))) against ∙ sym n.outcome_is
+    let against : m.against ≡ n.against = one_named (policy_of table.lines line) es asked now b m.against n.against (subst (λ r. RuleNamesTheResponse es asked r m.against) rule m.names) n.names in
+    m.outcome_is ∙ ap (λ c. Forward line (forward_text table asked (condition_about_serial es c))) against ∙ sym n.outcome_is
 
 module _ (table : Table) (es : List Stored) (xs : List Exchange) (now : ℕ) (asked : Asked) where
-  turned_same : (o p : Outcome) → IsTurnedAway table now asked o → IsTurnedAway table now asked p → o ≡ p
+  turned_same : (o p : Outcome) → RequestIsTurnedAway table now asked o → RequestIsTurnedAway table now asked p → o ≡ p
   turned_same o p (inl (line, v, m)) (inl (other, w, n)) =
       let same : verdict.DeniedBy line ≡ verdict.DeniedBy other = sym v ∙ w in
       let lines : line ≡ other = cc in
-      m ∙ ap (λ l. refused now (Denied l) asked) lines ∙ sym n
+      m ∙ ap (λ l. outcome_of_refusal now (Denied l) asked) lines ∙ sym n
   turned_same o p (inl (line, v, m)) (inr (w, n)) = let no : verdict.DeniedBy line ≡ verdict.NoLine = sym v ∙ w in absurd (cc)
   turned_same o p (inr (v, m)) (inl (other, w, n)) = let no : verdict.NoLine ≡ verdict.DeniedBy other = sym v ∙ w in absurd (cc)
   turned_same o p (inr (v, m)) (inr (w, n)) = m ∙ sym n
 
-  module _ (line : ℕ) (o p : Outcome) (unused : used_in o ≡ None) (other_unused : used_in p ≡ None) where
-    meets : (rule : ReuseRule) → IsLeast (policy_of table.lines line) es asked now rule → NobodyLeads (policy_of table.lines line) xs asked rule → WaitsForTheFirst table es xs now asked line p → {P : Type 0} → P
+  module _ (line : ℕ) (o p : Outcome) (unused : serial_used_by_outcome o ≡ None) (other_unused : serial_used_by_outcome p ≡ None) where
+    meets : (rule : ReuseRule) → IsLeastReuseRule (policy_of table.lines line) es asked now rule → NoLeaderIsOpen (policy_of table.lines line) xs asked rule → RequestWaitsForTheFirst table es xs now asked line p → {P : Type 0} → P
     meets rule least nobody w =
         let same : rule ≡ w.rule = one_rule (policy_of table.lines line) es asked now rule w.rule least w.rule_is_least in
         never_one w.leader
-        (sym (sym (ap (leader_for (policy_of table.lines line) xs asked) same) ∙ leads_for_none (policy_of table.lines line) xs asked rule nobody)
+        (sym (sym (ap (leader_of_request (policy_of table.lines line) xs asked) same) ∙ leads_for_none (policy_of table.lines line) xs asked rule nobody)
         ∙ leads_for (policy_of table.lines line) xs asked w.rule w.leader w.gets w.may_wait w.first_leads)
 
-  reached_same : (line : ℕ) (o p : Outcome) → used_in o ≡ None → used_in p ≡ None → IsReached table es xs now asked line o → IsReached table es xs now asked line p → o ≡ p
+  reached_same : (line : ℕ) (o p : Outcome) → serial_used_by_outcome o ≡ None → serial_used_by_outcome p ≡ None → RequestReachesCacheOrOrigin table es xs now asked line o → RequestReachesCacheOrOrigin table es xs now asked line p → o ≡ p
   reached_same line o p u v (inl (s, used)) h = never_one s (sym u ∙ used)
   reached_same line o p u v (inr a) (inl (s, used)) = never_one s (sym v ∙ used)
   reached_same line o p u v (inr (inl (a, m, others, nobody))) (inr (inl (b, n, others2, nobody2))) = forward_same table es asked now line a b o p m n
@@ -161,14 +161,14 @@ module _ (table : Table) (es : List Stored) (xs : List Exchange) (now : ℕ) (as
       let rule : w.rule ≡ z.rule = one_rule (policy_of table.lines line) es asked now w.rule z.rule w.rule_is_least z.rule_is_least in
       let same : Some w.leader ≡ Some z.leader =
       sym (leads_for (policy_of table.lines line) xs asked w.rule w.leader w.gets w.may_wait w.first_leads)
-      ∙ ap (leader_for (policy_of table.lines line) xs asked) rule ∙ leads_for (policy_of table.lines line) xs asked z.rule z.leader z.gets z.may_wait z.first_leads
+      ∙ ap (leader_of_request (policy_of table.lines line) xs asked) rule ∙ leads_for (policy_of table.lines line) xs asked z.rule z.leader z.gets z.may_wait z.first_leads
       in
       w.outcome_is ∙ ap (λ l. Waits l) (same_Some w.leader z.leader same) ∙ sym z.outcome_is
   reached_same line o p u v (inr (inr (inl w))) (inr (inr (inr (b, only, least, is)))) = no_true (sym w.takes_others ∙ only)
   reached_same line o p u v (inr (inr (inr (a, only, least, is)))) (inr (inl (b, n, others, nobody))) = no_true (sym others ∙ only)
   reached_same line o p u v (inr (inr (inr (a, only, least, is)))) (inr (inr (inl z))) = no_true (sym z.takes_others ∙ only)
   reached_same line o p u v (inr (inr (inr (a, only, least, is)))) (inr (inr (inr (b, only2, least2, is2)))) =
-      is ∙ ap (λ r. refused now (OnlyIfCached r) asked) (one_rule (policy_of table.lines line) es asked now a b least least2) ∙ sym is2
+      is ∙ ap (λ r. outcome_of_refusal now (OnlyIfCached r) asked) (one_rule (policy_of table.lines line) es asked now a b least least2) ∙ sym is2
 
 -- ---- what is told of a stored response
 
@@ -187,41 +187,41 @@ same_line a b h = cc
 
 module _ (table : Table) (es : List Stored) (distinct : Distinct (serials es)) where
   at_answer : (x : Exchange) (now : ℕ) (r : Response) (s : ℕ) (a b : Option Detail) →
-      WordAtAnswer (policy_of table.lines x.line) es x now r s a → WordAtAnswer (policy_of table.lines x.line) es x now r s b → a ≡ b
-  at_answer x now r s a b v w = by_entry (validated es x r now) refl
+      DetailWordAtAnswer (policy_of table.lines x.line) es x now r s a → DetailWordAtAnswer (policy_of table.lines x.line) es x now r s b → a ≡ b
+  at_answer x now r s a b v w = by_entry (stored_response_validated es x r now) refl
     where
-      by_validation : validated es x r now ≡ None → (t : Bool) → is_validation x r ≡ t → a ≡ b
+      by_validation : stored_response_validated es x r now ≡ None → (t : Bool) → is_validation x r ≡ t → a ≡ b
       by_validation none true k = v.1 k none ∙ sym (w.1 k none)
       by_validation none false k = one_word (policy_of table.lines x.line) es x.asked now distinct s a b (v.2 k) (w.2 k)
 
-      by_entry : (o : Option Stored) → validated es x r now ≡ o → a ≡ b
+      by_entry : (o : Option Stored) → stored_response_validated es x r now ≡ o → a ≡ b
       by_entry (Some e) k = v.0 (ap is_some k) ∙ sym (w.0 (ap is_some k))
       by_entry None k = by_validation k (is_validation x r) refl
 
-  how_same : (x : Option Exchange) (event : Event) (s : ℕ) (h k : CacheStatusInfo) → ShowsHow table es x event s h → ShowsHow table es x event s k → h ≡ k
+  how_same : (x : Option Exchange) (event : Event) (s : ℕ) (h k : CacheStatusInfo) → CacheStatusShowsHow table es x event s h → CacheStatusShowsHow table es x event s k → h ≡ k
   how_same x (Arrive now id asked) s h k (n, v, is) (m, w, is2) =
       let same : n ≡ m = same_line n m (sym v ∙ w) in
-      is ∙ ap (λ l. as_hit (policy_of table.lines l)) same ∙ sym is2
+      is ∙ ap (λ l. hit_status_info (policy_of table.lines l)) same ∙ sym is2
   how_same (Some x) (Answer now id r) s h k (d, is, word) (e, is2, word2) =
-      is ∙ ap (forwarded_as (policy_of table.lines x.line) x (Some r.status)) (at_answer x now r s d e word word2) ∙ sym is2
+      is ∙ ap (forwarded_status_info (policy_of table.lines x.line) x (Some r.status)) (at_answer x now r s d e word word2) ∙ sym is2
   how_same None (Answer now id r) s h k a b = absurd a
   how_same (Some x) (Fail now id kind) s h k (d, is, word) (e, is2, word2) =
-      is ∙ ap (forwarded_as (policy_of table.lines x.line) x None) (one_word (policy_of table.lines x.line) es x.asked now distinct s d e word word2) ∙ sym is2
+      is ∙ ap (forwarded_status_info (policy_of table.lines x.line) x None) (one_word (policy_of table.lines x.line) es x.asked now distinct s d e word word2) ∙ sym is2
   how_same None (Fail now id kind) s h k a b = absurd a
   how_same (Some x) (Wake now id) s h k a b = a ∙ sym b
   how_same None (Wake now id) s h k a b = absurd a
   how_same x (Abandon id) s h k a b = absurd a
 
-  bytes_same : (x : Option Exchange) (event : Event) (o p : Outcome) (s : ℕ) (a : IsThatResponse table es x event o s) (b : IsThatResponse table es x event p s) → a.reply.bytes ≡ b.reply.bytes
+  bytes_same : (x : Option Exchange) (event : Event) (o p : Outcome) (s : ℕ) (a : ReplyIsThatStoredResponse table es x event o s) (b : ReplyIsThatStoredResponse table es x event p s) → a.reply.bytes ≡ b.reply.bytes
   bytes_same x event o p s a b =
       let about = about_same x event a.now b.now a.asked b.asked a.about b.about in
       let info = how_same x event s a.info b.info a.shows_how b.shows_how in
       let response = same_Some a.response b.response (sym a.is_held ∙ b.is_held) in
       a.bytes_are
-      ∙ ap (λ e. stored_text table.name (used_form x event e) a.now a.info a.asked) response
-      ∙ ap (λ n. stored_text table.name (used_form x event b.response) n a.info a.asked) about.0
-      ∙ ap (λ i. stored_text table.name (used_form x event b.response) b.now i a.asked) info
-      ∙ ap (λ q. stored_text table.name (used_form x event b.response) b.now b.info q) about.1
+      ∙ ap (λ e. stored_text table.name (stored_response_as_used x event e) a.now a.info a.asked) response
+      ∙ ap (λ n. stored_text table.name (stored_response_as_used x event b.response) n a.info a.asked) about.0
+      ∙ ap (λ i. stored_text table.name (stored_response_as_used x event b.response) b.now i a.asked) info
+      ∙ ap (λ q. stored_text table.name (stored_response_as_used x event b.response) b.now b.info q) about.1
       ∙ sym b.bytes_are
 
 -- ---- replies
@@ -235,11 +235,11 @@ reply_same a b bytes close stored used removed =
     ∙ ap (λ (z : List ℕ). record { bytes = b.bytes; close = b.close; stored = b.stored; used = b.used; removed = z }) removed
 
 removed_same : (table : Table) (es : List Stored) (x : Option Exchange) (event : Event) (a b : Reply) → a.stored ≡ b.stored → a.used ≡ b.used →
-    removed_at table es x event (Replied a) ≡ removed_at table es x event (Replied b)
+    serials_removed_at table es x event (Replied a) ≡ serials_removed_at table es x event (Replied b)
 removed_same table es x (Arrive now id asked) a b stored used = refl
 removed_same table es (Some x) (Answer now id r) a b stored used =
-    ap (λ (z : Option ℕ). cond (is_some z) (replaced_by es x.asked) (held_for es (key_by_answer x.asked r (Replied a)) (not_kept table x now r (validated es x r now)))) stored
-    ∙ ap (λ (z : Option ℕ). cond (is_some b.stored) (replaced_by es x.asked) (held_for es (key_by_answer x.asked r (Replied (record { bytes = []; close = false; stored = None; used = z; removed = [] }))) (not_kept table x now r (validated es x r now)))) used
+    ap (λ (z : Option ℕ). cond (is_some z) (replaced_by es x.asked) (serials_held_for_key es (key_invalidated_by_answer x.asked r (Replied a)) (serial_not_kept_after_304 table x now r (stored_response_validated es x r now)))) stored
+    ∙ ap (λ (z : Option ℕ). cond (is_some b.stored) (replaced_by es x.asked) (serials_held_for_key es (key_invalidated_by_answer x.asked r (Replied (record { bytes = []; close = false; stored = None; used = z; removed = [] }))) (serial_not_kept_after_304 table x now r (stored_response_validated es x r now)))) used
 removed_same table es None (Answer now id r) a b stored used = refl
 removed_same table es x (Fail now id kind) a b stored used = refl
 removed_same table es x (Wake now id) a b stored used = refl
@@ -247,39 +247,39 @@ removed_same table es x (Abandon id) a b stored used = refl
 
 -- what is asked of one outcome of an event, by the exchange of its id
 record Fits (table : Table) (limit first : ℕ) (past : List Item) (x : Option Exchange) (event : Event) (o : Outcome) : Type 0 where
-  goes_on : GoesOnBy table (held_entries table limit past) x event o
-  sends : (s : ℕ) → (MayBeSentAt table (held_entries table limit past) x event s → used_in o ≡ Some s) × (used_in o ≡ Some s → MayBeSentAt table (held_entries table limit past) x event s)
-  that : (s : ℕ) → used_in o ≡ Some s → IsThatResponse table (held_entries table limit past) x event o s
-  names : NamesFirst table limit past (next_serial first past) x event o
-  removes : removed_in o ≡ removed_at table (held_entries table limit past) x event o
-  reaches : ReachesExactly table limit (record { event = event; outcome = o }) past
-  stores : StoresExactly table limit first (record { event = event; outcome = o }) past
-  closes : ClosesAsAsked (record { event = event; outcome = o }) past
+  goes_on : ExchangeGoesOnBy table (held_entries table limit past) x event o
+  sends : (s : ℕ) → (StoredResponseMayBeSentAt table (held_entries table limit past) x event s → serial_used_by_outcome o ≡ Some s) × (serial_used_by_outcome o ≡ Some s → StoredResponseMayBeSentAt table (held_entries table limit past) x event s)
+  that : (s : ℕ) → serial_used_by_outcome o ≡ Some s → ReplyIsThatStoredResponse table (held_entries table limit past) x event o s
+  names : AnswerNamesFirstRule table limit past (next_serial first past) x event o
+  removes : serials_removed_by_outcome o ≡ serials_removed_at table (held_entries table limit past) x event o
+  reaches : RequestReachesExactlyWhereAllowed table limit (record { event = event; outcome = o }) past
+  stores : AnswerIsStoredExactlyWhereItMayBe table limit first (record { event = event; outcome = o }) past
+  closes : ConnectionClosesAsAsked (record { event = event; outcome = o }) past
 
 module _ (table : Table) (limit first : ℕ) (past : List Item) (distinct : Distinct (serials (held_entries table limit past))) where
   abbrev es : List Stored
   es = held_entries table limit past
 
   module _ (x : Option Exchange) (event : Event) (o p : Outcome) (a : Fits table limit first past x event o) (b : Fits table limit first past x event p)
-      (final : HasFinalAnswer (record { event = event; outcome = o }) past) where
-    used_same : (u v : Option ℕ) → used_in o ≡ u → used_in p ≡ v → u ≡ v
+      (final : AnswerHasFinalStatus (record { event = event; outcome = o }) past) where
+    used_same : (u v : Option ℕ) → serial_used_by_outcome o ≡ u → serial_used_by_outcome p ≡ v → u ≡ v
     used_same (Some s) v h k = sym ((b.sends s).0 ((a.sends s).1 h)) ∙ k
     used_same None (Some s) h k = sym h ∙ (a.sends s).0 ((b.sends s).1 k)
     used_same None None h k = refl
 
     -- both are stored, or neither
-    stored_same : (u v : Option ℕ) → stored_in o ≡ u → stored_in p ≡ v → u ≡ v
+    stored_same : (u v : Option ℕ) → serial_stored_by_outcome o ≡ u → serial_stored_by_outcome p ≡ v → u ≡ v
     stored_same (Some s) v h k =
         let stored = a.stores.1 s h in
         let answer = stored.1 in
-        let unused : used_in p ≡ None = sym (used_same (used_in o) (used_in p) refl refl) ∙ answer.nothing_is_sent_instead in
+        let unused : serial_used_by_outcome p ≡ None = sym (used_same (serial_used_by_outcome o) (serial_used_by_outcome p) refl refl) ∙ answer.nothing_is_sent_instead in
         sym stored.0
         ∙ sym (b.stores.0 answer.now answer.id answer.exchange answer.response answer.event_is answer.is_open unused (answer.may_be_stored (final answer.now answer.id answer.response answer.event_is)))
         ∙ k
     stored_same None (Some s) h k =
         let stored = b.stores.1 s k in
         let answer = stored.1 in
-        let unused : used_in o ≡ None = used_same (used_in o) (used_in p) refl refl ∙ answer.nothing_is_sent_instead in
+        let unused : serial_used_by_outcome o ≡ None = used_same (serial_used_by_outcome o) (serial_used_by_outcome p) refl refl ∙ answer.nothing_is_sent_instead in
         sym h
         ∙ a.stores.0 answer.now answer.id answer.exchange answer.response answer.event_is answer.is_open unused (answer.may_be_stored (final answer.now answer.id answer.response answer.event_is))
         ∙ stored.0
@@ -287,35 +287,35 @@ module _ (table : Table) (limit first : ℕ) (past : List Item) (distinct : Dist
 
     both_reply : (m n : Reply) → o ≡ Replied m → p ≡ Replied n → m.bytes ≡ n.bytes → o ≡ p
     both_reply m n h k bytes =
-        let used : m.used ≡ n.used = used_same m.used n.used (ap used_in h) (ap used_in k) in
-        let stored : m.stored ≡ n.stored = stored_same m.stored n.stored (ap stored_in h) (ap stored_in k) in
+        let used : m.used ≡ n.used = used_same m.used n.used (ap serial_used_by_outcome h) (ap serial_used_by_outcome k) in
+        let stored : m.stored ≡ n.stored = stored_same m.stored n.stored (ap serial_stored_by_outcome h) (ap serial_stored_by_outcome k) in
         let one = a.closes m h in
         let other = b.closes n k in
         let close : m.close ≡ n.close = one.2 ∙ ap (λ (q : Asked). q.close) (same_Some one.0 other.0 (sym one.1 ∙ other.1)) ∙ sym other.2 in
         let removed : m.removed ≡ n.removed =
-        sym (ap removed_in h) ∙ a.removes ∙ ap (removed_at table es x event) h ∙ removed_same table es x event m n stored used ∙ sym (ap (removed_at table es x event) k) ∙ sym b.removes ∙ ap removed_in k
+        sym (ap serials_removed_by_outcome h) ∙ a.removes ∙ ap (serials_removed_at table es x event) h ∙ removed_same table es x event m n stored used ∙ sym (ap (serials_removed_at table es x event) k) ∙ sym b.removes ∙ ap serials_removed_by_outcome k
         in
         h ∙ ap (λ (r : Reply). Replied r) (reply_same m n bytes close stored used removed) ∙ sym k
 
-    both_send : (s : ℕ) → used_in o ≡ Some s → o ≡ p
+    both_send : (s : ℕ) → serial_used_by_outcome o ≡ Some s → o ≡ p
     both_send s h =
-        let other : used_in p ≡ Some s = (b.sends s).0 ((a.sends s).1 h) in
+        let other : serial_used_by_outcome p ≡ Some s = (b.sends s).0 ((a.sends s).1 h) in
         let one = a.that s h in
         let two = b.that s other in
         both_reply one.reply two.reply one.outcome_is two.outcome_is (bytes_same table es distinct x event o p s one two)
 
     -- a reply that sends nothing held names the same rule
-    named : (m : Reply) → o ≡ Replied m → used_in o ≡ None → NamesByEvent table limit past (next_serial first past) x event m.bytes m.stored
-    named m h unused = subst (NamesFirst table limit past (next_serial first past) x event) h a.names (ap is_none (sym (ap used_in h) ∙ unused))
+    named : (m : Reply) → o ≡ Replied m → serial_used_by_outcome o ≡ None → AnswerNamesByEvent table limit past (next_serial first past) x event m.bytes m.stored
+    named m h unused = subst (AnswerNamesFirstRule table limit past (next_serial first past) x event) h a.names (ap is_none (sym (ap serial_used_by_outcome h) ∙ unused))
 
-  on_error_same : (x : Exchange) (now : ℕ) (kind : FailKind) (m n : List ℕ) → NamesOnError table es now x kind m → NamesOnError table es now x kind n → m ≡ n
+  on_error_same : (x : Exchange) (now : ℕ) (kind : FailKind) (m n : List ℕ) → AnswerAfterFailureNames table es now x kind m → AnswerAfterFailureNames table es now x kind n → m ≡ n
   on_error_same x now kind m n (q, error, least, names, is) (r, error2, least2, names2, is2) =
       let rule : q ≡ r = one_rule (policy_of table.lines x.line) es x.asked now q r least least2 in
-      let same : error ≡ error2 = one_error (policy_of table.lines x.line) es x.asked now r error error2 (subst (λ z. NamesErrorRule (policy_of table.lines x.line) es now x.asked z error) rule names) names2 in
-      is ∙ ap (λ z. refused_text (date_text_of now) (Origin kind z error) x.asked.close (is_head x.asked)) rule
-      ∙ ap (λ z. refused_text (date_text_of now) (Origin kind r z) x.asked.close (is_head x.asked)) same ∙ sym is2
+      let same : error ≡ error2 = one_error (policy_of table.lines x.line) es x.asked now r error error2 (subst (λ z. AnswerNamesErrorRule (policy_of table.lines x.line) es now x.asked z error) rule names) names2 in
+      is ∙ ap (λ z. refusal_reply_text (date_text_of now) (Origin kind z error) x.asked.close (is_head x.asked)) rule
+      ∙ ap (λ z. refusal_reply_text (date_text_of now) (Origin kind r z) x.asked.close (is_head x.asked)) same ∙ sym is2
 
-  module _ (o p : Outcome) (unused : used_in o ≡ None) (other_unused : used_in p ≡ None) where
+  module _ (o p : Outcome) (unused : serial_used_by_outcome o ≡ None) (other_unused : serial_used_by_outcome p ≡ None) where
     arrival_same : (x : Option Exchange) (now id : ℕ) (asked : Asked) → Fits table limit first past x (Arrive now id asked) o → Fits table limit first past x (Arrive now id asked) p → o ≡ p
     arrival_same x now id asked a b = by_verdict (verdict_of table.lines asked.method asked.target) refl
       where
@@ -329,23 +329,23 @@ module _ (table : Table) (limit first : ℕ) (past : List Item) (distinct : Dist
         by_verdict verdict.NoLine v = turned (λ line h. let no : verdict.NoLine ≡ verdict.Allowed line = sym v ∙ h in absurd (cc))
 
     answer_same : (now id : ℕ) (x : Exchange) (r : Response) (a : Fits table limit first past (Some x) (Answer now id r) o) (b : Fits table limit first past (Some x) (Answer now id r) p) →
-        HasFinalAnswer (record { event = Answer now id r; outcome = o }) past → HasFinalAnswer (record { event = Answer now id r; outcome = p }) past → o ≡ p
+        AnswerHasFinalStatus (record { event = Answer now id r; outcome = o }) past → AnswerHasFinalStatus (record { event = Answer now id r; outcome = p }) past → o ≡ p
     answer_same now id x r a b final final2 = by_304 (is_validation x r) refl
       where
-        by_unasked : (u : Bool) → is_unasked x.asked r ≡ u → (m n : Reply) → o ≡ Replied m → p ≡ Replied n → NamesByEvent table limit past (next_serial first past) (Some x) (Answer now id r) m.bytes m.stored →
-            NamesByEvent table limit past (next_serial first past) (Some x) (Answer now id r) n.bytes n.stored → m.bytes ≡ n.bytes
+        by_unasked : (u : Bool) → is_304_without_condition x.asked r ≡ u → (m n : Reply) → o ≡ Replied m → p ≡ Replied n → AnswerNamesByEvent table limit past (next_serial first past) (Some x) (Answer now id r) m.bytes m.stored →
+            AnswerNamesByEvent table limit past (next_serial first past) (Some x) (Answer now id r) n.bytes n.stored → m.bytes ≡ n.bytes
         by_unasked u is m n h k (inl (i, (kept, one))) (inl (j, (kept2, two))) =
             one
-            ∙ ap (λ (s : Option ℕ). passed_text (policy_of table.lines x.line) table.name x r now (is_some s) (rule_shown table x r now (next_serial first past))) (stored_same (Some x) (Answer now id r) o p a b final m.stored n.stored (ap stored_in h) (ap stored_in k))
+            ∙ ap (λ (s : Option ℕ). passed_answer_text (policy_of table.lines x.line) table.name x r now (is_some s) (storing_rule_to_explain table x r now (next_serial first past))) (stored_same (Some x) (Answer now id r) o p a b final m.stored n.stored (ap serial_stored_by_outcome h) (ap serial_stored_by_outcome k))
             ∙ sym two
         by_unasked u is m n h k (inl (i, one)) (inr (j, two)) = no_true (sym i ∙ j)
         by_unasked u is m n h k (inr (i, one)) (inl (j, two)) = no_true (sym j ∙ i)
         by_unasked u is m n h k (inr (i, one)) (inr (j, two)) = on_error_same x now BadAnswer m.bytes n.bytes one two
 
-        replies : IsReply o → IsReply p → o ≡ p
+        replies : IsClientReply o → IsClientReply p → o ≡ p
         replies (m, h) (n, k) =
             both_reply (Some x) (Answer now id r) o p a b final m n h k
-            (by_unasked (is_unasked x.asked r) refl m n h k
+            (by_unasked (is_304_without_condition x.asked r) refl m n h k
             (named (Some x) (Answer now id r) o p a b final m h unused) (named (Some x) (Answer now id r) p o b a final2 n k other_unused))
 
         by_304 : (t : Bool) → is_validation x r ≡ t → o ≡ p
@@ -354,7 +354,7 @@ module _ (table : Table) (limit first : ℕ) (past : List Item) (distinct : Dist
         by_304 false n = replies (a.goes_on.1 (λ asks. no_true (sym n ∙ asks.0))) (b.goes_on.1 (λ asks. no_true (sym n ∙ asks.0)))
 
     failure_same : (now id : ℕ) (x : Exchange) (kind : FailKind) (a : Fits table limit first past (Some x) (Fail now id kind) o) (b : Fits table limit first past (Some x) (Fail now id kind) p) →
-        HasFinalAnswer (record { event = Fail now id kind; outcome = o }) past → HasFinalAnswer (record { event = Fail now id kind; outcome = p }) past → o ≡ p
+        AnswerHasFinalStatus (record { event = Fail now id kind; outcome = o }) past → AnswerHasFinalStatus (record { event = Fail now id kind; outcome = p }) past → o ≡ p
     failure_same now id x kind a b final final2 =
         let m = a.goes_on in
         let n = b.goes_on in
@@ -362,16 +362,16 @@ module _ (table : Table) (limit first : ℕ) (past : List Item) (distinct : Dist
         (on_error_same x now kind m.0.bytes n.0.bytes (named (Some x) (Fail now id kind) o p a b final m.0 m.1 unused) (named (Some x) (Fail now id kind) p o b a final2 n.0 n.1 other_unused))
 
     wake_same : (now id : ℕ) (x : Exchange) (a : Fits table limit first past (Some x) (Wake now id) o) (b : Fits table limit first past (Some x) (Wake now id) p) →
-        HasFinalAnswer (record { event = Wake now id; outcome = o }) past → HasFinalAnswer (record { event = Wake now id; outcome = p }) past → o ≡ p
+        AnswerHasFinalStatus (record { event = Wake now id; outcome = o }) past → AnswerHasFinalStatus (record { event = Wake now id; outcome = p }) past → o ≡ p
     wake_same now id x a b final final2 = by_ways a.goes_on b.goes_on
       where
-        by_ways : IsReply o ⊎ ((rule : ReuseRule) × GoesForward table es x.asked now x.line rule o) → IsReply p ⊎ ((rule : ReuseRule) × GoesForward table es x.asked now x.line rule p) → o ≡ p
+        by_ways : IsClientReply o ⊎ ((rule : ReuseRule) × RequestGoesForward table es x.asked now x.line rule o) → IsClientReply p ⊎ ((rule : ReuseRule) × RequestGoesForward table es x.asked now x.line rule p) → o ≡ p
         by_ways (inl (m, h)) k = absurd (named (Some x) (Wake now id) o p a b final m h unused)
         by_ways (inr m) (inl (n, k)) = absurd (named (Some x) (Wake now id) p o b a final2 n k other_unused)
         by_ways (inr (q, m)) (inr (r, n)) = forward_same table es x.asked now x.line q r o p m n
 
-    unused_same : (x : Option Exchange) (event : Event) → MayCome x event → (a : Fits table limit first past x event o) (b : Fits table limit first past x event p) →
-        HasFinalAnswer (record { event = event; outcome = o }) past → HasFinalAnswer (record { event = event; outcome = p }) past → o ≡ p
+    unused_same : (x : Option Exchange) (event : Event) → EventMayCome x event → (a : Fits table limit first past x event o) (b : Fits table limit first past x event p) →
+        AnswerHasFinalStatus (record { event = event; outcome = o }) past → AnswerHasFinalStatus (record { event = event; outcome = p }) past → o ≡ p
     unused_same x (Arrive now id asked) come a b final final2 = arrival_same x now id asked a b
     unused_same (Some x) (Answer now id r) come a b final final2 = answer_same now id x r a b final final2
     unused_same None (Answer now id r) come a b final final2 = absurd come
@@ -381,31 +381,31 @@ module _ (table : Table) (limit first : ℕ) (past : List Item) (distinct : Dist
     unused_same None (Wake now id) come a b final final2 = absurd come
     unused_same x (Abandon id) come a b final final2 = a.goes_on ∙ sym b.goes_on
 
-  one_outcome : (x : Option Exchange) (event : Event) (o p : Outcome) → MayCome x event → (a : Fits table limit first past x event o) (b : Fits table limit first past x event p) →
-      HasFinalAnswer (record { event = event; outcome = o }) past → HasFinalAnswer (record { event = event; outcome = p }) past → o ≡ p
-  one_outcome x event o p come a b final final2 = by_used (used_in o) refl
+  one_outcome : (x : Option Exchange) (event : Event) (o p : Outcome) → EventMayCome x event → (a : Fits table limit first past x event o) (b : Fits table limit first past x event p) →
+      AnswerHasFinalStatus (record { event = event; outcome = o }) past → AnswerHasFinalStatus (record { event = event; outcome = p }) past → o ≡ p
+  one_outcome x event o p come a b final final2 = by_used (serial_used_by_outcome o) refl
     where
-      by_used : (u : Option ℕ) → used_in o ≡ u → o ≡ p
+      by_used : (u : Option ℕ) → serial_used_by_outcome o ≡ u → o ≡ p
       by_used (Some s) h = both_send x event o p a b final s h
-      by_used None h = unused_same o p h (sym (used_same x event o p a b final (used_in o) (used_in p) refl refl) ∙ h) x event come a b final final2
+      by_used None h = unused_same o p h (sym (used_same x event o p a b final (serial_used_by_outcome o) (serial_used_by_outcome p) refl refl) ∙ h) x event come a b final final2
 
 -- ---- when an event may come
 
-on_time : (now : ℕ) → now < END_OF_TIME → too_late now ≡ None
+on_time : (now : ℕ) → now < END_OF_TIME → moment_too_late_fault now ≡ None
 on_time now h = by_test (ltb now END_OF_TIME) refl
   where
     by_test : (b : Bool) → ltb now END_OF_TIME ≡ b → cond b None (Some MomentTooLate) ≡ None
     by_test true k = refl
     by_test false k = absurd (no_true (grind (arith, nat_tests, h, k)))
 
-no_fault : (x : Option Exchange) (event : Event) → MayCome x event → fault_of x event ≡ None
+no_fault : (x : Option Exchange) (event : Event) → EventMayCome x event → fault_at_exchange x event ≡ None
 no_fault None (Arrive now id asked) h = on_time now h
 no_fault (Some x) (Arrive now id asked) h = absurd h
-no_fault (Some x) (Answer now id r) h = ap (λ f. or_fault f (not_forwarded x.stage)) (on_time now h.0) ∙ ap (λ b. cond b None (Some NotForwarded)) h.1
+no_fault (Some x) (Answer now id r) h = ap (λ f. or_fault f (fault_if_not_forwarded x.stage)) (on_time now h.0) ∙ ap (λ b. cond b None (Some NotForwarded)) h.1
 no_fault None (Answer now id r) h = absurd h
-no_fault (Some x) (Fail now id kind) h = ap (λ f. or_fault f (not_forwarded x.stage)) (on_time now h.0) ∙ ap (λ b. cond b None (Some NotForwarded)) h.1
+no_fault (Some x) (Fail now id kind) h = ap (λ f. or_fault f (fault_if_not_forwarded x.stage)) (on_time now h.0) ∙ ap (λ b. cond b None (Some NotForwarded)) h.1
 no_fault None (Fail now id kind) h = absurd h
-no_fault (Some x) (Wake now id) h = ap (λ f. or_fault f (not_ready x.stage)) (on_time now h.0) ∙ ap (λ b. cond b None (Some NotReady)) h.1
+no_fault (Some x) (Wake now id) h = ap (λ f. or_fault f (fault_if_not_released x.stage)) (on_time now h.0) ∙ ap (λ b. cond b None (Some NotReady)) h.1
 no_fault None (Wake now id) h = absurd h
 no_fault (Some x) (Abandon id) h = refl
 no_fault None (Abandon id) h = absurd h
@@ -413,7 +413,7 @@ no_fault None (Abandon id) h = absurd h
 -- ---- the law
 
 module _ (table : Table) (limit first : ℕ) where
-  fits : (item : Item) (past : List Item) → Headline table limit first (item ∷ past) → Fits table limit first past (find_exchange (id_of item.event) (open_exchanges table limit past)) item.event item.outcome
+  fits : (item : Item) (past : List Item) → Headline table limit first (item ∷ past) → Fits table limit first past (find_exchange (exchange_id_of_event item.event) (open_exchanges table limit past)) item.event item.outcome
   fits item past h = record {
     goes_on = h.goes_on_to_its_answer.0;
     sends = h.sends_where_one_may_be.0;
@@ -427,37 +427,37 @@ module _ (table : Table) (limit first : ℕ) where
 
   -- the steps alone
   record EachFits (trace : List Item) : Type 0 where
-    comes : EachStep (λ item past. MayCome (find_exchange (id_of item.event) (open_exchanges table limit past)) item.event) trace
-    fit : EachStep (λ item past. Fits table limit first past (find_exchange (id_of item.event) (open_exchanges table limit past)) item.event item.outcome) trace
-    final : EachStep HasFinalAnswer trace
+    comes : HoldsAtEachItem (λ item past. EventMayCome (find_exchange (exchange_id_of_event item.event) (open_exchanges table limit past)) item.event) trace
+    fit : HoldsAtEachItem (λ item past. Fits table limit first past (find_exchange (exchange_id_of_event item.event) (open_exchanges table limit past)) item.event item.outcome) trace
+    final : HoldsAtEachItem AnswerHasFinalStatus trace
 
   good : (trace : List Item) → EachFits trace → IsGoodHistory table limit first trace
   good [] h = tt
   good (item ∷ past) h =
       let before = good past record { comes = h.comes.1; fit = h.fit.1; final = h.final.1 } in
       let xs = open_exchanges table limit past in
-      let fault : fault_by xs item.event ≡ None = no_fault (find_exchange (id_of item.event) xs) item.event h.comes.0 in
-      let right : Outcome = outcome_by table (held_entries table limit past) xs (next_serial first past) item.event in
+      let fault : step_fault xs item.event ≡ None = no_fault (find_exchange (exchange_id_of_event item.event) xs) item.event h.comes.0 in
+      let right : Outcome = outcome_of_event table (held_entries table limit past) xs (next_serial first past) item.event in
       let whole = headline table limit first (record { event = item.event; outcome = right } ∷ past) (record { allowed = fault; outcome_is = refl }, before) in (
         record {
           allowed = fault;
           outcome_is =
-              one_outcome table limit first past (held_distinct table limit first past before) (find_exchange (id_of item.event) xs) item.event item.outcome right h.comes.0 h.fit.0
+              one_outcome table limit first past (held_distinct table limit first past before) (find_exchange (exchange_id_of_event item.event) xs) item.event item.outcome right h.comes.0 h.fit.0
               (fits (record { event = item.event; outcome = right }) past whole) h.final.0 h.final.0;
         },
         before,
       )
 
-  each_fits : (trace : List Item) (h : Headline table limit first trace) → EachStep (λ item past. Fits table limit first past (find_exchange (id_of item.event) (open_exchanges table limit past)) item.event item.outcome) trace
+  each_fits : (trace : List Item) (h : Headline table limit first trace) → HoldsAtEachItem (λ item past. Fits table limit first past (find_exchange (exchange_id_of_event item.event) (open_exchanges table limit past)) item.event item.outcome) trace
   each_fits trace h =
       zip trace h.goes_on_to_its_answer h.sends_where_one_may_be h.sends_that_response h.names_the_first_rule h.removes_what_goes h.reaches_where_allowed h.stores_where_it_may h.closes_as_asked
     where
-      zip : (trace : List Item) → EachStep (GoesOn table limit) trace → EachStep (SendsExactly table limit) trace → EachStep (SendsThatResponse table limit) trace → EachStep (NamesTheFirst table limit first) trace →
-          EachStep (RemovesExactly table limit) trace → EachStep (ReachesExactly table limit) trace → EachStep (StoresExactly table limit first) trace → EachStep ClosesAsAsked trace →
-          EachStep (λ item past. Fits table limit first past (find_exchange (id_of item.event) (open_exchanges table limit past)) item.event item.outcome) trace
+      zip : (trace : List Item) → HoldsAtEachItem (ExchangeGoesOnToItsAnswer table limit) trace → HoldsAtEachItem (StoredResponseIsSentExactlyWhereItMayBe table limit) trace → HoldsAtEachItem (SentResponseIsTheStoredOne table limit) trace → HoldsAtEachItem (OtherAnswerNamesTheFirstRule table limit first) trace →
+          HoldsAtEachItem (StoredResponsesAreRemovedExactlyWhereTheyMustBe table limit) trace → HoldsAtEachItem (RequestReachesExactlyWhereAllowed table limit) trace → HoldsAtEachItem (AnswerIsStoredExactlyWhereItMayBe table limit first) trace → HoldsAtEachItem ConnectionClosesAsAsked trace →
+          HoldsAtEachItem (λ item past. Fits table limit first past (find_exchange (exchange_id_of_event item.event) (open_exchanges table limit past)) item.event item.outcome) trace
       zip [] a b c d e f g i = tt
       zip (item ∷ past) a b c d e f g i =
           (record { goes_on = a.0; sends = b.0; that = c.0; names = d.0; removes = e.0; reaches = f.0; stores = g.0; closes = i.0 }, zip past a.1 b.1 c.1 d.1 e.1 f.1 g.1 i.1)
 
-pub no_other_trace_has_it : NoOtherTraceHasIt
+pub no_other_trace_has_it : NoOtherTraceHasTheHeadline
 no_other_trace_has_it table limit first trace h final = good table limit first trace (record { comes = h.comes_where_it_may; fit = each_fits table limit first trace h; final = final })

@@ -4,7 +4,7 @@ use Rattle.std.proofs.lemmas.Bool.{eq-eqb, false≢true}
 use Rattle.hx_target.specs.declared.keys.Key.{Key}
 use Rattle.hx_target.specs.Keys.{same_key}
 use Rattle.hx_hop.specs.declared.request_view.Asked.{Asked}
-use Rattle.hx_allow.specs.Lines.{Table}
+use Rattle.hx_allow.specs.TableLines.{Table}
 use Rattle.hx_allow.specs.Matching.{verdict_of, policy_of}
 use Rattle.hx_store.specs.Stored.{Stored}
 use Rattle.hx_reuse.specs.Rules.{decision_of}
@@ -14,15 +14,15 @@ use Rattle.proxy_core.specs.declared.outcome.Outcome.{Outcome}
 use Rattle.proxy_core.specs.declared.outcome.Outcome.TheVariants.{Reply, Forward, Waits, Ended}
 use Rattle.proxy_core.specs.declared.event.Event.{Event}
 use Rattle.proxy_core.specs.declared.event.Event.TheVariants.{Arrive}
-use Rattle.proxy_core.specs.Outcomes.{find_exchange, id_of, fault_of}
+use Rattle.proxy_core.specs.Outcomes.{find_exchange, exchange_id_of_event, fault_at_exchange}
 use Rattle.proxy_core.specs.declared.open.stage.Stage.TheVariants.{Released}
 use Rattle.proxy_core.specs.Leading.{waits_for}
-use Rattle.proxy_core.specs.State.{State, release, overtake, opened, queued, line_of, rule_of, open_after}
-use Rattle.proxy_core.specs.Traces.{Item, begun, left, IsGood}
+use Rattle.proxy_core.specs.State.{State, released_exchange, overtaken_exchange, forwarded_exchange, waiting_exchange, line_of_verdict, rule_of_decision, open_exchanges_after}
+use Rattle.proxy_core.specs.Traces.{Item, initial_state, state_after_trace, IsGood}
 use Rattle.proxy_core.specs.Histories.{held_entries, open_exchanges}
-use Rattle.proxy_core.specs.Promises.{goes_forward, ends, is_arrival, NoneArrives, key_by_step}
-use Rattle.proxy_core.specs.Carrying.{judges, NoneJudged}
-use Rattle.proxy_core.specs.Meaning.{has_ended, starts, OpenFromArrivalToEnd, OpenByArrivalAlone, HasItsRequest, KeepsItsRule, OvertakenWhereInvalidated}
+use Rattle.proxy_core.specs.Promises.{outcome_goes_forward, outcome_ends_exchange, is_arrival_event, NoRequestArrives, key_invalidated_by_step}
+use Rattle.proxy_core.specs.Carrying.{judges_a_request, NoRequestIsJudged}
+use Rattle.proxy_core.specs.TraceMeaning.{exchange_has_ended, opens_an_exchange, ExchangeIsOpenFromArrivalToEnd, ExchangeOpensByArrivalAlone, OpenExchangeHasItsRequest, OpenExchangeKeepsItsRule, ExchangeIsOvertakenWhereInvalidated}
 use Rattle.proxy_core.proofs.ExchangeLists.{overtaken_by, released_by, changed_by, find-push}
 use Rattle.proxy_core.proofs.Moves.{Move, apart, opens, queues, passes, again, wakes, closes, asked_of, ended_by, forward_goes_on, move_of, and_none}
 use Rattle.proxy_core.proofs.Tracing.{same_table}
@@ -45,63 +45,63 @@ some_changed key gone x = some_overtaken key (released_by gone x) ∙ some_relea
 
 -- one step more of the exchange of an id, no new arrival
 open_step : (id : ℕ) (w : Option Exchange) (event : Event) (o : Outcome) (x y : Option Exchange) (b e : Bool) → Move id w event o x y →
-    (eqb (id_of event) id && is_arrival event) ≡ false → is_some x ≡ (b && not e) →
-    is_some y ≡ (b && not ((eqb (id_of event) id && ends o) || e))
+    (eqb (exchange_id_of_event event) id && is_arrival_event event) ≡ false → is_some x ≡ (b && not e) →
+    is_some y ≡ (b && not ((eqb (exchange_id_of_event event) id && outcome_ends_exchange o) || e))
 open_step id w event o x y b e (apart n h) a i =
-    ap is_some h ∙ some_changed (key_by_step (asked_of w) event o) (ended_by event o) x ∙ i ∙ sym (ap (λ c. b && not ((c && ends o) || e)) n)
+    ap is_some h ∙ some_changed (key_invalidated_by_step (asked_of w) event o) (ended_by event o) x ∙ i ∙ sym (ap (λ c. b && not ((c && outcome_ends_exchange o) || e)) n)
 open_step id w event o x y b e (opens table es now asked line ev x_is f h) a i = absurd (fresh_arrival id now asked event ev a)
 open_step id w event o x y b e (queues table es now asked line leader ev x_is f l h) a i = absurd (fresh_arrival id now asked event ev a)
 open_step id w event o x y b e (passes t ev x_is f h) a i = absurd (not_both _ _ t ev a)
 open_step id w event o x y b e (again z now t ev x_is c f h j s) a i =
     ap is_some h ∙ sym (ap is_some x_is) ∙ i
-    ∙ sym (ap (λ c. b && not (c || e)) (ap (λ c. eqb (id_of event) id && c) (forward_goes_on o f) ∙ and_none (eqb (id_of event) id)))
+    ∙ sym (ap (λ c. b && not (c || e)) (ap (λ c. eqb (exchange_id_of_event event) id && c) (forward_goes_on o f) ∙ and_none (eqb (exchange_id_of_event event) id)))
 open_step id w event o x y b e (wakes table es z now ev x_is s f h) a i =
     ap is_some h ∙ sym (ap is_some x_is) ∙ i
-    ∙ sym (ap (λ c. b && not (c || e)) (ap (λ c. eqb (id_of event) id && c) (forward_goes_on o f) ∙ and_none (eqb (id_of event) id)))
+    ∙ sym (ap (λ c. b && not (c || e)) (ap (λ c. eqb (exchange_id_of_event event) id && c) (forward_goes_on o f) ∙ and_none (eqb (exchange_id_of_event event) id)))
 open_step id w event o x y b e (closes z t ev x_is f h) a i =
-    ap is_some h ∙ sym (ap (λ c. b && not (c || e)) (ap (λ c. c && ends o) t ∙ f) ∙ and_none b)
+    ap is_some h ∙ sym (ap (λ c. b && not (c || e)) (ap (λ c. c && outcome_ends_exchange o) t ∙ f) ∙ and_none b)
 
 open_first : (id : ℕ) (w : Option Exchange) (event : Event) (o : Outcome) (x y : Option Exchange) → Move id w event o x y →
-    eqb (id_of event) id ≡ true → is_arrival event ≡ true → is_some y ≡ (starts o && true)
+    eqb (exchange_id_of_event event) id ≡ true → is_arrival_event event ≡ true → is_some y ≡ (opens_an_exchange o && true)
 open_first id w event o x y (apart n h) t a = absurd (false≢true (sym n ∙ t))
 open_first id w event o x y (opens table es now asked line ev x_is f h) t a = ap is_some h ∙ sym (ap (λ b. b && true) (forward_starts o f))
   where
-    forward_starts : (o : Outcome) → goes_forward o ≡ true → starts o ≡ true
+    forward_starts : (o : Outcome) → outcome_goes_forward o ≡ true → opens_an_exchange o ≡ true
     forward_starts (Reply r) h = absurd (false≢true h)
     forward_starts (Forward line bytes) h = refl
     forward_starts (Waits leader) h = refl
     forward_starts Ended h = absurd (false≢true h)
-open_first id w event o x y (queues table es now asked line leader ev x_is f l h) t a = ap is_some h ∙ sym (ap (λ (o : Outcome). starts o && true) f)
+open_first id w event o x y (queues table es now asked line leader ev x_is f l h) t a = ap is_some h ∙ sym (ap (λ (o : Outcome). opens_an_exchange o && true) f)
 open_first id w event o x y (passes u ev x_is f h) t a = ap is_some h ∙ sym (ap (λ b. b && true) (none_starts o f))
   where
-    none_starts : (o : Outcome) → ends o ≡ true → starts o ≡ false
+    none_starts : (o : Outcome) → outcome_ends_exchange o ≡ true → opens_an_exchange o ≡ false
     none_starts (Reply r) h = refl
     none_starts (Forward line bytes) h = absurd (false≢true h)
     none_starts (Waits leader) h = absurd (false≢true h)
     none_starts Ended h = refl
 open_first id w event o x y (again z now u ev x_is c f h j s) t a = absurd (false≢true (sym ev ∙ a))
-open_first id w event o x y (wakes table es z now ev x_is s f h) t a = absurd (false≢true (sym (ap is_arrival ev) ∙ a))
+open_first id w event o x y (wakes table es z now ev x_is s f h) t a = absurd (false≢true (sym (ap is_arrival_event ev) ∙ a))
 open_first id w event o x y (closes z u ev x_is f h) t a = absurd (false≢true (sym ev ∙ a))
 
 module _ (start : State) (before : List Item) (arrival : Item) where
-  open_plain : (items : List Item) → IsGood start (items ++ arrival ∷ before) → is_arrival arrival.event ≡ true → NoneArrives (id_of arrival.event) items →
-      is_some (find_exchange (id_of arrival.event) (left start (items ++ arrival ∷ before)).exchanges) ≡ (starts arrival.outcome && not (has_ended (id_of arrival.event) items))
-  open_plain [] g a n = open_first _ _ _ _ _ _ (move_of start.table (left start before) arrival (id_of arrival.event) (same_table start before) g.0) (eq-eqb (id_of arrival.event) (id_of arrival.event) refl) a
+  open_plain : (items : List Item) → IsGood start (items ++ arrival ∷ before) → is_arrival_event arrival.event ≡ true → NoRequestArrives (exchange_id_of_event arrival.event) items →
+      is_some (find_exchange (exchange_id_of_event arrival.event) (state_after_trace start (items ++ arrival ∷ before)).exchanges) ≡ (opens_an_exchange arrival.outcome && not (exchange_has_ended (exchange_id_of_event arrival.event) items))
+  open_plain [] g a n = open_first _ _ _ _ _ _ (move_of start.table (state_after_trace start before) arrival (exchange_id_of_event arrival.event) (same_table start before) g.0) (eq-eqb (exchange_id_of_event arrival.event) (exchange_id_of_event arrival.event) refl) a
   open_plain (i ∷ items) g a n =
-      open_step _ _ _ _ _ _ (starts arrival.outcome) (has_ended (id_of arrival.event) items)
-      (move_of start.table (left start (items ++ arrival ∷ before)) i (id_of arrival.event) (same_table start (items ++ arrival ∷ before)) g.0) n.0 (open_plain items g.1 a n.1)
+      open_step _ _ _ _ _ _ (opens_an_exchange arrival.outcome) (exchange_has_ended (exchange_id_of_event arrival.event) items)
+      (move_of start.table (state_after_trace start (items ++ arrival ∷ before)) i (exchange_id_of_event arrival.event) (same_table start (items ++ arrival ∷ before)) g.0) n.0 (open_plain items g.1 a n.1)
 
-pub open_from_arrival_to_end : OpenFromArrivalToEnd
+pub open_from_arrival_to_end : ExchangeIsOpenFromArrivalToEnd
 open_from_arrival_to_end table limit first items before arrival g a n =
     let p = good_plain table limit first (items ++ arrival ∷ before) g in
-    sym (ap (λ xs. is_some (find_exchange (id_of arrival.event) xs)) (exchanges_are_open table limit first (items ++ arrival ∷ before) p))
-    ∙ open_plain (begun table limit first) before arrival items p a n
+    sym (ap (λ xs. is_some (find_exchange (exchange_id_of_event arrival.event) xs)) (exchanges_are_open table limit first (items ++ arrival ∷ before) p))
+    ∙ open_plain (initial_state table limit first) before arrival items p a n
 
 -- ---- of which no request arrived
 
 none_step : (id : ℕ) (w : Option Exchange) (event : Event) (o : Outcome) (x y : Option Exchange) → Move id w event o x y →
-    (eqb (id_of event) id && is_arrival event) ≡ false → x ≡ None → y ≡ None
-none_step id w event o x y (apart n h) a i = h ∙ ap (changed_by (key_by_step (asked_of w) event o) (ended_by event o)) i ∙ none_changed (key_by_step (asked_of w) event o) (ended_by event o)
+    (eqb (exchange_id_of_event event) id && is_arrival_event event) ≡ false → x ≡ None → y ≡ None
+none_step id w event o x y (apart n h) a i = h ∙ ap (changed_by (key_invalidated_by_step (asked_of w) event o) (ended_by event o)) i ∙ none_changed (key_invalidated_by_step (asked_of w) event o) (ended_by event o)
   where
     none_changed : (key : Option Key) (gone : Option ℕ) → changed_by key gone None ≡ None
     none_changed None None = refl
@@ -115,31 +115,31 @@ none_step id w event o x y (wakes table es z now ev x_is s f h) a i = absurd (fa
 none_step id w event o x y (again z now t ev x_is c f h j s) a i = absurd (false≢true (ap is_some (sym i ∙ x_is)))
 none_step id w event o x y (closes z t ev x_is f h) a i = h
 
-none_plain : (table : Table) (limit first id : ℕ) (trace : List Item) → IsGood (begun table limit first) trace → NoneArrives id trace →
-    find_exchange id (left (begun table limit first) trace).exchanges ≡ None
+none_plain : (table : Table) (limit first id : ℕ) (trace : List Item) → IsGood (initial_state table limit first) trace → NoRequestArrives id trace →
+    find_exchange id (state_after_trace (initial_state table limit first) trace).exchanges ≡ None
 none_plain table limit first id [] g n = refl
 none_plain table limit first id (i ∷ past) g n =
-    none_step _ _ _ _ _ _ (move_of table (left (begun table limit first) past) i id (same_table (begun table limit first) past) g.0) n.0 (none_plain table limit first id past g.1 n.1)
+    none_step _ _ _ _ _ _ (move_of table (state_after_trace (initial_state table limit first) past) i id (same_table (initial_state table limit first) past) g.0) n.0 (none_plain table limit first id past g.1 n.1)
 
-pub open_by_arrival_alone : OpenByArrivalAlone
+pub open_by_arrival_alone : ExchangeOpensByArrivalAlone
 open_by_arrival_alone table limit first id trace g n =
     let p = good_plain table limit first trace g in
     sym (ap (find_exchange id) (exchanges_are_open table limit first trace p)) ∙ none_plain table limit first id trace p n
 
 -- ---- its request, its rule and its mark
 
-pub has_its_request : HasItsRequest
+pub has_its_request : OpenExchangeHasItsRequest
 has_its_request table limit first id trace x g h =
     let p = good_plain table limit first trace g in
     asked_is table limit first trace p id x.asked (ap asked_of (ap (find_exchange id) (exchanges_are_open table limit first trace p) ∙ h))
 
-pub overtaken_where_invalidated : OvertakenWhereInvalidated
+pub overtaken_where_invalidated : ExchangeIsOvertakenWhereInvalidated
 overtaken_where_invalidated table limit first items before f x g o n h stage =
     let p = good_plain table limit first (items ++ f ∷ before) g in
-    (out_since table limit first f before (id_of f.event) items p o refl n x
-    (ap (find_exchange (id_of f.event)) (exchanges_are_open table limit first (items ++ f ∷ before) p) ∙ h) stage).1
+    (out_since table limit first f before (exchange_id_of_event f.event) items p o refl n x
+    (ap (find_exchange (exchange_id_of_event f.event)) (exchanges_are_open table limit first (items ++ f ∷ before) p) ∙ h) stage).1
 
-overtake_rule : (rule : ℕ → ReuseRule) (key : Key) (x : Exchange) → x.rule ≡ rule x.line → (overtake key x).rule ≡ rule (overtake key x).line
+overtake_rule : (rule : ℕ → ReuseRule) (key : Key) (x : Exchange) → x.rule ≡ rule x.line → (overtaken_exchange key x).rule ≡ rule (overtaken_exchange key x).line
 overtake_rule rule key x h = elim (same_key x.asked.target.key key) as (λ b. (cond b (record x { overtaken = true }) x).rule ≡ rule (cond b (record x { overtaken = true }) x).line) [
   | true ↦ h
   | false ↦ h
@@ -152,9 +152,9 @@ HasRule rule (Some x) = x.rule ≡ rule x.line
 
 -- by the word of a line
 abbrev rule_for : Table → List Stored → Asked → ℕ → ℕ → ReuseRule
-rule_for table es asked now line = rule_of (decision_of (policy_of table.lines line) es asked now)
+rule_for table es asked now line = rule_of_decision (decision_of (policy_of table.lines line) es asked now)
 
-release_rule : (rule : ℕ → ReuseRule) (i : ℕ) (x : Exchange) → x.rule ≡ rule x.line → (release i x).rule ≡ rule (release i x).line
+release_rule : (rule : ℕ → ReuseRule) (i : ℕ) (x : Exchange) → x.rule ≡ rule x.line → (released_exchange i x).rule ≡ rule (released_exchange i x).line
 release_rule rule i x h = elim (waits_for i x.stage) as (λ b. (cond b (record x { stage = Released }) x).rule ≡ rule (cond b (record x { stage = Released }) x).line) [
   | true ↦ h
   | false ↦ h
@@ -172,17 +172,17 @@ rule_marked rule None x h = h
 rule_marked rule (Some key) None h = tt
 rule_marked rule (Some key) (Some x) h = overtake_rule rule key x h
 
-judged_now : (id : ℕ) (event : Event) → (eqb (id_of event) id && judges event) ≡ true → (eqb (id_of event) id && judges event) ≡ false → ⊥
+judged_now : (id : ℕ) (event : Event) → (eqb (exchange_id_of_event event) id && judges_a_request event) ≡ true → (eqb (exchange_id_of_event event) id && judges_a_request event) ≡ false → ⊥
 judged_now id event h a = false≢true (sym a ∙ h)
 
 rule_step : (rule : ℕ → ReuseRule) (id : ℕ) (w : Option Exchange) (event : Event) (o : Outcome) (x y : Option Exchange) → Move id w event o x y →
-    (eqb (id_of event) id && judges event) ≡ false → HasRule rule x → HasRule rule y
+    (eqb (exchange_id_of_event event) id && judges_a_request event) ≡ false → HasRule rule x → HasRule rule y
 unfolding HasRule
 rule_step rule id w event o x y (apart n h) a i =
-    subst (HasRule rule) (sym h) (rule_marked rule (key_by_step (asked_of w) event o) (released_by (ended_by event o) x) (rule_released rule (ended_by event o) x i))
-rule_step rule id w event o x y (opens table es now asked line ev x_is f h) a i = absurd (judged_now id event (ap (λ v. eqb (id_of v) id && judges v) ev ∙ ap (λ b. b && true) (eq-eqb id id refl)) a)
-rule_step rule id w event o x y (queues table es now asked line leader ev x_is f l h) a i = absurd (judged_now id event (ap (λ v. eqb (id_of v) id && judges v) ev ∙ ap (λ b. b && true) (eq-eqb id id refl)) a)
-rule_step rule id w event o x y (wakes table es z now ev x_is s f h) a i = absurd (judged_now id event (ap (λ v. eqb (id_of v) id && judges v) ev ∙ ap (λ b. b && true) (eq-eqb id id refl)) a)
+    subst (HasRule rule) (sym h) (rule_marked rule (key_invalidated_by_step (asked_of w) event o) (released_by (ended_by event o) x) (rule_released rule (ended_by event o) x i))
+rule_step rule id w event o x y (opens table es now asked line ev x_is f h) a i = absurd (judged_now id event (ap (λ v. eqb (exchange_id_of_event v) id && judges_a_request v) ev ∙ ap (λ b. b && true) (eq-eqb id id refl)) a)
+rule_step rule id w event o x y (queues table es now asked line leader ev x_is f l h) a i = absurd (judged_now id event (ap (λ v. eqb (exchange_id_of_event v) id && judges_a_request v) ev ∙ ap (λ b. b && true) (eq-eqb id id refl)) a)
+rule_step rule id w event o x y (wakes table es z now ev x_is s f h) a i = absurd (judged_now id event (ap (λ v. eqb (exchange_id_of_event v) id && judges_a_request v) ev ∙ ap (λ b. b && true) (eq-eqb id id refl)) a)
 rule_step rule id w event o x y (passes t ev x_is f h) a i = subst (HasRule rule) (sym h) tt
 rule_step rule id w event o x y (again z now t ev x_is c f h j s) a i =
     let was : HasRule rule (Some z) = subst (HasRule rule) x_is i in
@@ -191,22 +191,22 @@ rule_step rule id w event o x y (closes z t ev x_is f h) a i = subst (HasRule ru
 
 -- at the arrival
 rule_first : (table : Table) (es : List Stored) (xs : List Exchange) (now id : ℕ) (asked : Asked) (o : Outcome) → find_exchange id xs ≡ None →
-    HasRule (rule_for table es asked now) (find_exchange id (open_after table es xs (Arrive now id asked) o))
+    HasRule (rule_for table es asked now) (find_exchange id (open_exchanges_after table es xs (Arrive now id asked) o))
 unfolding HasRule
 rule_first table es xs now id asked (Forward line bytes) f =
     let rule = rule_for table es asked now in
-    let here : find_exchange id (xs ++ opened table es now id asked line ∷ []) ≡ Some (opened table es now id asked line) =
-    find-push id xs (opened table es now id asked line) f ∙ ap (λ b. cond b (Some (opened table es now id asked line)) (find_exchange id xs)) (eq-eqb id id refl)
+    let here : find_exchange id (xs ++ forwarded_exchange table es now id asked line ∷ []) ≡ Some (forwarded_exchange table es now id asked line) =
+    find-push id xs (forwarded_exchange table es now id asked line) f ∙ ap (λ b. cond b (Some (forwarded_exchange table es now id asked line)) (find_exchange id xs)) (eq-eqb id id refl)
     in
     subst (HasRule rule) (sym here) refl
 rule_first table es xs now id asked (Waits leader) f =
-    let line : ℕ = line_of (verdict_of table.lines asked.method asked.target) in
-    subst (HasRule (rule_for table es asked now)) (sym (find-push id xs (queued table es now id asked line leader) f ∙ ap (λ b. cond b (Some (queued table es now id asked line leader)) (find_exchange id xs)) (eq-eqb id id refl))) refl
+    let line : ℕ = line_of_verdict (verdict_of table.lines asked.method asked.target) in
+    subst (HasRule (rule_for table es asked now)) (sym (find-push id xs (waiting_exchange table es now id asked line leader) f ∙ ap (λ b. cond b (Some (waiting_exchange table es now id asked line leader)) (find_exchange id xs)) (eq-eqb id id refl))) refl
 rule_first table es xs now id asked (Reply r) f = subst (HasRule (rule_for table es asked now)) (sym f) tt
 rule_first table es xs now id asked Ended f = subst (HasRule (rule_for table es asked now)) (sym f) tt
 
 -- what arrives has an id that is free
-pub id_was_free : (w : Option Exchange) (now id : ℕ) (asked : Asked) → fault_of w (Arrive now id asked) ≡ None → w ≡ None
+pub id_was_free : (w : Option Exchange) (now id : ℕ) (asked : Asked) → fault_at_exchange w (Arrive now id asked) ≡ None → w ≡ None
 id_was_free None now id asked h = refl
 id_was_free (Some x) now id asked h = absurd (cc)
 
@@ -215,26 +215,26 @@ module _ (table : Table) (limit first now id : ℕ) (asked : Asked) (before : Li
   arrival = record { event = Arrive now id asked; outcome = o }
 
   abbrev start : State
-  start = begun table limit first
+  start = initial_state table limit first
 
-  rule_plain : (items : List Item) → IsGood start (items ++ arrival ∷ before) → NoneJudged id items →
-      HasRule (rule_for table (left start before).entries asked now) (find_exchange id (left start (items ++ arrival ∷ before)).exchanges)
+  rule_plain : (items : List Item) → IsGood start (items ++ arrival ∷ before) → NoRequestIsJudged id items →
+      HasRule (rule_for table (state_after_trace start before).entries asked now) (find_exchange id (state_after_trace start (items ++ arrival ∷ before)).exchanges)
   rule_plain [] g n =
-      let s = left start before in
-      subst (λ (t : Table). HasRule (rule_for table s.entries asked now) (find_exchange id (open_after t s.entries s.exchanges (Arrive now id asked) o))) (sym (same_table start before))
+      let s = state_after_trace start before in
+      subst (λ (t : Table). HasRule (rule_for table s.entries asked now) (find_exchange id (open_exchanges_after t s.entries s.exchanges (Arrive now id asked) o))) (sym (same_table start before))
       (rule_first table s.entries s.exchanges now id asked o (id_was_free (find_exchange id s.exchanges) now id asked g.0.allowed))
   rule_plain (i ∷ items) g n =
-      rule_step (rule_for table (left start before).entries asked now) id _ _ _ _ _
-      (move_of table (left start (items ++ arrival ∷ before)) i id (same_table start (items ++ arrival ∷ before)) g.0) n.0 (rule_plain items g.1 n.1)
+      rule_step (rule_for table (state_after_trace start before).entries asked now) id _ _ _ _ _
+      (move_of table (state_after_trace start (items ++ arrival ∷ before)) i id (same_table start (items ++ arrival ∷ before)) g.0) n.0 (rule_plain items g.1 n.1)
 
-  rule_held : (items : List Item) (x : Exchange) → IsGood start (items ++ arrival ∷ before) → NoneJudged id items →
-      find_exchange id (open_exchanges table limit (items ++ arrival ∷ before)) ≡ Some x → x.rule ≡ rule_of (decision_of (policy_of table.lines x.line) (held_entries table limit before) asked now)
+  rule_held : (items : List Item) (x : Exchange) → IsGood start (items ++ arrival ∷ before) → NoRequestIsJudged id items →
+      find_exchange id (open_exchanges table limit (items ++ arrival ∷ before)) ≡ Some x → x.rule ≡ rule_of_decision (decision_of (policy_of table.lines x.line) (held_entries table limit before) asked now)
   unfolding HasRule
   rule_held items x p n h =
       let here = ap (find_exchange id) (exchanges_are_open table limit first (items ++ arrival ∷ before) p) ∙ h in
       let es_is = entries_are_held table limit first before (part start (items ++ arrival ∷ []) before (subst (IsGood start) (split items) p)) in
-      let has : HasRule (rule_for table (left start before).entries asked now) (Some x) =
-      subst (HasRule (rule_for table (left start before).entries asked now)) here (rule_plain items p n)
+      let has : HasRule (rule_for table (state_after_trace start before).entries asked now) (Some x) =
+      subst (HasRule (rule_for table (state_after_trace start before).entries asked now)) here (rule_plain items p n)
       in
       has ∙ ap (λ es. rule_for table es asked now x.line) es_is
     where
@@ -242,9 +242,9 @@ module _ (table : Table) (limit first now id : ℕ) (asked : Asked) (before : Li
       split [] = refl
       split (i ∷ items) = ap (λ zs. i ∷ zs) (split items)
 
-pub keeps_its_rule : KeepsItsRule
+pub keeps_its_rule : OpenExchangeKeepsItsRule
 keeps_its_rule table limit first now id asked items before arrival x g e n h =
     let same : arrival ≡ record { event = Arrive now id asked; outcome = arrival.outcome } = ap (λ (v : Event). record { event = v; outcome = arrival.outcome }) e in
-    let p = subst (λ (a : Item). IsGood (begun table limit first) (items ++ a ∷ before)) same (good_plain table limit first (items ++ arrival ∷ before) g) in
+    let p = subst (λ (a : Item). IsGood (initial_state table limit first) (items ++ a ∷ before)) same (good_plain table limit first (items ++ arrival ∷ before) g) in
     rule_held table limit first now id asked before arrival.outcome items x p n
     (subst (λ (a : Item). find_exchange id (open_exchanges table limit (items ++ a ∷ before)) ≡ Some x) same h)

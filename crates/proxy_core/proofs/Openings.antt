@@ -15,21 +15,21 @@ use Rattle.proxy_core.specs.declared.open.exchange.Exchange.{Exchange}
 use Rattle.proxy_core.specs.declared.outcome.Outcome.{Outcome}
 use Rattle.proxy_core.specs.declared.event.Event.{Event}
 use Rattle.proxy_core.specs.declared.event.Event.TheVariants.{Arrive}
-use Rattle.proxy_core.specs.Leading.{is_for_others}
-use Rattle.proxy_core.specs.Validating.{condition_at}
-use Rattle.proxy_core.specs.Outcomes.{sent_on}
-use Rattle.proxy_core.specs.State.{State, rule_of, named_by, line_of, placed, after}
+use Rattle.proxy_core.specs.Leading.{may_be_answered_for_others}
+use Rattle.proxy_core.specs.Validating.{condition_about_serial}
+use Rattle.proxy_core.specs.Outcomes.{outcome_of_waiting_or_forwarding}
+use Rattle.proxy_core.specs.State.{State, rule_of_decision, serial_named_by_decision, line_of_verdict, exchange_with_leader, state_after}
 
 abbrev form : State → ℕ → ℕ → Asked → ℕ → Stage → Decision → Exchange
 form s now id asked line stage d = record {
   id = id;
   asked = asked;
   line = line;
-  rule = rule_of d;
+  rule = rule_of_decision d;
   request_time = now;
-  condition = condition_at s.entries (named_by d);
+  condition = condition_about_serial s.entries (serial_named_by_decision d);
   overtaken = false;
-  for_others = is_for_others asked;
+  for_others = may_be_answered_for_others asked;
   stage = stage;
 }
 
@@ -38,23 +38,23 @@ with_one_more s x = record s { exchanges = s.exchanges ++ x ∷ [] }
 
 pub opens_of : (s : State) (now id line : ℕ) (asked : Asked) (rule : ReuseRule) (against o : Option ℕ) → verdict_of s.table.lines asked.method asked.target ≡ verdict.Allowed line →
     decision_of (policy_of s.table.lines line) s.entries asked now ≡ decision.Forward rule against →
-    record s { exchanges = s.exchanges ++ placed o (form s now id asked line Forwarded (decision.Forward rule against)) ∷ [] }
-    ≡ after s (Arrive now id asked) (sent_on s.table line asked (condition_at s.entries against) o)
+    record s { exchanges = s.exchanges ++ exchange_with_leader o (form s now id asked line Forwarded (decision.Forward rule against)) ∷ [] }
+    ≡ state_after s (Arrive now id asked) (outcome_of_waiting_or_forwarding s.table line asked (condition_about_serial s.entries against) o)
 opens_of s now id line asked rule against None v d = ap (λ (k : Decision). with_one_more s (form s now id asked line Forwarded k)) (sym d)
 opens_of s now id line asked rule against (Some leader) v d =
     ap (λ (k : Decision). with_one_more s (form s now id asked line (Waiting leader) k)) (sym d)
-    ∙ ap (λ (w : Verdict). with_one_more s (form s now id asked (line_of w) (Waiting leader) (decision_of (policy_of s.table.lines (line_of w)) s.entries asked now))) (sym v)
+    ∙ ap (λ (w : Verdict). with_one_more s (form s now id asked (line_of_verdict w) (Waiting leader) (decision_of (policy_of s.table.lines (line_of_verdict w)) s.entries asked now))) (sym v)
 
 -- what a call gives, and leaves where it gives that
-pub both : {E : Type 0} (s : State) (event : Event) (t u : State) (a : Outcome) (r : Result Outcome E) → IfOk r (λ o. o ≡ a) → OnOk r (t ≡ u) → u ≡ after s event a → IfOk r (λ o. t ≡ after s event o)
-both s event t u a (Ok o) is leaves m = leaves ∙ (m ∙ ap (after s event) (sym is))
+pub both : {E : Type 0} (s : State) (event : Event) (t u : State) (a : Outcome) (r : Result Outcome E) → IfOk r (λ o. o ≡ a) → OnOk r (t ≡ u) → u ≡ state_after s event a → IfOk r (λ o. t ≡ state_after s event o)
+both s event t u a (Ok o) is leaves m = leaves ∙ (m ∙ ap (state_after s event) (sym is))
 both s event t u a (Err e) is leaves m = tt
 
 -- the same of what the parts of the exchange are known to be
 pub opens_by : (s : State) (now id line : ℕ) (asked other : Asked) (rule : ReuseRule) (against o : Option ℕ) (condition : Option Condition) (for_others : Bool) →
     verdict_of s.table.lines asked.method asked.target ≡ verdict.Allowed line → decision_of (policy_of s.table.lines line) s.entries asked now ≡ decision.Forward rule against →
-    other ≡ asked → condition ≡ condition_at s.entries against → for_others ≡ is_for_others asked →
+    other ≡ asked → condition ≡ condition_about_serial s.entries against → for_others ≡ may_be_answered_for_others asked →
     record s {
-      exchanges = s.exchanges ++ placed o (record { id = id; asked = other; line = line; rule = rule; request_time = now; condition = condition; overtaken = false; for_others = for_others; stage = Forwarded }) ∷ [];
-    } ≡ after s (Arrive now id asked) (sent_on s.table line other condition o)
+      exchanges = s.exchanges ++ exchange_with_leader o (record { id = id; asked = other; line = line; rule = rule; request_time = now; condition = condition; overtaken = false; for_others = for_others; stage = Forwarded }) ∷ [];
+    } ≡ state_after s (Arrive now id asked) (outcome_of_waiting_or_forwarding s.table line other condition o)
 opens_by s now id line asked other rule against o condition for_others v d same asks is = rw same (rw asks (rw is (opens_of s now id line asked rule against o v d)))

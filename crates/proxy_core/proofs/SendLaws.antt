@@ -7,7 +7,7 @@ use Rattle.hx_policy.specs.declared.words.Policy.{Policy}
 use Rattle.hx_directives.specs.Occurrences.{occurrences_of}
 use Rattle.hx_framing.specs.declared.messages.Response.{Response}
 use Rattle.hx_hop.specs.declared.request_view.Asked.{Asked}
-use Rattle.hx_allow.specs.Lines.{Table}
+use Rattle.hx_allow.specs.TableLines.{Table}
 use Rattle.hx_allow.specs.Matching.{verdict_of, policy_of}
 use Rattle.hx_allow.specs.declared.verdicts.Verdict.{Verdict}
 use Rattle.hx_allow.specs.declared.verdicts.Verdict.TheVariants as verdict
@@ -15,10 +15,10 @@ use Rattle.hx_store.specs.Stored.{Stored}
 use Rattle.hx_store.specs.Serials.{Distinct}
 use Rattle.hx_store.specs.Shelf.{serials, find_entry}
 use Rattle.hx_reuse.specs.Chosen.{chosen_of}
-use Rattle.hx_reuse.specs.Rules.{decision_of, names_entry}
+use Rattle.hx_reuse.specs.Rules.{decision_of, names_chosen}
 use Rattle.hx_reuse.specs.ErrorRules.{error_rule_on}
-use Rattle.hx_reuse.specs.Meaning.{IsLeast, NamesTheResponse}
-use Rattle.hx_reuse.specs.Words.{number_of}
+use Rattle.hx_reuse.specs.ChosenAndNamed.{IsLeastReuseRule, RuleNamesTheResponse}
+use Rattle.hx_reuse.specs.RuleNames.{reuse_rule_number}
 use Rattle.hx_reuse.specs.declared.rule.ReuseRule.{ReuseRule}
 use Rattle.hx_reuse.specs.declared.rule.ReuseRule.TheVariants as rules
 use Rattle.hx_reuse.specs.declared.rule.ErrorRule.{ErrorRule}
@@ -40,14 +40,14 @@ use Rattle.proxy_core.specs.declared.outcome.Outcome.{Outcome}
 use Rattle.proxy_core.specs.declared.outcome.Outcome.TheVariants.{Forward}
 use Rattle.proxy_core.specs.declared.event.Event.{Event}
 use Rattle.proxy_core.specs.declared.event.Event.TheVariants.{Arrive, Answer, Fail, Wake, Abandon}
-use Rattle.proxy_core.specs.Validating.{condition_at, is_validation, validated, refreshed}
-use Rattle.proxy_core.specs.Storing.{is_unasked}
-use Rattle.proxy_core.specs.Leading.{leader_for}
-use Rattle.proxy_core.specs.Outcomes.{find_exchange, id_of, arrived, allowed, sent_on, unanswered, woken, is_only_if_cached, error_rule_at, fallback_by, fallback_for, failed, is_error_status, passed_unless, revalidated, answered, outcome_of, outcome_by, forward_text}
-use Rattle.proxy_core.specs.State.{used_in}
+use Rattle.proxy_core.specs.Validating.{condition_about_serial, is_validation, stored_response_validated, freshened_by_304}
+use Rattle.proxy_core.specs.Storing.{is_304_without_condition}
+use Rattle.proxy_core.specs.Leading.{leader_of_request}
+use Rattle.proxy_core.specs.Outcomes.{find_exchange, exchange_id_of_event, outcome_of_arrival, outcome_of_allowed_request, outcome_of_waiting_or_forwarding, outcome_without_stored_response, outcome_of_wake, is_only_if_cached, error_rule_at, fallback_with_error_rule, fallback_for, outcome_of_failure, is_error_status, outcome_of_passing_on_or_stale, outcome_of_304, outcome_of_answer, outcome_of, outcome_of_event, forward_text}
+use Rattle.proxy_core.specs.State.{serial_used_by_outcome}
 use Rattle.proxy_core.specs.Traces.{Item}
 use Rattle.proxy_core.specs.Histories.{IsGoodHistory, held_entries, open_exchanges, next_serial}
-use Rattle.proxy_core.specs.Sending.{IsReusable, MayBeSentInstead, IsFallback, MayBeSentAt, IsReached, IsTurnedAway, SendsStoredWhereItMay, SendsStoredNowhereElse, ForwardsWhereAllowed, ForwardsNowhereElse, ReachesWhereAllowed, RefusesWhereNotAllowed}
+use Rattle.proxy_core.specs.Sending.{StoredResponseIsReusable, MayBeSentInsteadOfError, IsStoredFallback, StoredResponseMayBeSentAt, RequestReachesCacheOrOrigin, RequestIsTurnedAway, StoredResponseIsSentWhereItMayBe, StoredResponseIsSentNowhereElse, RequestIsForwardedWhereAllowed, RequestIsForwardedNowhereElse, AllowedRequestReachesCacheOrOrigin, OtherRequestIsRefused}
 use Rattle.proxy_core.proofs.Leaving.{serial_stays}
 use Rattle.proxy_core.proofs.Leads.{nobody_leads, is_led, led_by}
 use Rattle.proxy_core.proofs.FirstRules.{held_distinct}
@@ -59,13 +59,13 @@ same_hit : (m n : ℕ) → decision.Hit m ≡ decision.Hit n → m ≡ n
 same_hit m n h = cc
 
 -- a rule on the chosen response comes behind each of the others
-comes_before : (other rule : ReuseRule) → names_entry other ≡ false → names_entry rule ≡ true → number_of other < number_of rule
+comes_before : (other rule : ReuseRule) → names_chosen other ≡ false → names_chosen rule ≡ true → reuse_rule_number other < reuse_rule_number rule
 comes_before other rule low late = omega (arith, at_most_six other low, seven_or_more rule late)
   where
     no_true : true ≡ false → ⊥
     no_true h = cc
 
-    at_most_six : (r : ReuseRule) → names_entry r ≡ false → number_of r ≤ 6
+    at_most_six : (r : ReuseRule) → names_chosen r ≡ false → reuse_rule_number r ≤ 6
     at_most_six rules.Operator h = omega arith
     at_most_six rules.Method h = omega arith
     at_most_six rules.Content h = omega arith
@@ -85,7 +85,7 @@ comes_before other rule low late = omega (arith, at_most_six other low, seven_or
     at_most_six rules.StaleMaxAge h = absurd (no_true h)
     at_most_six rules.StaleMinFresh h = absurd (no_true h)
 
-    seven_or_more : (r : ReuseRule) → names_entry r ≡ true → 7 ≤ number_of r
+    seven_or_more : (r : ReuseRule) → names_chosen r ≡ true → 7 ≤ reuse_rule_number r
     seven_or_more rules.Operator h = absurd (no_true (sym h))
     seven_or_more rules.Method h = absurd (no_true (sym h))
     seven_or_more rules.Content h = absurd (no_true (sym h))
@@ -106,7 +106,7 @@ comes_before other rule low late = omega (arith, at_most_six other low, seven_or
     seven_or_more rules.StaleMinFresh h = omega arith
 
 -- where a rule on the chosen response is the least, the operator lets it be sent
-pub allowed_by : (policy : Policy) (es : List Stored) (asked : Asked) (now : ℕ) (rule : ReuseRule) → IsLeast policy es asked now rule → names_entry rule ≡ true → policy.caches ≡ true
+pub allowed_by : (policy : Policy) (es : List Stored) (asked : Asked) (now : ℕ) (rule : ReuseRule) → IsLeastReuseRule policy es asked now rule → names_chosen rule ≡ true → policy.caches ≡ true
 allowed_by policy es asked now r least late = by_word policy.caches (least.none_before rules.Operator (comes_before rules.Operator r refl late))
   where
     by_word : (caches : Bool) → not caches ≡ false → caches ≡ true
@@ -119,7 +119,7 @@ module _ (policy : Policy) (es : List Stored) (distinct : Distinct (serials es))
   -- what a rule names is the chosen response
   pub record IsNamed (rule : ReuseRule) (s : ℕ) : Type 0 where
     pub response : Stored
-    pub late : names_entry rule ≡ true
+    pub late : names_chosen rule ≡ true
     pub chosen : chosen_of es asked ≡ Some response
     pub serial : response.serial ≡ s
     pub found : find_entry s es ≡ Some response
@@ -128,7 +128,7 @@ module _ (policy : Policy) (es : List Stored) (distinct : Distinct (serials es))
   pub named_is : (rule : ReuseRule) (s : ℕ) → decision_of policy es asked now ≡ decision.Forward rule (Some s) → IsNamed rule s
   named_is rule s h = by_number (names_the_least policy es asked now rule (Some s) h).1
     where
-      by_number : NamesTheResponse es asked rule (Some s) → IsNamed rule s
+      by_number : RuleNamesTheResponse es asked rule (Some s) → IsNamed rule s
       by_number (inl low) = absurd (never_one s (sym low.1))
       by_number (inr high) =
           let response = high.1.0 in
@@ -146,14 +146,14 @@ module _ (policy : Policy) (es : List Stored) (distinct : Distinct (serials es))
           }
 
   -- what is sent may be
-  fallback_may : (d : Decision) (s : ℕ) (detail : Detail) → decision_of policy es asked now ≡ d → fallback_for policy es asked now d ≡ Sends s detail → IsFallback policy es asked now s
+  fallback_may : (d : Decision) (s : ℕ) (detail : Detail) → decision_of policy es asked now ≡ d → fallback_for policy es asked now d ≡ Sends s detail → IsStoredFallback policy es asked now s
   fallback_may (decision.Hit t) s detail d_is h =
       let same : t ≡ s = cc in
-      inl (subst (λ n. IsReusable policy es asked now n) same (reused_is_allowed policy es asked now t d_is))
+      inl (subst (λ n. StoredResponseIsReusable policy es asked now n) same (reused_is_allowed policy es asked now t d_is))
   fallback_may (decision.Forward rule None) s detail d_is h = absurd (cc)
   fallback_may (decision.Forward rule (Some t)) s detail d_is h = by_rule (error_rule_at policy es t asked now) refl h
     where
-      by_rule : (o : Option ErrorRule) → error_rule_at policy es t asked now ≡ o → fallback_by rule t o ≡ Sends s detail → IsFallback policy es asked now s
+      by_rule : (o : Option ErrorRule) → error_rule_at policy es t asked now ≡ o → fallback_with_error_rule rule t o ≡ Sends s detail → IsStoredFallback policy es asked now s
       by_rule None k h =
           let n = named_is rule t d_is in
           let least = (names_the_least policy es asked now rule (Some t) d_is).0 in
@@ -176,10 +176,10 @@ module _ (policy : Policy) (es : List Stored) (distinct : Distinct (serials es))
     detail : Detail
     fallback : fallback_for policy es asked now (decision_of policy es asked now) ≡ Sends s detail
 
-  pub reusable_hit : (s : ℕ) → IsReusable policy es asked now s → decision_of policy es asked now ≡ decision.Hit s
+  pub reusable_hit : (s : ℕ) → StoredResponseIsReusable policy es asked now s → decision_of policy es asked now ≡ decision.Hit s
   reusable_hit s may = allowed_is_reused policy es asked now may.0 distinct may.1 ∙ ap (λ n. decision.Hit n) may.2
 
-  instead_sent : (s : ℕ) (response : Stored) → MayBeSentInstead policy es asked now response → response.serial ≡ s → (d : Decision) → decision_of policy es asked now ≡ d → IsSent s
+  instead_sent : (s : ℕ) (response : Stored) → MayBeSentInsteadOfError policy es asked now response → response.serial ≡ s → (d : Decision) → decision_of policy es asked now ≡ d → IsSent s
   instead_sent s response may serial (decision.Hit t) d_is =
       let hit = is_held policy es asked now t d_is in
       let same : hit.0 ≡ response =
@@ -191,7 +191,7 @@ module _ (policy : Policy) (es : List Stored) (distinct : Distinct (serials es))
       let r = names_the_least policy es asked now rule None d_is in
       absurd (by_number r.0 r.1)
     where
-      by_number : IsLeast policy es asked now rule → NamesTheResponse es asked rule None → ⊥
+      by_number : IsLeastReuseRule policy es asked now rule → RuleNamesTheResponse es asked rule None → ⊥
       by_number least (inl low) = false≢true (sym (may.is_for_the_cache rule low.0) ∙ least.it_applies)
       by_number least (inr high) = never_one high.1.0.serial high.1.2
   instead_sent s response may serial (decision.Forward rule (Some t)) d_is =
@@ -201,138 +201,138 @@ module _ (policy : Policy) (es : List Stored) (distinct : Distinct (serials es))
       let none : error_rule_at policy es t asked now ≡ None =
       n.rule_at ∙ ap (λ (e : Stored). error_rule_on policy e (occurrences_of asked.fields) now) same ∙ may_be_sent_on_error policy response (occurrences_of asked.fields) now may.may_be_sent
       in
-      record { detail = StaleIfError; fallback = ap (fallback_for policy es asked now) d_is ∙ ap (fallback_by rule t) none ∙ ap (λ n. Sends n StaleIfError) t_is }
+      record { detail = StaleIfError; fallback = ap (fallback_for policy es asked now) d_is ∙ ap (fallback_with_error_rule rule t) none ∙ ap (λ n. Sends n StaleIfError) t_is }
 
-  fallback_sent : (s : ℕ) → IsFallback policy es asked now s → IsSent s
+  fallback_sent : (s : ℕ) → IsStoredFallback policy es asked now s → IsSent s
   fallback_sent s (inl may) = record { detail = ReuseAfterError; fallback = ap (fallback_for policy es asked now) (reusable_hit s may) }
   fallback_sent s (inr may) = instead_sent s may.0 may.1 may.2 (decision_of policy es asked now) refl
 
 -- ---- what each step uses
 
 module _ (table : Table) (es : List Stored) (distinct : Distinct (serials es)) (xs : List Exchange) where
-  failed_uses : (now : ℕ) (x : Exchange) (kind : FailKind) (came : Option ℕ) (s : ℕ) → IsFallback (policy_of table.lines x.line) es x.asked now s →
-      used_in (failed table es now x kind came (fallback_for (policy_of table.lines x.line) es x.asked now (decision_of (policy_of table.lines x.line) es x.asked now))) ≡ Some s
+  failed_uses : (now : ℕ) (x : Exchange) (kind : FailKind) (came : Option ℕ) (s : ℕ) → IsStoredFallback (policy_of table.lines x.line) es x.asked now s →
+      serial_used_by_outcome (outcome_of_failure table es now x kind came (fallback_for (policy_of table.lines x.line) es x.asked now (decision_of (policy_of table.lines x.line) es x.asked now))) ≡ Some s
   failed_uses now x kind came s may =
-      let sent = fallback_sent (policy_of table.lines x.line) es distinct x.asked now s may in ap (λ (q : Fallback). used_in (failed table es now x kind came q)) sent.fallback
+      let sent = fallback_sent (policy_of table.lines x.line) es distinct x.asked now s may in ap (λ (q : Fallback). serial_used_by_outcome (outcome_of_failure table es now x kind came q)) sent.fallback
 
   used_failed : (now : ℕ) (x : Exchange) (kind : FailKind) (came : Option ℕ) (s : ℕ) (fallback : Fallback) → fallback_for (policy_of table.lines x.line) es x.asked now (decision_of (policy_of table.lines x.line) es x.asked now) ≡ fallback →
-      used_in (failed table es now x kind came fallback) ≡ Some s → IsFallback (policy_of table.lines x.line) es x.asked now s
+      serial_used_by_outcome (outcome_of_failure table es now x kind came fallback) ≡ Some s → IsStoredFallback (policy_of table.lines x.line) es x.asked now s
   used_failed now x kind came s (Sends t detail) k h =
-      subst (λ n. IsFallback (policy_of table.lines x.line) es x.asked now n) (same_Some t s h) (fallback_may (policy_of table.lines x.line) es distinct x.asked now (decision_of (policy_of table.lines x.line) es x.asked now) t detail refl k)
+      subst (λ n. IsStoredFallback (policy_of table.lines x.line) es x.asked now n) (same_Some t s h) (fallback_may (policy_of table.lines x.line) es distinct x.asked now (decision_of (policy_of table.lines x.line) es x.asked now) t detail refl k)
   used_failed now x kind came s (Refuses rule error) k h = absurd (never_one s h)
 
   -- an arrival
-  used_arrived : (now : ℕ) (asked : Asked) (s : ℕ) (v : Verdict) → verdict_of table.lines asked.method asked.target ≡ v → used_in (arrived table es xs now asked v) ≡ Some s →
-      (line : ℕ) × (verdict_of table.lines asked.method asked.target ≡ verdict.Allowed line) × IsReusable (policy_of table.lines line) es asked now s
+  used_arrived : (now : ℕ) (asked : Asked) (s : ℕ) (v : Verdict) → verdict_of table.lines asked.method asked.target ≡ v → serial_used_by_outcome (outcome_of_arrival table es xs now asked v) ≡ Some s →
+      (line : ℕ) × (verdict_of table.lines asked.method asked.target ≡ verdict.Allowed line) × StoredResponseIsReusable (policy_of table.lines line) es asked now s
   used_arrived now asked s (verdict.Allowed line) v h = (line, v, by_decision (decision_of (policy_of table.lines line) es asked now) refl h)
     where
-      on : (condition : Option Condition) (leader : Option ℕ) → used_in (sent_on table line asked condition leader) ≡ Some s → ⊥
+      on : (condition : Option Condition) (leader : Option ℕ) → serial_used_by_outcome (outcome_of_waiting_or_forwarding table line asked condition leader) ≡ Some s → ⊥
       on condition None h = never_one s h
       on condition (Some leader) h = never_one s h
 
-      unless : (rule : ReuseRule) (condition : Option Condition) (b : Bool) → used_in (unanswered table xs line now asked rule condition b) ≡ Some s → ⊥
+      unless : (rule : ReuseRule) (condition : Option Condition) (b : Bool) → serial_used_by_outcome (outcome_without_stored_response table xs line now asked rule condition b) ≡ Some s → ⊥
       unless rule condition true h = never_one s h
-      unless rule condition false h = on condition (leader_for (policy_of table.lines line) xs asked rule) h
+      unless rule condition false h = on condition (leader_of_request (policy_of table.lines line) xs asked rule) h
 
-      by_decision : (d : Decision) → decision_of (policy_of table.lines line) es asked now ≡ d → used_in (allowed table es xs line now asked d) ≡ Some s → IsReusable (policy_of table.lines line) es asked now s
-      by_decision (decision.Hit t) k h = subst (λ n. IsReusable (policy_of table.lines line) es asked now n) (same_Some t s h) (reused_is_allowed (policy_of table.lines line) es asked now t k)
-      by_decision (decision.Forward rule against) k h = absurd (unless rule (condition_at es against) (is_only_if_cached asked) h)
+      by_decision : (d : Decision) → decision_of (policy_of table.lines line) es asked now ≡ d → serial_used_by_outcome (outcome_of_allowed_request table es xs line now asked d) ≡ Some s → StoredResponseIsReusable (policy_of table.lines line) es asked now s
+      by_decision (decision.Hit t) k h = subst (λ n. StoredResponseIsReusable (policy_of table.lines line) es asked now n) (same_Some t s h) (reused_is_allowed (policy_of table.lines line) es asked now t k)
+      by_decision (decision.Forward rule against) k h = absurd (unless rule (condition_about_serial es against) (is_only_if_cached asked) h)
   used_arrived now asked s (verdict.DeniedBy line) v h = absurd (never_one s h)
   used_arrived now asked s verdict.NoLine v h = absurd (never_one s h)
 
   module _ (x : Exchange) (now id : ℕ) (r : Response) (next : Option ℕ) (s : ℕ) where
     abbrev IsUsed : Outcome → Type 0
-    IsUsed o = used_in o ≡ Some s
+    IsUsed o = serial_used_by_outcome o ≡ Some s
 
-    used_revalidated : (o : Option Stored) (d : Decision) → validated es x r now ≡ o → decision_of (policy_of table.lines x.line) es x.asked now ≡ d → IsUsed (revalidated table es now x r o d) →
-        ((e : Stored) × (validated es x r now ≡ Some e) × (e.serial ≡ s)) ⊎ ((validated es x r now ≡ None) × IsReusable (policy_of table.lines x.line) es x.asked now s)
-    used_revalidated (Some e) d v k h = inl (e, v, sym (serial_stays x r now e) ∙ same_Some (refreshed x r now e).serial s h)
-    used_revalidated None (decision.Hit t) v k h = inr (v, subst (λ n. IsReusable (policy_of table.lines x.line) es x.asked now n) (same_Some t s h) (reused_is_allowed (policy_of table.lines x.line) es x.asked now t k))
+    used_revalidated : (o : Option Stored) (d : Decision) → stored_response_validated es x r now ≡ o → decision_of (policy_of table.lines x.line) es x.asked now ≡ d → IsUsed (outcome_of_304 table es now x r o d) →
+        ((e : Stored) × (stored_response_validated es x r now ≡ Some e) × (e.serial ≡ s)) ⊎ ((stored_response_validated es x r now ≡ None) × StoredResponseIsReusable (policy_of table.lines x.line) es x.asked now s)
+    used_revalidated (Some e) d v k h = inl (e, v, sym (serial_stays x r now e) ∙ same_Some (freshened_by_304 x r now e).serial s h)
+    used_revalidated None (decision.Hit t) v k h = inr (v, subst (λ n. StoredResponseIsReusable (policy_of table.lines x.line) es x.asked now n) (same_Some t s h) (reused_is_allowed (policy_of table.lines x.line) es x.asked now t k))
     used_revalidated None (decision.Forward rule against) v k h = absurd (never_one s h)
 
-    used_passed : (b : Bool) (fallback : Fallback) → fallback_for (policy_of table.lines x.line) es x.asked now (decision_of (policy_of table.lines x.line) es x.asked now) ≡ fallback → IsUsed (passed_unless table es now x r next b fallback) →
-        (b ≡ true) × IsFallback (policy_of table.lines x.line) es x.asked now s
+    used_passed : (b : Bool) (fallback : Fallback) → fallback_for (policy_of table.lines x.line) es x.asked now (decision_of (policy_of table.lines x.line) es x.asked now) ≡ fallback → IsUsed (outcome_of_passing_on_or_stale table es now x r next b fallback) →
+        (b ≡ true) × IsStoredFallback (policy_of table.lines x.line) es x.asked now s
     used_passed true (Sends t detail) k h =
-        (refl, subst (λ n. IsFallback (policy_of table.lines x.line) es x.asked now n) (same_Some t s h) (fallback_may (policy_of table.lines x.line) es distinct x.asked now (decision_of (policy_of table.lines x.line) es x.asked now) t detail refl k))
+        (refl, subst (λ n. IsStoredFallback (policy_of table.lines x.line) es x.asked now n) (same_Some t s h) (fallback_may (policy_of table.lines x.line) es distinct x.asked now (decision_of (policy_of table.lines x.line) es x.asked now) t detail refl k))
     used_passed true (Refuses rule error) k h = absurd (never_one s h)
     used_passed false fallback k h = absurd (never_one s h)
 
-    used_answered : IsUsed (answered table es now x r next (decision_of (policy_of table.lines x.line) es x.asked now)) → MayBeSentAt table es (Some x) (Answer now id r) s
+    used_answered : IsUsed (outcome_of_answer table es now x r next (decision_of (policy_of table.lines x.line) es x.asked now)) → StoredResponseMayBeSentAt table es (Some x) (Answer now id r) s
     used_answered h = by_304 (is_validation x r) refl h
       where
         d : Decision
         d = decision_of (policy_of table.lines x.line) es x.asked now
 
-        by_unasked : (b : Bool) → is_unasked x.asked r ≡ b → IsUsed (cond b (failed table es now x BadAnswer (Some r.status) (fallback_for (policy_of table.lines x.line) es x.asked now (decision_of (policy_of table.lines x.line) es x.asked now)))
-            (passed_unless table es now x r next (is_error_status r.status) (fallback_for (policy_of table.lines x.line) es x.asked now (decision_of (policy_of table.lines x.line) es x.asked now)))) →
-            ((is_unasked x.asked r || is_error_status r.status) ≡ true) × IsFallback (policy_of table.lines x.line) es x.asked now s
+        by_unasked : (b : Bool) → is_304_without_condition x.asked r ≡ b → IsUsed (cond b (outcome_of_failure table es now x BadAnswer (Some r.status) (fallback_for (policy_of table.lines x.line) es x.asked now (decision_of (policy_of table.lines x.line) es x.asked now)))
+            (outcome_of_passing_on_or_stale table es now x r next (is_error_status r.status) (fallback_for (policy_of table.lines x.line) es x.asked now (decision_of (policy_of table.lines x.line) es x.asked now)))) →
+            ((is_304_without_condition x.asked r || is_error_status r.status) ≡ true) × IsStoredFallback (policy_of table.lines x.line) es x.asked now s
         by_unasked true k h =
             (ap (λ b. b || is_error_status r.status) k, used_failed now x BadAnswer (Some r.status) s (fallback_for (policy_of table.lines x.line) es x.asked now (decision_of (policy_of table.lines x.line) es x.asked now)) refl h)
         by_unasked false k h =
             let p = used_passed (is_error_status r.status) (fallback_for (policy_of table.lines x.line) es x.asked now (decision_of (policy_of table.lines x.line) es x.asked now)) refl h in
-            (or_right (is_unasked x.asked r) (is_error_status r.status) p.0, p.1)
+            (or_right (is_304_without_condition x.asked r) (is_error_status r.status) p.0, p.1)
 
-        by_304 : (b : Bool) → is_validation x r ≡ b → IsUsed (cond b (revalidated table es now x r (validated es x r now) (decision_of (policy_of table.lines x.line) es x.asked now))
-            (cond (is_unasked x.asked r) (failed table es now x BadAnswer (Some r.status) (fallback_for (policy_of table.lines x.line) es x.asked now (decision_of (policy_of table.lines x.line) es x.asked now)))
-            (passed_unless table es now x r next (is_error_status r.status) (fallback_for (policy_of table.lines x.line) es x.asked now (decision_of (policy_of table.lines x.line) es x.asked now))))) →
-            MayBeSentAt table es (Some x) (Answer now id r) s
-        by_304 true k h = by_kind (used_revalidated (validated es x r now) (decision_of (policy_of table.lines x.line) es x.asked now) refl refl h)
+        by_304 : (b : Bool) → is_validation x r ≡ b → IsUsed (cond b (outcome_of_304 table es now x r (stored_response_validated es x r now) (decision_of (policy_of table.lines x.line) es x.asked now))
+            (cond (is_304_without_condition x.asked r) (outcome_of_failure table es now x BadAnswer (Some r.status) (fallback_for (policy_of table.lines x.line) es x.asked now (decision_of (policy_of table.lines x.line) es x.asked now)))
+            (outcome_of_passing_on_or_stale table es now x r next (is_error_status r.status) (fallback_for (policy_of table.lines x.line) es x.asked now (decision_of (policy_of table.lines x.line) es x.asked now))))) →
+            StoredResponseMayBeSentAt table es (Some x) (Answer now id r) s
+        by_304 true k h = by_kind (used_revalidated (stored_response_validated es x r now) (decision_of (policy_of table.lines x.line) es x.asked now) refl refl h)
           where
-            by_kind : ((e : Stored) × (validated es x r now ≡ Some e) × (e.serial ≡ s)) ⊎ ((validated es x r now ≡ None) × IsReusable (policy_of table.lines x.line) es x.asked now s) →
-                MayBeSentAt table es (Some x) (Answer now id r) s
-            by_kind (inl answered) = inl (k, answered)
+            by_kind : ((e : Stored) × (stored_response_validated es x r now ≡ Some e) × (e.serial ≡ s)) ⊎ ((stored_response_validated es x r now ≡ None) × StoredResponseIsReusable (policy_of table.lines x.line) es x.asked now s) →
+                StoredResponseMayBeSentAt table es (Some x) (Answer now id r) s
+            by_kind (inl outcome_of_answer) = inl (k, outcome_of_answer)
             by_kind (inr anyway) = inr (inl (k, anyway.0, anyway.1))
-        by_304 false k h = let p = by_unasked (is_unasked x.asked r) refl h in inr (inr (k, p.0, p.1))
+        by_304 false k h = let p = by_unasked (is_304_without_condition x.asked r) refl h in inr (inr (k, p.0, p.1))
 
     -- the other way round
-    fallback_uses : (b e : Bool) → (b || e) ≡ true → IsFallback (policy_of table.lines x.line) es x.asked now s →
-        IsUsed (cond b (failed table es now x BadAnswer (Some r.status) (fallback_for (policy_of table.lines x.line) es x.asked now (decision_of (policy_of table.lines x.line) es x.asked now)))
-        (passed_unless table es now x r next e (fallback_for (policy_of table.lines x.line) es x.asked now (decision_of (policy_of table.lines x.line) es x.asked now))))
+    fallback_uses : (b e : Bool) → (b || e) ≡ true → IsStoredFallback (policy_of table.lines x.line) es x.asked now s →
+        IsUsed (cond b (outcome_of_failure table es now x BadAnswer (Some r.status) (fallback_for (policy_of table.lines x.line) es x.asked now (decision_of (policy_of table.lines x.line) es x.asked now)))
+        (outcome_of_passing_on_or_stale table es now x r next e (fallback_for (policy_of table.lines x.line) es x.asked now (decision_of (policy_of table.lines x.line) es x.asked now))))
     fallback_uses true e h may = failed_uses now x BadAnswer (Some r.status) s may
     fallback_uses false true h may =
         let sent = fallback_sent (policy_of table.lines x.line) es distinct x.asked now s may in
-        ap (λ (q : Fallback). used_in (passed_unless table es now x r next true q)) sent.fallback
+        ap (λ (q : Fallback). serial_used_by_outcome (outcome_of_passing_on_or_stale table es now x r next true q)) sent.fallback
     fallback_uses false false h may = absurd (false≢true h)
 
-    answered_uses : MayBeSentAt table es (Some x) (Answer now id r) s → IsUsed (answered table es now x r next (decision_of (policy_of table.lines x.line) es x.asked now))
+    answered_uses : StoredResponseMayBeSentAt table es (Some x) (Answer now id r) s → IsUsed (outcome_of_answer table es now x r next (decision_of (policy_of table.lines x.line) es x.asked now))
     answered_uses (inl may) =
         let d = decision_of (policy_of table.lines x.line) es x.asked now in
         let e = may.1.0 in
-        ap (λ b. used_in (cond b (revalidated table es now x r (validated es x r now) d) (cond (is_unasked x.asked r) (failed table es now x BadAnswer (Some r.status) (fallback_for (policy_of table.lines x.line) es x.asked now d))
-        (passed_unless table es now x r next (is_error_status r.status) (fallback_for (policy_of table.lines x.line) es x.asked now d))))) may.0
-        ∙ ap (λ (o : Option Stored). used_in (revalidated table es now x r o d)) may.1.1
+        ap (λ b. serial_used_by_outcome (cond b (outcome_of_304 table es now x r (stored_response_validated es x r now) d) (cond (is_304_without_condition x.asked r) (outcome_of_failure table es now x BadAnswer (Some r.status) (fallback_for (policy_of table.lines x.line) es x.asked now d))
+        (outcome_of_passing_on_or_stale table es now x r next (is_error_status r.status) (fallback_for (policy_of table.lines x.line) es x.asked now d))))) may.0
+        ∙ ap (λ (o : Option Stored). serial_used_by_outcome (outcome_of_304 table es now x r o d)) may.1.1
         ∙ ap (λ n. Some n) (serial_stays x r now e ∙ may.1.2)
     answered_uses (inr (inl may)) =
         let d = decision_of (policy_of table.lines x.line) es x.asked now in
-        ap (λ b. used_in (cond b (revalidated table es now x r (validated es x r now) d) (cond (is_unasked x.asked r) (failed table es now x BadAnswer (Some r.status) (fallback_for (policy_of table.lines x.line) es x.asked now d))
-        (passed_unless table es now x r next (is_error_status r.status) (fallback_for (policy_of table.lines x.line) es x.asked now d))))) may.0
-        ∙ ap (λ (o : Option Stored). used_in (revalidated table es now x r o d)) may.1
-        ∙ ap (λ (k : Decision). used_in (revalidated table es now x r None k)) (reusable_hit (policy_of table.lines x.line) es distinct x.asked now s may.2)
+        ap (λ b. serial_used_by_outcome (cond b (outcome_of_304 table es now x r (stored_response_validated es x r now) d) (cond (is_304_without_condition x.asked r) (outcome_of_failure table es now x BadAnswer (Some r.status) (fallback_for (policy_of table.lines x.line) es x.asked now d))
+        (outcome_of_passing_on_or_stale table es now x r next (is_error_status r.status) (fallback_for (policy_of table.lines x.line) es x.asked now d))))) may.0
+        ∙ ap (λ (o : Option Stored). serial_used_by_outcome (outcome_of_304 table es now x r o d)) may.1
+        ∙ ap (λ (k : Decision). serial_used_by_outcome (outcome_of_304 table es now x r None k)) (reusable_hit (policy_of table.lines x.line) es distinct x.asked now s may.2)
     answered_uses (inr (inr may)) =
         let d = decision_of (policy_of table.lines x.line) es x.asked now in
-        ap (λ b. used_in (cond b (revalidated table es now x r (validated es x r now) d) (cond (is_unasked x.asked r) (failed table es now x BadAnswer (Some r.status) (fallback_for (policy_of table.lines x.line) es x.asked now d))
-        (passed_unless table es now x r next (is_error_status r.status) (fallback_for (policy_of table.lines x.line) es x.asked now d))))) may.0
-        ∙ fallback_uses (is_unasked x.asked r) (is_error_status r.status) may.1 may.2
+        ap (λ b. serial_used_by_outcome (cond b (outcome_of_304 table es now x r (stored_response_validated es x r now) d) (cond (is_304_without_condition x.asked r) (outcome_of_failure table es now x BadAnswer (Some r.status) (fallback_for (policy_of table.lines x.line) es x.asked now d))
+        (outcome_of_passing_on_or_stale table es now x r next (is_error_status r.status) (fallback_for (policy_of table.lines x.line) es x.asked now d))))) may.0
+        ∙ fallback_uses (is_304_without_condition x.asked r) (is_error_status r.status) may.1 may.2
 
   -- a request that waited
-  used_woken : (now : ℕ) (x : Exchange) (s : ℕ) (d : Decision) → decision_of (policy_of table.lines x.line) es x.asked now ≡ d → used_in (woken table es now x d) ≡ Some s →
-      IsReusable (policy_of table.lines x.line) es x.asked now s
-  used_woken now x s (decision.Hit t) k h = subst (λ n. IsReusable (policy_of table.lines x.line) es x.asked now n) (same_Some t s h) (reused_is_allowed (policy_of table.lines x.line) es x.asked now t k)
+  used_woken : (now : ℕ) (x : Exchange) (s : ℕ) (d : Decision) → decision_of (policy_of table.lines x.line) es x.asked now ≡ d → serial_used_by_outcome (outcome_of_wake table es now x d) ≡ Some s →
+      StoredResponseIsReusable (policy_of table.lines x.line) es x.asked now s
+  used_woken now x s (decision.Hit t) k h = subst (λ n. StoredResponseIsReusable (policy_of table.lines x.line) es x.asked now n) (same_Some t s h) (reused_is_allowed (policy_of table.lines x.line) es x.asked now t k)
   used_woken now x s (decision.Forward rule against) k h = absurd (never_one s h)
 
-  may_be_used : (x : Option Exchange) (next : Option ℕ) (event : Event) (s : ℕ) → MayBeSentAt table es x event s → used_in (outcome_of table es xs x next event) ≡ Some s
+  may_be_used : (x : Option Exchange) (next : Option ℕ) (event : Event) (s : ℕ) → StoredResponseMayBeSentAt table es x event s → serial_used_by_outcome (outcome_of table es xs x next event) ≡ Some s
   may_be_used x next (Arrive now id asked) s may =
-      ap (λ (v : Verdict). used_in (arrived table es xs now asked v)) may.1
-      ∙ ap (λ (d : Decision). used_in (allowed table es xs may.0 now asked d)) (reusable_hit (policy_of table.lines may.0) es distinct asked now s may.2)
+      ap (λ (v : Verdict). serial_used_by_outcome (outcome_of_arrival table es xs now asked v)) may.1
+      ∙ ap (λ (d : Decision). serial_used_by_outcome (outcome_of_allowed_request table es xs may.0 now asked d)) (reusable_hit (policy_of table.lines may.0) es distinct asked now s may.2)
   may_be_used (Some x) next (Answer now id r) s may = answered_uses x now id r next s may
   may_be_used None next (Answer now id r) s may = absurd may
   may_be_used (Some x) next (Fail now id kind) s may = failed_uses now x kind None s may
   may_be_used None next (Fail now id kind) s may = absurd may
-  may_be_used (Some x) next (Wake now id) s may = ap (λ (d : Decision). used_in (woken table es now x d)) (reusable_hit (policy_of table.lines x.line) es distinct x.asked now s may)
+  may_be_used (Some x) next (Wake now id) s may = ap (λ (d : Decision). serial_used_by_outcome (outcome_of_wake table es now x d)) (reusable_hit (policy_of table.lines x.line) es distinct x.asked now s may)
   may_be_used None next (Wake now id) s may = absurd may
   may_be_used x next (Abandon id) s may = absurd may
 
-  used_may_be : (x : Option Exchange) (next : Option ℕ) (event : Event) (s : ℕ) → used_in (outcome_of table es xs x next event) ≡ Some s → MayBeSentAt table es x event s
+  used_may_be : (x : Option Exchange) (next : Option ℕ) (event : Event) (s : ℕ) → serial_used_by_outcome (outcome_of table es xs x next event) ≡ Some s → StoredResponseMayBeSentAt table es x event s
   used_may_be x next (Arrive now id asked) s h = used_arrived now asked s (verdict_of table.lines asked.method asked.target) refl h
   used_may_be (Some x) next (Answer now id r) s h = used_answered x now id r next s h
   used_may_be None next (Answer now id r) s h = absurd (never_one s h)
@@ -342,74 +342,74 @@ module _ (table : Table) (es : List Stored) (distinct : Distinct (serials es)) (
   used_may_be None next (Wake now id) s h = absurd (never_one s h)
   used_may_be x next (Abandon id) s h = absurd (never_one s h)
 
-pub sends_what_may_be_sent : SendsStoredWhereItMay
+pub sends_what_may_be_sent : StoredResponseIsSentWhereItMayBe
 sends_what_may_be_sent table limit first s item past g may =
     let xs = open_exchanges table limit past in
-    ap used_in g.0.outcome_is
-    ∙ may_be_used table (held_entries table limit past) (held_distinct table limit first past g.1) xs (find_exchange (id_of item.event) xs) (next_serial first past) item.event s may
+    ap serial_used_by_outcome g.0.outcome_is
+    ∙ may_be_used table (held_entries table limit past) (held_distinct table limit first past g.1) xs (find_exchange (exchange_id_of_event item.event) xs) (next_serial first past) item.event s may
 
-pub sends_nothing_else : SendsStoredNowhereElse
+pub sends_nothing_else : StoredResponseIsSentNowhereElse
 sends_nothing_else table limit first s item past g h =
     let xs = open_exchanges table limit past in
-    used_may_be table (held_entries table limit past) (held_distinct table limit first past g.1) xs (find_exchange (id_of item.event) xs) (next_serial first past) item.event s
-    (sym (ap used_in g.0.outcome_is) ∙ h)
+    used_may_be table (held_entries table limit past) (held_distinct table limit first past g.1) xs (find_exchange (exchange_id_of_event item.event) xs) (next_serial first past) item.event s
+    (sym (ap serial_used_by_outcome g.0.outcome_is) ∙ h)
 
 -- ---- going forward
 
 pub arrival_is : (table : Table) (limit first now id : ℕ) (asked : Asked) (item : Item) (past : List Item) → IsGoodHistory table limit first (item ∷ past) → item.event ≡ Arrive now id asked →
-    item.outcome ≡ arrived table (held_entries table limit past) (open_exchanges table limit past) now asked (verdict_of table.lines asked.method asked.target)
+    item.outcome ≡ outcome_of_arrival table (held_entries table limit past) (open_exchanges table limit past) now asked (verdict_of table.lines asked.method asked.target)
 arrival_is table limit first now id asked item past g e =
-    g.0.outcome_is ∙ ap (λ (v : Event). outcome_by table (held_entries table limit past) (open_exchanges table limit past) (next_serial first past) v) e
+    g.0.outcome_is ∙ ap (λ (v : Event). outcome_of_event table (held_entries table limit past) (open_exchanges table limit past) (next_serial first past) v) e
 
-pub forwards_where_allowed : ForwardsWhereAllowed
+pub forwards_where_allowed : RequestIsForwardedWhereAllowed
 forwards_where_allowed table limit first now id line asked rule item past g e v least other none =
     let es = held_entries table limit past in
     let xs = open_exchanges table limit past in
     let d = forwards (policy_of table.lines line) es asked now rule least in (
-      forward_text table asked (condition_at es d.0),
+      forward_text table asked (condition_about_serial es d.0),
       arrival_is table limit first now id asked item past g e
-          ∙ ap (λ (v : Verdict). arrived table es xs now asked v) v
-          ∙ ap (λ (d : Decision). allowed table es xs line now asked d) d.1
-          ∙ ap (λ b. unanswered table xs line now asked rule (condition_at es d.0) b) other
-          ∙ ap (λ (leader : Option ℕ). sent_on table line asked (condition_at es d.0) leader) none,
+          ∙ ap (λ (v : Verdict). outcome_of_arrival table es xs now asked v) v
+          ∙ ap (λ (d : Decision). outcome_of_allowed_request table es xs line now asked d) d.1
+          ∙ ap (λ b. outcome_without_stored_response table xs line now asked rule (condition_about_serial es d.0) b) other
+          ∙ ap (λ (leader : Option ℕ). outcome_of_waiting_or_forwarding table line asked (condition_about_serial es d.0) leader) none,
     )
 
 -- what is known of a request that goes forward at its arrival
 abbrev GoesOn : Table → List Stored → List Exchange → ℕ → ℕ → Asked → Type 0
 GoesOn table es xs now line asked =
     (verdict_of table.lines asked.method asked.target ≡ verdict.Allowed line)
-    × ((rule : ReuseRule) × IsLeast (policy_of table.lines line) es asked now rule × (leader_for (policy_of table.lines line) xs asked rule ≡ None)) × (is_only_if_cached asked ≡ false)
+    × ((rule : ReuseRule) × IsLeastReuseRule (policy_of table.lines line) es asked now rule × (leader_of_request (policy_of table.lines line) xs asked rule ≡ None)) × (is_only_if_cached asked ≡ false)
 
 forward_parts : (table : Table) (es : List Stored) (xs : List Exchange) (now line : ℕ) (asked : Asked) (bytes : List ℕ) (v : Verdict) → verdict_of table.lines asked.method asked.target ≡ v →
-    arrived table es xs now asked v ≡ Forward line bytes → GoesOn table es xs now line asked
+    outcome_of_arrival table es xs now asked v ≡ Forward line bytes → GoesOn table es xs now line asked
 forward_parts table es xs now line asked bytes (verdict.Allowed n) v h = by_decision (decision_of (policy_of table.lines n) es asked now) refl h
   where
-    on : (rule : ReuseRule) (against leader : Option ℕ) → leader_for (policy_of table.lines n) xs asked rule ≡ leader → is_only_if_cached asked ≡ false →
-        decision_of (policy_of table.lines n) es asked now ≡ decision.Forward rule against → sent_on table n asked (condition_at es against) leader ≡ Forward line bytes → GoesOn table es xs now line asked
+    on : (rule : ReuseRule) (against leader : Option ℕ) → leader_of_request (policy_of table.lines n) xs asked rule ≡ leader → is_only_if_cached asked ≡ false →
+        decision_of (policy_of table.lines n) es asked now ≡ decision.Forward rule against → outcome_of_waiting_or_forwarding table n asked (condition_about_serial es against) leader ≡ Forward line bytes → GoesOn table es xs now line asked
     on rule against (Some leader) l k d h = absurd (cc)
     on rule against None l k d h =
         let same : n ≡ line = cc in (
           v ∙ ap (λ m. verdict.Allowed m) same,
           (
             rule,
-            subst (λ m. IsLeast (policy_of table.lines m) es asked now rule) same (names_the_least (policy_of table.lines n) es asked now rule against d).0,
-            subst (λ m. leader_for (policy_of table.lines m) xs asked rule ≡ None) same l,
+            subst (λ m. IsLeastReuseRule (policy_of table.lines m) es asked now rule) same (names_the_least (policy_of table.lines n) es asked now rule against d).0,
+            subst (λ m. leader_of_request (policy_of table.lines m) xs asked rule ≡ None) same l,
           ),
           k,
         )
 
     unless : (rule : ReuseRule) (against : Option ℕ) (b : Bool) → is_only_if_cached asked ≡ b → decision_of (policy_of table.lines n) es asked now ≡ decision.Forward rule against →
-        unanswered table xs n now asked rule (condition_at es against) b ≡ Forward line bytes → GoesOn table es xs now line asked
+        outcome_without_stored_response table xs n now asked rule (condition_about_serial es against) b ≡ Forward line bytes → GoesOn table es xs now line asked
     unless rule against true k d h = absurd (cc)
-    unless rule against false k d h = on rule against (leader_for (policy_of table.lines n) xs asked rule) refl k d h
+    unless rule against false k d h = on rule against (leader_of_request (policy_of table.lines n) xs asked rule) refl k d h
 
-    by_decision : (d : Decision) → decision_of (policy_of table.lines n) es asked now ≡ d → allowed table es xs n now asked d ≡ Forward line bytes → GoesOn table es xs now line asked
+    by_decision : (d : Decision) → decision_of (policy_of table.lines n) es asked now ≡ d → outcome_of_allowed_request table es xs n now asked d ≡ Forward line bytes → GoesOn table es xs now line asked
     by_decision (decision.Hit t) k h = absurd (cc)
     by_decision (decision.Forward rule against) k h = unless rule against (is_only_if_cached asked) refl k h
 forward_parts table es xs now line asked bytes (verdict.DeniedBy n) v h = absurd (cc)
 forward_parts table es xs now line asked bytes verdict.NoLine v h = absurd (cc)
 
-pub forwards_nothing_else : ForwardsNowhereElse
+pub forwards_nothing_else : RequestIsForwardedNowhereElse
 forwards_nothing_else table limit first now id line asked bytes item past g e h =
     forward_parts table (held_entries table limit past) (open_exchanges table limit past) now line asked bytes (verdict_of table.lines asked.method asked.target) refl
     (sym (arrival_is table limit first now id asked item past g e) ∙ h)
@@ -417,8 +417,8 @@ forwards_nothing_else table limit first now id line asked bytes item past g e h 
 -- ---- reaching cache or origin
 
 module _ (table : Table) (es : List Stored) (xs : List Exchange) (now : ℕ) (asked : Asked) where
-  reach_on : (line : ℕ) (rule : ReuseRule) (against leader : Option ℕ) → is_only_if_cached asked ≡ false → leader_for (policy_of table.lines line) xs asked rule ≡ leader →
-      decision_of (policy_of table.lines line) es asked now ≡ decision.Forward rule against → IsReached table es xs now asked line (sent_on table line asked (condition_at es against) leader)
+  reach_on : (line : ℕ) (rule : ReuseRule) (against leader : Option ℕ) → is_only_if_cached asked ≡ false → leader_of_request (policy_of table.lines line) xs asked rule ≡ leader →
+      decision_of (policy_of table.lines line) es asked now ≡ decision.Forward rule against → RequestReachesCacheOrOrigin table es xs now asked line (outcome_of_waiting_or_forwarding table line asked (condition_about_serial es against) leader)
   reach_on line rule against None k l d =
       let named = names_the_least (policy_of table.lines line) es asked now rule against d in
       inr (inl (rule, record { is_least = named.0; against = against; names = named.1; outcome_is = refl }, k, nobody_leads (policy_of table.lines line) xs asked rule l))
@@ -437,31 +437,31 @@ module _ (table : Table) (es : List Stored) (xs : List Exchange) (now : ℕ) (as
       })))
 
   reach_unless : (line : ℕ) (rule : ReuseRule) (against : Option ℕ) (b : Bool) → is_only_if_cached asked ≡ b → decision_of (policy_of table.lines line) es asked now ≡ decision.Forward rule against →
-      IsReached table es xs now asked line (unanswered table xs line now asked rule (condition_at es against) b)
+      RequestReachesCacheOrOrigin table es xs now asked line (outcome_without_stored_response table xs line now asked rule (condition_about_serial es against) b)
   reach_unless line rule against true k d = inr (inr (inr (rule, k, (names_the_least (policy_of table.lines line) es asked now rule against d).0, refl)))
-  reach_unless line rule against false k d = reach_on line rule against (leader_for (policy_of table.lines line) xs asked rule) k refl d
+  reach_unless line rule against false k d = reach_on line rule against (leader_of_request (policy_of table.lines line) xs asked rule) k refl d
 
-  reach : (line : ℕ) (d : Decision) → decision_of (policy_of table.lines line) es asked now ≡ d → IsReached table es xs now asked line (allowed table es xs line now asked d)
+  reach : (line : ℕ) (d : Decision) → decision_of (policy_of table.lines line) es asked now ≡ d → RequestReachesCacheOrOrigin table es xs now asked line (outcome_of_allowed_request table es xs line now asked d)
   reach line (decision.Hit s) d = inl (s, refl)
   reach line (decision.Forward rule against) d = reach_unless line rule against (is_only_if_cached asked) refl d
 
   refuse : (v : Verdict) → verdict_of table.lines asked.method asked.target ≡ v → ((line : ℕ) → verdict_of table.lines asked.method asked.target ≢ verdict.Allowed line) →
-      IsTurnedAway table now asked (arrived table es xs now asked v)
+      RequestIsTurnedAway table now asked (outcome_of_arrival table es xs now asked v)
   refuse (verdict.Allowed line) v n = absurd (n line v)
   refuse (verdict.DeniedBy line) v n = inl (line, v, refl)
   refuse verdict.NoLine v n = inr (v, refl)
 
-pub reaches_where_allowed : ReachesWhereAllowed
+pub reaches_where_allowed : AllowedRequestReachesCacheOrOrigin
 reaches_where_allowed table limit first now id line asked item past g e v =
     let es = held_entries table limit past in
     let xs = open_exchanges table limit past in
-    subst (IsReached table es xs now asked line)
-    (sym (arrival_is table limit first now id asked item past g e ∙ ap (λ (v : Verdict). arrived table es xs now asked v) v))
+    subst (RequestReachesCacheOrOrigin table es xs now asked line)
+    (sym (arrival_is table limit first now id asked item past g e ∙ ap (λ (v : Verdict). outcome_of_arrival table es xs now asked v) v))
     (reach table es xs now asked line (decision_of (policy_of table.lines line) es asked now) refl)
 
-pub refuses_where_not_allowed : RefusesWhereNotAllowed
+pub refuses_where_not_allowed : OtherRequestIsRefused
 refuses_where_not_allowed table limit first now id asked item past g e n =
     let es = held_entries table limit past in
     let xs = open_exchanges table limit past in
-    subst (IsTurnedAway table now asked) (sym (arrival_is table limit first now id asked item past g e))
+    subst (RequestIsTurnedAway table now asked) (sym (arrival_is table limit first now id asked item past g e))
     (refuse table es xs now asked (verdict_of table.lines asked.method asked.target) refl n)

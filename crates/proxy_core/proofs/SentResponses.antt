@@ -6,7 +6,7 @@ use Rattle.std.proofs.lemmas.Option.{same_Some}
 use Rattle.hx_policy.specs.declared.words.Policy.{Policy}
 use Rattle.hx_framing.specs.declared.messages.Response.{Response}
 use Rattle.hx_hop.specs.declared.request_view.Asked.{Asked}
-use Rattle.hx_allow.specs.Lines.{Table}
+use Rattle.hx_allow.specs.TableLines.{Table}
 use Rattle.hx_allow.specs.Matching.{verdict_of, policy_of}
 use Rattle.hx_allow.specs.declared.verdicts.Verdict.{Verdict}
 use Rattle.hx_allow.specs.declared.verdicts.Verdict.TheVariants as verdict
@@ -34,13 +34,13 @@ use Rattle.proxy_core.specs.declared.outcome.Outcome.{Outcome}
 use Rattle.proxy_core.specs.declared.event.Event.{Event}
 use Rattle.proxy_core.specs.declared.event.Event.TheVariants.{Arrive, Answer, Fail, Wake, Abandon}
 use Rattle.proxy_core.specs.Replies.{stored_text}
-use Rattle.proxy_core.specs.Validating.{asked_about, condition_at, if_answered, is_validation, validated, refreshed}
-use Rattle.proxy_core.specs.Storing.{is_unasked}
-use Rattle.proxy_core.specs.Leading.{leader_for}
-use Rattle.proxy_core.specs.Outcomes.{find_exchange, id_of, sent, sent_text, as_hit, forwarded_as, collapsed_as, arrived, allowed, sent_on, unanswered, woken, is_only_if_cached, error_rule_at, fallback_by, fallback_for, failed, is_error_status, passed_unless, revalidated, answered, outcome_of}
-use Rattle.proxy_core.specs.State.{used_in, used_form}
+use Rattle.proxy_core.specs.Validating.{stored_response_asked_about, condition_about_serial, stored_response_if_answered, is_validation, stored_response_validated, freshened_by_304}
+use Rattle.proxy_core.specs.Storing.{is_304_without_condition}
+use Rattle.proxy_core.specs.Leading.{leader_of_request}
+use Rattle.proxy_core.specs.Outcomes.{find_exchange, exchange_id_of_event, outcome_of_sending_stored, sent_stored_text, hit_status_info, forwarded_status_info, collapsed_status_info, outcome_of_arrival, outcome_of_allowed_request, outcome_of_waiting_or_forwarding, outcome_without_stored_response, outcome_of_wake, is_only_if_cached, error_rule_at, fallback_with_error_rule, fallback_for, outcome_of_failure, is_error_status, outcome_of_passing_on_or_stale, outcome_of_304, outcome_of_answer, outcome_of}
+use Rattle.proxy_core.specs.State.{serial_used_by_outcome, stored_response_as_used}
 use Rattle.proxy_core.specs.Histories.{held_entries, open_exchanges, next_serial}
-use Rattle.proxy_core.specs.Sending.{IsReusable, WordAfterError, WordAtAnswer, IsAbout, ShowsHow, IsThatResponse, SendsWhatIsHeld}
+use Rattle.proxy_core.specs.Sending.{StoredResponseIsReusable, DetailWordAfterError, DetailWordAtAnswer, IsAbout, CacheStatusShowsHow, ReplyIsThatStoredResponse, SendsWhatIsHeld}
 use Rattle.proxy_core.proofs.Leaving.{unanswered as never_answered, same_at, serial_stays, validated_is}
 use Rattle.proxy_core.proofs.SendLaws.{named_is, reusable_hit}
 use Rattle.proxy_core.proofs.FirstRules.{held_distinct}
@@ -69,7 +69,7 @@ module _ (table : Table) (es : List Stored) (distinct : Distinct (serials es)) w
   found_fallback policy asked now s detail (decision.Forward rule None) d_is h = absurd (cc)
   found_fallback policy asked now s detail (decision.Forward rule (Some t)) d_is h = by_rule (error_rule_at policy es t asked now) h
     where
-      by_rule : (o : Option ErrorRule) → fallback_by rule t o ≡ Sends s detail → IsFound es s
+      by_rule : (o : Option ErrorRule) → fallback_with_error_rule rule t o ≡ Sends s detail → IsFound es s
       by_rule None h =
           let n = named_is policy es distinct asked now rule t d_is in
           let same : t ≡ s = cc in
@@ -78,28 +78,28 @@ module _ (table : Table) (es : List Stored) (distinct : Distinct (serials es)) w
 
   -- and the word that is told of it
   word_after : (policy : Policy) (asked : Asked) (now s : ℕ) (detail : Detail) (d : Decision) → decision_of policy es asked now ≡ d → fallback_for policy es asked now d ≡ Sends s detail →
-      WordAfterError policy es asked now s (Some detail)
+      DetailWordAfterError policy es asked now s (Some detail)
   word_after policy asked now s detail (decision.Hit t) d_is h =
       let same : t ≡ s = cc in
       let word : ReuseAfterError ≡ detail = cc in
-      (λ may. ap (λ w. Some w) (sym word), λ no. absurd (no (subst (λ n. IsReusable policy es asked now n) same (reused_is_allowed policy es asked now t d_is))))
+      (λ may. ap (λ w. Some w) (sym word), λ no. absurd (no (subst (λ n. StoredResponseIsReusable policy es asked now n) same (reused_is_allowed policy es asked now t d_is))))
   word_after policy asked now s detail (decision.Forward rule None) d_is h = absurd (cc)
   word_after policy asked now s detail (decision.Forward rule (Some t)) d_is h = by_rule (error_rule_at policy es t asked now) h
     where
-      no_hit : IsReusable policy es asked now s → ⊥
+      no_hit : StoredResponseIsReusable policy es asked now s → ⊥
       no_hit may =
           let hit : decision.Forward rule (Some t) ≡ decision.Hit s = sym d_is ∙ reusable_hit policy es distinct asked now s may in
           absurd (cc)
 
-      by_rule : (o : Option ErrorRule) → fallback_by rule t o ≡ Sends s detail → WordAfterError policy es asked now s (Some detail)
+      by_rule : (o : Option ErrorRule) → fallback_with_error_rule rule t o ≡ Sends s detail → DetailWordAfterError policy es asked now s (Some detail)
       by_rule None h =
           let word : StaleIfError ≡ detail = cc in
           (λ may. absurd (no_hit may), λ no. ap (λ w. Some w) (sym word))
       by_rule (Some e) h = absurd (cc)
 
   -- sent as it is held
-  as_held : (x : Option Exchange) (event : Event) (s now : ℕ) (info : CacheStatusInfo) (asked : Asked) (f : IsFound es s) → used_form x event f.0 ≡ f.0 →
-      IsAbout x event now asked → ShowsHow table es x event s info → IsThatResponse table es x event (sent table es s now info asked) s
+  as_held : (x : Option Exchange) (event : Event) (s now : ℕ) (info : CacheStatusInfo) (asked : Asked) (f : IsFound es s) → stored_response_as_used x event f.0 ≡ f.0 →
+      IsAbout x event now asked → CacheStatusShowsHow table es x event s info → ReplyIsThatStoredResponse table es x event (outcome_of_sending_stored table es s now info asked) s
   as_held x event s now info asked f same about how = record {
     response = f.0;
     is_held = f.1;
@@ -108,137 +108,137 @@ module _ (table : Table) (es : List Stored) (distinct : Distinct (serials es)) w
     about = about;
     info = info;
     shows_how = how;
-    reply = record { bytes = sent_text table.name (find_entry s es) now info asked; close = asked.close; stored = None; used = Some s; removed = _ };
+    reply = record { bytes = sent_stored_text table.name (find_entry s es) now info asked; close = asked.close; stored = None; used = Some s; removed = _ };
     outcome_is = refl;
-    bytes_are = ap (λ (o : Option Stored). sent_text table.name o now info asked) f.1 ∙ ap (λ (e : Stored). stored_text table.name e now info asked) (sym same);
+    bytes_are = ap (λ (o : Option Stored). sent_stored_text table.name o now info asked) f.1 ∙ ap (λ (e : Stored). stored_text table.name e now info asked) (sym same);
   }
 
   -- at another serial that is the same
-  at_serial : (x : Option Exchange) (event : Event) (o : Outcome) (t s : ℕ) → t ≡ s → IsThatResponse table es x event o t → IsThatResponse table es x event o s
-  at_serial x event o t s same h = subst (IsThatResponse table es x event o) same h
+  at_serial : (x : Option Exchange) (event : Event) (o : Outcome) (t s : ℕ) → t ≡ s → ReplyIsThatStoredResponse table es x event o t → ReplyIsThatStoredResponse table es x event o s
+  at_serial x event o t s same h = subst (ReplyIsThatStoredResponse table es x event o) same h
 
-  as_arrived : (x : Option Exchange) (now id : ℕ) (asked : Asked) (e : Stored) → used_form x (Arrive now id asked) e ≡ e
+  as_arrived : (x : Option Exchange) (now id : ℕ) (asked : Asked) (e : Stored) → stored_response_as_used x (Arrive now id asked) e ≡ e
   as_arrived None now id asked e = refl
   as_arrived (Some x) now id asked e = refl
 
-  arrival_sends : (xs : List Exchange) (x : Option Exchange) (now id : ℕ) (asked : Asked) (s : ℕ) (v : Verdict) → verdict_of table.lines asked.method asked.target ≡ v → used_in (arrived table es xs now asked v) ≡ Some s →
-      IsThatResponse table es x (Arrive now id asked) (arrived table es xs now asked v) s
+  arrival_sends : (xs : List Exchange) (x : Option Exchange) (now id : ℕ) (asked : Asked) (s : ℕ) (v : Verdict) → verdict_of table.lines asked.method asked.target ≡ v → serial_used_by_outcome (outcome_of_arrival table es xs now asked v) ≡ Some s →
+      ReplyIsThatStoredResponse table es x (Arrive now id asked) (outcome_of_arrival table es xs now asked v) s
   arrival_sends xs x now id asked s (verdict.Allowed line) v h = by_decision (decision_of (policy_of table.lines line) es asked now) refl h
     where
-      on : (condition : Option Condition) (leader : Option ℕ) → used_in (sent_on table line asked condition leader) ≡ Some s →
-          IsThatResponse table es x (Arrive now id asked) (sent_on table line asked condition leader) s
+      on : (condition : Option Condition) (leader : Option ℕ) → serial_used_by_outcome (outcome_of_waiting_or_forwarding table line asked condition leader) ≡ Some s →
+          ReplyIsThatStoredResponse table es x (Arrive now id asked) (outcome_of_waiting_or_forwarding table line asked condition leader) s
       on condition None h = absurd (never_one s h)
       on condition (Some leader) h = absurd (never_one s h)
 
-      unless : (rule : ReuseRule) (condition : Option Condition) (b : Bool) → used_in (unanswered table xs line now asked rule condition b) ≡ Some s →
-          IsThatResponse table es x (Arrive now id asked) (unanswered table xs line now asked rule condition b) s
+      unless : (rule : ReuseRule) (condition : Option Condition) (b : Bool) → serial_used_by_outcome (outcome_without_stored_response table xs line now asked rule condition b) ≡ Some s →
+          ReplyIsThatStoredResponse table es x (Arrive now id asked) (outcome_without_stored_response table xs line now asked rule condition b) s
       unless rule condition true h = absurd (never_one s h)
-      unless rule condition false h = on condition (leader_for (policy_of table.lines line) xs asked rule) h
+      unless rule condition false h = on condition (leader_of_request (policy_of table.lines line) xs asked rule) h
 
-      by_decision : (d : Decision) → decision_of (policy_of table.lines line) es asked now ≡ d → used_in (allowed table es xs line now asked d) ≡ Some s →
-          IsThatResponse table es x (Arrive now id asked) (allowed table es xs line now asked d) s
+      by_decision : (d : Decision) → decision_of (policy_of table.lines line) es asked now ≡ d → serial_used_by_outcome (outcome_of_allowed_request table es xs line now asked d) ≡ Some s →
+          ReplyIsThatStoredResponse table es x (Arrive now id asked) (outcome_of_allowed_request table es xs line now asked d) s
       by_decision (decision.Hit t) k h =
           let f = found_hit (policy_of table.lines line) asked now t k in
-          at_serial x (Arrive now id asked) (sent table es t now (as_hit (policy_of table.lines line)) asked) t s (same_Some t s h)
-          (as_held x (Arrive now id asked) t now (as_hit (policy_of table.lines line)) asked f (as_arrived x now id asked f.0) (refl, refl) (line, v, refl))
-      by_decision (decision.Forward rule against) k h = unless rule (condition_at es against) (is_only_if_cached asked) h
+          at_serial x (Arrive now id asked) (outcome_of_sending_stored table es t now (hit_status_info (policy_of table.lines line)) asked) t s (same_Some t s h)
+          (as_held x (Arrive now id asked) t now (hit_status_info (policy_of table.lines line)) asked f (as_arrived x now id asked f.0) (refl, refl) (line, v, refl))
+      by_decision (decision.Forward rule against) k h = unless rule (condition_about_serial es against) (is_only_if_cached asked) h
   arrival_sends xs x now id asked s (verdict.DeniedBy line) v h = absurd (never_one s h)
   arrival_sends xs x now id asked s verdict.NoLine v h = absurd (never_one s h)
 
   -- after an error
   fallback_sends : (x : Exchange) (event : Event) (now : ℕ) (kind : FailKind) (came : Option ℕ) (s : ℕ) (fallback : Fallback) →
-      fallback_for (policy_of table.lines x.line) es x.asked now (decision_of (policy_of table.lines x.line) es x.asked now) ≡ fallback → ((e : Stored) → used_form (Some x) event e ≡ e) → IsAbout (Some x) event now x.asked →
-      ((t : ℕ) (detail : Option Detail) → WordAfterError (policy_of table.lines x.line) es x.asked now t detail → ShowsHow table es (Some x) event t (forwarded_as (policy_of table.lines x.line) x came detail)) →
-      used_in (failed table es now x kind came fallback) ≡ Some s → IsThatResponse table es (Some x) event (failed table es now x kind came fallback) s
+      fallback_for (policy_of table.lines x.line) es x.asked now (decision_of (policy_of table.lines x.line) es x.asked now) ≡ fallback → ((e : Stored) → stored_response_as_used (Some x) event e ≡ e) → IsAbout (Some x) event now x.asked →
+      ((t : ℕ) (detail : Option Detail) → DetailWordAfterError (policy_of table.lines x.line) es x.asked now t detail → CacheStatusShowsHow table es (Some x) event t (forwarded_status_info (policy_of table.lines x.line) x came detail)) →
+      serial_used_by_outcome (outcome_of_failure table es now x kind came fallback) ≡ Some s → ReplyIsThatStoredResponse table es (Some x) event (outcome_of_failure table es now x kind came fallback) s
   fallback_sends x event now kind came s (Sends t detail) k same about how h =
       let f = found_fallback (policy_of table.lines x.line) x.asked now t detail (decision_of (policy_of table.lines x.line) es x.asked now) refl k in
-      at_serial (Some x) event (sent table es t now (forwarded_as (policy_of table.lines x.line) x came (Some detail)) x.asked) t s (same_Some t s h)
-      (as_held (Some x) event t now (forwarded_as (policy_of table.lines x.line) x came (Some detail)) x.asked f (same f.0) about
+      at_serial (Some x) event (outcome_of_sending_stored table es t now (forwarded_status_info (policy_of table.lines x.line) x came (Some detail)) x.asked) t s (same_Some t s h)
+      (as_held (Some x) event t now (forwarded_status_info (policy_of table.lines x.line) x came (Some detail)) x.asked f (same f.0) about
       (how t (Some detail) (word_after (policy_of table.lines x.line) x.asked now t detail (decision_of (policy_of table.lines x.line) es x.asked now) refl k)))
   fallback_sends x event now kind came s (Refuses rule error) k same about how h = absurd (never_one s h)
 
   module _ (x : Exchange) (now id : ℕ) (r : Response) (next : Option ℕ) (s : ℕ) where
     abbrev Is : Outcome → Type 0
-    Is o = used_in o ≡ Some s → IsThatResponse table es (Some x) (Answer now id r) o s
+    Is o = serial_used_by_outcome o ≡ Some s → ReplyIsThatStoredResponse table es (Some x) (Answer now id r) o s
 
     -- no 304 to the proxy's conditions answers
-    not_validated : is_validation x r ≡ false → validated es x r now ≡ None
-    not_validated n = by_entry (asked_about es x)
+    not_validated : is_validation x r ≡ false → stored_response_validated es x r now ≡ None
+    not_validated n = by_entry (stored_response_asked_about es x)
       where
-        by_entry : (o : Option Stored) → if_answered x r now o ≡ None
+        by_entry : (o : Option Stored) → stored_response_if_answered x r now o ≡ None
         by_entry None = refl
         by_entry (Some e) = ap (λ b. cond b (Some e) None) (never_answered x r now e n)
 
-    word_of_error : is_validation x r ≡ false → (t : ℕ) (detail : Option Detail) → WordAfterError (policy_of table.lines x.line) es x.asked now t detail →
-        WordAtAnswer (policy_of table.lines x.line) es x now r t detail
+    word_of_error : is_validation x r ≡ false → (t : ℕ) (detail : Option Detail) → DetailWordAfterError (policy_of table.lines x.line) es x.asked now t detail →
+        DetailWordAtAnswer (policy_of table.lines x.line) es x now r t detail
     word_of_error n t detail word = (λ some. absurd (false≢true (ap is_some (sym (not_validated n)) ∙ some)), λ is none. absurd (false≢true (sym n ∙ is)), λ not. word)
 
-    passes : (b : Bool) (fallback : Fallback) → fallback_for (policy_of table.lines x.line) es x.asked now (decision_of (policy_of table.lines x.line) es x.asked now) ≡ fallback → is_validation x r ≡ false → Is (passed_unless table es now x r next b fallback)
+    passes : (b : Bool) (fallback : Fallback) → fallback_for (policy_of table.lines x.line) es x.asked now (decision_of (policy_of table.lines x.line) es x.asked now) ≡ fallback → is_validation x r ≡ false → Is (outcome_of_passing_on_or_stale table es now x r next b fallback)
     passes true (Sends t detail) k n =
         let f = found_fallback (policy_of table.lines x.line) x.asked now t detail (decision_of (policy_of table.lines x.line) es x.asked now) refl k in
-        λ h. at_serial (Some x) (Answer now id r) (sent table es t now (forwarded_as (policy_of table.lines x.line) x (Some r.status) (Some detail)) x.asked) t s (same_Some t s h)
-        (as_held (Some x) (Answer now id r) t now (forwarded_as (policy_of table.lines x.line) x (Some r.status) (Some detail)) x.asked f
-        (ap (λ b. cond b (refreshed x r now f.0) f.0) (never_answered x r now f.0 n)) (refl, refl)
+        λ h. at_serial (Some x) (Answer now id r) (outcome_of_sending_stored table es t now (forwarded_status_info (policy_of table.lines x.line) x (Some r.status) (Some detail)) x.asked) t s (same_Some t s h)
+        (as_held (Some x) (Answer now id r) t now (forwarded_status_info (policy_of table.lines x.line) x (Some r.status) (Some detail)) x.asked f
+        (ap (λ b. cond b (freshened_by_304 x r now f.0) f.0) (never_answered x r now f.0 n)) (refl, refl)
         (Some detail, refl, word_of_error n t (Some detail) (word_after (policy_of table.lines x.line) x.asked now t detail (decision_of (policy_of table.lines x.line) es x.asked now) refl k)))
     passes true (Refuses rule error) k n = λ h. absurd (never_one s h)
     passes false fallback k n = λ h. absurd (never_one s h)
 
-    validates : (o : Option Stored) (d : Decision) → is_validation x r ≡ true → validated es x r now ≡ o → decision_of (policy_of table.lines x.line) es x.asked now ≡ d → Is (revalidated table es now x r o d)
+    validates : (o : Option Stored) (d : Decision) → is_validation x r ≡ true → stored_response_validated es x r now ≡ o → decision_of (policy_of table.lines x.line) es x.asked now ≡ d → Is (outcome_of_304 table es now x r o d)
     validates (Some e) d y v k =
         let valid = validated_is es x r now e v in
-        let serial : e.serial ≡ (refreshed x r now e).serial = sym (serial_stays x r now e) in
+        let serial : e.serial ≡ (freshened_by_304 x r now e).serial = sym (serial_stays x r now e) in
         λ h. record {
           response = e;
-          is_held = ap (λ z. find_entry z es) (sym (serial ∙ same_Some (refreshed x r now e).serial s h)) ∙ valid.found;
+          is_held = ap (λ z. find_entry z es) (sym (serial ∙ same_Some (freshened_by_304 x r now e).serial s h)) ∙ valid.found;
           now = now;
           asked = x.asked;
           about = (refl, refl);
-          info = forwarded_as (policy_of table.lines x.line) x (Some r.status) None;
+          info = forwarded_status_info (policy_of table.lines x.line) x (Some r.status) None;
           shows_how = (None, refl, (λ some. refl, λ is none. absurd (some_is_not e (sym v ∙ none)), λ n. absurd (false≢true (sym n ∙ y))));
           reply = record {
-            bytes = stored_text table.name (refreshed x r now e) now (forwarded_as (policy_of table.lines x.line) x (Some r.status) None) x.asked;
+            bytes = stored_text table.name (freshened_by_304 x r now e) now (forwarded_status_info (policy_of table.lines x.line) x (Some r.status) None) x.asked;
             close = x.asked.close;
             stored = None;
-            used = Some (refreshed x r now e).serial;
+            used = Some (freshened_by_304 x r now e).serial;
             removed = _;
           };
           outcome_is = refl;
-          bytes_are = ap (λ b. stored_text table.name (cond b (refreshed x r now e) e) now (forwarded_as (policy_of table.lines x.line) x (Some r.status) None) x.asked) (sym valid.answered);
+          bytes_are = ap (λ b. stored_text table.name (cond b (freshened_by_304 x r now e) e) now (forwarded_status_info (policy_of table.lines x.line) x (Some r.status) None) x.asked) (sym valid.answered);
         }
     validates None (decision.Hit t) y v k =
         let f = found_hit (policy_of table.lines x.line) x.asked now t k in
-        λ h. at_serial (Some x) (Answer now id r) (sent table es t now (forwarded_as (policy_of table.lines x.line) x (Some r.status) (Some ReuseAfter304)) x.asked) t s (same_Some t s h)
-        (as_held (Some x) (Answer now id r) t now (forwarded_as (policy_of table.lines x.line) x (Some r.status) (Some ReuseAfter304)) x.asked f (same_at 0 es x now id r v t f.0 f.1) (refl, refl)
+        λ h. at_serial (Some x) (Answer now id r) (outcome_of_sending_stored table es t now (forwarded_status_info (policy_of table.lines x.line) x (Some r.status) (Some ReuseAfter304)) x.asked) t s (same_Some t s h)
+        (as_held (Some x) (Answer now id r) t now (forwarded_status_info (policy_of table.lines x.line) x (Some r.status) (Some ReuseAfter304)) x.asked f (same_at 0 es x now id r v t f.0 f.1) (refl, refl)
         (Some ReuseAfter304, refl, (λ some. absurd (false≢true (ap is_some (sym v) ∙ some)), λ is none. refl, λ n. absurd (false≢true (sym n ∙ y)))))
     validates None (decision.Forward rule against) y v k = λ h. absurd (never_one s h)
 
-    answer_sends : Is (answered table es now x r next (decision_of (policy_of table.lines x.line) es x.asked now))
+    answer_sends : Is (outcome_of_answer table es now x r next (decision_of (policy_of table.lines x.line) es x.asked now))
     answer_sends = by_304 (is_validation x r) refl
       where
         by_unasked : (b : Bool) → is_validation x r ≡ false →
-            Is (cond b (failed table es now x BadAnswer (Some r.status) (fallback_for (policy_of table.lines x.line) es x.asked now (decision_of (policy_of table.lines x.line) es x.asked now)))
-            (passed_unless table es now x r next (is_error_status r.status) (fallback_for (policy_of table.lines x.line) es x.asked now (decision_of (policy_of table.lines x.line) es x.asked now))))
+            Is (cond b (outcome_of_failure table es now x BadAnswer (Some r.status) (fallback_for (policy_of table.lines x.line) es x.asked now (decision_of (policy_of table.lines x.line) es x.asked now)))
+            (outcome_of_passing_on_or_stale table es now x r next (is_error_status r.status) (fallback_for (policy_of table.lines x.line) es x.asked now (decision_of (policy_of table.lines x.line) es x.asked now))))
         by_unasked true n =
             fallback_sends x (Answer now id r) now BadAnswer (Some r.status) s (fallback_for (policy_of table.lines x.line) es x.asked now (decision_of (policy_of table.lines x.line) es x.asked now)) refl
-            (λ e. ap (λ b. cond b (refreshed x r now e) e) (never_answered x r now e n)) (refl, refl) (λ t detail word. (detail, refl, word_of_error n t detail word))
+            (λ e. ap (λ b. cond b (freshened_by_304 x r now e) e) (never_answered x r now e n)) (refl, refl) (λ t detail word. (detail, refl, word_of_error n t detail word))
         by_unasked false n = passes (is_error_status r.status) (fallback_for (policy_of table.lines x.line) es x.asked now (decision_of (policy_of table.lines x.line) es x.asked now)) refl n
 
-        by_304 : (b : Bool) → is_validation x r ≡ b → Is (cond b (revalidated table es now x r (validated es x r now) (decision_of (policy_of table.lines x.line) es x.asked now))
-            (cond (is_unasked x.asked r) (failed table es now x BadAnswer (Some r.status) (fallback_for (policy_of table.lines x.line) es x.asked now (decision_of (policy_of table.lines x.line) es x.asked now)))
-            (passed_unless table es now x r next (is_error_status r.status) (fallback_for (policy_of table.lines x.line) es x.asked now (decision_of (policy_of table.lines x.line) es x.asked now)))))
-        by_304 true k = validates (validated es x r now) (decision_of (policy_of table.lines x.line) es x.asked now) k refl refl
-        by_304 false k = by_unasked (is_unasked x.asked r) k
+        by_304 : (b : Bool) → is_validation x r ≡ b → Is (cond b (outcome_of_304 table es now x r (stored_response_validated es x r now) (decision_of (policy_of table.lines x.line) es x.asked now))
+            (cond (is_304_without_condition x.asked r) (outcome_of_failure table es now x BadAnswer (Some r.status) (fallback_for (policy_of table.lines x.line) es x.asked now (decision_of (policy_of table.lines x.line) es x.asked now)))
+            (outcome_of_passing_on_or_stale table es now x r next (is_error_status r.status) (fallback_for (policy_of table.lines x.line) es x.asked now (decision_of (policy_of table.lines x.line) es x.asked now)))))
+        by_304 true k = validates (stored_response_validated es x r now) (decision_of (policy_of table.lines x.line) es x.asked now) k refl refl
+        by_304 false k = by_unasked (is_304_without_condition x.asked r) k
 
-  woken_sends : (x : Exchange) (now id s : ℕ) (d : Decision) → decision_of (policy_of table.lines x.line) es x.asked now ≡ d → used_in (woken table es now x d) ≡ Some s →
-      IsThatResponse table es (Some x) (Wake now id) (woken table es now x d) s
+  woken_sends : (x : Exchange) (now id s : ℕ) (d : Decision) → decision_of (policy_of table.lines x.line) es x.asked now ≡ d → serial_used_by_outcome (outcome_of_wake table es now x d) ≡ Some s →
+      ReplyIsThatStoredResponse table es (Some x) (Wake now id) (outcome_of_wake table es now x d) s
   woken_sends x now id s (decision.Hit t) k h =
       let f = found_hit (policy_of table.lines x.line) x.asked now t k in
-      at_serial (Some x) (Wake now id) (sent table es t now (collapsed_as (policy_of table.lines x.line) x) x.asked) t s (same_Some t s h)
-      (as_held (Some x) (Wake now id) t now (collapsed_as (policy_of table.lines x.line) x) x.asked f refl (refl, refl) refl)
+      at_serial (Some x) (Wake now id) (outcome_of_sending_stored table es t now (collapsed_status_info (policy_of table.lines x.line) x) x.asked) t s (same_Some t s h)
+      (as_held (Some x) (Wake now id) t now (collapsed_status_info (policy_of table.lines x.line) x) x.asked f refl (refl, refl) refl)
   woken_sends x now id s (decision.Forward rule against) k h = absurd (never_one s h)
 
-  sends_by_event : (xs : List Exchange) (x : Option Exchange) (next : Option ℕ) (event : Event) (s : ℕ) → used_in (outcome_of table es xs x next event) ≡ Some s →
-      IsThatResponse table es x event (outcome_of table es xs x next event) s
+  sends_by_event : (xs : List Exchange) (x : Option Exchange) (next : Option ℕ) (event : Event) (s : ℕ) → serial_used_by_outcome (outcome_of table es xs x next event) ≡ Some s →
+      ReplyIsThatStoredResponse table es x event (outcome_of table es xs x next event) s
   sends_by_event xs x next (Arrive now id asked) s h = arrival_sends xs x now id asked s (verdict_of table.lines asked.method asked.target) refl h
   sends_by_event xs (Some x) next (Answer now id r) s h = answer_sends x now id r next s h
   sends_by_event xs None next (Answer now id r) s h = absurd (never_one s h)
@@ -253,6 +253,6 @@ pub sends_what_is_held : SendsWhatIsHeld
 sends_what_is_held table limit first s item past g h =
     let es = held_entries table limit past in
     let xs = open_exchanges table limit past in
-    let x = find_exchange (id_of item.event) xs in
-    subst (λ (o : Outcome). used_in o ≡ Some s → IsThatResponse table es x item.event o s) (sym g.0.outcome_is)
+    let x = find_exchange (exchange_id_of_event item.event) xs in
+    subst (λ (o : Outcome). serial_used_by_outcome o ≡ Some s → ReplyIsThatStoredResponse table es x item.event o s) (sym g.0.outcome_is)
     (sends_by_event table es (held_distinct table limit first past g.1) xs x (next_serial first past) item.event s) h

@@ -6,12 +6,12 @@ use Rattle.std.proofs.lemmas.Option.{same_Some}
 use Rattle.hx_framing.specs.declared.messages.Response.{Response}
 use Rattle.hx_target.specs.declared.keys.Key.{Key}
 use Rattle.hx_hop.specs.declared.request_view.Asked.{Asked}
-use Rattle.hx_allow.specs.Lines.{Table}
+use Rattle.hx_allow.specs.TableLines.{Table}
 use Rattle.hx_allow.specs.Matching.{verdict_of, policy_of}
 use Rattle.hx_allow.specs.declared.verdicts.Verdict.{Verdict}
 use Rattle.hx_store.specs.Stored.{Stored}
-use Rattle.hx_store.specs.Serials.{is_in}
-use Rattle.hx_store.specs.Shelf.{without}
+use Rattle.hx_store.specs.Serials.{serial_is_in}
+use Rattle.hx_store.specs.Shelf.{without_serials}
 use Rattle.hx_reuse.specs.Rules.{decision_of}
 use Rattle.hx_status.specs.declared.cause.FailKind.{FailKind}
 use Rattle.proxy_core.specs.declared.open.exchange.Exchange.{Exchange}
@@ -20,32 +20,32 @@ use Rattle.proxy_core.specs.declared.outcome.Outcome.TheVariants.{Forward}
 use Rattle.proxy_core.specs.declared.event.Event.{Event}
 use Rattle.proxy_core.specs.declared.event.Event.TheVariants.{Arrive, Answer, Fail, Wake}
 use Rattle.proxy_core.specs.declared.replies.pending.PendingReply.{PendingReply}
-use Rattle.proxy_core.specs.declared.fault.CoreFault.{CoreFault}
-use Rattle.proxy_core.specs.Moments.{too_late}
+use Rattle.proxy_core.specs.declared.core_fault.CoreFault.{CoreFault}
+use Rattle.proxy_core.specs.Moments.{moment_too_late_fault}
 use Rattle.proxy_core.specs.Storing.{key_invalidated}
-use Rattle.proxy_core.specs.Outcomes.{find_exchange, or_fault, not_forwarded, not_ready, fault_of, outcome_of, arrived, fallback_for, failed, answered, woken, forward_text}
+use Rattle.proxy_core.specs.Outcomes.{find_exchange, or_fault, fault_if_not_forwarded, fault_if_not_released, fault_at_exchange, outcome_of, outcome_of_arrival, fallback_for, outcome_of_failure, outcome_of_answer, outcome_of_wake, forward_text}
 use Rattle.hx_reuse.specs.declared.rule.ReuseRule.{ReuseRule}
 use Rattle.hx_reuse.specs.declared.decision.Decision.{Decision}
 use Rattle.hx_reuse.specs.declared.decision.Decision.TheVariants as decision
-use Rattle.proxy_core.specs.Validating.{condition_at}
-use Rattle.proxy_core.specs.State.{State, Steps, after, taken, entries_after, left_open, invalidated_by, next_after, gone_out, sent_out, woken_out, rule_of, named_by}
-use Rattle.proxy_core.specs.Pending.{stored_by, reply_of, finished, IsPlain, Leaves}
-use Rattle.proxy_core.specs.Waking.{IsWoken}
+use Rattle.proxy_core.specs.Validating.{condition_about_serial}
+use Rattle.proxy_core.specs.State.{State, StepIsAccepted, state_after, entries_without_serials, entries_after, exchanges_after_end, key_invalidated_by_response, next_serial_after, exchange_forwarded_again, exchange_sent_forward, exchanges_after_wake, rule_of_decision, serial_named_by_decision}
+use Rattle.proxy_core.specs.Pending.{serial_stored_by_change, outcome_of_pending_reply, state_after_reply, ChangeStoresNothing, ReplyLeavesHeldAsStepDoes}
+use Rattle.proxy_core.specs.Waking.{IsPreparedForWake}
 use Rattle.proxy_core.specs.declared.steps.waking.AfterWake.TheVariants.{Ends}
 use Rattle.proxy_core.proofs.Leaving.{fail_leaves, wake_leaves}
 
-taken_rest : (s : ℕ) (rest : List ℕ) (es : List Stored) → without rest (without (s ∷ []) es) ≡ without (s ∷ rest) es
+taken_rest : (s : ℕ) (rest : List ℕ) (es : List Stored) → without_serials rest (without_serials (s ∷ []) es) ≡ without_serials (s ∷ rest) es
 taken_rest s rest [] = refl
 taken_rest s rest (e ∷ es) =
-    let P : Bool → Type 0 = λ b. filter (λ (f : Stored). not (is_in f.serial rest)) (cond (not (b || false)) (e ∷ without (s ∷ []) es) (without (s ∷ []) es))
-    ≡ cond (not (b || is_in e.serial rest)) (e ∷ without (s ∷ rest) es) (without (s ∷ rest) es) in
+    let P : Bool → Type 0 = λ b. filter (λ (f : Stored). not (serial_is_in f.serial rest)) (cond (not (b || false)) (e ∷ without_serials (s ∷ []) es) (without_serials (s ∷ []) es))
+    ≡ cond (not (b || serial_is_in e.serial rest)) (e ∷ without_serials (s ∷ rest) es) (without_serials (s ∷ rest) es) in
     elim (eqb s e.serial) as P [
       | true ↦ taken_rest s rest es
-      | false ↦ ap (λ (zs : List Stored). cond (not (is_in e.serial rest)) (e ∷ zs) zs) (taken_rest s rest es)
+      | false ↦ ap (λ (zs : List Stored). cond (not (serial_is_in e.serial rest)) (e ∷ zs) zs) (taken_rest s rest es)
     ]
 
 -- what is taken out one by one is gone
-pub taken_more : (s : ℕ) (rest : List ℕ) (es : List Stored) → taken rest (without (s ∷ []) es) ≡ taken (s ∷ rest) es
+pub taken_more : (s : ℕ) (rest : List ℕ) (es : List Stored) → entries_without_serials rest (without_serials (s ∷ []) es) ≡ entries_without_serials (s ∷ rest) es
 taken_more s [] es = refl
 taken_more s (t ∷ rest) es = taken_rest s (t ∷ rest) es
 
@@ -60,99 +60,99 @@ find_id id (y ∷ xs) x h = elim (cases_Bool (eqb y.id id)) [
 abbrev pub st : Table → ℕ → List Stored → List Exchange → Option ℕ → State
 st table limit es xs next = record { table = table; limit = limit; entries = es; exchanges = xs; next = next }
 
-module _ (s : State) (now id : ℕ) (early : too_late now ≡ None) where
+module _ (s : State) (now id : ℕ) (early : moment_too_late_fault now ≡ None) where
   -- a request that arrived
   pub arrive_done : (asked : Asked) (v : Verdict) (o : Outcome) (t : State) → find_exchange id s.exchanges ≡ None → v ≡ verdict_of s.table.lines asked.method asked.target
-      → o ≡ arrived s.table s.entries s.exchanges now asked v → t ≡ after s (Arrive now id asked) o → Steps s (Arrive now id asked) o t
+      → o ≡ outcome_of_arrival s.table s.entries s.exchanges now asked v → t ≡ state_after s (Arrive now id asked) o → StepIsAccepted s (Arrive now id asked) o t
   arrive_done asked v o t free judged is leaves = record {
-    allowed = ap (λ (x : Option Exchange). fault_of x (Arrive now id asked)) free ∙ early;
-    outcome_is = is ∙ ap (λ (v : Verdict). arrived s.table s.entries s.exchanges now asked v) judged;
+    allowed = ap (λ (x : Option Exchange). fault_at_exchange x (Arrive now id asked)) free ∙ early;
+    outcome_is = is ∙ ap (λ (v : Verdict). outcome_of_arrival s.table s.entries s.exchanges now asked v) judged;
     leaves = leaves;
   }
 
   -- an exchange that an answer ends
-  pub answer_done : (x : Exchange) (r : Response) (pending : PendingReply) (gone : Option Key) (o : Outcome) (t : State) → find_exchange id s.exchanges ≡ Some x → not_forwarded x.stage ≡ None
-      → reply_of pending ≡ answered s.table s.entries now x r s.next (decision_of (policy_of s.table.lines x.line) s.entries x.asked now) → Leaves s.limit s.entries x (Answer now x.id r) pending
-      → gone ≡ key_invalidated x r → o ≡ reply_of pending → t ≡ finished s id pending gone → Steps s (Answer now id r) o t
+  pub answer_done : (x : Exchange) (r : Response) (pending : PendingReply) (gone : Option Key) (o : Outcome) (t : State) → find_exchange id s.exchanges ≡ Some x → fault_if_not_forwarded x.stage ≡ None
+      → outcome_of_pending_reply pending ≡ outcome_of_answer s.table s.entries now x r s.next (decision_of (policy_of s.table.lines x.line) s.entries x.asked now) → ReplyLeavesHeldAsStepDoes s.limit s.entries x (Answer now x.id r) pending
+      → gone ≡ key_invalidated x r → o ≡ outcome_of_pending_reply pending → t ≡ state_after_reply s id pending gone → StepIsAccepted s (Answer now id r) o t
   answer_done x r pending gone o t here stage reply leaves gone_is is t_is =
-      let next = next_after s.next (stored_by pending.change) in
+      let next = next_serial_after s.next (serial_stored_by_change pending.change) in
       let event : Event = Answer now id r in
-      let left : Leaves s.limit s.entries x event pending = subst (λ (k : ℕ). Leaves s.limit s.entries x (Answer now k r) pending) (find_id id s.exchanges x here) leaves in
+      let left : ReplyLeavesHeldAsStepDoes s.limit s.entries x event pending = subst (λ (k : ℕ). ReplyLeavesHeldAsStepDoes s.limit s.entries x (Answer now k r) pending) (find_id id s.exchanges x here) leaves in
       record {
-        allowed = ap (λ (x : Option Exchange). fault_of x event) here ∙ (ap (λ (a : Option CoreFault). or_fault a (not_forwarded x.stage)) early ∙ stage);
+        allowed = ap (λ (x : Option Exchange). fault_at_exchange x event) here ∙ (ap (λ (a : Option CoreFault). or_fault a (fault_if_not_forwarded x.stage)) early ∙ stage);
         outcome_is = is ∙ (reply ∙ ap (λ (x : Option Exchange). outcome_of s.table s.entries s.exchanges x s.next event) (sym here));
         leaves = t_is
-            ∙ (ap (λ (es : List Stored). st s.table s.limit es (left_open gone id s.exchanges) next)
-            (left ∙ ap (λ (y : Option Exchange). entries_after s.limit s.entries y event (reply_of pending)) (sym here))
-            ∙ (ap (λ (key : Option Key). st s.table s.limit (entries_after s.limit s.entries (find_exchange id s.exchanges) event (reply_of pending)) (left_open key id s.exchanges) next)
-            (gone_is ∙ ap (λ (y : Option Exchange). invalidated_by y r) (sym here))
-            ∙ ap (λ (q : Outcome). after s event q) (sym is)));
+            ∙ (ap (λ (es : List Stored). st s.table s.limit es (exchanges_after_end gone id s.exchanges) next)
+            (left ∙ ap (λ (y : Option Exchange). entries_after s.limit s.entries y event (outcome_of_pending_reply pending)) (sym here))
+            ∙ (ap (λ (key : Option Key). st s.table s.limit (entries_after s.limit s.entries (find_exchange id s.exchanges) event (outcome_of_pending_reply pending)) (exchanges_after_end key id s.exchanges) next)
+            (gone_is ∙ ap (λ (y : Option Exchange). key_invalidated_by_response y r) (sym here))
+            ∙ ap (λ (q : Outcome). state_after s event q) (sym is)));
       }
 
   -- one whose request goes forward once more
-  pub answer_again : (x : Exchange) (r : Response) (bytes : List ℕ) (o : Outcome) (t : State) → find_exchange id s.exchanges ≡ Some x → not_forwarded x.stage ≡ None
-      → Forward x.line bytes ≡ answered s.table s.entries now x r s.next (decision_of (policy_of s.table.lines x.line) s.entries x.asked now)
-      → o ≡ Forward x.line bytes → t ≡ st s.table s.limit s.entries (map (gone_out id now) s.exchanges) s.next → Steps s (Answer now id r) o t
+  pub answer_again : (x : Exchange) (r : Response) (bytes : List ℕ) (o : Outcome) (t : State) → find_exchange id s.exchanges ≡ Some x → fault_if_not_forwarded x.stage ≡ None
+      → Forward x.line bytes ≡ outcome_of_answer s.table s.entries now x r s.next (decision_of (policy_of s.table.lines x.line) s.entries x.asked now)
+      → o ≡ Forward x.line bytes → t ≡ st s.table s.limit s.entries (map (exchange_forwarded_again id now) s.exchanges) s.next → StepIsAccepted s (Answer now id r) o t
   answer_again x r bytes o t here stage forward is t_is =
       let event : Event = Answer now id r in
       record {
-        allowed = ap (λ (x : Option Exchange). fault_of x event) here ∙ (ap (λ (a : Option CoreFault). or_fault a (not_forwarded x.stage)) early ∙ stage);
+        allowed = ap (λ (x : Option Exchange). fault_at_exchange x event) here ∙ (ap (λ (a : Option CoreFault). or_fault a (fault_if_not_forwarded x.stage)) early ∙ stage);
         outcome_is = is ∙ (forward ∙ ap (λ (x : Option Exchange). outcome_of s.table s.entries s.exchanges x s.next event) (sym here));
-        leaves = t_is ∙ ap (λ (q : Outcome). after s event q) (sym is);
+        leaves = t_is ∙ ap (λ (q : Outcome). state_after s event q) (sym is);
       }
 
   -- and one that failed
-  pub fail_done : (x : Exchange) (kind : FailKind) (pending : PendingReply) (o : Outcome) (t : State) → find_exchange id s.exchanges ≡ Some x → not_forwarded x.stage ≡ None
-      → reply_of pending ≡ failed s.table s.entries now x kind None (fallback_for (policy_of s.table.lines x.line) s.entries x.asked now (decision_of (policy_of s.table.lines x.line) s.entries x.asked now)) → IsPlain pending.change
-      → o ≡ reply_of pending → t ≡ finished s id pending None → Steps s (Fail now id kind) o t
+  pub fail_done : (x : Exchange) (kind : FailKind) (pending : PendingReply) (o : Outcome) (t : State) → find_exchange id s.exchanges ≡ Some x → fault_if_not_forwarded x.stage ≡ None
+      → outcome_of_pending_reply pending ≡ outcome_of_failure s.table s.entries now x kind None (fallback_for (policy_of s.table.lines x.line) s.entries x.asked now (decision_of (policy_of s.table.lines x.line) s.entries x.asked now)) → ChangeStoresNothing pending.change
+      → o ≡ outcome_of_pending_reply pending → t ≡ state_after_reply s id pending None → StepIsAccepted s (Fail now id kind) o t
   fail_done x kind pending o t here stage reply plain is t_is =
       let event : Event = Fail now id kind in
       record {
-        allowed = ap (λ (x : Option Exchange). fault_of x event) here ∙ (ap (λ (a : Option CoreFault). or_fault a (not_forwarded x.stage)) early ∙ stage);
+        allowed = ap (λ (x : Option Exchange). fault_at_exchange x event) here ∙ (ap (λ (a : Option CoreFault). or_fault a (fault_if_not_forwarded x.stage)) early ∙ stage);
         outcome_is = is ∙ (reply ∙ ap (λ (x : Option Exchange). outcome_of s.table s.entries s.exchanges x s.next event) (sym here));
         leaves = t_is
-            ∙ (ap (λ (es : List Stored). st s.table s.limit es (left_open None id s.exchanges) (next_after s.next (stored_by pending.change)))
-            (fail_leaves s.limit s.entries x now id kind pending plain ∙ ap (λ (y : Option Exchange). entries_after s.limit s.entries y event (reply_of pending)) (sym here))
-            ∙ ap (λ (q : Outcome). after s event q) (sym is));
+            ∙ (ap (λ (es : List Stored). st s.table s.limit es (exchanges_after_end None id s.exchanges) (next_serial_after s.next (serial_stored_by_change pending.change)))
+            (fail_leaves s.limit s.entries x now id kind pending plain ∙ ap (λ (y : Option Exchange). entries_after s.limit s.entries y event (outcome_of_pending_reply pending)) (sym here))
+            ∙ ap (λ (q : Outcome). state_after s event q) (sym is));
       }
 
   -- a request that waited is answered from the store
-  pub wake_done : (x : Exchange) (pending : PendingReply) (o : Outcome) (t : State) → find_exchange id s.exchanges ≡ Some x → not_ready x.stage ≡ None
-      → reply_of pending ≡ woken s.table s.entries now x (decision_of (policy_of s.table.lines x.line) s.entries x.asked now) → IsPlain pending.change
-      → o ≡ reply_of pending → t ≡ finished s id pending None → Steps s (Wake now id) o t
+  pub wake_done : (x : Exchange) (pending : PendingReply) (o : Outcome) (t : State) → find_exchange id s.exchanges ≡ Some x → fault_if_not_released x.stage ≡ None
+      → outcome_of_pending_reply pending ≡ outcome_of_wake s.table s.entries now x (decision_of (policy_of s.table.lines x.line) s.entries x.asked now) → ChangeStoresNothing pending.change
+      → o ≡ outcome_of_pending_reply pending → t ≡ state_after_reply s id pending None → StepIsAccepted s (Wake now id) o t
   wake_done x pending o t here stage reply plain is t_is =
       let event : Event = Wake now id in
       record {
-        allowed = ap (λ (x : Option Exchange). fault_of x event) here ∙ (ap (λ (a : Option CoreFault). or_fault a (not_ready x.stage)) early ∙ stage);
+        allowed = ap (λ (x : Option Exchange). fault_at_exchange x event) here ∙ (ap (λ (a : Option CoreFault). or_fault a (fault_if_not_released x.stage)) early ∙ stage);
         outcome_is = is ∙ (reply ∙ ap (λ (x : Option Exchange). outcome_of s.table s.entries s.exchanges x s.next event) (sym here));
         leaves = t_is
-            ∙ (ap (λ (es : List Stored). st s.table s.limit es (left_open None id s.exchanges) (next_after s.next (stored_by pending.change)))
-            (wake_leaves s.limit s.entries x now id pending plain ∙ ap (λ (y : Option Exchange). entries_after s.limit s.entries y event (reply_of pending)) (sym here))
-            ∙ ap (λ (q : Outcome). after s event q) (sym is));
+            ∙ (ap (λ (es : List Stored). st s.table s.limit es (exchanges_after_end None id s.exchanges) (next_serial_after s.next (serial_stored_by_change pending.change)))
+            (wake_leaves s.limit s.entries x now id pending plain ∙ ap (λ (y : Option Exchange). entries_after s.limit s.entries y event (outcome_of_pending_reply pending)) (sym here))
+            ∙ ap (λ (q : Outcome). state_after s event q) (sym is));
       }
 
   -- by what was made ready for it
-  pub wake_ends : (x : Exchange) (pending : PendingReply) (o : Outcome) (t : State) → find_exchange id s.exchanges ≡ Some x → not_ready x.stage ≡ None
-      → IsWoken s.table s.entries now x (decision_of (policy_of s.table.lines x.line) s.entries x.asked now) (Ends pending)
-      → o ≡ reply_of pending → t ≡ finished s id pending None → Steps s (Wake now id) o t
+  pub wake_ends : (x : Exchange) (pending : PendingReply) (o : Outcome) (t : State) → find_exchange id s.exchanges ≡ Some x → fault_if_not_released x.stage ≡ None
+      → IsPreparedForWake s.table s.entries now x (decision_of (policy_of s.table.lines x.line) s.entries x.asked now) (Ends pending)
+      → o ≡ outcome_of_pending_reply pending → t ≡ state_after_reply s id pending None → StepIsAccepted s (Wake now id) o t
   wake_ends x pending o t here stage woken_is is t_is = by_decision (decision_of (policy_of s.table.lines x.line) s.entries x.asked now) refl woken_is
     where
-      by_decision : (d : Decision) → decision_of (policy_of s.table.lines x.line) s.entries x.asked now ≡ d → IsWoken s.table s.entries now x d (Ends pending) → Steps s (Wake now id) o t
-      by_decision (decision.Hit serial) d w = wake_done x pending o t here stage (w.0 ∙ ap (λ (d : Decision). woken s.table s.entries now x d) (sym d)) w.1 is t_is
+      by_decision : (d : Decision) → decision_of (policy_of s.table.lines x.line) s.entries x.asked now ≡ d → IsPreparedForWake s.table s.entries now x d (Ends pending) → StepIsAccepted s (Wake now id) o t
+      by_decision (decision.Hit serial) d w = wake_done x pending o t here stage (w.0 ∙ ap (λ (d : Decision). outcome_of_wake s.table s.entries now x d) (sym d)) w.1 is t_is
       by_decision (decision.Forward rule against) d w = absurd w
 
   -- or goes forward
-  pub wake_out : (x : Exchange) (rule : ReuseRule) (against : Option ℕ) (o : Outcome) (t : State) → find_exchange id s.exchanges ≡ Some x → not_ready x.stage ≡ None
+  pub wake_out : (x : Exchange) (rule : ReuseRule) (against : Option ℕ) (o : Outcome) (t : State) → find_exchange id s.exchanges ≡ Some x → fault_if_not_released x.stage ≡ None
       → decision_of (policy_of s.table.lines x.line) s.entries x.asked now ≡ decision.Forward rule against
-      → o ≡ Forward x.line (forward_text s.table x.asked (condition_at s.entries against))
-      → t ≡ st s.table s.limit s.entries (map (sent_out id now rule (condition_at s.entries against)) s.exchanges) s.next → Steps s (Wake now id) o t
+      → o ≡ Forward x.line (forward_text s.table x.asked (condition_about_serial s.entries against))
+      → t ≡ st s.table s.limit s.entries (map (exchange_sent_forward id now rule (condition_about_serial s.entries against)) s.exchanges) s.next → StepIsAccepted s (Wake now id) o t
   wake_out x rule against o t here stage d is t_is =
       let event : Event = Wake now id in
       record {
-        allowed = ap (λ (x : Option Exchange). fault_of x event) here ∙ (ap (λ (a : Option CoreFault). or_fault a (not_ready x.stage)) early ∙ stage);
-        outcome_is = is ∙ (ap (λ (d : Decision). woken s.table s.entries now x d) (sym d) ∙ ap (λ (x : Option Exchange). outcome_of s.table s.entries s.exchanges x s.next event) (sym here));
+        allowed = ap (λ (x : Option Exchange). fault_at_exchange x event) here ∙ (ap (λ (a : Option CoreFault). or_fault a (fault_if_not_released x.stage)) early ∙ stage);
+        outcome_is = is ∙ (ap (λ (d : Decision). outcome_of_wake s.table s.entries now x d) (sym d) ∙ ap (λ (x : Option Exchange). outcome_of s.table s.entries s.exchanges x s.next event) (sym here));
         leaves = t_is
-            ∙ (ap (λ (d : Decision). st s.table s.limit s.entries (map (sent_out id now (rule_of d) (condition_at s.entries (named_by d))) s.exchanges) s.next) (sym d)
-            ∙ (ap (λ (w : Option Exchange). st s.table s.limit s.entries (woken_out s.table s.entries id now w s.exchanges) s.next) (sym here)
-            ∙ ap (λ (q : Outcome). after s event q) (sym is)));
+            ∙ (ap (λ (d : Decision). st s.table s.limit s.entries (map (exchange_sent_forward id now (rule_of_decision d) (condition_about_serial s.entries (serial_named_by_decision d))) s.exchanges) s.next) (sym d)
+            ∙ (ap (λ (w : Option Exchange). st s.table s.limit s.entries (exchanges_after_wake s.table s.entries id now w s.exchanges) s.next) (sym here)
+            ∙ ap (λ (q : Outcome). state_after s event q) (sym is)));
       }

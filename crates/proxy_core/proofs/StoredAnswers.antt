@@ -6,7 +6,7 @@ use Rattle.http.specs.Method.{safe_methods, is_among}
 use Rattle.hx_target.specs.declared.keys.Key.{Key}
 use Rattle.hx_framing.specs.declared.messages.Response.{Response}
 use Rattle.hx_hop.specs.Answering.{answered_of}
-use Rattle.hx_allow.specs.Lines.{Table}
+use Rattle.hx_allow.specs.TableLines.{Table}
 use Rattle.hx_allow.specs.Matching.{policy_of, verdict_of}
 use Rattle.hx_allow.specs.declared.verdicts.Verdict.{Verdict}
 use Rattle.hx_allow.specs.declared.verdicts.Verdict.TheVariants as verdict
@@ -19,9 +19,9 @@ use Rattle.hx_reuse.specs.declared.decision.Decision.TheVariants as decision
 use Rattle.hx_status.specs.declared.cause.FailKind.TheVariants.{BadAnswer}
 use Rattle.hx_status.specs.declared.cause.Cause.TheVariants.{Origin}
 use Rattle.hx_status.specs.declared.status.Detail.TheVariants.{ReuseAfter304}
-use Rattle.hx_storable.specs.Rules.{is_understood, storage_rule_of}
-use Rattle.hx_storable.specs.Storable.{IsFinal, MayBeStored}
-use Rattle.hx_storable.specs.declared.known_facts.Facts.{Facts}
+use Rattle.hx_storable.specs.Rules.{is_understood_status, storage_rule_of}
+use Rattle.hx_storable.specs.Storable.{StatusIsFinal, ResponseMayBeStored}
+use Rattle.hx_storable.specs.declared.known_facts.StoringFacts.{StoringFacts}
 use Rattle.hx_storable.proofs.StorableLemmas.{is_stored, stored_may_be}
 use Rattle.hx_storable.specs.declared.rule.StoreRule.{StoreRule}
 use Rattle.proxy_core.specs.declared.steps.condition.Condition.{Condition}
@@ -32,30 +32,30 @@ use Rattle.proxy_core.specs.declared.event.Event.{Event}
 use Rattle.proxy_core.specs.declared.event.Event.TheVariants.{Arrive, Answer, Fail, Wake, Abandon}
 use Rattle.proxy_core.specs.declared.steps.fallback.Fallback.{Fallback}
 use Rattle.proxy_core.specs.declared.steps.fallback.Fallback.TheVariants.{Sends, Refuses}
-use Rattle.proxy_core.specs.Leading.{leader_for}
-use Rattle.proxy_core.specs.Outcomes.{allowed, answered, arrived, failed, fallback_for, find_exchange, forward_text, forwarded_as, id_of, is_error_status, is_only_if_cached, outcome_of, passed, passed_unless, refused, removed_by, revalidated, sent, sent_on, sent_refreshed, stored_serial, unanswered, woken}
-use Rattle.proxy_core.specs.State.{stored_in, used_in, removed_in}
-use Rattle.proxy_core.specs.Storing.{rule_shown, facts_of, is_storable, is_unasked}
-use Rattle.proxy_core.specs.Validating.{asked_about, condition_at, if_answered, is_kept, is_validation, refreshed, validated}
+use Rattle.proxy_core.specs.Leading.{leader_of_request}
+use Rattle.proxy_core.specs.Outcomes.{outcome_of_allowed_request, outcome_of_answer, outcome_of_arrival, outcome_of_failure, fallback_for, find_exchange, forward_text, forwarded_status_info, exchange_id_of_event, is_error_status, is_only_if_cached, outcome_of, outcome_of_passing_on, outcome_of_passing_on_or_stale, outcome_of_refusal, serials_removed_by_answer, outcome_of_304, outcome_of_sending_stored, outcome_of_waiting_or_forwarding, outcome_of_sending_freshened, serial_of_stored_answer, outcome_without_stored_response, outcome_of_wake}
+use Rattle.proxy_core.specs.State.{serial_stored_by_outcome, serial_used_by_outcome, serials_removed_by_outcome}
+use Rattle.proxy_core.specs.Storing.{storing_rule_to_explain, storing_facts_of_answer, is_storable, is_304_without_condition}
+use Rattle.proxy_core.specs.Validating.{stored_response_asked_about, condition_about_serial, stored_response_if_answered, freshened_may_be_kept, is_validation, freshened_by_304, stored_response_validated}
 use Rattle.proxy_core.specs.Traces.{Item}
 use Rattle.proxy_core.specs.Histories.{held_entries, IsGoodHistory, next_serial, open_exchanges}
-use Rattle.proxy_core.specs.Promises.{is_passed_on, key_by_answer}
+use Rattle.proxy_core.specs.Promises.{answer_is_passed_on, key_invalidated_by_answer}
 use Rattle.proxy_core.proofs.Leaving.{serial_stays, unanswered as never_answered}
 use Rattle.proxy_core.proofs.Unsent.{storing_of}
-use Rattle.proxy_core.specs.StoredAnswers.{MayBeStoredAt, IsStoredAnswer, not_kept, held_for, removed_by_answer, removed_at, StoresNowhereElse, StoresWhereItMay, RemovesJustThat}
-use Rattle.proxy_core.proofs.StoringWords.{can_be_reused, fields_named, fits_in, is_within, keeps_all, lasts_or_validates, lists_none, none_is_not, some_left, star_absent}
+use Rattle.proxy_core.specs.StoredAnswers.{AnswerMayBeStored, IsAnswerThatMayBeStored, serial_not_kept_after_304, serials_held_for_key, removed_by_answer, serials_removed_at, NothingElseIsStored, AnswerIsStoredWhereItMayBe, ItemRemovesExactlyThese}
+use Rattle.proxy_core.proofs.StoringWords.{can_be_reused, fields_named, fits_in, may_be_released, keeps_all, lasts_or_validates, lists_none, none_is_not, some_left, star_absent}
 
 none_of : {A : Type 0} (o : Option A) → is_none o ≡ true → o ≡ None
 none_of None h = refl
 none_of (Some a) h = absurd cc
 
 module _ (table : Table) (x : Exchange) (r : Response) (now : ℕ) (next : Option ℕ) where
-  facts : Facts
-  facts = facts_of table x r now next
+  facts : StoringFacts
+  facts = storing_facts_of_answer table x r now next
 
   -- ---- the rules and the words
 
-  may_by_rules : MayBeStoredAt table next x r now → MayBeStored x.asked (answered_of r now) (facts_of table x r now next)
+  may_by_rules : AnswerMayBeStored table next x r now → ResponseMayBeStored x.asked (answered_of r now) (storing_facts_of_answer table x r now next)
   may_by_rules may = record {
     operator_allows = may.operator_allows;
     is_storable = may.is_storable;
@@ -73,7 +73,7 @@ module _ (table : Table) (x : Exchange) (r : Response) (now : ℕ) (next : Optio
     };
   }
 
-  may_by_words : MayBeStored x.asked (answered_of r now) (facts_of table x r now next) → MayBeStoredAt table next x r now
+  may_by_words : ResponseMayBeStored x.asked (answered_of r now) (storing_facts_of_answer table x r now next) → AnswerMayBeStored table next x r now
   may_by_words may = record {
     operator_allows = may.operator_allows;
     is_storable = may.is_storable;
@@ -83,44 +83,44 @@ module _ (table : Table) (x : Exchange) (r : Response) (now : ℕ) (next : Optio
     keeps_its_fields = keeps_all r.fields may.is_of_use.keeps_its_fields;
     can_be_reused = can_be_reused (answered_of r now).fields (policy_of table.lines x.line) r.status may.is_of_use.lasts_or_is_validated;
     not_overtaken = may.is_of_use.not_overtaken;
-    fits = is_within table.max_stored (length r.content) may.has_room.not_too_large;
+    fits = may_be_released table.max_stored (length r.content) may.has_room.not_too_large;
     serial_is_left = some_left next may.has_room.has_serial;
   }
 
-  storable : MayBeStoredAt table next x r now → is_storable table x r now next ≡ true
-  storable may = ap is_none (is_stored x.asked (answered_of r now) (facts_of table x r now next) (may_by_rules may))
+  storable : AnswerMayBeStored table next x r now → is_storable table x r now next ≡ true
+  storable may = ap is_none (is_stored x.asked (answered_of r now) (storing_facts_of_answer table x r now next) (may_by_rules may))
 
-  may_be : is_storable table x r now next ≡ true → IsFinal (answered_of r now) → MayBeStoredAt table next x r now
+  may_be : is_storable table x r now next ≡ true → StatusIsFinal (answered_of r now) → AnswerMayBeStored table next x r now
   may_be applies final =
-      may_by_words (stored_may_be x.asked (answered_of r now) (facts_of table x r now next) final (none_of (storage_rule_of x.asked (answered_of r now) (facts_of table x r now next)) applies))
+      may_by_words (stored_may_be x.asked (answered_of r now) (storing_facts_of_answer table x r now next) final (none_of (storage_rule_of x.asked (answered_of r now) (storing_facts_of_answer table x r now next)) applies))
 
   -- a 304 is never stored
-  no_304 : MayBeStoredAt table next x r now → (r.status == 304) ≡ false
+  no_304 : AnswerMayBeStored table next x r now → (r.status == 304) ≡ false
   no_304 may = false_from_ne_true (r.status == 304) λ is.
       let status : r.status ≡ 304 = eqb-true r.status 304 is in
-      let understood : is_understood 304 ≡ true = sym (ap is_understood status) ∙ may.is_storable.status_is_understood (inr (inl status)) in
+      let understood : is_understood_status 304 ≡ true = sym (ap is_understood_status status) ∙ may.is_storable.status_is_understood (inr (inl status)) in
       cc
 
   module _ (es : List Stored) (d : Decision) where
     -- ---- where it may be
 
-    passed_on : (error : Bool) (fallback : Fallback) → is_storable table x r now next ≡ true → used_in (passed_unless table es now x r next error fallback) ≡ None
-        → stored_in (passed_unless table es now x r next error fallback) ≡ next
+    passed_on : (error : Bool) (fallback : Fallback) → is_storable table x r now next ≡ true → serial_used_by_outcome (outcome_of_passing_on_or_stale table es now x r next error fallback) ≡ None
+        → serial_stored_by_outcome (outcome_of_passing_on_or_stale table es now x r next error fallback) ≡ next
     passed_on true (Sends serial detail) applies unused = absurd cc
     passed_on true (Refuses rule error) applies unused = rw applies refl
     passed_on false fallback applies unused = rw applies refl
 
-    stored_answer : MayBeStoredAt table next x r now → used_in (answered table es now x r next d) ≡ None → stored_in (answered table es now x r next d) ≡ next
+    stored_answer : AnswerMayBeStored table next x r now → serial_used_by_outcome (outcome_of_answer table es now x r next d) ≡ None → serial_stored_by_outcome (outcome_of_answer table es now x r next d) ≡ next
     stored_answer may unused =
         let other = no_304 may in
-        let is : answered table es now x r next d ≡ passed_unless table es now x r next (is_error_status r.status) (fallback_for (policy_of table.lines x.line) es x.asked now d) = rw other refl in
-        ap stored_in is ∙ passed_on (is_error_status r.status) (fallback_for (policy_of table.lines x.line) es x.asked now d) (storable may) (sym (ap used_in is) ∙ unused)
+        let is : outcome_of_answer table es now x r next d ≡ outcome_of_passing_on_or_stale table es now x r next (is_error_status r.status) (fallback_for (policy_of table.lines x.line) es x.asked now d) = rw other refl in
+        ap serial_stored_by_outcome is ∙ passed_on (is_error_status r.status) (fallback_for (policy_of table.lines x.line) es x.asked now d) (storable may) (sym (ap serial_used_by_outcome is) ∙ unused)
 
     -- ---- and nowhere else
 
     module _ (s : ℕ) where
-      passed_only : (error : Bool) (fallback : Fallback) → stored_in (passed_unless table es now x r next error fallback) ≡ Some s
-          → (is_storable table x r now next ≡ true) × (used_in (passed_unless table es now x r next error fallback) ≡ None) × (next ≡ Some s)
+      passed_only : (error : Bool) (fallback : Fallback) → serial_stored_by_outcome (outcome_of_passing_on_or_stale table es now x r next error fallback) ≡ Some s
+          → (is_storable table x r now next ≡ true) × (serial_used_by_outcome (outcome_of_passing_on_or_stale table es now x r next error fallback) ≡ None) × (next ≡ Some s)
       passed_only true (Sends serial detail) h = absurd cc
       passed_only true (Refuses rule error) h = let parts = by_test (is_storable table x r now next) h in (parts.0, refl, parts.1)
         where
@@ -133,60 +133,60 @@ module _ (table : Table) (x : Exchange) (r : Response) (now : ℕ) (next : Optio
           by_test true k = (refl, k)
           by_test false k = absurd cc
 
-      failed_never : (fallback : Fallback) → stored_in (failed table es now x BadAnswer (Some r.status) fallback) ≡ Some s → ⊥
+      failed_never : (fallback : Fallback) → serial_stored_by_outcome (outcome_of_failure table es now x BadAnswer (Some r.status) fallback) ≡ Some s → ⊥
       failed_never (Sends serial detail) h = cc
       failed_never (Refuses rule error) h = cc
 
-      validated_never : (o : Option Stored) (k : Decision) → stored_in (revalidated table es now x r o k) ≡ Some s → ⊥
+      validated_never : (o : Option Stored) (k : Decision) → serial_stored_by_outcome (outcome_of_304 table es now x r o k) ≡ Some s → ⊥
       validated_never (Some e) k h = cc
       validated_never None (decision.Hit t) h = cc
       validated_never None (decision.Forward rule against) h = cc
 
-      stored_only : stored_in (answered table es now x r next d) ≡ Some s → (is_storable table x r now next ≡ true) × (used_in (answered table es now x r next d) ≡ None) × (next ≡ Some s)
+      stored_only : serial_stored_by_outcome (outcome_of_answer table es now x r next d) ≡ Some s → (is_storable table x r now next ≡ true) × (serial_used_by_outcome (outcome_of_answer table es now x r next d) ≡ None) × (next ≡ Some s)
       stored_only h = by_304 (is_validation x r) h
         where
-          by_unasked : (b : Bool) → stored_in (cond b (failed table es now x BadAnswer (Some r.status) (fallback_for (policy_of table.lines x.line) es x.asked now d)) (passed_unless table es now x r next (is_error_status r.status) (fallback_for (policy_of table.lines x.line) es x.asked now d))) ≡ Some s
-              → (is_storable table x r now next ≡ true) × (used_in (cond b (failed table es now x BadAnswer (Some r.status) (fallback_for (policy_of table.lines x.line) es x.asked now d)) (passed_unless table es now x r next (is_error_status r.status) (fallback_for (policy_of table.lines x.line) es x.asked now d))) ≡ None) × (next ≡ Some s)
+          by_unasked : (b : Bool) → serial_stored_by_outcome (cond b (outcome_of_failure table es now x BadAnswer (Some r.status) (fallback_for (policy_of table.lines x.line) es x.asked now d)) (outcome_of_passing_on_or_stale table es now x r next (is_error_status r.status) (fallback_for (policy_of table.lines x.line) es x.asked now d))) ≡ Some s
+              → (is_storable table x r now next ≡ true) × (serial_used_by_outcome (cond b (outcome_of_failure table es now x BadAnswer (Some r.status) (fallback_for (policy_of table.lines x.line) es x.asked now d)) (outcome_of_passing_on_or_stale table es now x r next (is_error_status r.status) (fallback_for (policy_of table.lines x.line) es x.asked now d))) ≡ None) × (next ≡ Some s)
           by_unasked true k = absurd (failed_never (fallback_for (policy_of table.lines x.line) es x.asked now d) k)
           by_unasked false k = passed_only (is_error_status r.status) (fallback_for (policy_of table.lines x.line) es x.asked now d) k
 
           by_304 : (b : Bool)
-              → stored_in (cond b (revalidated table es now x r (validated es x r now) d) (cond (is_unasked x.asked r) (failed table es now x BadAnswer (Some r.status) (fallback_for (policy_of table.lines x.line) es x.asked now d)) (passed_unless table es now x r next (is_error_status r.status) (fallback_for (policy_of table.lines x.line) es x.asked now d)))) ≡ Some s
+              → serial_stored_by_outcome (cond b (outcome_of_304 table es now x r (stored_response_validated es x r now) d) (cond (is_304_without_condition x.asked r) (outcome_of_failure table es now x BadAnswer (Some r.status) (fallback_for (policy_of table.lines x.line) es x.asked now d)) (outcome_of_passing_on_or_stale table es now x r next (is_error_status r.status) (fallback_for (policy_of table.lines x.line) es x.asked now d)))) ≡ Some s
               → (is_storable table x r now next ≡ true)
-              × (used_in (cond b (revalidated table es now x r (validated es x r now) d) (cond (is_unasked x.asked r) (failed table es now x BadAnswer (Some r.status) (fallback_for (policy_of table.lines x.line) es x.asked now d)) (passed_unless table es now x r next (is_error_status r.status) (fallback_for (policy_of table.lines x.line) es x.asked now d)))) ≡ None) × (next ≡ Some s)
-          by_304 true k = absurd (validated_never (validated es x r now) d k)
-          by_304 false k = by_unasked (is_unasked x.asked r) k
+              × (serial_used_by_outcome (cond b (outcome_of_304 table es now x r (stored_response_validated es x r now) d) (cond (is_304_without_condition x.asked r) (outcome_of_failure table es now x BadAnswer (Some r.status) (fallback_for (policy_of table.lines x.line) es x.asked now d)) (outcome_of_passing_on_or_stale table es now x r next (is_error_status r.status) (fallback_for (policy_of table.lines x.line) es x.asked now d)))) ≡ None) × (next ≡ Some s)
+          by_304 true k = absurd (validated_never (stored_response_validated es x r now) d k)
+          by_304 false k = by_unasked (is_304_without_condition x.asked r) k
 
 -- ---- the laws
 
-pub stores_where_it_may : StoresWhereItMay
+pub stores_where_it_may : AnswerIsStoredWhereItMayBe
 stores_where_it_may table limit first now id x r item past good event is_open unused may =
     let es = held_entries table limit past in
     let xs = open_exchanges table limit past in
     let next = next_serial first past in
     let d = decision_of (policy_of table.lines x.line) es x.asked now in
     let here : item.outcome ≡ outcome_of table es xs (find_exchange id xs) next (Answer now id r) =
-    good.0.outcome_is ∙ ap (λ (e : Event). outcome_of table es xs (find_exchange (id_of e) xs) next e) event in
-    let is : item.outcome ≡ answered table es now x r next d = here ∙ ap (λ (o : Option Exchange). outcome_of table es xs o next (Answer now id r)) is_open in
-    ap stored_in is ∙ stored_answer table x r now next es d may (sym (ap used_in is) ∙ unused)
+    good.0.outcome_is ∙ ap (λ (e : Event). outcome_of table es xs (find_exchange (exchange_id_of_event e) xs) next e) event in
+    let is : item.outcome ≡ outcome_of_answer table es now x r next d = here ∙ ap (λ (o : Option Exchange). outcome_of table es xs o next (Answer now id r)) is_open in
+    ap serial_stored_by_outcome is ∙ stored_answer table x r now next es d may (sym (ap serial_used_by_outcome is) ∙ unused)
 
 -- what is stored, at the answer to an exchange, under the next serial
 record IsStored (table : Table) (limit first s : ℕ) (item : Item) (past : List Item) : Type 0 where
   next_is : next_serial first past ≡ Some s
-  answer : IsStoredAnswer table limit first item past
+  answer : IsAnswerThatMayBeStored table limit first item past
 
-stored_at : (table : Table) (limit first s : ℕ) (item : Item) (past : List Item) → IsGoodHistory table limit first (item ∷ past) → stored_in item.outcome ≡ Some s →
+stored_at : (table : Table) (limit first s : ℕ) (item : Item) (past : List Item) → IsGoodHistory table limit first (item ∷ past) → serial_stored_by_outcome item.outcome ≡ Some s →
     IsStored table limit first s item past
 stored_at table limit first s item past good stored =
     let es = held_entries table limit past in
     let xs = open_exchanges table limit past in
     let next = next_serial first past in
-    let t = storing_of table es xs (find_exchange (id_of item.event) xs) next item.event s (sym (ap stored_in good.0.outcome_is) ∙ stored) in
+    let t = storing_of table es xs (find_exchange (exchange_id_of_event item.event) xs) next item.event s (sym (ap serial_stored_by_outcome good.0.outcome_is) ∙ stored) in
     let d = decision_of (policy_of table.lines t.z.line) es t.z.asked t.now in
-    let found : find_exchange t.i xs ≡ Some t.z = sym (ap (λ (e : Event). find_exchange (id_of e) xs) t.event_is) ∙ t.w_is in
-    let is : item.outcome ≡ answered table es t.now t.z t.r next d =
+    let found : find_exchange t.i xs ≡ Some t.z = sym (ap (λ (e : Event). find_exchange (exchange_id_of_event e) xs) t.event_is) ∙ t.w_is in
+    let is : item.outcome ≡ outcome_of_answer table es t.now t.z t.r next d =
     good.0.outcome_is ∙ ap (λ (o : Option Exchange). outcome_of table es xs o next item.event) t.w_is ∙ ap (λ (e : Event). outcome_of table es xs (Some t.z) next e) t.event_is in
-    let parts = stored_only table t.z t.r t.now next es d s (sym (ap stored_in is) ∙ stored) in
+    let parts = stored_only table t.z t.r t.now next es d s (sym (ap serial_stored_by_outcome is) ∙ stored) in
     record {
       next_is = parts.2;
       answer = record {
@@ -196,15 +196,15 @@ stored_at table limit first s item past good stored =
         exchange = t.z;
         event_is = t.event_is;
         is_open = found;
-        nothing_is_sent_instead = ap used_in is ∙ parts.1;
+        nothing_is_sent_instead = ap serial_used_by_outcome is ∙ parts.1;
         may_be_stored = may_be table t.z t.r t.now next parts.0;
       };
     }
 
-pub stores_nowhere_else : StoresNowhereElse
+pub stores_nowhere_else : NothingElseIsStored
 stores_nowhere_else table limit first s item past good stored = (stored_at table limit first s item past good stored).answer
 
-pub stores_the_next : (table : Table) (limit first s : ℕ) (item : Item) (past : List Item) → IsGoodHistory table limit first (item ∷ past) → stored_in item.outcome ≡ Some s →
+pub stores_the_next : (table : Table) (limit first s : ℕ) (item : Item) (past : List Item) → IsGoodHistory table limit first (item ∷ past) → serial_stored_by_outcome item.outcome ≡ Some s →
     next_serial first past ≡ Some s
 stores_the_next table limit first s item past good stored = (stored_at table limit first s item past good stored).next_is
 
@@ -219,7 +219,7 @@ and_false true = refl
 and_false false = refl
 
 -- an answer that isn't passed on invalidates nothing
-none_by : (x : Exchange) (r : Response) (o : Outcome) → is_passed_on x.asked r o ≡ false → key_by_answer x.asked r o ≡ None
+none_by : (x : Exchange) (r : Response) (o : Outcome) → answer_is_passed_on x.asked r o ≡ false → key_invalidated_by_answer x.asked r o ≡ None
 none_by x r o h =
     ap (λ b. cond (not (is_among safe_methods x.asked.method) && ((nat_le 200 r.status && nat_le r.status 399) && b)) (Some x.asked.target.key) None) h
     ∙ ap (λ b. cond (not (is_among safe_methods x.asked.method) && b) (Some x.asked.target.key) None) (and_false (nat_le 200 r.status && nat_le r.status 399))
@@ -227,86 +227,86 @@ none_by x r o h =
 
 module _ (table : Table) (es : List Stored) (now : ℕ) (x : Exchange) (r : Response) (next : Option ℕ) where
   abbrev Goes : Outcome → Type 0
-  Goes o = removed_in o ≡ removed_by_answer table es x now r o
+  Goes o = serials_removed_by_outcome o ≡ removed_by_answer table es x now r o
 
-  nothing_held_for : (o : Outcome) → is_passed_on x.asked r o ≡ false → held_for es (key_by_answer x.asked r o) (not_kept table x now r (validated es x r now)) ≡ not_kept table x now r (validated es x r now)
-  nothing_held_for o h = ap (λ (k : Option Key). held_for es k (not_kept table x now r (validated es x r now))) (none_by x r o h)
+  nothing_held_for : (o : Outcome) → answer_is_passed_on x.asked r o ≡ false → serials_held_for_key es (key_invalidated_by_answer x.asked r o) (serial_not_kept_after_304 table x now r (stored_response_validated es x r now)) ≡ serial_not_kept_after_304 table x now r (stored_response_validated es x r now)
+  nothing_held_for o h = ap (λ (k : Option Key). serials_held_for_key es k (serial_not_kept_after_304 table x now r (stored_response_validated es x r now))) (none_by x r o h)
 
-  no_304_goes : is_validation x r ≡ false → not_kept table x now r (validated es x r now) ≡ []
-  no_304_goes n = ap (not_kept table x now r) (by_entry (asked_about es x))
+  no_304_goes : is_validation x r ≡ false → serial_not_kept_after_304 table x now r (stored_response_validated es x r now) ≡ []
+  no_304_goes n = ap (serial_not_kept_after_304 table x now r) (by_entry (stored_response_asked_about es x))
     where
-      by_entry : (o : Option Stored) → if_answered x r now o ≡ None
+      by_entry : (o : Option Stored) → stored_response_if_answered x r now o ≡ None
       by_entry None = refl
       by_entry (Some e) = ap (λ b. cond b (Some e) None) (never_answered x r now e n)
 
-  failed_goes : is_validation x r ≡ false → is_unasked x.asked r ≡ true → (fallback : Fallback) → Goes (failed table es now x BadAnswer (Some r.status) fallback)
-  failed_goes n u (Sends serial detail) = sym (nothing_held_for (sent table es serial now (forwarded_as (policy_of table.lines x.line) x (Some r.status) (Some detail)) x.asked) refl ∙ no_304_goes n)
-  failed_goes n u (Refuses rule error) = sym (nothing_held_for (refused now (Origin BadAnswer rule error) x.asked) (ap not u) ∙ no_304_goes n)
+  failed_goes : is_validation x r ≡ false → is_304_without_condition x.asked r ≡ true → (fallback : Fallback) → Goes (outcome_of_failure table es now x BadAnswer (Some r.status) fallback)
+  failed_goes n u (Sends serial detail) = sym (nothing_held_for (outcome_of_sending_stored table es serial now (forwarded_status_info (policy_of table.lines x.line) x (Some r.status) (Some detail)) x.asked) refl ∙ no_304_goes n)
+  failed_goes n u (Refuses rule error) = sym (nothing_held_for (outcome_of_refusal now (Origin BadAnswer rule error) x.asked) (ap not u) ∙ no_304_goes n)
 
-  passed_goes : (rule : Option StoreRule) (stored : Option ℕ) → is_validation x r ≡ false → is_unasked x.asked r ≡ false → Goes (passed table es now x r rule stored)
+  passed_goes : (rule : Option StoreRule) (stored : Option ℕ) → is_validation x r ≡ false → is_304_without_condition x.asked r ≡ false → Goes (outcome_of_passing_on table es now x r rule stored)
   passed_goes rule (Some s) n u = refl
   passed_goes rule None n u =
       let unsafe = not (is_among safe_methods x.asked.method) in
       let plain = nat_le 200 r.status && nat_le r.status 399 in
-      let same : removed_by es x r None ≡ cond (unsafe && (plain && true)) (serials_of x.asked.target.key es) [] =
-      ap (λ b. cond (unsafe && plain && not (b || is_unasked x.asked r)) (serials_of x.asked.target.key es) []) n
+      let same : serials_removed_by_answer es x r None ≡ cond (unsafe && (plain && true)) (serials_of x.asked.target.key es) [] =
+      ap (λ b. cond (unsafe && plain && not (b || is_304_without_condition x.asked r)) (serials_of x.asked.target.key es) []) n
       ∙ ap (λ b. cond (unsafe && plain && not b) (serials_of x.asked.target.key es) []) u
       ∙ ap (λ b. cond b (serials_of x.asked.target.key es) []) (and_together unsafe plain true)
       in
-      let theirs : held_for es (key_by_answer x.asked r (passed table es now x r rule None)) (not_kept table x now r (validated es x r now)) ≡ cond (unsafe && (plain && true)) (serials_of x.asked.target.key es) [] =
-      ap (λ b. held_for es (cond (unsafe && (plain && not b)) (Some x.asked.target.key) None) (not_kept table x now r (validated es x r now))) u
-      ∙ ap (held_for es (cond (unsafe && (plain && true)) (Some x.asked.target.key) None)) (no_304_goes n)
+      let theirs : serials_held_for_key es (key_invalidated_by_answer x.asked r (outcome_of_passing_on table es now x r rule None)) (serial_not_kept_after_304 table x now r (stored_response_validated es x r now)) ≡ cond (unsafe && (plain && true)) (serials_of x.asked.target.key es) [] =
+      ap (λ b. serials_held_for_key es (cond (unsafe && (plain && not b)) (Some x.asked.target.key) None) (serial_not_kept_after_304 table x now r (stored_response_validated es x r now))) u
+      ∙ ap (serials_held_for_key es (cond (unsafe && (plain && true)) (Some x.asked.target.key) None)) (no_304_goes n)
       ∙ by_test (unsafe && (plain && true))
       in
       same ∙ sym theirs
     where
-      by_test : (b : Bool) → held_for es (cond b (Some x.asked.target.key) None) [] ≡ cond b (serials_of x.asked.target.key es) []
+      by_test : (b : Bool) → serials_held_for_key es (cond b (Some x.asked.target.key) None) [] ≡ cond b (serials_of x.asked.target.key es) []
       by_test true = refl
       by_test false = refl
 
-  unless_goes : is_validation x r ≡ false → is_unasked x.asked r ≡ false → (b : Bool) → is_error_status r.status ≡ b → (fallback : Fallback) → Goes (passed_unless table es now x r next b fallback)
-  unless_goes n u true e (Sends serial detail) = sym (nothing_held_for (sent table es serial now (forwarded_as (policy_of table.lines x.line) x (Some r.status) (Some detail)) x.asked) refl ∙ no_304_goes n)
-  unless_goes n u true e (Refuses rule error) = passed_goes (rule_shown table x r now next) (stored_serial table x r now next) n u
-  unless_goes n u false e fallback = passed_goes (rule_shown table x r now next) (stored_serial table x r now next) n u
+  unless_goes : is_validation x r ≡ false → is_304_without_condition x.asked r ≡ false → (b : Bool) → is_error_status r.status ≡ b → (fallback : Fallback) → Goes (outcome_of_passing_on_or_stale table es now x r next b fallback)
+  unless_goes n u true e (Sends serial detail) = sym (nothing_held_for (outcome_of_sending_stored table es serial now (forwarded_status_info (policy_of table.lines x.line) x (Some r.status) (Some detail)) x.asked) refl ∙ no_304_goes n)
+  unless_goes n u true e (Refuses rule error) = passed_goes (storing_rule_to_explain table x r now next) (serial_of_stored_answer table x r now next) n u
+  unless_goes n u false e fallback = passed_goes (storing_rule_to_explain table x r now next) (serial_of_stored_answer table x r now next) n u
 
-  revalidated_goes : (o : Option Stored) (d : Decision) → validated es x r now ≡ o → Goes (revalidated table es now x r o d)
+  revalidated_goes : (o : Option Stored) (d : Decision) → stored_response_validated es x r now ≡ o → Goes (outcome_of_304 table es now x r o d)
   revalidated_goes (Some e) d v =
-      ap (λ n. cond (is_kept table x r (refreshed x r now e)) [] (n ∷ [])) (serial_stays x r now e)
-      ∙ sym (nothing_held_for (sent_refreshed table x r now (refreshed x r now e)) refl ∙ ap (not_kept table x now r) v)
-  revalidated_goes None (decision.Hit s) v = sym (nothing_held_for (sent table es s now (forwarded_as (policy_of table.lines x.line) x (Some r.status) (Some ReuseAfter304)) x.asked) refl ∙ ap (not_kept table x now r) v)
-  revalidated_goes None (decision.Forward rule against) v = sym (nothing_held_for (Forward x.line (forward_text table x.asked None)) refl ∙ ap (not_kept table x now r) v)
+      ap (λ n. cond (freshened_may_be_kept table x r (freshened_by_304 x r now e)) [] (n ∷ [])) (serial_stays x r now e)
+      ∙ sym (nothing_held_for (outcome_of_sending_freshened table x r now (freshened_by_304 x r now e)) refl ∙ ap (serial_not_kept_after_304 table x now r) v)
+  revalidated_goes None (decision.Hit s) v = sym (nothing_held_for (outcome_of_sending_stored table es s now (forwarded_status_info (policy_of table.lines x.line) x (Some r.status) (Some ReuseAfter304)) x.asked) refl ∙ ap (serial_not_kept_after_304 table x now r) v)
+  revalidated_goes None (decision.Forward rule against) v = sym (nothing_held_for (Forward x.line (forward_text table x.asked None)) refl ∙ ap (serial_not_kept_after_304 table x now r) v)
 
-  answer_goes : (d : Decision) → Goes (answered table es now x r next d)
+  answer_goes : (d : Decision) → Goes (outcome_of_answer table es now x r next d)
   answer_goes d = by_304 (is_validation x r) refl
     where
-      by_unasked : is_validation x r ≡ false → (b : Bool) → is_unasked x.asked r ≡ b →
-          Goes (cond b (failed table es now x BadAnswer (Some r.status) (fallback_for (policy_of table.lines x.line) es x.asked now d)) (passed_unless table es now x r next (is_error_status r.status) (fallback_for (policy_of table.lines x.line) es x.asked now d)))
+      by_unasked : is_validation x r ≡ false → (b : Bool) → is_304_without_condition x.asked r ≡ b →
+          Goes (cond b (outcome_of_failure table es now x BadAnswer (Some r.status) (fallback_for (policy_of table.lines x.line) es x.asked now d)) (outcome_of_passing_on_or_stale table es now x r next (is_error_status r.status) (fallback_for (policy_of table.lines x.line) es x.asked now d)))
       by_unasked n true u = failed_goes n u (fallback_for (policy_of table.lines x.line) es x.asked now d)
       by_unasked n false u = unless_goes n u (is_error_status r.status) refl (fallback_for (policy_of table.lines x.line) es x.asked now d)
 
       by_304 : (b : Bool) → is_validation x r ≡ b →
-          Goes (cond b (revalidated table es now x r (validated es x r now) d)
-          (cond (is_unasked x.asked r) (failed table es now x BadAnswer (Some r.status) (fallback_for (policy_of table.lines x.line) es x.asked now d)) (passed_unless table es now x r next (is_error_status r.status) (fallback_for (policy_of table.lines x.line) es x.asked now d))))
-      by_304 true k = revalidated_goes (validated es x r now) d refl
-      by_304 false k = by_unasked k (is_unasked x.asked r) refl
+          Goes (cond b (outcome_of_304 table es now x r (stored_response_validated es x r now) d)
+          (cond (is_304_without_condition x.asked r) (outcome_of_failure table es now x BadAnswer (Some r.status) (fallback_for (policy_of table.lines x.line) es x.asked now d)) (outcome_of_passing_on_or_stale table es now x r next (is_error_status r.status) (fallback_for (policy_of table.lines x.line) es x.asked now d))))
+      by_304 true k = revalidated_goes (stored_response_validated es x r now) d refl
+      by_304 false k = by_unasked k (is_304_without_condition x.asked r) refl
 
 module _ (table : Table) (es : List Stored) (xs : List Exchange) (next : Option ℕ) where
-  goes_by_event : (x : Option Exchange) (event : Event) → removed_in (outcome_of table es xs x next event) ≡ removed_at table es x event (outcome_of table es xs x next event)
+  goes_by_event : (x : Option Exchange) (event : Event) → serials_removed_by_outcome (outcome_of table es xs x next event) ≡ serials_removed_at table es x event (outcome_of table es xs x next event)
   goes_by_event x (Arrive now id asked) = by_verdict (verdict_of table.lines asked.method asked.target)
     where
-      on : (line : ℕ) (condition : Option Condition) (leader : Option ℕ) → removed_in (sent_on table line asked condition leader) ≡ []
+      on : (line : ℕ) (condition : Option Condition) (leader : Option ℕ) → serials_removed_by_outcome (outcome_of_waiting_or_forwarding table line asked condition leader) ≡ []
       on line condition None = refl
       on line condition (Some leader) = refl
 
-      unless : (line : ℕ) (rule : ReuseRule) (condition : Option Condition) (b : Bool) → removed_in (unanswered table xs line now asked rule condition b) ≡ []
+      unless : (line : ℕ) (rule : ReuseRule) (condition : Option Condition) (b : Bool) → serials_removed_by_outcome (outcome_without_stored_response table xs line now asked rule condition b) ≡ []
       unless line rule condition true = refl
-      unless line rule condition false = on line condition (leader_for (policy_of table.lines line) xs asked rule)
+      unless line rule condition false = on line condition (leader_of_request (policy_of table.lines line) xs asked rule)
 
-      by_decision : (line : ℕ) (d : Decision) → removed_in (allowed table es xs line now asked d) ≡ []
+      by_decision : (line : ℕ) (d : Decision) → serials_removed_by_outcome (outcome_of_allowed_request table es xs line now asked d) ≡ []
       by_decision line (decision.Hit s) = refl
-      by_decision line (decision.Forward rule against) = unless line rule (condition_at es against) (is_only_if_cached asked)
+      by_decision line (decision.Forward rule against) = unless line rule (condition_about_serial es against) (is_only_if_cached asked)
 
-      by_verdict : (v : Verdict) → removed_in (arrived table es xs now asked v) ≡ []
+      by_verdict : (v : Verdict) → serials_removed_by_outcome (outcome_of_arrival table es xs now asked v) ≡ []
       by_verdict (verdict.Allowed line) = by_decision line (decision_of (policy_of table.lines line) es asked now)
       by_verdict (verdict.DeniedBy line) = refl
       by_verdict verdict.NoLine = refl
@@ -314,21 +314,21 @@ module _ (table : Table) (es : List Stored) (xs : List Exchange) (next : Option 
   goes_by_event None (Answer now id r) = refl
   goes_by_event (Some x) (Fail now id kind) = by_fallback (fallback_for (policy_of table.lines x.line) es x.asked now (decision_of (policy_of table.lines x.line) es x.asked now))
     where
-      by_fallback : (fallback : Fallback) → removed_in (failed table es now x kind None fallback) ≡ []
+      by_fallback : (fallback : Fallback) → serials_removed_by_outcome (outcome_of_failure table es now x kind None fallback) ≡ []
       by_fallback (Sends serial detail) = refl
       by_fallback (Refuses rule error) = refl
   goes_by_event None (Fail now id kind) = refl
   goes_by_event (Some x) (Wake now id) = by_decision (decision_of (policy_of table.lines x.line) es x.asked now)
     where
-      by_decision : (d : Decision) → removed_in (woken table es now x d) ≡ []
+      by_decision : (d : Decision) → serials_removed_by_outcome (outcome_of_wake table es now x d) ≡ []
       by_decision (decision.Hit s) = refl
       by_decision (decision.Forward rule against) = refl
   goes_by_event None (Wake now id) = refl
   goes_by_event x (Abandon id) = refl
 
-pub removes_just_that : RemovesJustThat
+pub removes_just_that : ItemRemovesExactlyThese
 removes_just_that table limit first item past good =
     let es = held_entries table limit past in
     let xs = open_exchanges table limit past in
-    let x = find_exchange (id_of item.event) xs in
-    subst (λ (o : Outcome). removed_in o ≡ removed_at table es x item.event o) (sym good.0.outcome_is) (goes_by_event table es xs (next_serial first past) x item.event)
+    let x = find_exchange (exchange_id_of_event item.event) xs in
+    subst (λ (o : Outcome). serials_removed_by_outcome o ≡ serials_removed_at table es x item.event o) (sym good.0.outcome_is) (goes_by_event table es xs (next_serial first past) x item.event)

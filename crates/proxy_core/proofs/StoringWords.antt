@@ -5,20 +5,20 @@ use Rattle.std.specs.List.{list_any}
 use Rattle.std.proofs.lemmas.Bool.Decides.{nat_tests}
 use Rattle.std.proofs.lemmas.List.Elements.{All-nil, All-cons, All-head, All-tail}
 use Rattle.hx_fields.specs.declared.field_line.Field.{Field}
-use Rattle.hx_fields.specs.Lines.{has as has_line}
+use Rattle.hx_fields.specs.FieldLines.{has_field as has_line}
 use Rattle.hx_fields.specs.Tokens.{is_token}
 use Rattle.hx_directives.specs.Occurrences.{occurrences_of}
-use Rattle.hx_directives.specs.Answers.{has, seconds}
+use Rattle.hx_directives.specs.Answers.{directive_occurs, seconds_of_directive}
 use Rattle.hx_directives.specs.declared.names.Directive.TheVariants.{MaxAge, SMaxage}
 use Rattle.hx_age.specs.declared.lifetimes.Lifetime.{Lifetime}
-use Rattle.hx_age.specs.Lifetime.{explicit_of, lifetime_of, stated_seconds, until_expires}
+use Rattle.hx_age.specs.Lifetime.{explicit_lifetime, lifetime_of, stated_seconds, until_expires}
 use Rattle.hx_vary.specs.Vary.{is_star, is_star_member, vary_names}
 use Rattle.hx_hop.specs.Stripping.{cache_names, connection_names, lists_cache_field}
-use Rattle.hx_policy.specs.Words.{given_lifetime}
+use Rattle.hx_policy.specs.Policies.{given_lifetime}
 use Rattle.hx_policy.specs.declared.words.Policy.{Policy}
-use Rattle.hx_reuse.specs.Lifetimes.{given, lifetime_under}
+use Rattle.hx_reuse.specs.Lifetimes.{lifetime_with_given, lifetime_under}
 use Rattle.hx_validate.specs.Validators.{has_validator, modified_value, tag_value}
-use Rattle.proxy_core.specs.StoredAnswers.{CanBeReused, KeepsItsFields, NamesFields}
+use Rattle.proxy_core.specs.StoredAnswers.{ResponseCanBeReused, ConnectionTookNoCacheField, VaryNamesFields}
 
 neither : (a b : Bool) → a || b ≡ false → (a ≡ false) × (b ≡ false)
 neither true b h = absurd cc
@@ -47,10 +47,10 @@ names_each (n ∷ names) h =
     let first = neither (bytes_eq n (codes "*")) (not (is_token n)) parts.0 in
     All-cons (λ name. (bytes_eq name (codes "*") ≡ false) × (is_token name ≡ true)) n names (first.0, not_false (is_token n) first.1) (names_each names parts.1)
 
-pub star_absent : (fields : List Field) → NamesFields fields → is_star fields ≡ false
+pub star_absent : (fields : List Field) → VaryNamesFields fields → is_star fields ≡ false
 star_absent fields all = no_star (vary_names fields) all
 
-pub fields_named : (fields : List Field) → is_star fields ≡ false → NamesFields fields
+pub fields_named : (fields : List Field) → is_star fields ≡ false → VaryNamesFields fields
 fields_named fields h = names_each (vary_names fields) h
 
 -- ---- Connection
@@ -67,16 +67,16 @@ module _ (received : List Field) where
       let parts = neither (connection_names received n) (list_any (connection_names received) names) h in
       All-cons (λ name. connection_names received name ≡ false) n names parts.0 (each_kept names parts.1)
 
-  pub lists_none : KeepsItsFields received → lists_cache_field received ≡ false
+  pub lists_none : ConnectionTookNoCacheField received → lists_cache_field received ≡ false
   lists_none all = none_listed cache_names all
 
-  pub keeps_all : lists_cache_field received ≡ false → KeepsItsFields received
+  pub keeps_all : lists_cache_field received ≡ false → ConnectionTookNoCacheField received
   keeps_all h = each_kept cache_names h
 
 -- ---- lifetimes and validators
 
 abbrev stated : Bool → Bool → Bool → ℕ → ℕ → ℕ → Lifetime
-stated s m e a b c = cond s (explicit_of a) (cond m (explicit_of b) (cond e (explicit_of c) (record { explicit = false; seconds = 0 })))
+stated s m e a b c = cond s (explicit_lifetime a) (cond m (explicit_lifetime b) (cond e (explicit_lifetime c) (record { explicit = false; seconds = 0 })))
 
 explicit_by : (s m e : Bool) (a b c : ℕ) → (s ≡ true) ⊎ ((m ≡ true) ⊎ (e ≡ true)) → (stated s m e a b c).explicit ≡ true
 explicit_by true m e a b c h = refl
@@ -93,50 +93,50 @@ said_by false false true a b c h = inr (inr refl)
 said_by false false false a b c h = absurd cc
 
 -- a lifetime stands where the response states one or is given one
-explicit_under : (l : Lifetime) (e : Bool) → l.explicit ≡ e → (g : Option ℕ) → (cond e l (given g l)).explicit ≡ true → (l.explicit ≡ true) ⊎ (is_some g ≡ true)
+explicit_under : (l : Lifetime) (e : Bool) → l.explicit ≡ e → (g : Option ℕ) → (cond e l (lifetime_with_given g l)).explicit ≡ true → (l.explicit ≡ true) ⊎ (is_some g ≡ true)
 explicit_under l true k g h = inl k
 explicit_under l false k None h = inl h
 explicit_under l false k (Some n) h = inr refl
 
-under_explicit : (l : Lifetime) (e : Bool) → l.explicit ≡ e → (g : Option ℕ) → (l.explicit ≡ true) ⊎ (is_some g ≡ true) → (cond e l (given g l)).explicit ≡ true
+under_explicit : (l : Lifetime) (e : Bool) → l.explicit ≡ e → (g : Option ℕ) → (l.explicit ≡ true) ⊎ (is_some g ≡ true) → (cond e l (lifetime_with_given g l)).explicit ≡ true
 under_explicit l true k g h = k
 under_explicit l false k None (inl h) = h
 under_explicit l false k None (inr h) = absurd cc
 under_explicit l false k (Some n) h = refl
 
 module _ (fields : List Field) where
-  lasting : (has (occurrences_of fields) SMaxage ≡ true) ⊎ ((has (occurrences_of fields) MaxAge ≡ true) ⊎ (has_line fields (codes "Expires") ≡ true)) → (lifetime_of fields).explicit ≡ true
+  lasting : (directive_occurs (occurrences_of fields) SMaxage ≡ true) ⊎ ((directive_occurs (occurrences_of fields) MaxAge ≡ true) ⊎ (has_line fields (codes "Expires") ≡ true)) → (lifetime_of fields).explicit ≡ true
   lasting h =
-      explicit_by (has (occurrences_of fields) SMaxage) (has (occurrences_of fields) MaxAge) (has_line fields (codes "Expires"))
-      (stated_seconds (seconds (occurrences_of fields) SMaxage)) (stated_seconds (seconds (occurrences_of fields) MaxAge)) (until_expires fields) h
+      explicit_by (directive_occurs (occurrences_of fields) SMaxage) (directive_occurs (occurrences_of fields) MaxAge) (has_line fields (codes "Expires"))
+      (stated_seconds (seconds_of_directive (occurrences_of fields) SMaxage)) (stated_seconds (seconds_of_directive (occurrences_of fields) MaxAge)) (until_expires fields) h
 
-  lasts : (lifetime_of fields).explicit ≡ true → (has (occurrences_of fields) SMaxage ≡ true) ⊎ ((has (occurrences_of fields) MaxAge ≡ true) ⊎ (has_line fields (codes "Expires") ≡ true))
+  lasts : (lifetime_of fields).explicit ≡ true → (directive_occurs (occurrences_of fields) SMaxage ≡ true) ⊎ ((directive_occurs (occurrences_of fields) MaxAge ≡ true) ⊎ (has_line fields (codes "Expires") ≡ true))
   lasts h =
-      said_by (has (occurrences_of fields) SMaxage) (has (occurrences_of fields) MaxAge) (has_line fields (codes "Expires"))
-      (stated_seconds (seconds (occurrences_of fields) SMaxage)) (stated_seconds (seconds (occurrences_of fields) MaxAge)) (until_expires fields) h
+      said_by (directive_occurs (occurrences_of fields) SMaxage) (directive_occurs (occurrences_of fields) MaxAge) (has_line fields (codes "Expires"))
+      (stated_seconds (seconds_of_directive (occurrences_of fields) SMaxage)) (stated_seconds (seconds_of_directive (occurrences_of fields) MaxAge)) (until_expires fields) h
 
   module _ (policy : Policy) (status : ℕ) where
-    pub can_be_reused : ((lifetime_under policy status fields).explicit ≡ true) ⊎ (has_validator fields ≡ true) → CanBeReused policy status fields
+    pub can_be_reused : ((lifetime_under policy status fields).explicit ≡ true) ⊎ (has_validator fields ≡ true) → ResponseCanBeReused policy status fields
     can_be_reused (inl h) = of_either (explicit_under (lifetime_of fields) (lifetime_of fields).explicit refl (given_lifetime policy status) h)
       where
-        of_lifetime : (has (occurrences_of fields) SMaxage ≡ true) ⊎ ((has (occurrences_of fields) MaxAge ≡ true) ⊎ (has_line fields (codes "Expires") ≡ true)) → CanBeReused policy status fields
+        of_lifetime : (directive_occurs (occurrences_of fields) SMaxage ≡ true) ⊎ ((directive_occurs (occurrences_of fields) MaxAge ≡ true) ⊎ (has_line fields (codes "Expires") ≡ true)) → ResponseCanBeReused policy status fields
         of_lifetime (inl s) = inl s
         of_lifetime (inr (inl m)) = inr (inl m)
         of_lifetime (inr (inr e)) = inr (inr (inl e))
 
-        of_either : ((lifetime_of fields).explicit ≡ true) ⊎ (is_some (given_lifetime policy status) ≡ true) → CanBeReused policy status fields
+        of_either : ((lifetime_of fields).explicit ≡ true) ⊎ (is_some (given_lifetime policy status) ≡ true) → ResponseCanBeReused policy status fields
         of_either (inl stated) = of_lifetime (lasts stated)
-        of_either (inr given) = inr (inr (inr (inr (inr given))))
+        of_either (inr lifetime_with_given) = inr (inr (inr (inr (inr lifetime_with_given))))
     can_be_reused (inr h) = of_validator (one_of (is_some (tag_value fields)) (is_some (modified_value fields)) h)
       where
-        of_validator : (is_some (tag_value fields) ≡ true) ⊎ (is_some (modified_value fields) ≡ true) → CanBeReused policy status fields
+        of_validator : (is_some (tag_value fields) ≡ true) ⊎ (is_some (modified_value fields) ≡ true) → ResponseCanBeReused policy status fields
         of_validator (inl t) = inr (inr (inr (inl t)))
         of_validator (inr m) = inr (inr (inr (inr (inl m))))
 
     stated_lasts : (lifetime_of fields).explicit ≡ true → (lifetime_under policy status fields).explicit ≡ true
     stated_lasts h = under_explicit (lifetime_of fields) (lifetime_of fields).explicit refl (given_lifetime policy status) (inl h)
 
-    pub lasts_or_validates : CanBeReused policy status fields → ((lifetime_under policy status fields).explicit ≡ true) ⊎ (has_validator fields ≡ true)
+    pub lasts_or_validates : ResponseCanBeReused policy status fields → ((lifetime_under policy status fields).explicit ≡ true) ⊎ (has_validator fields ≡ true)
     lasts_or_validates (inl s) = inl (stated_lasts (lasting (inl s)))
     lasts_or_validates (inr (inl m)) = inl (stated_lasts (lasting (inr (inl m))))
     lasts_or_validates (inr (inr (inl e))) = inl (stated_lasts (lasting (inr (inr e))))
@@ -154,8 +154,8 @@ module _ (fields : List Field) where
 pub fits_in : (most n : ℕ) → n ≤ most → nat_lt most n ≡ false
 fits_in most n h = grind (arith, nat_tests, h)
 
-pub is_within : (most n : ℕ) → nat_lt most n ≡ false → n ≤ most
-is_within most n h = grind (arith, nat_tests, h)
+pub may_be_released : (most n : ℕ) → nat_lt most n ≡ false → n ≤ most
+may_be_released most n h = grind (arith, nat_tests, h)
 
 pub some_left : (next : Option ℕ) → is_none next ≡ false → is_some next ≡ true
 some_left None h = absurd cc

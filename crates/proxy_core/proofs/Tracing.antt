@@ -2,7 +2,7 @@
 use Rattle.std.proofs.Common.{◌≡◌, ◌≢◌, inl, inr, ℕ, ◌<◌, Option, None, Some, List, [], ◌∷◌, ◌++◌, length, refl, sym, ◌∙◌, ap, subst, get_or}
 use Rattle.std.specs.Prelude.{slice_get, unwrap_or}
 use Rattle.std.proofs.lemmas.Option.{same_Some, slice_get_read}
-use Rattle.hx_allow.specs.Lines.{Table}
+use Rattle.hx_allow.specs.TableLines.{Table}
 use Rattle.hx_allow.specs.Matching.{verdict_of}
 use Rattle.hx_allow.specs.declared.verdicts.Verdict.{Verdict}
 use Rattle.hx_allow.specs.declared.verdicts.Verdict.TheVariants.{Allowed, DeniedBy, NoLine}
@@ -12,14 +12,14 @@ use Rattle.proxy_core.specs.declared.outcome.Outcome.{Outcome}
 use Rattle.proxy_core.specs.declared.open.exchange.Exchange.{Exchange}
 use Rattle.proxy_core.specs.declared.event.Event.{Event}
 use Rattle.proxy_core.specs.declared.event.Event.TheVariants.{Arrive, Answer, Fail, Wake, Abandon}
-use Rattle.proxy_core.specs.declared.fault.CoreFault.{CoreFault}
-use Rattle.proxy_core.specs.declared.fault.CoreFault.TheVariants.{OutOfMemory}
-use Rattle.proxy_core.specs.Outcomes.{arrived, fault_by}
-use Rattle.proxy_core.specs.State.{State, Steps, Refuses, after}
-use Rattle.proxy_core.specs.Traces.{Item, trace_on, trace_of, left, Accepts, IsGood, Stops, IsDenied, LeavesNoTrace, DeniedLeaveNoTrace}
+use Rattle.proxy_core.specs.declared.core_fault.CoreFault.{CoreFault}
+use Rattle.proxy_core.specs.declared.core_fault.CoreFault.TheVariants.{OutOfMemory}
+use Rattle.proxy_core.specs.Outcomes.{outcome_of_arrival, step_fault}
+use Rattle.proxy_core.specs.State.{State, StepIsAccepted, StepIsRefusedWith, state_after}
+use Rattle.proxy_core.specs.Traces.{Item, trace_in_front_of, trace_of, state_after_trace, ItemIsAccepted, IsGood, RunStopsAt, ArrivalIsDenied, OutcomeLeavesNoTrace, DeniedRequestsLeaveNoTrace}
 
 pub trace_on-push : (past : List Item) (outcomes : List Outcome) (events : List Event) (e : Event) (o : Outcome) → slice_get events (length outcomes) ≡ Some e
-    → trace_on past (outcomes ++ o ∷ []) events ≡ record { event = e; outcome = o } ∷ trace_on past outcomes events
+    → trace_in_front_of past (outcomes ++ o ∷ []) events ≡ record { event = e; outcome = o } ∷ trace_in_front_of past outcomes events
 trace_on-push past [] [] e o h = absurd (cc)
 trace_on-push past [] (f ∷ events) e o h =
     let k : f ≡ e = same_Some f e h in
@@ -28,41 +28,41 @@ trace_on-push past (p ∷ outcomes) [] e o h = absurd (cc)
 trace_on-push past (p ∷ outcomes) (f ∷ events) e o h = trace_on-push (record { event = f; outcome = p } ∷ past) outcomes events e o h
 
 -- one step more
-pub left-push : (start : State) (events : List Event) (outcomes : List Outcome) (e : Event) (o : Outcome) (s t : State) → slice_get events (length outcomes) ≡ Some e → s ≡ left start (trace_of events outcomes) → Steps s e o t
-    → t ≡ left start (trace_of events (outcomes ++ o ∷ []))
+pub left-push : (start : State) (events : List Event) (outcomes : List Outcome) (e : Event) (o : Outcome) (s t : State) → slice_get events (length outcomes) ≡ Some e → s ≡ state_after_trace start (trace_of events outcomes) → StepIsAccepted s e o t
+    → t ≡ state_after_trace start (trace_of events (outcomes ++ o ∷ []))
 left-push start events outcomes e o s t h l k =
-    k.leaves ∙ (ap (λ (u : State). after u e o) l ∙ sym (ap (left start) (trace_on-push [] outcomes events e o h)))
+    k.leaves ∙ (ap (λ (u : State). state_after u e o) l ∙ sym (ap (state_after_trace start) (trace_on-push [] outcomes events e o h)))
 
 -- the table stays
-pub same_table : (start : State) (trace : List Item) → (left start trace).table ≡ start.table
+pub same_table : (start : State) (trace : List Item) → (state_after_trace start trace).table ≡ start.table
 same_table start [] = refl
 same_table start (item ∷ past) = same_table start past
 
-pub same_limit : (start : State) (trace : List Item) → (left start trace).limit ≡ start.limit
+pub same_limit : (start : State) (trace : List Item) → (state_after_trace start trace).limit ≡ start.limit
 same_limit start [] = refl
 same_limit start (item ∷ past) = same_limit start past
 
-pub good-push : (start : State) (events : List Event) (outcomes : List Outcome) (e : Event) (o : Outcome) (s t : State) → slice_get events (length outcomes) ≡ Some e → s ≡ left start (trace_of events outcomes) → Steps s e o t
+pub good-push : (start : State) (events : List Event) (outcomes : List Outcome) (e : Event) (o : Outcome) (s t : State) → slice_get events (length outcomes) ≡ Some e → s ≡ state_after_trace start (trace_of events outcomes) → StepIsAccepted s e o t
     → IsGood start (trace_of events outcomes) → IsGood start (trace_of events (outcomes ++ o ∷ []))
 good-push start events outcomes e o s t h l k g =
     let past = trace_of events outcomes in
-    let here = subst (λ (u : State). Steps u e o t) l k in
-    let accepts : Accepts start.table (left start past).entries (left start past).exchanges (left start past).next (record { event = e; outcome = o }) =
-    subst (λ (table : Table). Accepts table (left start past).entries (left start past).exchanges (left start past).next (record { event = e; outcome = o })) (same_table start past)
+    let here = subst (λ (u : State). StepIsAccepted u e o t) l k in
+    let accepts : ItemIsAccepted start.table (state_after_trace start past).entries (state_after_trace start past).exchanges (state_after_trace start past).next (record { event = e; outcome = o }) =
+    subst (λ (table : Table). ItemIsAccepted table (state_after_trace start past).entries (state_after_trace start past).exchanges (state_after_trace start past).next (record { event = e; outcome = o })) (same_table start past)
     record { allowed = here.allowed; outcome_is = here.outcome_is } in
     subst (IsGood start) (sym (trace_on-push [] outcomes events e o h)) (accepts, g)
 
 pub at_index : (events : List Event) (outcomes : List Outcome) (i : ℕ) (e : Event) → length outcomes ≡ i → i < length events → e ≡ get_or events i e → slice_get events (length outcomes) ≡ Some e
 at_index events outcomes i e l h k = ap (slice_get events) l ∙ slice_get_read events (length events) i e refl h k
 
-pub stops_at : (start : State) (events : List Event) (outcomes more : List Outcome) (e : Event) (s : State) (fault : CoreFault) → more ≡ outcomes → slice_get events (length outcomes) ≡ Some e → s ≡ left start (trace_of events outcomes) → Refuses s e fault
-    → Stops (left start (trace_of events more)) (slice_get events (length more)) fault
+pub stops_at : (start : State) (events : List Event) (outcomes more : List Outcome) (e : Event) (s : State) (fault : CoreFault) → more ≡ outcomes → slice_get events (length outcomes) ≡ Some e → s ≡ state_after_trace start (trace_of events outcomes) → StepIsRefusedWith s e fault
+    → RunStopsAt (state_after_trace start (trace_of events more)) (slice_get events (length more)) fault
 stops_at start events outcomes more e s fault m h l r =
-    let refused : Refuses (left start (trace_of events outcomes)) e fault = subst (λ (u : State). Refuses u e fault) l r in
-    let stops = subst (λ (o : Option Event). Stops (left start (trace_of events outcomes)) o fault) (sym h) refused in
-    subst (λ (os : List Outcome). Stops (left start (trace_of events os)) (slice_get events (length os)) fault) (sym m) stops
+    let refused : StepIsRefusedWith (state_after_trace start (trace_of events outcomes)) e fault = subst (λ (u : State). StepIsRefusedWith u e fault) l r in
+    let stops = subst (λ (o : Option Event). RunStopsAt (state_after_trace start (trace_of events outcomes)) o fault) (sym h) refused in
+    subst (λ (os : List Outcome). RunStopsAt (state_after_trace start (trace_of events os)) (slice_get events (length os)) fault) (sym m) stops
 
-pub refuses_or : (s : State) (e : Event) (fault : CoreFault) (r : Option CoreFault) → r ≡ fault_by s.exchanges e → fault ≡ unwrap_or r OutOfMemory → Refuses s e fault
+pub refuses_or : (s : State) (e : Event) (fault : CoreFault) (r : Option CoreFault) → r ≡ step_fault s.exchanges e → fault ≡ unwrap_or r OutOfMemory → StepIsRefusedWith s e fault
 refuses_or s e fault None k f = inr (sym k, f)
 refuses_or s e fault (Some w) k f = inl (sym k ∙ ap (λ (x : CoreFault). Some x) (sym f))
 
@@ -71,19 +71,19 @@ same_good start events outcomes more m g = subst (λ (os : List Outcome). IsGood
 
 -- ---- a denied request leaves no trace
 
-denied_by : (table : Table) (es : List Stored) (xs : List Exchange) (now : ℕ) (asked : Asked) (v : Verdict) → ((line : ℕ) → v ≢ Allowed line) → LeavesNoTrace (arrived table es xs now asked v)
+denied_by : (table : Table) (es : List Stored) (xs : List Exchange) (now : ℕ) (asked : Asked) (v : Verdict) → ((line : ℕ) → v ≢ Allowed line) → OutcomeLeavesNoTrace (outcome_of_arrival table es xs now asked v)
 denied_by table es xs now asked (Allowed line) n = absurd (n line refl)
 denied_by table es xs now asked (DeniedBy line) n = (refl, refl, refl)
 denied_by table es xs now asked NoLine n = (refl, refl, refl)
 
-denied_item : (table : Table) (s : State) (event : Event) (outcome : Outcome) → Accepts table s.entries s.exchanges s.next (record { event = event; outcome = outcome }) → IsDenied table event → LeavesNoTrace outcome
-denied_item table s (Arrive now id asked) outcome a d = subst LeavesNoTrace (sym a.outcome_is) (denied_by table s.entries s.exchanges now asked (verdict_of table.lines asked.method asked.target) d)
+denied_item : (table : Table) (s : State) (event : Event) (outcome : Outcome) → ItemIsAccepted table s.entries s.exchanges s.next (record { event = event; outcome = outcome }) → ArrivalIsDenied table event → OutcomeLeavesNoTrace outcome
+denied_item table s (Arrive now id asked) outcome a d = subst OutcomeLeavesNoTrace (sym a.outcome_is) (denied_by table s.entries s.exchanges now asked (verdict_of table.lines asked.method asked.target) d)
 denied_item table s (Answer now id r) outcome a d = absurd d
 denied_item table s (Fail now id kind) outcome a d = absurd d
 denied_item table s (Wake now id) outcome a d = absurd d
 denied_item table s (Abandon id) outcome a d = absurd d
 
-pub denied_leave_no_trace : (start : State) (trace : List Item) → IsGood start trace → DeniedLeaveNoTrace start.table trace
+pub denied_leave_no_trace : (start : State) (trace : List Item) → IsGood start trace → DeniedRequestsLeaveNoTrace start.table trace
 denied_leave_no_trace start [] g = tt
 denied_leave_no_trace start (i ∷ past) g =
-    (λ d. denied_item start.table (left start past) i.event i.outcome g.0 d, denied_leave_no_trace start past g.1)
+    (λ d. denied_item start.table (state_after_trace start past) i.event i.outcome g.0 d, denied_leave_no_trace start past g.1)

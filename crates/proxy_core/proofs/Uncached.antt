@@ -4,13 +4,13 @@ use Rattle.std.specs.Prelude.{◌==◌, ◌&&◌, is_some}
 use Rattle.std.proofs.lemmas.Bool.{false≢true}
 use Rattle.hx_framing.specs.declared.messages.Response.{Response}
 use Rattle.hx_hop.specs.declared.request_view.Asked.{Asked}
-use Rattle.hx_allow.specs.Lines.{Table}
+use Rattle.hx_allow.specs.TableLines.{Table}
 use Rattle.hx_allow.specs.Matching.{policy_of}
 use Rattle.hx_allow.specs.declared.verdicts.Verdict.{Verdict}
 use Rattle.hx_allow.specs.declared.verdicts.Verdict.TheVariants as verdict
 use Rattle.hx_store.specs.Stored.{Stored}
-use Rattle.hx_reuse.specs.Rules.{decision_of, names_entry}
-use Rattle.hx_reuse.specs.Meaning.{NamesTheResponse}
+use Rattle.hx_reuse.specs.Rules.{decision_of, names_chosen}
+use Rattle.hx_reuse.specs.ChosenAndNamed.{RuleNamesTheResponse}
 use Rattle.hx_reuse.specs.declared.rule.ReuseRule.TheVariants.{Operator}
 use Rattle.hx_reuse.specs.declared.decision.Decision.{Decision}
 use Rattle.hx_reuse.specs.declared.decision.Decision.TheVariants as decision
@@ -19,15 +19,15 @@ use Rattle.proxy_core.specs.declared.steps.condition.Condition.{Condition}
 use Rattle.proxy_core.specs.declared.open.exchange.Exchange.{Exchange}
 use Rattle.proxy_core.specs.declared.event.Event.{Event}
 use Rattle.proxy_core.specs.declared.event.Event.TheVariants.{Arrive, Answer, Fail, Wake, Abandon}
-use Rattle.proxy_core.specs.Validating.{condition_at, is_validation}
+use Rattle.proxy_core.specs.Validating.{condition_about_serial, is_validation}
 use Rattle.proxy_core.specs.Leading.{leader, is_get}
-use Rattle.proxy_core.specs.Outcomes.{find_exchange, id_of, arrived, allowed, sent_on, unanswered, is_only_if_cached}
-use Rattle.proxy_core.specs.State.{stored_in, used_in}
+use Rattle.proxy_core.specs.Outcomes.{find_exchange, exchange_id_of_event, outcome_of_arrival, outcome_of_allowed_request, outcome_of_waiting_or_forwarding, outcome_without_stored_response, is_only_if_cached}
+use Rattle.proxy_core.specs.State.{serial_stored_by_outcome, serial_used_by_outcome}
 use Rattle.proxy_core.specs.Traces.{Item}
 use Rattle.proxy_core.specs.Histories.{held_entries, open_exchanges, next_serial}
-use Rattle.proxy_core.specs.Carrying.{WentOnce, WentAgain, StillWaits, Judged}
-use Rattle.proxy_core.specs.Sending.{IsReusable, IsFallback, MayBeSentAt}
-use Rattle.proxy_core.specs.Uncached.{IsOver, IsNamedByTheOperator, StoresNothingOverIt, SendsNothingOverIt, GoesForwardOverIt}
+use Rattle.proxy_core.specs.Carrying.{WentForwardOnce, WentForwardASecondTime, HasWaitedSinceItsArrival, ExchangeWasJudged}
+use Rattle.proxy_core.specs.Sending.{StoredResponseIsReusable, IsStoredFallback, StoredResponseMayBeSentAt}
+use Rattle.proxy_core.specs.Uncached.{EventGoesOverLine, RequestIsAnsweredByTheOperator, NothingIsStoredOverUncachedLine, NothingStoredIsSentOverUncachedLine, RequestGoesForwardOverUncachedLine}
 use Rattle.proxy_core.proofs.Carries.{carries_its_arrival}
 use Rattle.proxy_core.proofs.SendLaws.{sends_nothing_else, arrival_is, allowed_by}
 use Rattle.proxy_core.proofs.Moves.{and_none}
@@ -45,34 +45,34 @@ module _ (table : Table) (line : ℕ) (off : (policy_of table.lines line).caches
   no_word : (n : ℕ) → n ≡ line → (policy_of table.lines n).caches ≡ true → ⊥
   no_word n same h = false≢true (sym off ∙ ap (λ m. (policy_of table.lines m).caches) (sym same) ∙ h)
 
-  not_reusable : (held : List Stored) (asked : Asked) (now s n : ℕ) → n ≡ line → IsReusable (policy_of table.lines n) held asked now s → ⊥
+  not_reusable : (held : List Stored) (asked : Asked) (now s n : ℕ) → n ≡ line → StoredResponseIsReusable (policy_of table.lines n) held asked now s → ⊥
   not_reusable held asked now s n same r = no_word n same r.1.operator_allows
 
-  no_fallback : (held : List Stored) (asked : Asked) (now s n : ℕ) → n ≡ line → IsFallback (policy_of table.lines n) held asked now s → ⊥
+  no_fallback : (held : List Stored) (asked : Asked) (now s n : ℕ) → n ≡ line → IsStoredFallback (policy_of table.lines n) held asked now s → ⊥
   no_fallback held asked now s n same (inl r) = not_reusable held asked now s n same r
   no_fallback held asked now s n same (inr may) = no_word n same may.1.operator_allows
 
   -- an exchange over the line asks about no held response
-  no_condition : (limit : ℕ) (x : Exchange) (past : List Item) → x.line ≡ line → Judged table limit x past → x.condition ≡ None
+  no_condition : (limit : ℕ) (x : Exchange) (past : List Item) → x.line ≡ line → ExchangeWasJudged table limit x past → x.condition ≡ None
   no_condition limit x past same a = by_going a.went
     where
-      late : names_entry x.rule ≡ true → ⊥
+      late : names_chosen x.rule ≡ true → ⊥
       late h = no_word x.line same (allowed_by (policy_of table.lines x.line) (held_entries table limit a.before) x.asked a.now x.rule a.rule_is_least h)
 
-      by_name : (against : Option ℕ) → NamesTheResponse (held_entries table limit a.before) x.asked x.rule against → against ≡ None
+      by_name : (against : Option ℕ) → RuleNamesTheResponse (held_entries table limit a.before) x.asked x.rule against → against ≡ None
       by_name against (inl low) = low.1
       by_name against (inr high) = absurd (late high.0)
 
-      by_going : WentOnce table limit x a.since a.before a.now a.item.outcome ⊎ (WentAgain table x a.since ⊎ StillWaits table limit x a.since a.before a.item.outcome) → x.condition ≡ None
-      by_going (inl once) = once.condition ∙ ap (condition_at (held_entries table limit a.before)) (by_name once.against once.names)
+      by_going : WentForwardOnce table limit x a.since a.before a.now a.item.outcome ⊎ (WentForwardASecondTime table x a.since ⊎ HasWaitedSinceItsArrival table limit x a.since a.before a.item.outcome) → x.condition ≡ None
+      by_going (inl once) = once.condition ∙ ap (condition_about_serial (held_entries table limit a.before)) (by_name once.against once.names)
       by_going (inr (inl more)) = more.condition
-      by_going (inr (inr waits)) = waits.condition ∙ ap (condition_at (held_entries table limit a.before)) (by_name waits.against waits.names)
+      by_going (inr (inr waits)) = waits.condition ∙ ap (condition_about_serial (held_entries table limit a.before)) (by_name waits.against waits.names)
 
   no_validation : (x : Exchange) (r : Response) → x.condition ≡ None → is_validation x r ≡ true → ⊥
   no_validation x r none h = false≢true (sym (and_none (r.status == 304)) ∙ ap (λ (c : Option Condition). (r.status == 304) && is_some c) (sym none) ∙ h)
 
-  nothing_sent : (limit s : ℕ) (past : List Item) (x : Option Exchange) (event : Event) → ((z : Exchange) → x ≡ Some z → Judged table limit z past) →
-      IsOver table x event line → MayBeSentAt table (held_entries table limit past) x event s → ⊥
+  nothing_sent : (limit s : ℕ) (past : List Item) (x : Option Exchange) (event : Event) → ((z : Exchange) → x ≡ Some z → ExchangeWasJudged table limit z past) →
+      EventGoesOverLine table x event line → StoredResponseMayBeSentAt table (held_entries table limit past) x event s → ⊥
   nothing_sent limit s past x (Arrive now id asked) carries over may =
       not_reusable (held_entries table limit past) asked now s may.0 (same_line may.0 line (sym may.1 ∙ over)) may.2
   nothing_sent limit s past (Some x) (Answer now id r) carries over (inl may) = no_validation x r (no_condition limit x past over (carries x refl)) may.0
@@ -86,41 +86,41 @@ module _ (table : Table) (line : ℕ) (off : (policy_of table.lines line).caches
   nothing_sent limit s past (Some x) (Abandon id) carries over may = may
   nothing_sent limit s past None (Abandon id) carries over may = may
 
-pub sends_nothing_over_it : SendsNothingOverIt
+pub sends_nothing_over_it : NothingStoredIsSentOverUncachedLine
 sends_nothing_over_it table limit first line item past g over off =
-    let x = find_exchange (id_of item.event) (open_exchanges table limit past) in
-    none_there (used_in item.outcome) (λ s h.
+    let x = find_exchange (exchange_id_of_event item.event) (open_exchanges table limit past) in
+    none_there (serial_used_by_outcome item.outcome) (λ s h.
     nothing_sent table line off limit s past x item.event
-    (λ z is. (carries_its_arrival table limit first (id_of item.event) past z g.1 is).0) over (sends_nothing_else table limit first s item past g h))
+    (λ z is. (carries_its_arrival table limit first (exchange_id_of_event item.event) past z g.1 is).0) over (sends_nothing_else table limit first s item past g h))
 
-pub stores_nothing_over_it : StoresNothingOverIt
+pub stores_nothing_over_it : NothingIsStoredOverUncachedLine
 stores_nothing_over_it table limit first line item past g over off =
     let xs = open_exchanges table limit past in
-    let x = find_exchange (id_of item.event) xs in
-    none_there (stored_in item.outcome) (λ s h.
-    let t = storing_of table (held_entries table limit past) xs x (next_serial first past) item.event s (sym (ap stored_in g.0.outcome_is) ∙ h) in
-    let here : IsOver table (Some t.z) (Answer t.now t.i t.r) line =
-    subst (λ (v : Event). IsOver table (Some t.z) v line) t.event_is (subst (λ (w : Option Exchange). IsOver table w item.event line) t.w_is over)
+    let x = find_exchange (exchange_id_of_event item.event) xs in
+    none_there (serial_stored_by_outcome item.outcome) (λ s h.
+    let t = storing_of table (held_entries table limit past) xs x (next_serial first past) item.event s (sym (ap serial_stored_by_outcome g.0.outcome_is) ∙ h) in
+    let here : EventGoesOverLine table (Some t.z) (Answer t.now t.i t.r) line =
+    subst (λ (v : Event). EventGoesOverLine table (Some t.z) v line) t.event_is (subst (λ (w : Option Exchange). EventGoesOverLine table w item.event line) t.w_is over)
     in
     no_word table line off t.z.line here t.plain.cached)
 
-pub goes_forward_over_it : GoesForwardOverIt
+pub goes_forward_over_it : RequestGoesForwardOverUncachedLine
 goes_forward_over_it table limit first now id line asked item past g e v off =
     let es = held_entries table limit past in
     let xs = open_exchanges table limit past in
     let d : decision_of (policy_of table.lines line) es asked now ≡ decision.Forward Operator None = sym (by_operator (policy_of table.lines line) es asked now off) in
-    let is : item.outcome ≡ unanswered table xs line now asked Operator None (is_only_if_cached asked) =
+    let is : item.outcome ≡ outcome_without_stored_response table xs line now asked Operator None (is_only_if_cached asked) =
     arrival_is table limit first now id asked item past g e
-    ∙ ap (λ (w : Verdict). arrived table es xs now asked w) v
-    ∙ ap (λ (k : Decision). allowed table es xs line now asked k) d
+    ∙ ap (λ (w : Verdict). outcome_of_arrival table es xs now asked w) v
+    ∙ ap (λ (k : Decision). outcome_of_allowed_request table es xs line now asked k) d
     in
     by_word (is_only_if_cached asked) refl is
   where
-    by_word : (b : Bool) → is_only_if_cached asked ≡ b → item.outcome ≡ unanswered table (open_exchanges table limit past) line now asked Operator None b → IsNamedByTheOperator table now asked line item.outcome
+    by_word : (b : Bool) → is_only_if_cached asked ≡ b → item.outcome ≡ outcome_without_stored_response table (open_exchanges table limit past) line now asked Operator None b → RequestIsAnsweredByTheOperator table now asked line item.outcome
     by_word true k is = inr (k, is)
     by_word false k is = inl (
       k,
       is
-          ∙ ap (λ (b : Bool). sent_on table line asked None (cond (is_get asked && b) (leader (policy_of table.lines line) Operator asked.target.key (open_exchanges table limit past)) None)) (and_none (policy_of table.lines line).waits_for_stale)
-          ∙ ap (λ (b : Bool). sent_on table line asked None (cond b (leader (policy_of table.lines line) Operator asked.target.key (open_exchanges table limit past)) None)) (and_none (is_get asked)),
+          ∙ ap (λ (b : Bool). outcome_of_waiting_or_forwarding table line asked None (cond (is_get asked && b) (leader (policy_of table.lines line) Operator asked.target.key (open_exchanges table limit past)) None)) (and_none (policy_of table.lines line).waits_for_stale)
+          ∙ ap (λ (b : Bool). outcome_of_waiting_or_forwarding table line asked None (cond b (leader (policy_of table.lines line) Operator asked.target.key (open_exchanges table limit past)) None)) (and_none (is_get asked)),
     )

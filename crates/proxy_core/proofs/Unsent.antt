@@ -10,14 +10,14 @@ use Rattle.hx_target.specs.Keys.{same_key}
 use Rattle.hx_framing.specs.declared.messages.Response.{Response}
 use Rattle.hx_hop.specs.Answering.{answered_of}
 use Rattle.hx_hop.specs.declared.request_view.Asked.{Asked}
-use Rattle.hx_allow.specs.Lines.{Table}
+use Rattle.hx_allow.specs.TableLines.{Table}
 use Rattle.hx_allow.specs.Matching.{verdict_of, policy_of}
 use Rattle.hx_allow.specs.declared.verdicts.Verdict.{Verdict}
 use Rattle.hx_allow.specs.declared.verdicts.Verdict.TheVariants as verdict
 use Rattle.hx_store.specs.Stored.{Stored}
-use Rattle.hx_store.specs.Serials.{is_in}
-use Rattle.hx_store.specs.Shelf.{holds, serials_of}
-use Rattle.hx_store.specs.Recency.{is_the, touches, recent_after}
+use Rattle.hx_store.specs.Serials.{serial_is_in}
+use Rattle.hx_store.specs.Shelf.{holds_serial, serials_of}
+use Rattle.hx_store.specs.Recency.{is_that_serial, stores_or_uses, recent_after_change}
 use Rattle.hx_store.proofs.Recency.{held_more, is_in-take, is_in-after}
 use Rattle.hx_store.proofs.EntryLists.{find-serial, find_holds}
 use Rattle.hx_storable.specs.declared.rule.StoreRule.TheVariants.{Operator, Method, Overtaken}
@@ -36,14 +36,14 @@ use Rattle.proxy_core.specs.declared.steps.fallback.Fallback.TheVariants.{Sends,
 use Rattle.proxy_core.specs.declared.outcome.Outcome.{Outcome}
 use Rattle.proxy_core.specs.declared.event.Event.{Event}
 use Rattle.proxy_core.specs.declared.event.Event.TheVariants.{Arrive, Answer, Fail, Wake, Abandon}
-use Rattle.proxy_core.specs.Validating.{condition_at, is_validation, is_answered, validated, refreshed}
-use Rattle.proxy_core.specs.Storing.{rule_shown, facts_of, is_storable, is_unasked, invalidates, key_invalidated}
-use Rattle.proxy_core.specs.Leading.{leader_for, is_forwarded}
-use Rattle.proxy_core.specs.Outcomes.{find_exchange, id_of, arrived, allowed, sent_on, unanswered, woken, fault_of, is_only_if_cached, fallback_for, failed, is_error_status, passed, passed_unless, removed_by, stored_serial, revalidated, answered, outcome_of}
-use Rattle.proxy_core.specs.State.{stored_in, used_in, removed_in, next_after, next_of, stored_form, used_form}
-use Rattle.proxy_core.specs.Traces.{Item, begun, left, IsGood}
-use Rattle.proxy_core.specs.Histories.{held_serials, held_entry, done_by, seen}
-use Rattle.proxy_core.specs.Promises.{is_passed_on, key_by_answer, key_by_step, is_key, invalidates_key, NoneInvalidates, NothingInvalidatedIsSent}
+use Rattle.proxy_core.specs.Validating.{condition_about_serial, is_validation, stored_response_is_answered, stored_response_validated, freshened_by_304}
+use Rattle.proxy_core.specs.Storing.{storing_rule_to_explain, storing_facts_of_answer, is_storable, is_304_without_condition, answer_invalidates, key_invalidated}
+use Rattle.proxy_core.specs.Leading.{leader_of_request, is_forwarded}
+use Rattle.proxy_core.specs.Outcomes.{find_exchange, exchange_id_of_event, outcome_of_arrival, outcome_of_allowed_request, outcome_of_waiting_or_forwarding, outcome_without_stored_response, outcome_of_wake, fault_at_exchange, is_only_if_cached, fallback_for, outcome_of_failure, is_error_status, outcome_of_passing_on, outcome_of_passing_on_or_stale, serials_removed_by_answer, serial_of_stored_answer, outcome_of_304, outcome_of_answer, outcome_of}
+use Rattle.proxy_core.specs.State.{serial_stored_by_outcome, serial_used_by_outcome, serials_removed_by_outcome, next_serial_after, serial_after_this, stored_response_by_answer, stored_response_as_used}
+use Rattle.proxy_core.specs.Traces.{Item, initial_state, state_after_trace, IsGood}
+use Rattle.proxy_core.specs.Histories.{held_serials, held_entry, store_change_of, exchanges_and_responses_after}
+use Rattle.proxy_core.specs.Promises.{answer_is_passed_on, key_invalidated_by_answer, key_invalidated_by_step, is_invalidated_key, invalidates_key, NoItemInvalidates, NothingInvalidatedIsSent}
 use Rattle.proxy_core.proofs.Storable.{none_of}
 use Rattle.proxy_core.proofs.Leaving.{key_stays}
 use Rattle.proxy_core.proofs.HeldEntries.{EachIs-find, held_found, some_of_key}
@@ -51,7 +51,7 @@ use Rattle.proxy_core.proofs.StepKinds.{Kind, idle, uses, stores, kind_in}
 use Rattle.proxy_core.proofs.HeldLaw.{look_after, stands_for}
 use Rattle.proxy_core.specs.declared.open.stage.Stage.{Stage}
 use Rattle.proxy_core.specs.declared.open.stage.Stage.TheVariants.{Forwarded, Waiting, Released}
-use Rattle.proxy_core.specs.Moments.{too_late}
+use Rattle.proxy_core.specs.Moments.{moment_too_late_fault}
 use Rattle.proxy_core.proofs.Moves.{asked_of, same_key_invalidated, error_is_none, forwarded_by}
 use Rattle.proxy_core.proofs.TwiceForward.{part}
 use Rattle.proxy_core.proofs.Marks.{same_key_of_step, out_since, none_of_some}
@@ -83,7 +83,7 @@ pub record IsPlainGet (table : Table) (x : Exchange) : Type 0 where
 storable_is : (table : Table) (x : Exchange) (r : Response) (now : ℕ) (next : Option ℕ) → is_storable table x r now next ≡ true → IsPlainGet table x
 storable_is table x r now next h =
     let a = answered_of r now in
-    let facts = facts_of table x r now next in
+    let facts = storing_facts_of_answer table x r now next in
     let none : storage_rule_of x.asked a facts ≡ None = none_of (storage_rule_of x.asked a facts) h in
     record {
       safe = or_left (bytes_eq x.asked.method (codes "GET")) _ (not_false (bytes_eq x.asked.method (codes "GET")) (no_rule_applies x.asked a facts Method none));
@@ -104,28 +104,28 @@ pub record Storing (table : Table) (w : Option Exchange) (event : Event) (next :
 none_stored : (s : ℕ) → ◌≡◌ {A = Option ℕ} None (Some s) → ⊥
 none_stored s h = cc
 
-stored_arrival : (table : Table) (es : List Stored) (xs : List Exchange) (now : ℕ) (asked : Asked) (v : Verdict) (s : ℕ) → stored_in (arrived table es xs now asked v) ≡ Some s → ⊥
+stored_arrival : (table : Table) (es : List Stored) (xs : List Exchange) (now : ℕ) (asked : Asked) (v : Verdict) (s : ℕ) → serial_stored_by_outcome (outcome_of_arrival table es xs now asked v) ≡ Some s → ⊥
 stored_arrival table es xs now asked (verdict.Allowed line) s h = by_decision (decision_of (policy_of table.lines line) es asked now) h
   where
-    on : (condition : Option Condition) (leader : Option ℕ) → stored_in (sent_on table line asked condition leader) ≡ Some s → ⊥
+    on : (condition : Option Condition) (leader : Option ℕ) → serial_stored_by_outcome (outcome_of_waiting_or_forwarding table line asked condition leader) ≡ Some s → ⊥
     on condition None h = none_stored s h
     on condition (Some leader) h = none_stored s h
 
-    unless : (rule : ReuseRule) (condition : Option Condition) (b : Bool) → stored_in (unanswered table xs line now asked rule condition b) ≡ Some s → ⊥
+    unless : (rule : ReuseRule) (condition : Option Condition) (b : Bool) → serial_stored_by_outcome (outcome_without_stored_response table xs line now asked rule condition b) ≡ Some s → ⊥
     unless rule condition true h = none_stored s h
-    unless rule condition false h = on condition (leader_for (policy_of table.lines line) xs asked rule) h
+    unless rule condition false h = on condition (leader_of_request (policy_of table.lines line) xs asked rule) h
 
-    by_decision : (d : Decision) → stored_in (allowed table es xs line now asked d) ≡ Some s → ⊥
+    by_decision : (d : Decision) → serial_stored_by_outcome (outcome_of_allowed_request table es xs line now asked d) ≡ Some s → ⊥
     by_decision (decision.Hit t) h = none_stored s h
-    by_decision (decision.Forward rule against) h = unless rule (condition_at es against) (is_only_if_cached asked) h
+    by_decision (decision.Forward rule against) h = unless rule (condition_about_serial es against) (is_only_if_cached asked) h
 stored_arrival table es xs now asked (verdict.DeniedBy line) s h = none_stored s h
 stored_arrival table es xs now asked verdict.NoLine s h = none_stored s h
 
-stored_failure : (table : Table) (es : List Stored) (now : ℕ) (x : Exchange) (kind : FailKind) (came : Option ℕ) (fallback : Fallback) (s : ℕ) → stored_in (failed table es now x kind came fallback) ≡ Some s → ⊥
+stored_failure : (table : Table) (es : List Stored) (now : ℕ) (x : Exchange) (kind : FailKind) (came : Option ℕ) (fallback : Fallback) (s : ℕ) → serial_stored_by_outcome (outcome_of_failure table es now x kind came fallback) ≡ Some s → ⊥
 stored_failure table es now x kind came (Sends serial detail) s h = none_stored s h
 stored_failure table es now x kind came (Refuses rule error) s h = none_stored s h
 
-stored_304 : (table : Table) (es : List Stored) (now : ℕ) (x : Exchange) (r : Response) (o : Option Stored) (d : Decision) (s : ℕ) → stored_in (revalidated table es now x r o d) ≡ Some s → ⊥
+stored_304 : (table : Table) (es : List Stored) (now : ℕ) (x : Exchange) (r : Response) (o : Option Stored) (d : Decision) (s : ℕ) → serial_stored_by_outcome (outcome_of_304 table es now x r o d) ≡ Some s → ⊥
 stored_304 table es now x r (Some e) d s h = none_stored s h
 stored_304 table es now x r None (decision.Hit t) s h = none_stored s h
 stored_304 table es now x r None (decision.Forward rule against) s h = none_stored s h
@@ -135,27 +135,27 @@ module _ (table : Table) (es : List Stored) (now i : ℕ) (x : Exchange) (r : Re
   stored_by_test true k h = record { z = x; now = now; i = i; r = r; w_is = refl; event_is = refl; plain = storable_is table x r now next k; next_is = h }
   stored_by_test false k h = absurd (none_stored s h)
 
-  stored_unless : (b : Bool) (fallback : Fallback) → stored_in (passed_unless table es now x r next b fallback) ≡ Some s → Storing table (Some x) (Answer now i r) next s
+  stored_unless : (b : Bool) (fallback : Fallback) → serial_stored_by_outcome (outcome_of_passing_on_or_stale table es now x r next b fallback) ≡ Some s → Storing table (Some x) (Answer now i r) next s
   stored_unless true (Sends serial detail) h = absurd (none_stored s h)
   stored_unless true (Refuses rule error) h = stored_by_test (is_storable table x r now next) refl h
   stored_unless false fallback h = stored_by_test (is_storable table x r now next) refl h
 
-  stored_answer : (d : Decision) → stored_in (answered table es now x r next d) ≡ Some s → Storing table (Some x) (Answer now i r) next s
+  stored_answer : (d : Decision) → serial_stored_by_outcome (outcome_of_answer table es now x r next d) ≡ Some s → Storing table (Some x) (Answer now i r) next s
   stored_answer d h = by_304 (is_validation x r) h
     where
-      by_unasked : (b : Bool) → stored_in (cond b (failed table es now x BadAnswer (Some r.status) (fallback_for (policy_of table.lines x.line) es x.asked now d))
-          (passed_unless table es now x r next (is_error_status r.status) (fallback_for (policy_of table.lines x.line) es x.asked now d))) ≡ Some s → Storing table (Some x) (Answer now i r) next s
+      by_unasked : (b : Bool) → serial_stored_by_outcome (cond b (outcome_of_failure table es now x BadAnswer (Some r.status) (fallback_for (policy_of table.lines x.line) es x.asked now d))
+          (outcome_of_passing_on_or_stale table es now x r next (is_error_status r.status) (fallback_for (policy_of table.lines x.line) es x.asked now d))) ≡ Some s → Storing table (Some x) (Answer now i r) next s
       by_unasked true h = absurd (stored_failure table es now x BadAnswer (Some r.status) (fallback_for (policy_of table.lines x.line) es x.asked now d) s h)
       by_unasked false h = stored_unless (is_error_status r.status) (fallback_for (policy_of table.lines x.line) es x.asked now d) h
 
-      by_304 : (b : Bool) → stored_in (cond b (revalidated table es now x r (validated es x r now) d)
-          (cond (is_unasked x.asked r) (failed table es now x BadAnswer (Some r.status) (fallback_for (policy_of table.lines x.line) es x.asked now d))
-          (passed_unless table es now x r next (is_error_status r.status) (fallback_for (policy_of table.lines x.line) es x.asked now d)))) ≡ Some s → Storing table (Some x) (Answer now i r) next s
-      by_304 true h = absurd (stored_304 table es now x r (validated es x r now) d s h)
-      by_304 false h = by_unasked (is_unasked x.asked r) h
+      by_304 : (b : Bool) → serial_stored_by_outcome (cond b (outcome_of_304 table es now x r (stored_response_validated es x r now) d)
+          (cond (is_304_without_condition x.asked r) (outcome_of_failure table es now x BadAnswer (Some r.status) (fallback_for (policy_of table.lines x.line) es x.asked now d))
+          (outcome_of_passing_on_or_stale table es now x r next (is_error_status r.status) (fallback_for (policy_of table.lines x.line) es x.asked now d)))) ≡ Some s → Storing table (Some x) (Answer now i r) next s
+      by_304 true h = absurd (stored_304 table es now x r (stored_response_validated es x r now) d s h)
+      by_304 false h = by_unasked (is_304_without_condition x.asked r) h
 
 pub storing_of : (table : Table) (es : List Stored) (xs : List Exchange) (w : Option Exchange) (next : Option ℕ) (event : Event) (s : ℕ) →
-    stored_in (outcome_of table es xs w next event) ≡ Some s → Storing table w event next s
+    serial_stored_by_outcome (outcome_of table es xs w next event) ≡ Some s → Storing table w event next s
 storing_of table es xs w next (Arrive now i asked) s h = absurd (stored_arrival table es xs now asked (verdict_of table.lines asked.method asked.target) s h)
 storing_of table es xs None next (Answer now i r) s h = absurd (none_stored s h)
 storing_of table es xs (Some z) next (Answer now i r) s h = stored_answer table es now i z r next s (decision_of (policy_of table.lines z.line) es z.asked now) h
@@ -164,7 +164,7 @@ storing_of table es xs (Some z) next (Fail now i kind) s h = absurd (stored_fail
 storing_of table es xs None next (Wake now i) s h = absurd (none_stored s h)
 storing_of table es xs (Some z) next (Wake now i) s h = absurd (stored_wake (decision_of (policy_of table.lines z.line) es z.asked now) h)
   where
-    stored_wake : (d : Decision) → stored_in (woken table es now z d) ≡ Some s → ⊥
+    stored_wake : (d : Decision) → serial_stored_by_outcome (outcome_of_wake table es now z d) ≡ Some s → ⊥
     stored_wake (decision.Hit t) h = none_stored s h
     stored_wake (decision.Forward rule against) h = none_stored s h
 storing_of table es xs w next (Abandon i) s h = absurd (none_stored s h)
@@ -185,8 +185,8 @@ tested true true true n h = absurd (false≢true h)
 tested true true false true h = absurd (false≢true h)
 tested true true false false h = record { unsafe = refl; no_error = refl; no_validation = refl; no_unasked = refl }
 
-key_parts : (x : Exchange) (r : Response) (k : Key) → key_invalidated x r ≡ Some k → (invalidates x r ≡ true) × (x.asked.target.key ≡ k)
-key_parts x r k h = by_test (invalidates x r) h
+key_parts : (x : Exchange) (r : Response) (k : Key) → key_invalidated x r ≡ Some k → (answer_invalidates x r ≡ true) × (x.asked.target.key ≡ k)
+key_parts x r k h = by_test (answer_invalidates x r) h
   where
     by_test : (b : Bool) → cond b (Some x.asked.target.key) None ≡ Some k → (b ≡ true) × (x.asked.target.key ≡ k)
     by_test true h = (refl, same_Some x.asked.target.key k h)
@@ -194,36 +194,36 @@ key_parts x r k h = by_test (invalidates x r) h
 
 -- where the rest is as it should be, the answer is passed on
 passed_at : (table : Table) (es : List Stored) (now : ℕ) (x : Exchange) (r : Response) (next : Option ℕ) (d : Decision) (v n e : Bool) → v ≡ false → n ≡ false → e ≡ false →
-    cond v (revalidated table es now x r (validated es x r now) d)
-    (cond n (failed table es now x BadAnswer (Some r.status) (fallback_for (policy_of table.lines x.line) es x.asked now d)) (passed_unless table es now x r next e (fallback_for (policy_of table.lines x.line) es x.asked now d)))
-    ≡ passed table es now x r (rule_shown table x r now next) (stored_serial table x r now next)
+    cond v (outcome_of_304 table es now x r (stored_response_validated es x r now) d)
+    (cond n (outcome_of_failure table es now x BadAnswer (Some r.status) (fallback_for (policy_of table.lines x.line) es x.asked now d)) (outcome_of_passing_on_or_stale table es now x r next e (fallback_for (policy_of table.lines x.line) es x.asked now d)))
+    ≡ outcome_of_passing_on table es now x r (storing_rule_to_explain table x r now next) (serial_of_stored_answer table x r now next)
 passed_at table es now x r next d true n e hv hn he = absurd (false≢true (sym hv))
 passed_at table es now x r next d false true e hv hn he = absurd (false≢true (sym hn))
 passed_at table es now x r next d false false true hv hn he = absurd (false≢true (sym he))
 passed_at table es now x r next d false false false hv hn he = refl
 
 answer_removes : (table : Table) (es : List Stored) (now : ℕ) (x : Exchange) (r : Response) (next : Option ℕ) (d : Decision) (k : Key) →
-    key_invalidated x r ≡ Some k → removed_in (answered table es now x r next d) ≡ serials_of k es
+    key_invalidated x r ≡ Some k → serials_removed_by_outcome (outcome_of_answer table es now x r next d) ≡ serials_of k es
 answer_removes table es now x r next d k h =
     let p = key_parts x r k h in
-    let t = tested (not (is_among safe_methods x.asked.method)) (nat_le 200 r.status && nat_le r.status 399) (is_validation x r) (is_unasked x.asked r) p.0 in
+    let t = tested (not (is_among safe_methods x.asked.method)) (nat_le 200 r.status && nat_le r.status 399) (is_validation x r) (is_304_without_condition x.asked r) p.0 in
     let fine : is_error_status r.status ≡ false = false_from_ne_true _ (λ e. false≢true (sym (error_is_none r.status e) ∙ t.no_error)) in
     let unstored : is_storable table x r now next ≡ false = false_from_ne_true _ (λ e.
     let plain = storable_is table x r now next e in
     false≢true (sym (ap not plain.safe) ∙ t.unsafe)) in
-    ap removed_in (passed_at table es now x r next d (is_validation x r) (is_unasked x.asked r) (is_error_status r.status) t.no_validation t.no_unasked fine)
-    ∙ ap (λ b. removed_by es x r (cond b next None)) unstored
+    ap serials_removed_by_outcome (passed_at table es now x r next d (is_validation x r) (is_304_without_condition x.asked r) (is_error_status r.status) t.no_validation t.no_unasked fine)
+    ∙ ap (λ b. serials_removed_by_answer es x r (cond b next None)) unstored
     ∙ ap (λ b. cond b (serials_of x.asked.target.key es) []) p.0
     ∙ ap (λ key. serials_of key es) p.1
 
 removes_key : (table : Table) (es : List Stored) (xs : List Exchange) (w : Option Exchange) (next : Option ℕ) (event : Event) (o : Outcome) (k : Key) →
-    o ≡ outcome_of table es xs w next event → key_by_step (asked_of w) event o ≡ Some k → removed_in o ≡ serials_of k es
+    o ≡ outcome_of table es xs w next event → key_invalidated_by_step (asked_of w) event o ≡ Some k → serials_removed_by_outcome o ≡ serials_of k es
 removes_key table es xs None next event o k e h = absurd (cc)
 removes_key table es xs (Some z) next (Arrive now i asked) o k e h = absurd (cc)
 removes_key table es xs (Some z) next (Answer now i r) o k e h =
     let d = decision_of (policy_of table.lines z.line) es z.asked now in
-    ap removed_in e
-    ∙ answer_removes table es now z r next d k (same_key_invalidated table es now z r next d ∙ ap (key_by_answer z.asked r) (sym e) ∙ h)
+    ap serials_removed_by_outcome e
+    ∙ answer_removes table es now z r next d k (same_key_invalidated table es now z r next d ∙ ap (key_invalidated_by_answer z.asked r) (sym e) ∙ h)
 removes_key table es xs (Some z) next (Fail now i kind) o k e h = absurd (cc)
 removes_key table es xs (Some z) next (Wake now i) o k e h = absurd (cc)
 removes_key table es xs (Some z) next (Abandon i) o k e h = absurd (cc)
@@ -234,48 +234,48 @@ Below : ℕ → Option ℕ → Type 0
 Below s None = Unit {0}
 Below s (Some n) = s < n
 
-below_next : (s n : ℕ) → s ≤ n → Below s (next_of n)
+below_next : (s n : ℕ) → s ≤ n → Below s (serial_after_this n)
 unfolding Below
 below_next s n h = elim (ltb (n + 1) (2 ^ 64)) as (λ b. Below s (cond b (Some (n + 1)) None)) [ true ↦ omega arith | false ↦ tt ]
 
 -- what an item does to a serial stored before it
 record Older (s : ℕ) (next st us : Option ℕ) (es : List Stored) : Type 0 where
-  not_stored : is_the st s ≡ false
-  below : Below s (next_after next st)
-  used_held : is_the us s ≡ true → holds s es ≡ true
+  not_stored : is_that_serial st s ≡ false
+  below : Below s (next_serial_after next st)
+  used_held : is_that_serial us s ≡ true → holds_serial s es ≡ true
 
 older : (s : ℕ) (es : List Stored) (x : Option Exchange) (event : Event) (next st us : Option ℕ) (rm : List ℕ) → Kind es x event next st us rm → Below s next →
     Older s next st us es
 unfolding Below
 older s es x event next st us rm (idle a b) l = record {
-  not_stored = ap (λ o. is_the o s) a;
-  below = subst (λ o. Below s (next_after next o)) (sym a) l;
-  used_held = λ t. absurd (false≢true (sym (ap (λ o. is_the o s) b) ∙ t));
+  not_stored = ap (λ o. is_that_serial o s) a;
+  below = subst (λ o. Below s (next_serial_after next o)) (sym a) l;
+  used_held = λ t. absurd (false≢true (sym (ap (λ o. is_that_serial o s) b) ∙ t));
 }
 older s es x event next st us rm (uses t e a b f) l = record {
-  not_stored = ap (λ o. is_the o s) a;
-  below = subst (λ o. Below s (next_after next o)) (sym a) l;
+  not_stored = ap (λ o. is_that_serial o s) a;
+  below = subst (λ o. Below s (next_serial_after next o)) (sym a) l;
   used_held = λ u.
-      let same : t ≡ s = eqb-true t s (sym (ap (λ o. is_the o s) b) ∙ u) in
-      ap (λ z. holds z es) (sym (find-serial t es e f ∙ same)) ∙ find_holds t es e f;
+      let same : t ≡ s = eqb-true t s (sym (ap (λ o. is_that_serial o s) b) ∙ u) in
+      ap (λ z. holds_serial z es) (sym (find-serial t es e f ∙ same)) ∙ find_holds t es e f;
 }
 older s es x event next st us rm (stores t e a b q f k off) l =
     let n : s < t = subst (Below s) q l in
     let apart : eqb t s ≡ false = grind (arith, nat_tests) in
     record {
-      not_stored = ap (λ o. is_the o s) a ∙ apart;
-      below = subst (λ o. Below s (next_after next o)) (sym a) (below_next s t (omega arith));
-      used_held = λ u. absurd (false≢true (sym (ap (λ o. is_the o s) b) ∙ u));
+      not_stored = ap (λ o. is_that_serial o s) a ∙ apart;
+      below = subst (λ o. Below s (next_serial_after next o)) (sym a) (below_next s t (omega arith));
+      used_held = λ u. absurd (false≢true (sym (ap (λ o. is_that_serial o s) b) ∙ u));
     }
 
 key_of : Option Stored → Option Key
 key_of None = None
 key_of (Some e) = Some e.key
 
-used_key : (x : Option Exchange) (event : Event) (e : Stored) → (used_form x event e).key ≡ e.key
+used_key : (x : Option Exchange) (event : Event) (e : Stored) → (stored_response_as_used x event e).key ≡ e.key
 used_key None event e = refl
 used_key (Some x) (Arrive now id asked) e = refl
-used_key (Some x) (Answer now id r) e = elim (is_answered x r now e) as (λ b. (cond b (refreshed x r now e) e).key ≡ e.key) [
+used_key (Some x) (Answer now id r) e = elim (stored_response_is_answered x r now e) as (λ b. (cond b (freshened_by_304 x r now e) e).key ≡ e.key) [
   | true ↦ key_stays x r now e
   | false ↦ refl
 ]
@@ -283,17 +283,17 @@ used_key (Some x) (Fail now id kind) e = refl
 used_key (Some x) (Wake now id) e = refl
 used_key (Some x) (Abandon id) e = refl
 
-key_kept : (x : Option Exchange) (event : Event) (st us : Option ℕ) (look : ℕ → Option Stored) (s : ℕ) → is_the st s ≡ false →
+key_kept : (x : Option Exchange) (event : Event) (st us : Option ℕ) (look : ℕ → Option Stored) (s : ℕ) → is_that_serial st s ≡ false →
     key_of (look_after x event st us look s) ≡ key_of (look s)
 unfolding key_of
 key_kept x event st us look s n =
-    ap (λ b. key_of (cond b (stored_form x event s) (cond (is_the us s) (option_map (used_form x event) (look s)) (look s)))) n
-    ∙ elim (is_the us s) as (λ b. key_of (cond b (option_map (used_form x event) (look s)) (look s)) ≡ key_of (look s)) [
+    ap (λ b. key_of (cond b (stored_response_by_answer x event s) (cond (is_that_serial us s) (option_map (stored_response_as_used x event) (look s)) (look s)))) n
+    ∙ elim (is_that_serial us s) as (λ b. key_of (cond b (option_map (stored_response_as_used x event) (look s)) (look s)) ≡ key_of (look s)) [
       | true ↦ form (look s)
       | false ↦ refl
     ]
   where
-    form : (o : Option Stored) → key_of (option_map (used_form x event) o) ≡ key_of o
+    form : (o : Option Stored) → key_of (option_map (stored_response_as_used x event) o) ≡ key_of o
     form None = refl
     form (Some e) = ap (λ k. Some k) (used_key x event e)
 
@@ -302,66 +302,66 @@ key_kept x event st us look s n =
 module _ (table : Table) (limit first : ℕ) where
   -- an item that a stored and held serial lives through: it was held before, and the item doesn't invalidate its key
   record Executes (s : ℕ) (k : Key) (i : Item) (past : List Item) : Type 0 where
-    held_before : is_in s (held_serials limit past) ≡ true
+    held_before : serial_is_in s (held_serials limit past) ≡ true
     clean : invalidates_key k i past ≡ false
 
-  executes : (s : ℕ) (k : Key) (i : Item) (past : List Item) → IsGood (begun table limit first) (i ∷ past) → Below s (left (begun table limit first) past).next →
-      key_of (held_entry table limit past s) ≡ Some k → is_in s (held_serials limit (i ∷ past)) ≡ true → Executes s k i past
+  executes : (s : ℕ) (k : Key) (i : Item) (past : List Item) → IsGood (initial_state table limit first) (i ∷ past) → Below s (state_after_trace (initial_state table limit first) past).next →
+      key_of (held_entry table limit past s) ≡ Some k → serial_is_in s (held_serials limit (i ∷ past)) ≡ true → Executes s k i past
   unfolding key_of
   executes s k i past g l q m =
       let p = stands_for table limit first past g.1 in
-      let st = left (begun table limit first) past in
+      let st = state_after_trace (initial_state table limit first) past in
       let es = st.entries in
-      let w = find_exchange (id_of i.event) st.exchanges in
-      let d = older s es w i.event st.next (stored_in i.outcome) (used_in i.outcome) (removed_in i.outcome) (kind_in table st i p.fresh g.0) l in
-      let item = done_by i in
+      let w = find_exchange (exchange_id_of_event i.event) st.exchanges in
+      let d = older s es w i.event st.next (serial_stored_by_outcome i.outcome) (serial_used_by_outcome i.outcome) (serials_removed_by_outcome i.outcome) (kind_in table st i p.fresh g.0) l in
+      let item = store_change_of i in
       let before = held_serials limit past in
-      let inside : ((touches item s || is_in s before) && not (is_in s (removed_in i.outcome))) ≡ true =
-      sym (is_in-after s item before) ∙ and_left _ _ (sym (is_in-take s limit (recent_after item before)) ∙ sym (ap (is_in s) (held_more limit item (map done_by past))) ∙ m)
+      let inside : ((stores_or_uses item s || serial_is_in s before) && not (serial_is_in s (serials_removed_by_outcome i.outcome))) ≡ true =
+      sym (is_in-after s item before) ∙ and_left _ _ (sym (is_in-take s limit (recent_after_change item before)) ∙ sym (ap (serial_is_in s) (held_more limit item (map store_change_of past))) ∙ m)
       in
-      let stays : not (is_in s (removed_in i.outcome)) ≡ true = and_right (touches item s || is_in s before) (not (is_in s (removed_in i.outcome))) inside in
-      let came : ((is_the (stored_in i.outcome) s || is_the (used_in i.outcome) s) || is_in s before) ≡ true = and_left _ _ inside in
-      let was : is_in s before ≡ true =
-      elim (cases_Bool (is_the (used_in i.outcome) s)) [
-        | inl u ↦ sym (ap (is_in s) p.serials_are) ∙ d.used_held u
-        | inr n ↦ sym (ap (λ b. (b || is_the (used_in i.outcome) s) || is_in s before) d.not_stored ∙ ap (λ b. b || is_in s before) n) ∙ came
+      let stays : not (serial_is_in s (serials_removed_by_outcome i.outcome)) ≡ true = and_right (stores_or_uses item s || serial_is_in s before) (not (serial_is_in s (serials_removed_by_outcome i.outcome))) inside in
+      let came : ((is_that_serial (serial_stored_by_outcome i.outcome) s || is_that_serial (serial_used_by_outcome i.outcome) s) || serial_is_in s before) ≡ true = and_left _ _ inside in
+      let was : serial_is_in s before ≡ true =
+      elim (cases_Bool (is_that_serial (serial_used_by_outcome i.outcome) s)) [
+        | inl u ↦ sym (ap (serial_is_in s) p.serials_are) ∙ d.used_held u
+        | inr n ↦ sym (ap (λ b. (b || is_that_serial (serial_used_by_outcome i.outcome) s) || serial_is_in s before) d.not_stored ∙ ap (λ b. b || serial_is_in s before) n) ∙ came
       ]
       in
-      let f = held_found s es (ap (is_in s) p.serials_are ∙ was) in
+      let f = held_found s es (ap (serial_is_in s) p.serials_are ∙ was) in
       let its_key : f.0.key ≡ k = same_Some f.0.key k (ap key_of (sym (EachIs-find (held_entry table limit past) s es f.0 f.1 p.entries_are)) ∙ q) in
       record {
         held_before = was;
-        clean = ap (λ o. is_key o k) (same_key_of_step table limit first i past g)
+        clean = ap (λ o. is_invalidated_key o k) (same_key_of_step table limit first i past g)
             ∙ false_from_ne_true _ (λ t.
-            let named = gone_key (key_by_step (asked_of w) i.event i.outcome) t in
-            let r : removed_in i.outcome ≡ serials_of named.0 es = removes_key table es st.exchanges w st.next i.event i.outcome named.0 g.0.outcome_is named.1 in
+            let named = gone_key (key_invalidated_by_step (asked_of w) i.event i.outcome) t in
+            let r : serials_removed_by_outcome i.outcome ≡ serials_of named.0 es = removes_key table es st.exchanges w st.next i.event i.outcome named.0 g.0.outcome_is named.1 in
             let there = some_of_key named.0 s es f.0 f.1 (ap (λ key. same_key key named.0) its_key ∙ named.2) in
-            false≢true (sym (ap not (ap (is_in s) r ∙ there)) ∙ stays));
+            false≢true (sym (ap not (ap (serial_is_in s) r ∙ there)) ∙ stays));
       }
     where
-      gone_key : (o : Option Key) → is_key o k ≡ true → (gone : Key) × (o ≡ Some gone) × (same_key k gone ≡ true)
+      gone_key : (o : Option Key) → is_invalidated_key o k ≡ true → (gone : Key) × (o ≡ Some gone) × (same_key k gone ≡ true)
       gone_key None t = absurd (false≢true t)
       gone_key (Some gone) t = (gone, refl, t)
 
   record Since (s : ℕ) (k : Key) (storing : Item) (past items : List Item) : Type 0 where
-    below : Below s (left (begun table limit first) (items ++ storing ∷ past)).next
+    below : Below s (state_after_trace (initial_state table limit first) (items ++ storing ∷ past)).next
     key : key_of (held_entry table limit (items ++ storing ∷ past) s) ≡ Some k
-    clean : is_in s (held_serials limit (items ++ storing ∷ past)) ≡ true → NoneInvalidates k items (storing ∷ past)
+    clean : serial_is_in s (held_serials limit (items ++ storing ∷ past)) ≡ true → NoItemInvalidates k items (storing ∷ past)
 
-  since : (s : ℕ) (k : Key) (storing : Item) (past : List Item) (items : List Item) → IsGood (begun table limit first) (items ++ storing ∷ past) →
+  since : (s : ℕ) (k : Key) (storing : Item) (past : List Item) (items : List Item) → IsGood (initial_state table limit first) (items ++ storing ∷ past) →
       Since s k storing past [] → Since s k storing past items
   since s k storing past [] g b = b
   since s k storing past (i ∷ items) g b =
       let so = since s k storing past items g.1 b in
       let all = items ++ storing ∷ past in
       let p = stands_for table limit first all g.1 in
-      let st = left (begun table limit first) all in
-      let w = find_exchange (id_of i.event) st.exchanges in
-      let d = older s st.entries w i.event st.next (stored_in i.outcome) (used_in i.outcome) (removed_in i.outcome) (kind_in table st i p.fresh g.0) so.below in
-      let v = find_exchange (id_of i.event) (seen table limit all).exchanges in
+      let st = state_after_trace (initial_state table limit first) all in
+      let w = find_exchange (exchange_id_of_event i.event) st.exchanges in
+      let d = older s st.entries w i.event st.next (serial_stored_by_outcome i.outcome) (serial_used_by_outcome i.outcome) (serials_removed_by_outcome i.outcome) (kind_in table st i p.fresh g.0) so.below in
+      let v = find_exchange (exchange_id_of_event i.event) (exchanges_and_responses_after table limit all).exchanges in
       record {
         below = d.below;
-        key = key_kept v i.event (stored_in i.outcome) (used_in i.outcome) (held_entry table limit all) s d.not_stored ∙ so.key;
+        key = key_kept v i.event (serial_stored_by_outcome i.outcome) (serial_used_by_outcome i.outcome) (held_entry table limit all) s d.not_stored ∙ so.key;
         clean = λ m.
             let r = executes s k i all g so.below so.key m in
             (r.clean, so.clean r.held_before);
@@ -370,43 +370,43 @@ module _ (table : Table) (limit first : ℕ) where
   -- what is known of a storing
   record Known (s : ℕ) (storing : Item) (past : List Item) : Type 0 where
     z : Exchange
-    w_is : find_exchange (id_of storing.event) (left (begun table limit first) past).exchanges ≡ Some z
+    w_is : find_exchange (exchange_id_of_event storing.event) (state_after_trace (initial_state table limit first) past).exchanges ≡ Some z
     stage : z.stage ≡ Forwarded
     in_time : z.overtaken ≡ false
     since_then : Since s z.asked.target.key storing past []
     clean : (k : Key) → invalidates_key k storing past ≡ false
 
-  stored_is : (s : ℕ) (storing : Item) (past : List Item) → IsGood (begun table limit first) (storing ∷ past) → stored_in storing.outcome ≡ Some s → Known s storing past
+  stored_is : (s : ℕ) (storing : Item) (past : List Item) → IsGood (initial_state table limit first) (storing ∷ past) → serial_stored_by_outcome storing.outcome ≡ Some s → Known s storing past
   unfolding key_of
   stored_is s storing past g e =
-      let st = left (begun table limit first) past in
+      let st = state_after_trace (initial_state table limit first) past in
       let p = stands_for table limit first past g.1 in
-      let w = find_exchange (id_of storing.event) st.exchanges in
-      let d = storing_of table st.entries st.exchanges w st.next storing.event s (sym (ap stored_in g.0.outcome_is) ∙ e) in
+      let w = find_exchange (exchange_id_of_event storing.event) st.exchanges in
+      let d = storing_of table st.entries st.exchanges w st.next storing.event s (sym (ap serial_stored_by_outcome g.0.outcome_is) ∙ e) in
       let z = d.z in
-      let x_seen : find_exchange (id_of storing.event) (seen table limit past).exchanges ≡ Some z =
-      ap (find_exchange (id_of storing.event)) (sym p.exchanges_are) ∙ d.w_is
+      let x_seen : find_exchange (exchange_id_of_event storing.event) (exchanges_and_responses_after table limit past).exchanges ≡ Some z =
+      ap (find_exchange (exchange_id_of_event storing.event)) (sym p.exchanges_are) ∙ d.w_is
       in
-      let v = find_exchange (id_of storing.event) (seen table limit past).exchanges in
+      let v = find_exchange (exchange_id_of_event storing.event) (exchanges_and_responses_after table limit past).exchanges in
       let look : ℕ → Option Stored = held_entry table limit past in
       let safe : not (is_among safe_methods z.asked.method) ≡ false = ap not d.plain.safe in
       record {
         z = z;
         w_is = d.w_is;
-        stage = out_stage z.stage (forwarded_by (too_late d.now) z.stage (sym (ap (λ (w : Option Exchange). fault_of w (Answer d.now d.i d.r)) d.w_is) ∙ (ap (λ (v : Event). fault_of w v) (sym d.event_is) ∙ g.0.allowed)));
+        stage = out_stage z.stage (forwarded_by (moment_too_late_fault d.now) z.stage (sym (ap (λ (w : Option Exchange). fault_at_exchange w (Answer d.now d.i d.r)) d.w_is) ∙ (ap (λ (v : Event). fault_at_exchange w v) (sym d.event_is) ∙ g.0.allowed)));
         in_time = d.plain.in_time;
         since_then = record {
-          below = subst (Below s) (sym (ap (λ o. next_after st.next o) e)) (below_next s s (omega arith));
-          key = ap key_of (ap (λ o. cond (is_the o s) (stored_form v storing.event s) (cond (is_the (used_in storing.outcome) s) (option_map (used_form v storing.event) (look s)) (look s))) e
-              ∙ ap (λ b. cond b (stored_form v storing.event s) (cond (is_the (used_in storing.outcome) s) (option_map (used_form v storing.event) (look s)) (look s))) (eq-eqb s s refl)
-              ∙ ap (λ x. stored_form x storing.event s) x_seen
-              ∙ ap (λ v. stored_form (Some z) v s) d.event_is);
+          below = subst (Below s) (sym (ap (λ o. next_serial_after st.next o) e)) (below_next s s (omega arith));
+          key = ap key_of (ap (λ o. cond (is_that_serial o s) (stored_response_by_answer v storing.event s) (cond (is_that_serial (serial_used_by_outcome storing.outcome) s) (option_map (stored_response_as_used v storing.event) (look s)) (look s))) e
+              ∙ ap (λ b. cond b (stored_response_by_answer v storing.event s) (cond (is_that_serial (serial_used_by_outcome storing.outcome) s) (option_map (stored_response_as_used v storing.event) (look s)) (look s))) (eq-eqb s s refl)
+              ∙ ap (λ x. stored_response_by_answer x storing.event s) x_seen
+              ∙ ap (λ v. stored_response_by_answer (Some z) v s) d.event_is);
           clean = λ m. tt;
         };
-        clean = λ k. ap (λ o. is_key o k) (same_key_of_step table limit first storing past g
-            ∙ ap (λ x. key_by_step (asked_of x) storing.event storing.outcome) d.w_is
-            ∙ ap (λ v. key_by_step (Some z.asked) v storing.outcome) d.event_is
-            ∙ no_key z.asked.target.key (not (is_among safe_methods z.asked.method)) ((nat_le 200 d.r.status && nat_le d.r.status 399) && is_passed_on z.asked d.r storing.outcome) safe);
+        clean = λ k. ap (λ o. is_invalidated_key o k) (same_key_of_step table limit first storing past g
+            ∙ ap (λ x. key_invalidated_by_step (asked_of x) storing.event storing.outcome) d.w_is
+            ∙ ap (λ v. key_invalidated_by_step (Some z.asked) v storing.outcome) d.event_is
+            ∙ no_key z.asked.target.key (not (is_among safe_methods z.asked.method)) ((nat_le 200 d.r.status && nat_le d.r.status 399) && answer_is_passed_on z.asked d.r storing.outcome) safe);
       }
     where
       no_key : (key : Key) (u rest : Bool) → u ≡ false → cond (u && rest) (Some key) None ≡ None
@@ -418,29 +418,29 @@ module _ (table : Table) (limit first : ℕ) where
       out_stage (Waiting leader) h = absurd (false≢true h)
       out_stage Released h = absurd (false≢true h)
 
-sent_held : (es : List Stored) (x : Option Exchange) (event : Event) (next st us : Option ℕ) (rm : List ℕ) (s : ℕ) → Kind es x event next st us rm → us ≡ Some s → holds s es ≡ true
+sent_held : (es : List Stored) (x : Option Exchange) (event : Event) (next st us : Option ℕ) (rm : List ℕ) (s : ℕ) → Kind es x event next st us rm → us ≡ Some s → holds_serial s es ≡ true
 sent_held es x event next st us rm s (idle a b) h = absurd (cc)
 sent_held es x event next st us rm s (uses t e a b f) h =
     let same : t ≡ s = same_Some t s (sym b ∙ h) in
-    ap (λ z. holds z es) (sym (find-serial t es e f ∙ same)) ∙ find_holds t es e f
+    ap (λ z. holds_serial z es) (sym (find-serial t es e f ∙ same)) ∙ find_holds t es e f
 sent_held es x event next st us rm s (stores t e a b q f k off) h = absurd (cc)
 
-pub nothing_invalidated_is_sent : (table : Table) (limit first : ℕ) (trace : List Item) → IsGood (begun table limit first) trace → NothingInvalidatedIsSent trace
+pub nothing_invalidated_is_sent : (table : Table) (limit first : ℕ) (trace : List Item) → IsGood (initial_state table limit first) trace → NothingInvalidatedIsSent trace
 nothing_invalidated_is_sent table limit first trace g later middle between before sending storing f s asked e used stored forward same none ask =
     let base = between ++ f ∷ before in
-    let at_sending : IsGood (begun table limit first) (sending ∷ (middle ++ (storing ∷ base))) =
-    part (begun table limit first) later (sending ∷ (middle ++ (storing ∷ base))) (subst (IsGood (begun table limit first)) (sym e) g)
+    let at_sending : IsGood (initial_state table limit first) (sending ∷ (middle ++ (storing ∷ base))) =
+    part (initial_state table limit first) later (sending ∷ (middle ++ (storing ∷ base))) (subst (IsGood (initial_state table limit first)) (sym e) g)
     in
-    let at_storing : IsGood (begun table limit first) (storing ∷ base) = part (begun table limit first) middle (storing ∷ base) at_sending.1 in
+    let at_storing : IsGood (initial_state table limit first) (storing ∷ base) = part (initial_state table limit first) middle (storing ∷ base) at_sending.1 in
     let d = stored_is table limit first s storing base at_storing stored in
-    let o = out_since table limit first f before (id_of storing.event) between at_storing.1 forward same none d.z d.w_is d.stage in
-    let st = left (begun table limit first) (middle ++ storing ∷ base) in
+    let o = out_since table limit first f before (exchange_id_of_event storing.event) between at_storing.1 forward same none d.z d.w_is d.stage in
+    let st = state_after_trace (initial_state table limit first) (middle ++ storing ∷ base) in
     let p = stands_for table limit first (middle ++ storing ∷ base) at_sending.1 in
     let i = since table limit first s d.z.asked.target.key storing base middle at_sending.1 d.since_then in
-    let held : is_in s (held_serials limit (middle ++ storing ∷ base)) ≡ true =
-    sym (ap (is_in s) p.serials_are)
+    let held : serial_is_in s (held_serials limit (middle ++ storing ∷ base)) ≡ true =
+    sym (ap (serial_is_in s) p.serials_are)
     ∙ sent_held st.entries _ sending.event st.next _ _ _ s (kind_in table st sending p.fresh at_sending.0) used
     in
-    subst (λ (r : Asked). NoneInvalidates r.target.key middle (storing ∷ base) × NoneInvalidates r.target.key (storing ∷ between) (f ∷ before))
+    subst (λ (r : Asked). NoItemInvalidates r.target.key middle (storing ∷ base) × NoItemInvalidates r.target.key (storing ∷ between) (f ∷ before))
     (same_Some d.z.asked asked (sym o.0 ∙ ask))
     (i.clean held, (d.clean d.z.asked.target.key, none_of_some d.z.asked.target.key between (f ∷ before) (sym o.1 ∙ d.in_time)))

@@ -22,9 +22,9 @@ use Rattle.proxy_core.specs.declared.open.wait_index.WaitIndex.{WaitIndex}
 use Rattle.proxy_core.specs.Leading.{is_forwarded, waits_for}
 use Rattle.hx_target.specs.declared.keys.Key.{Key}
 use Rattle.hx_target.specs.Keys.{same_key}
-use Rattle.proxy_core.specs.State.{release, overtake}
-use Rattle.proxy_core.specs.Waiters.{waits_in, IsEntered, HasLeft, IsEmptied, IsSameIndex, IsNotIn, HasMembers, IsTrim, IsTrimBeside}
-use Rattle.proxy_core.specs.Arrivals.{on_all, AreApart, Pass, Indexes, WaitersPass}
+use Rattle.proxy_core.specs.State.{released_exchange, overtaken_exchange}
+use Rattle.proxy_core.specs.Waiters.{is_in_wait_index, WaiterIsEntered, WaiterHasLeft, WaitersAreTakenOut, IsSameWaitIndex, IsNotInWaitIndex, SetHasMembers, HasNoEmptyWaiterSets, HasNoOtherEmptyWaiterSets}
+use Rattle.proxy_core.specs.Arrivals.{map_exchanges, HaveDistinctArrivalsAndIds, SelectedArrivalsPass, IsExactIndexOfSelected, WaitingArrivalsPass}
 use Rattle.proxy_core.proofs.ExchangeLists.{cond_none}
 use Rattle.proxy_core.proofs.Indexed.{lookup-removed, lookup-set, not_indexed, indexes-entered, indexes-left, indexes-on_all}
 
@@ -39,12 +39,12 @@ at_is n k = grind (arith, nat_tests)
 
 -- ---- other tests
 
-pub pass-more : (which : Exchange → Bool) (p q : ℕ → Bool) (es : Numbered) → ((m : ℕ) → p m ≡ true → q m ≡ true) → Pass which p es → Pass which q es
+pub pass-more : (which : Exchange → Bool) (p q : ℕ → Bool) (es : Numbered) → ((m : ℕ) → p m ≡ true → q m ≡ true) → SelectedArrivalsPass which p es → SelectedArrivalsPass which q es
 pass-more which p q [] k h = tt
 pass-more which p q (e ∷ es) k h = (λ w. k e.0 (h.0 w), pass-more which p q es k h.1)
 
 -- of a number that none has the test may say what it will
-pub pass-but : (which : Exchange → Bool) (n : ℕ) (p q : ℕ → Bool) (es : Numbered) → lookup (at n) es ≡ None → ((m : ℕ) → eqb n m ≡ false → p m ≡ true → q m ≡ true) → Pass which p es → Pass which q es
+pub pass-but : (which : Exchange → Bool) (n : ℕ) (p q : ℕ → Bool) (es : Numbered) → lookup (at n) es ≡ None → ((m : ℕ) → eqb n m ≡ false → p m ≡ true → q m ≡ true) → SelectedArrivalsPass which p es → SelectedArrivalsPass which q es
 pass-but which n p q [] none k h = tt
 pass-but which n p q (e ∷ es) none k h =
     let c = cond_none (at n e.0) e.1 (lookup (at n) es) none in
@@ -59,24 +59,24 @@ none_has n (e ∷ es) h =
 
 -- ---- opening and closing
 
-pub pass-opened : (which : Exchange → Bool) (n : ℕ) (x : Exchange) (p : ℕ → Bool) (es : Numbered) → (which x ≡ true → p n ≡ true) → Pass which p es → Pass which p (es ++ (n, x) ∷ [])
+pub pass-opened : (which : Exchange → Bool) (n : ℕ) (x : Exchange) (p : ℕ → Bool) (es : Numbered) → (which x ≡ true → p n ≡ true) → SelectedArrivalsPass which p es → SelectedArrivalsPass which p (es ++ (n, x) ∷ [])
 pass-opened which n x p [] k h = (k, tt)
 pass-opened which n x p (e ∷ es) k h = (h.0, pass-opened which n x p es k h.1)
 
-pub pass-removed : (which : Exchange → Bool) (n : ℕ) (p q : ℕ → Bool) (es : Numbered) → AreApart es → ((m : ℕ) → eqb n m ≡ false → p m ≡ true → q m ≡ true) →
-    Pass which p es → Pass which q (remove_entry (at n) es)
+pub pass-removed : (which : Exchange → Bool) (n : ℕ) (p q : ℕ → Bool) (es : Numbered) → HaveDistinctArrivalsAndIds es → ((m : ℕ) → eqb n m ≡ false → p m ≡ true → q m ≡ true) →
+    SelectedArrivalsPass which p es → SelectedArrivalsPass which q (remove_entry (at n) es)
 pass-removed which n p q [] a k h = tt
 pass-removed which n p q (e ∷ es) a k h = elim (cases_Bool (at n e.0)) [
-  | inl t ↦ subst (λ b. Pass which q (cond b es (e ∷ remove_entry (at n) es))) (sym t)
+  | inl t ↦ subst (λ b. SelectedArrivalsPass which q (cond b es (e ∷ remove_entry (at n) es))) (sym t)
       (pass-but which n p q es (ap (λ i. lookup (at i) es) (eqb-true n e.0 (sym (at_is n e.0) ∙ t)) ∙ a.0) k h.1)
-  | inr f ↦ subst (λ b. Pass which q (cond b es (e ∷ remove_entry (at n) es))) (sym f)
+  | inr f ↦ subst (λ b. SelectedArrivalsPass which q (cond b es (e ∷ remove_entry (at n) es))) (sym f)
       (λ w. k e.0 (sym (at_is n e.0) ∙ f) (h.0 w), pass-removed which n p q es a.2 k h.1)
 ]
 
 -- ---- changing
 
 pub pass-on_all : (which : Exchange → Bool) (p : ℕ → Bool) (f : Exchange → Exchange) → ((x : Exchange) → which (f x) ≡ true → which x ≡ true) →
-    (es : Numbered) → Pass which p es → Pass which p (on_all f es)
+    (es : Numbered) → SelectedArrivalsPass which p es → SelectedArrivalsPass which p (map_exchanges f es)
 pass-on_all which p f k [] h = tt
 pass-on_all which p f k (e ∷ es) h = (λ w. h.0 (k e.1 w), pass-on_all which p f k es h.1)
 
@@ -88,7 +88,7 @@ still id q (Waiting leader) h k = eq-eqb q id (sym (eqb-true leader q h) ∙ eqb
 still id q Released h k = absurd (false≢true h)
 
 -- who still waits waits for another
-pub waits_on : (q id : ℕ) (x : Exchange) → waits_for id (release q x).stage ≡ true → (waits_for id x.stage ≡ true) × (eqb q id ≡ false)
+pub waits_on : (q id : ℕ) (x : Exchange) → waits_for id (released_exchange q x).stage ≡ true → (waits_for id x.stage ≡ true) × (eqb q id ≡ false)
 waits_on q id x h = elim (cases_Bool (waits_for q x.stage)) [
   | inl t ↦ absurd (false≢true (sym (ap (λ b. waits_for id (cond b (record x { stage = Released }) x).stage) t) ∙ h))
   | inr f ↦ (
@@ -102,41 +102,41 @@ waits_on q id x h = elim (cases_Bool (waits_for q x.stage)) [
     other false e w f = refl
 
 -- where none waits a release changes nothing
-pub none_released : (q : ℕ) (es : Numbered) → WaitersPass q (λ n. false) es → on_all (release q) es ≡ es
+pub none_released : (q : ℕ) (es : Numbered) → WaitingArrivalsPass q (λ n. false) es → map_exchanges (released_exchange q) es ≡ es
 none_released q [] h = refl
 none_released q (e ∷ es) h = elim (cases_Bool (waits_for q e.1.stage)) [
   | inl t ↦ absurd (false≢true (h.0 t))
   | inr f ↦ (
-      ap (λ b. (e.0, cond b (record e.1 { stage = Released }) e.1) ∷ on_all (release q) es) f
+      ap (λ b. (e.0, cond b (record e.1 { stage = Released }) e.1) ∷ map_exchanges (released_exchange q) es) f
       ∙ ap (λ (zs : Numbered). e ∷ zs) (none_released q es h.1)
       )
 ]
 
 -- those whose numbers are still to come
 abbrev pub TheRest : ℕ → List ℕ → Numbered → Type 0
-TheRest q ns es = WaitersPass q (λ k. list_any (λ n. at k n) ns) es
+TheRest q ns es = WaitingArrivalsPass q (λ k. list_any (λ n. at k n) ns) es
 
-released_twice : (q : ℕ) (x : Exchange) → release q (release q x) ≡ release q x
+released_twice : (q : ℕ) (x : Exchange) → released_exchange q (released_exchange q x) ≡ released_exchange q x
 released_twice q x = elim (cases_Bool (waits_for q x.stage)) [
   | inl t ↦ (
-      ap (λ b. release q (cond b (record x { stage = Released }) x)) t
+      ap (λ b. released_exchange q (cond b (record x { stage = Released }) x)) t
       ∙ sym (ap (λ b. cond b (record x { stage = Released }) x) t)
       )
-  | inr f ↦ ap (λ b. release q (cond b (record x { stage = Released }) x)) f
+  | inr f ↦ ap (λ b. released_exchange q (cond b (record x { stage = Released }) x)) f
 ]
 
 -- one was released at its number
-pub released_at : (q n : ℕ) (x : Exchange) (es : Numbered) → lookup (at n) es ≡ Some x → on_all (release q) (set_value (at n) es (release q x)) ≡ on_all (release q) es
+pub released_at : (q n : ℕ) (x : Exchange) (es : Numbered) → lookup (at n) es ≡ Some x → map_exchanges (released_exchange q) (set_value (at n) es (released_exchange q x)) ≡ map_exchanges (released_exchange q) es
 released_at q n x [] h = absurd (cc)
 released_at q n x (e ∷ es) h = elim (cases_Bool (at n e.0)) [
   | inl t ↦ (
       let is : e.1 ≡ x = same_Some e.1 x (sym (ap (λ b. cond b (Some e.1) (lookup (at n) es)) t) ∙ h) in
-      ap (λ b. on_all (release q) (cond b ((e.0, release q x) ∷ es) (e ∷ set_value (at n) es (release q x)))) t
-      ∙ ap (λ (y : Exchange). (e.0, y) ∷ on_all (release q) es) (released_twice q x ∙ ap (release q) (sym is))
+      ap (λ b. map_exchanges (released_exchange q) (cond b ((e.0, released_exchange q x) ∷ es) (e ∷ set_value (at n) es (released_exchange q x)))) t
+      ∙ ap (λ (y : Exchange). (e.0, y) ∷ map_exchanges (released_exchange q) es) (released_twice q x ∙ ap (released_exchange q) (sym is))
       )
   | inr f ↦ (
-      ap (λ b. on_all (release q) (cond b ((e.0, release q x) ∷ es) (e ∷ set_value (at n) es (release q x)))) f
-      ∙ ap (λ (zs : Numbered). (e.0, release q e.1) ∷ zs) (released_at q n x es (sym (ap (λ b. cond b (Some e.1) (lookup (at n) es)) f) ∙ h))
+      ap (λ b. map_exchanges (released_exchange q) (cond b ((e.0, released_exchange q x) ∷ es) (e ∷ set_value (at n) es (released_exchange q x)))) f
+      ∙ ap (λ (zs : Numbered). (e.0, released_exchange q e.1) ∷ zs) (released_at q n x es (sym (ap (λ b. cond b (Some e.1) (lookup (at n) es)) f) ∙ h))
       )
 ]
 
@@ -160,17 +160,17 @@ none_behind n (e ∷ es) h =
     ap (λ b. cond b (Some e.1) (lookup (at n) es)) other ∙ none_behind n es h.1
 
 pub rest-released : (q n : ℕ) (x : Exchange) (ns : List ℕ) (es : Numbered) → IsStrictlySortedBy nat_cmp (keys_of es) → lookup (at n) es ≡ Some x →
-    TheRest q (n ∷ ns) es → TheRest q ns (set_value (at n) es (release q x))
+    TheRest q (n ∷ ns) es → TheRest q ns (set_value (at n) es (released_exchange q x))
 rest-released q n x ns [] s there h = absurd (cc)
 rest-released q n x ns (e ∷ es) s there h = elim (cases_Bool (at n e.0)) [
   | inl t ↦ (
       let k : n ≡ e.0 = eqb-true n e.0 (sym (at_is n e.0) ∙ t) in
       let none : lookup (at n) es ≡ None = ap (λ i. lookup (at i) es) k ∙ none_behind e.0 es (sorted_head nat_cmp e.0 (keys_of es) s) in
-      subst (λ b. TheRest q ns (cond b ((e.0, release q x) ∷ es) (e ∷ set_value (at n) es (release q x)))) (sym t)
+      subst (λ b. TheRest q ns (cond b ((e.0, released_exchange q x) ∷ es) (e ∷ set_value (at n) es (released_exchange q x)))) (sym t)
       (λ w. absurd (false≢true (sym (waits_on q q x w).1 ∙ eq-eqb q q refl)), rest-none q n ns es none h.1)
       )
   | inr f ↦ (
-      subst (λ b. TheRest q ns (cond b ((e.0, release q x) ∷ es) (e ∷ set_value (at n) es (release q x)))) (sym f) (
+      subst (λ b. TheRest q ns (cond b ((e.0, released_exchange q x) ∷ es) (e ∷ set_value (at n) es (released_exchange q x)))) (sym f) (
         λ w. sym (ap (λ b. b || list_any (λ m. at e.0 m) ns) (not_at n e.0 (sym (at_is n e.0) ∙ f))) ∙ h.0 w,
         rest-released q n x ns es (sorted_tail nat_cmp e.0 (keys_of es) s) (sym (ap (λ b. cond b (Some e.1) (lookup (at n) es)) f) ∙ there) h.1,
       )
@@ -180,28 +180,28 @@ rest-released q n x ns (e ∷ es) s there h = elim (cases_Bool (at n e.0)) [
 -- ---- the index
 
 abbrev pub AllIndexed : WaitIndex → Numbered → Type 0
-AllIndexed index es = (id : ℕ) → Indexes (λ x. waits_for id x.stage) (waits_in index id) es
+AllIndexed index es = (id : ℕ) → IsExactIndexOfSelected (λ x. waits_for id x.stage) (is_in_wait_index index id) es
 
-pub waiters-not : (n : ℕ) (es : Numbered) (index : WaitIndex) → All (λ k. k < n) (keys_of es) → AllIndexed index es → IsNotIn n index
-waiters-not n es index l h id = not_indexed (λ x. waits_for id x.stage) (waits_in index id) n es (none_has n es l) (h id)
+pub waiters-not : (n : ℕ) (es : Numbered) (index : WaitIndex) → All (λ k. k < n) (keys_of es) → AllIndexed index es → IsNotInWaitIndex n index
+waiters-not n es index l h id = not_indexed (λ x. waits_for id x.stage) (is_in_wait_index index id) n es (none_has n es l) (h id)
 
-pub waiters-entered : (n : ℕ) (x : Exchange) (es : Numbered) (old new : WaitIndex) → All (λ k. k < n) (keys_of es) → IsEntered x.stage n old new →
+pub waiters-entered : (n : ℕ) (x : Exchange) (es : Numbered) (old new : WaitIndex) → All (λ k. k < n) (keys_of es) → WaiterIsEntered x.stage n old new →
     AllIndexed old es → AllIndexed new (es ++ (n, x) ∷ [])
-waiters-entered n x es old new l k h id = indexes-entered (λ y. waits_for id y.stage) n x (waits_in old id) (waits_in new id) es (none_has n es l) (k id) (h id)
+waiters-entered n x es old new l k h id = indexes-entered (λ y. waits_for id y.stage) n x (is_in_wait_index old id) (is_in_wait_index new id) es (none_has n es l) (k id) (h id)
 
-pub waiters-again : (es : Numbered) (old new : WaitIndex) → IsSameIndex old new → AllIndexed old es → AllIndexed new es
+pub waiters-again : (es : Numbered) (old new : WaitIndex) → IsSameWaitIndex old new → AllIndexed old es → AllIndexed new es
 waiters-again es old new k h id m = k id m ∙ h id m
 
-pub waiters-closed : (n : ℕ) (x : Exchange) (es : Numbered) (old new : WaitIndex) → AreApart es → lookup (at n) es ≡ Some x → HasLeft x.stage n old new →
+pub waiters-closed : (n : ℕ) (x : Exchange) (es : Numbered) (old new : WaitIndex) → HaveDistinctArrivalsAndIds es → lookup (at n) es ≡ Some x → WaiterHasLeft x.stage n old new →
     AllIndexed old es → AllIndexed new (remove_entry (at n) es)
 waiters-closed n x es old new a there k h id =
-    indexes-left (λ y. waits_for id y.stage) n x None (waits_in old id) (waits_in new id) es (remove_entry (at n) es) there refl (λ m. lookup-removed m n es a) (k id) (h id)
+    indexes-left (λ y. waits_for id y.stage) n x None (is_in_wait_index old id) (is_in_wait_index new id) es (remove_entry (at n) es) there refl (λ m. lookup-removed m n es a) (k id) (h id)
 
 -- one that waits for none any more was written at its number
-pub waiters-written : (n : ℕ) (x y : Exchange) (es : Numbered) (old new : WaitIndex) → lookup (at n) es ≡ Some x → is_forwarded y.stage ≡ true → HasLeft x.stage n old new →
+pub waiters-written : (n : ℕ) (x y : Exchange) (es : Numbered) (old new : WaitIndex) → lookup (at n) es ≡ Some x → is_forwarded y.stage ≡ true → WaiterHasLeft x.stage n old new →
     AllIndexed old es → AllIndexed new (set_value (at n) es y)
 waiters-written n x y es old new there out k h id =
-    indexes-left (λ z. waits_for id z.stage) n x (Some y) (waits_in old id) (waits_in new id) es (set_value (at n) es y) there (at_the_origin y.stage out) (λ m. lookup-set m n x y es there) (k id) (h id)
+    indexes-left (λ z. waits_for id z.stage) n x (Some y) (is_in_wait_index old id) (is_in_wait_index new id) es (set_value (at n) es y) there (at_the_origin y.stage out) (λ m. lookup-set m n x y es there) (k id) (h id)
   where
     at_the_origin : (s : Stage) → is_forwarded s ≡ true → waits_for id s ≡ false
     at_the_origin Forwarded h = refl
@@ -209,13 +209,13 @@ waiters-written n x y es old new there out k h id =
     at_the_origin Released h = absurd (false≢true h)
 
 -- a change that leaves each where it stands
-pub waiters-on_all : (f : Exchange → Exchange) → ((x : Exchange) → (f x).stage ≡ x.stage) → (es : Numbered) (index : WaitIndex) → AllIndexed index es → AllIndexed index (on_all f es)
+pub waiters-on_all : (f : Exchange → Exchange) → ((x : Exchange) → (f x).stage ≡ x.stage) → (es : Numbered) (index : WaitIndex) → AllIndexed index es → AllIndexed index (map_exchanges f es)
 waiters-on_all f k es index h id =
-    indexes-on_all (λ x. waits_for id x.stage) f (λ b. b) (waits_in index id) (waits_in index id) es refl (λ x. ap (waits_for id) (k x)) (λ m. refl) (h id)
+    indexes-on_all (λ x. waits_for id x.stage) f (λ b. b) (is_in_wait_index index id) (is_in_wait_index index id) es refl (λ x. ap (waits_for id) (k x)) (λ m. refl) (h id)
 
-pub waiters-released : (q : ℕ) (es : Numbered) (old new : WaitIndex) → IsEmptied q old new → AllIndexed old es → AllIndexed new (on_all (release q) es)
+pub waiters-released : (q : ℕ) (es : Numbered) (old new : WaitIndex) → WaitersAreTakenOut q old new → AllIndexed old es → AllIndexed new (map_exchanges (released_exchange q) es)
 waiters-released q es old new k h id =
-    indexes-on_all (λ x. waits_for id x.stage) (release q) (λ b. not (eqb q id) && b) (waits_in old id) (waits_in new id) es (none (eqb q id)) (λ x. still_waits x) (k id) (h id)
+    indexes-on_all (λ x. waits_for id x.stage) (released_exchange q) (λ b. not (eqb q id) && b) (is_in_wait_index old id) (is_in_wait_index new id) es (none (eqb q id)) (λ x. still_waits x) (k id) (h id)
   where
     none : (b : Bool) → (not b && false) ≡ false
     none true = refl
@@ -229,13 +229,13 @@ waiters-released q es old new k h id =
     as_before s f true e = sym (ap (λ i. waits_for i s) (eqb-true q id e)) ∙ f
     as_before s f false e = refl
 
-    still_waits : (x : Exchange) → waits_for id (release q x).stage ≡ (not (eqb q id) && waits_for id x.stage)
+    still_waits : (x : Exchange) → waits_for id (released_exchange q x).stage ≡ (not (eqb q id) && waits_for id x.stage)
     still_waits x = elim (cases_Bool (waits_for q x.stage)) [
       | inl t ↦ ap (λ b. waits_for id (cond b (record x { stage = Released }) x).stage) t ∙ no_more x.stage t (eqb q id) refl
       | inr f ↦ ap (λ b. waits_for id (cond b (record x { stage = Released }) x).stage) f ∙ as_before x.stage f (eqb q id) refl
     ]
 
-pub overtake-stage : (key : Key) (x : Exchange) → (overtake key x).stage ≡ x.stage
+pub overtake-stage : (key : Key) (x : Exchange) → (overtaken_exchange key x).stage ≡ x.stage
 overtake-stage key x = elim (same_key x.asked.target.key key) as (λ b. (cond b (record x { overtaken = true }) x).stage ≡ x.stage) [ true ↦ refl | false ↦ refl ]
 
 -- ---- no id stands there for nothing
@@ -243,15 +243,15 @@ overtake-stage key x = elim (same_key x.asked.target.key key) as (λ b. (cond b 
 abbrev WritesAt : ℕ → Option (BTreeSet ℕ) → WaitIndex → WaitIndex → Type 0
 WritesAt id w old new = (q : ℕ) → get nat_cmp new.arrivals q ≡ cond (is_at (nat_cmp id) q) w (get nat_cmp old.arrivals q)
 
-pub some_has : (set : BTreeSet ℕ) → HasMembers set → ForSome (Some set) HasMembers
+pub some_has : (set : BTreeSet ℕ) → SetHasMembers set → ForSome (Some set) SetHasMembers
 some_has set n x e k = n (ap (λ (s : BTreeSet ℕ). s.keys) (same_Some set x e) ∙ k)
 
-pub nothing_has : ForSome None HasMembers
+pub nothing_has : ForSome None SetHasMembers
 nothing_has x e k =
     let no : None ≡ Some x = e in
     absurd (cc)
 
-pub trim-written : (id : ℕ) (old new : WaitIndex) (w : Option (BTreeSet ℕ)) → WritesAt id w old new → ForSome w HasMembers → IsTrim old → IsTrim new
+pub trim-written : (id : ℕ) (old new : WaitIndex) (w : Option (BTreeSet ℕ)) → WritesAt id w old new → ForSome w SetHasMembers → HasNoEmptyWaiterSets old → HasNoEmptyWaiterSets new
 trim-written id old new w h n o q set e k =
     let g = get nat_cmp old.arrivals q in
     elim (cases_Bool (is_at (nat_cmp id) q)) [
@@ -259,12 +259,12 @@ trim-written id old new w h n o q set e k =
       | inr f ↦ o q set (sym (h q ∙ ap (λ b. cond b w g) f) ∙ e) k
     ]
 
-pub trim-beside : (id : ℕ) (old new : WaitIndex) (w : Option (BTreeSet ℕ)) → WritesAt id w old new → IsTrim old → IsTrimBeside id new
+pub trim-beside : (id : ℕ) (old new : WaitIndex) (w : Option (BTreeSet ℕ)) → WritesAt id w old new → HasNoEmptyWaiterSets old → HasNoOtherEmptyWaiterSets id new
 trim-beside id old new w h o q f set e k =
     let g = get nat_cmp old.arrivals q in
     o q set (sym (h q ∙ ap (λ b. cond b w g) (at_is id q ∙ f)) ∙ e) k
 
-pub trim-removed : (id : ℕ) (mid new : WaitIndex) → WritesAt id None mid new → IsTrimBeside id mid → IsTrim new
+pub trim-removed : (id : ℕ) (mid new : WaitIndex) → WritesAt id None mid new → HasNoOtherEmptyWaiterSets id mid → HasNoEmptyWaiterSets new
 trim-removed id mid new h b q set e k =
     let g = get nat_cmp mid.arrivals q in
     elim (cases_Bool (is_at (nat_cmp id) q)) [
@@ -275,7 +275,7 @@ trim-removed id mid new h b q set e k =
       | inr f ↦ b q (sym (at_is id q) ∙ f) set (sym (h q ∙ ap (λ b. cond b None g) f) ∙ e) k
     ]
 
-pub trim-same : (old new : WaitIndex) → new.arrivals.entries ≡ old.arrivals.entries → IsTrim old → IsTrim new
+pub trim-same : (old new : WaitIndex) → new.arrivals.entries ≡ old.arrivals.entries → HasNoEmptyWaiterSets old → HasNoEmptyWaiterSets new
 trim-same old new s o q set e k = o q set (ap (lookup (is_at (nat_cmp q))) (sym s) ∙ e) k
 
 -- a number that was put in stands there

@@ -8,14 +8,14 @@ use Rattle.hx_policy.specs.declared.words.Policy.{Policy}
 use Rattle.hx_target.specs.declared.keys.Key.{Key}
 use Rattle.hx_target.specs.Keys.{same_key}
 use Rattle.hx_hop.specs.declared.request_view.Asked.{Asked}
-use Rattle.hx_allow.specs.Lines.{Table}
+use Rattle.hx_allow.specs.TableLines.{Table}
 use Rattle.hx_allow.specs.Matching.{verdict_of, policy_of}
 use Rattle.hx_allow.specs.declared.verdicts.Verdict.{Verdict}
 use Rattle.hx_allow.specs.declared.verdicts.Verdict.TheVariants as verdict
 use Rattle.hx_store.specs.Stored.{Stored}
-use Rattle.hx_store.specs.Serials.{is_in}
+use Rattle.hx_store.specs.Serials.{serial_is_in}
 use Rattle.hx_reuse.specs.Rules.{decision_of}
-use Rattle.hx_reuse.specs.Meaning.{IsLeast}
+use Rattle.hx_reuse.specs.ChosenAndNamed.{IsLeastReuseRule}
 use Rattle.hx_reuse.specs.declared.rule.ReuseRule.{ReuseRule}
 use Rattle.hx_reuse.specs.declared.decision.Decision.{Decision}
 use Rattle.hx_reuse.specs.declared.decision.Decision.TheVariants as decision
@@ -30,18 +30,18 @@ use Rattle.proxy_core.specs.declared.outcome.Outcome.{Outcome}
 use Rattle.proxy_core.specs.declared.outcome.Outcome.TheVariants.{Reply, Forward, Waits, Ended}
 use Rattle.proxy_core.specs.declared.event.Event.{Event}
 use Rattle.proxy_core.specs.declared.event.Event.TheVariants.{Arrive, Answer, Fail, Wake, Abandon}
-use Rattle.proxy_core.specs.declared.fault.CoreFault.{CoreFault}
-use Rattle.proxy_core.specs.Moments.{too_late}
-use Rattle.proxy_core.specs.Leading.{is_forwarded, is_released, waits_for, is_get, is_uri_miss, has_expired, can_wait, goes_alike, is_for_others, may_lead, leads, leader, leader_for, ready_ids}
-use Rattle.proxy_core.specs.Validating.{condition_at}
-use Rattle.proxy_core.specs.Outcomes.{find_exchange, id_of, arrived, allowed, sent_on, unanswered, is_only_if_cached, fallback_for, failed, woken, outcome_of, outcome_by, or_fault, not_ready, fault_of, fault_by, forward_text}
-use Rattle.proxy_core.specs.State.{State, overtake, release, opened, queued, rule_of, open_after, used_in}
-use Rattle.proxy_core.specs.Traces.{Item, begun, left, IsGood}
+use Rattle.proxy_core.specs.declared.core_fault.CoreFault.{CoreFault}
+use Rattle.proxy_core.specs.Moments.{moment_too_late_fault}
+use Rattle.proxy_core.specs.Leading.{is_forwarded, is_released, waits_for, is_get, is_uri_miss, has_expired, can_wait, goes_forward_for_same_reason, may_be_answered_for_others, may_lead_waiters, leads_waiters, leader, leader_of_request, ready_ids}
+use Rattle.proxy_core.specs.Validating.{condition_about_serial}
+use Rattle.proxy_core.specs.Outcomes.{find_exchange, exchange_id_of_event, outcome_of_arrival, outcome_of_allowed_request, outcome_of_waiting_or_forwarding, outcome_without_stored_response, is_only_if_cached, fallback_for, outcome_of_failure, outcome_of_wake, outcome_of, outcome_of_event, or_fault, fault_if_not_released, fault_at_exchange, step_fault, forward_text}
+use Rattle.proxy_core.specs.State.{State, overtaken_exchange, released_exchange, forwarded_exchange, waiting_exchange, rule_of_decision, open_exchanges_after, serial_used_by_outcome}
+use Rattle.proxy_core.specs.Traces.{Item, initial_state, state_after_trace, IsGood}
 use Rattle.proxy_core.specs.Histories.{held_entries, open_exchanges, next_serial, IsGoodHistory}
-use Rattle.proxy_core.specs.Promises.{goes_forward, ends, is_arrival, NoneArrives, key_by_step}
-use Rattle.proxy_core.specs.Carrying.{ArrivesBefore, AreInOrder, ids_of}
-use Rattle.proxy_core.specs.Sending.{IsReusable}
-use Rattle.proxy_core.specs.Waiting.{CouldWait, WaitsWhereOneLeads, IsToWait, WaitsNowhereElse, has_closed, OneGoesForward, PlainLinesWaitForMisses, is_wake, was_woken, NoneOf, stage_of, IsReady, WaitsUntilItsLeaderEnds, WokenOnceBehindItsLeader, ReadyInOrderOfArrival, WokenExactlyWhereReady, WokenIsJudgedAnew}
+use Rattle.proxy_core.specs.Promises.{outcome_goes_forward, outcome_ends_exchange, is_arrival_event, NoRequestArrives, key_invalidated_by_step}
+use Rattle.proxy_core.specs.Carrying.{ArrivesBefore, IdsAreInOrderOfArrival, exchange_ids}
+use Rattle.proxy_core.specs.Sending.{StoredResponseIsReusable}
+use Rattle.proxy_core.specs.Waiting.{RequestCouldWait, RequestWaitsWhereOneLeads, RequestIsToWait, RequestWaitsNowhereElse, exchange_has_closed, OnlyOneGoesForwardForKey, PlainLinesWaitForMisses, is_wake_event, was_woken, NothingHappenedToExchange, stage_of_exchange, ExchangeMayBeWoken, RequestWaitsUntilItsLeaderEnds, RequestIsWokenOnceBehindItsLeader, ReleasedAreInOrderOfArrival, WakeIsAcceptedExactlyWhereReady, WokenRequestIsJudgedAnew}
 use Rattle.proxy_core.proofs.Leads.{led_by, led_for, first_leads, is_led}
 use Rattle.proxy_core.proofs.ExchangeLists.{changed_by, find-push}
 use Rattle.proxy_core.proofs.Moves.{Move, apart, opens, queues, passes, again, wakes, closes, asked_of, ended_by, move_of, and_none, is_either, answer_either, released_from}
@@ -55,15 +55,15 @@ use Rattle.proxy_core.proofs.OpenLaws.{id_was_free}
 -- ---- the first that leads
 
 -- where one leads there is a first
-some_leads : (policy : Policy) (why : ReuseRule) (key : Key) (id : ℕ) (xs : List Exchange) (z : Exchange) → find_exchange id xs ≡ Some z → leads policy why key z ≡ true → (l : ℕ) × (leader policy why key xs ≡ Some l)
+some_leads : (policy : Policy) (why : ReuseRule) (key : Key) (id : ℕ) (xs : List Exchange) (z : Exchange) → find_exchange id xs ≡ Some z → leads_waiters policy why key z ≡ true → (l : ℕ) × (leader policy why key xs ≡ Some l)
 some_leads policy why key id [] z f h = absurd (cc)
-some_leads policy why key id (x ∷ xs) z f h = by_test (λ g. some_leads policy why key id xs z g h) (leads policy why key x) refl
+some_leads policy why key id (x ∷ xs) z f h = by_test (λ g. some_leads policy why key id xs z g h) (leads_waiters policy why key x) refl
   where
-    by_id : (find_exchange id xs ≡ Some z → (l : ℕ) × (leader policy why key xs ≡ Some l)) → leads policy why key x ≡ false → (b : Bool) → cond b (Some x) (find_exchange id xs) ≡ Some z → (l : ℕ) × (leader policy why key xs ≡ Some l)
-    by_id rest k true f = absurd (false≢true (sym k ∙ (ap (leads policy why key) (same_Some x z f) ∙ h)))
+    by_id : (find_exchange id xs ≡ Some z → (l : ℕ) × (leader policy why key xs ≡ Some l)) → leads_waiters policy why key x ≡ false → (b : Bool) → cond b (Some x) (find_exchange id xs) ≡ Some z → (l : ℕ) × (leader policy why key xs ≡ Some l)
+    by_id rest k true f = absurd (false≢true (sym k ∙ (ap (leads_waiters policy why key) (same_Some x z f) ∙ h)))
     by_id rest k false f = rest f
 
-    by_test : (find_exchange id xs ≡ Some z → (l : ℕ) × (leader policy why key xs ≡ Some l)) → (b : Bool) → leads policy why key x ≡ b → (l : ℕ) × (cond b (Some x.id) (leader policy why key xs) ≡ Some l)
+    by_test : (find_exchange id xs ≡ Some z → (l : ℕ) × (leader policy why key xs ≡ Some l)) → (b : Bool) → leads_waiters policy why key x ≡ b → (l : ℕ) × (cond b (Some x.id) (leader policy why key xs) ≡ Some l)
     by_test rest true k = (x.id, refl)
     by_test rest false k = by_id rest k (eqb x.id id) f
 
@@ -71,18 +71,18 @@ some_leads policy why key id (x ∷ xs) z f h = by_test (λ g. some_leads policy
 
 -- what becomes of a GET that may wait, where one leads
 waits_for_it : (table : Table) (limit first now id line l : ℕ) (asked : Asked) (rule : ReuseRule) (item : Item) (past : List Item) → IsGoodHistory table limit first (item ∷ past) →
-    item.event ≡ Arrive now id asked → CouldWait table limit past now line asked rule → leader (policy_of table.lines line) rule asked.target.key (open_exchanges table limit past) ≡ Some l → item.outcome ≡ Waits l
+    item.event ≡ Arrive now id asked → RequestCouldWait table limit past now line asked rule → leader (policy_of table.lines line) rule asked.target.key (open_exchanges table limit past) ≡ Some l → item.outcome ≡ Waits l
 waits_for_it table limit first now id line l asked rule item past g e could led =
     let es = held_entries table limit past in
     let xs = open_exchanges table limit past in
     let d = forwards (policy_of table.lines line) es asked now rule could.is_least in
     arrival_is table limit first now id asked item past g e
-    ∙ (ap (λ (v : Verdict). arrived table es xs now asked v) could.line_allows
-    ∙ (ap (λ (d : Decision). allowed table es xs line now asked d) d.1
-    ∙ (ap (λ b. unanswered table xs line now asked rule (condition_at es d.0) b) could.takes_others
-    ∙ ap (λ (o : Option ℕ). sent_on table line asked (condition_at es d.0) o) (led_for (policy_of table.lines line) xs asked rule l could.gets could.may_wait led))))
+    ∙ (ap (λ (v : Verdict). outcome_of_arrival table es xs now asked v) could.line_allows
+    ∙ (ap (λ (d : Decision). outcome_of_allowed_request table es xs line now asked d) d.1
+    ∙ (ap (λ b. outcome_without_stored_response table xs line now asked rule (condition_about_serial es d.0) b) could.takes_others
+    ∙ ap (λ (o : Option ℕ). outcome_of_waiting_or_forwarding table line asked (condition_about_serial es d.0) o) (led_for (policy_of table.lines line) xs asked rule l could.gets could.may_wait led))))
 
-pub waits_where_one_leads : WaitsWhereOneLeads
+pub waits_where_one_leads : RequestWaitsWhereOneLeads
 waits_where_one_leads table limit first now id line l asked rule item past g e could f =
     waits_for_it table limit first now id line l asked rule item past g e could
     (first_leads (policy_of table.lines line) rule asked.target.key (open_exchanges table limit past) l f)
@@ -91,26 +91,26 @@ waits_where_one_leads table limit first now id line l asked rule item past g e c
 abbrev WaitsBy : Table → List Stored → List Exchange → ℕ → ℕ → Asked → Type 0
 WaitsBy table es xs now l asked =
     (line : ℕ) × (rule : ReuseRule) × (verdict_of table.lines asked.method asked.target ≡ verdict.Allowed line) × (is_only_if_cached asked ≡ false)
-    × IsLeast (policy_of table.lines line) es asked now rule
+    × IsLeastReuseRule (policy_of table.lines line) es asked now rule
     × ((is_get asked ≡ true) × (can_wait (policy_of table.lines line) rule ≡ true) × (leader (policy_of table.lines line) rule asked.target.key xs ≡ Some l))
 
 wait_parts : (table : Table) (es : List Stored) (xs : List Exchange) (now l : ℕ) (asked : Asked) (v : Verdict) → verdict_of table.lines asked.method asked.target ≡ v →
-    arrived table es xs now asked v ≡ Waits l → WaitsBy table es xs now l asked
+    outcome_of_arrival table es xs now asked v ≡ Waits l → WaitsBy table es xs now l asked
 wait_parts table es xs now l asked (verdict.Allowed line) v h = by_decision (decision_of (policy_of table.lines line) es asked now) refl h
   where
-    by_leader : (rule : ReuseRule) (against o : Option ℕ) → leader_for (policy_of table.lines line) xs asked rule ≡ o → is_only_if_cached asked ≡ false →
-        decision_of (policy_of table.lines line) es asked now ≡ decision.Forward rule against → sent_on table line asked (condition_at es against) o ≡ Waits l → WaitsBy table es xs now l asked
+    by_leader : (rule : ReuseRule) (against o : Option ℕ) → leader_of_request (policy_of table.lines line) xs asked rule ≡ o → is_only_if_cached asked ≡ false →
+        decision_of (policy_of table.lines line) es asked now ≡ decision.Forward rule against → outcome_of_waiting_or_forwarding table line asked (condition_about_serial es against) o ≡ Waits l → WaitsBy table es xs now l asked
     by_leader rule against None k c d h = absurd (cc)
     by_leader rule against (Some m) k c d h =
         let same : m ≡ l = cc in
         (line, rule, v, c, (names_the_least (policy_of table.lines line) es asked now rule against d).0, is_led (policy_of table.lines line) xs asked rule l (k ∙ ap (λ n. Some n) same))
 
     unless : (rule : ReuseRule) (against : Option ℕ) (b : Bool) → is_only_if_cached asked ≡ b → decision_of (policy_of table.lines line) es asked now ≡ decision.Forward rule against →
-        unanswered table xs line now asked rule (condition_at es against) b ≡ Waits l → WaitsBy table es xs now l asked
+        outcome_without_stored_response table xs line now asked rule (condition_about_serial es against) b ≡ Waits l → WaitsBy table es xs now l asked
     unless rule against true k d h = absurd (cc)
-    unless rule against false k d h = by_leader rule against (leader_for (policy_of table.lines line) xs asked rule) refl k d h
+    unless rule against false k d h = by_leader rule against (leader_of_request (policy_of table.lines line) xs asked rule) refl k d h
 
-    by_decision : (d : Decision) → decision_of (policy_of table.lines line) es asked now ≡ d → allowed table es xs line now asked d ≡ Waits l → WaitsBy table es xs now l asked
+    by_decision : (d : Decision) → decision_of (policy_of table.lines line) es asked now ≡ d → outcome_of_allowed_request table es xs line now asked d ≡ Waits l → WaitsBy table es xs now l asked
     by_decision (decision.Hit t) k h = absurd (cc)
     by_decision (decision.Forward rule against) k h = unless rule against (is_only_if_cached asked) refl k h
 wait_parts table es xs now l asked (verdict.DeniedBy line) v h = absurd (cc)
@@ -129,7 +129,7 @@ either_no_wait (Forward line bytes) h = refl
 either_no_wait (Waits l) h = absurd (false≢true h)
 either_no_wait Ended h = absurd (false≢true h)
 
-pub late_no_wait : (table : Table) (es : List Stored) (xs : List Exchange) (w : Option Exchange) (next : Option ℕ) (event : Event) → is_arrival event ≡ false → is_wait (outcome_of table es xs w next event) ≡ false
+pub late_no_wait : (table : Table) (es : List Stored) (xs : List Exchange) (w : Option Exchange) (next : Option ℕ) (event : Event) → is_arrival_event event ≡ false → is_wait (outcome_of table es xs w next event) ≡ false
 late_no_wait table es xs w next (Arrive now id asked) h = absurd (false≢true (sym h))
 late_no_wait table es xs None next (Answer now id r) h = refl
 late_no_wait table es xs (Some x) next (Answer now id r) h =
@@ -137,13 +137,13 @@ late_no_wait table es xs (Some x) next (Answer now id r) h =
 late_no_wait table es xs None next (Fail now id kind) h = refl
 late_no_wait table es xs (Some x) next (Fail now id kind) h = by_fallback (fallback_for (policy_of table.lines x.line) es x.asked now (decision_of (policy_of table.lines x.line) es x.asked now))
   where
-    by_fallback : (fallback : Fallback) → is_wait (failed table es now x kind None fallback) ≡ false
+    by_fallback : (fallback : Fallback) → is_wait (outcome_of_failure table es now x kind None fallback) ≡ false
     by_fallback (Sends s detail) = refl
     by_fallback (Refuses rule error) = refl
 late_no_wait table es xs None next (Wake now id) h = refl
 late_no_wait table es xs (Some x) next (Wake now id) h = by_decision (decision_of (policy_of table.lines x.line) es x.asked now)
   where
-    by_decision : (d : Decision) → is_wait (woken table es now x d) ≡ false
+    by_decision : (d : Decision) → is_wait (outcome_of_wake table es now x d) ≡ false
     by_decision (decision.Hit s) = refl
     by_decision (decision.Forward rule against) = refl
 late_no_wait table es xs w next (Abandon id) h = refl
@@ -151,7 +151,7 @@ late_no_wait table es xs w next (Abandon id) h = refl
 wait_is : (l : ℕ) → is_wait (Waits l) ≡ true
 wait_is l = refl
 
-pub waits_nowhere_else : WaitsNowhereElse
+pub waits_nowhere_else : RequestWaitsNowhereElse
 waits_nowhere_else table limit first l item past g h = by_event item.event refl
   where
     es : List Stored
@@ -160,12 +160,12 @@ waits_nowhere_else table limit first l item past g h = by_event item.event refl
     xs : List Exchange
     xs = open_exchanges table limit past
 
-    late : is_arrival item.event ≡ false → IsToWait table limit l item past
+    late : is_arrival_event item.event ≡ false → RequestIsToWait table limit l item past
     late n =
-        absurd (false≢true (sym (ap is_wait g.0.outcome_is ∙ late_no_wait table (held_entries table limit past) (open_exchanges table limit past) (find_exchange (id_of item.event) (open_exchanges table limit past)) (next_serial first past) item.event n)
+        absurd (false≢true (sym (ap is_wait g.0.outcome_is ∙ late_no_wait table (held_entries table limit past) (open_exchanges table limit past) (find_exchange (exchange_id_of_event item.event) (open_exchanges table limit past)) (next_serial first past) item.event n)
         ∙ (ap is_wait h ∙ wait_is l)))
 
-    by_event : (event : Event) → item.event ≡ event → IsToWait table limit l item past
+    by_event : (event : Event) → item.event ≡ event → RequestIsToWait table limit l item past
     by_event (Arrive now id asked) e =
         let p = wait_parts table (held_entries table limit past) (open_exchanges table limit past) now l asked (verdict_of table.lines asked.method asked.target) refl (sym (arrival_is table limit first now id asked item past g e) ∙ h) in
         record {
@@ -178,10 +178,10 @@ waits_nowhere_else table limit first l item past g h = by_event item.event refl
           could = record { line_allows = p.2; takes_others = p.3; gets = p.5.0; is_least = p.4; may_wait = p.5.1 };
           first_leads = led_by (policy_of table.lines p.0) p.1 asked.target.key (open_exchanges table limit past) l p.5.2;
         }
-    by_event (Answer now id r) e = late (ap is_arrival e)
-    by_event (Fail now id kind) e = late (ap is_arrival e)
-    by_event (Wake now id) e = late (ap is_arrival e)
-    by_event (Abandon id) e = late (ap is_arrival e)
+    by_event (Answer now id r) e = late (ap is_arrival_event e)
+    by_event (Fail now id kind) e = late (ap is_arrival_event e)
+    by_event (Wake now id) e = late (ap is_arrival_event e)
+    by_event (Abandon id) e = late (ap is_arrival_event e)
 
 -- ---- what a step of another id does to a stage
 
@@ -189,13 +189,13 @@ abbrev stage_by : Option ℕ → Stage → Stage
 stage_by None s = s
 stage_by (Some i) s = cond (waits_for i s) Released s
 
-overtaken_stage : (key : Key) (x : Exchange) → (overtake key x).stage ≡ x.stage
+overtaken_stage : (key : Key) (x : Exchange) → (overtaken_exchange key x).stage ≡ x.stage
 overtaken_stage key x = elim (same_key x.asked.target.key key) as (λ b. (cond b (record x { overtaken = true }) x).stage ≡ x.stage) [
   | true ↦ refl
   | false ↦ refl
 ]
 
-released_stage : (i : ℕ) (x : Exchange) → (release i x).stage ≡ cond (waits_for i x.stage) Released x.stage
+released_stage : (i : ℕ) (x : Exchange) → (released_exchange i x).stage ≡ cond (waits_for i x.stage) Released x.stage
 released_stage i x = elim (waits_for i x.stage) as (λ b. (cond b (record x { stage = Released }) x).stage ≡ cond b Released x.stage) [
   | true ↦ refl
   | false ↦ refl
@@ -203,10 +203,10 @@ released_stage i x = elim (waits_for i x.stage) as (λ b. (cond b (record x { st
 
 stage_changed : (key : Option Key) (gone : Option ℕ) (x : Exchange) (o : Option Exchange) → o ≡ Some x → (z : Exchange) × (changed_by key gone o ≡ Some z) × (z.stage ≡ stage_by gone x.stage)
 stage_changed None None x o h = (x, h, refl)
-stage_changed None (Some i) x o h = (release i x, ap (option_map (release i)) h, released_stage i x)
-stage_changed (Some key) None x o h = (overtake key x, ap (option_map (overtake key)) h, overtaken_stage key x)
+stage_changed None (Some i) x o h = (released_exchange i x, ap (option_map (released_exchange i)) h, released_stage i x)
+stage_changed (Some key) None x o h = (overtaken_exchange key x, ap (option_map (overtaken_exchange key)) h, overtaken_stage key x)
 stage_changed (Some key) (Some i) x o h =
-    (overtake key (release i x), ap (λ (o : Option Exchange). option_map (overtake key) (option_map (release i) o)) h, overtaken_stage key (release i x) ∙ released_stage i x)
+    (overtaken_exchange key (released_exchange i x), ap (λ (o : Option Exchange). option_map (overtaken_exchange key) (option_map (released_exchange i) o)) h, overtaken_stage key (released_exchange i x) ∙ released_stage i x)
 
 or_true : (a : Bool) → true ≡ (a || true)
 or_true true = refl
@@ -224,20 +224,20 @@ other_way a b = by_test (eqb a b) refl
     by_test false h = sym (false_from_ne_true _ (λ q. false≢true (sym h ∙ eq-eqb a b (sym (eqb-true b a q)))))
 
 stage_more : (l : ℕ) (event : Event) (o : Outcome) (closed : Bool) →
-    stage_by (ended_by event o) (waiting_stage l closed) ≡ waiting_stage l ((eqb (id_of event) l && (not (is_arrival event) && ends o)) || closed)
-stage_more l event o closed = by_end (not (is_arrival event) && ends o) closed
+    stage_by (ended_by event o) (waiting_stage l closed) ≡ waiting_stage l ((eqb (exchange_id_of_event event) l && (not (is_arrival_event event) && outcome_ends_exchange o)) || closed)
+stage_more l event o closed = by_end (not (is_arrival_event event) && outcome_ends_exchange o) closed
   where
-    none : (closed : Bool) → stage_by (cond false (Some (id_of event)) None) (waiting_stage l closed) ≡ waiting_stage l ((eqb (id_of event) l && false) || closed)
-    none closed = ap (λ b. waiting_stage l (b || closed)) (sym (and_none (eqb (id_of event) l)))
+    none : (closed : Bool) → stage_by (cond false (Some (exchange_id_of_event event)) None) (waiting_stage l closed) ≡ waiting_stage l ((eqb (exchange_id_of_event event) l && false) || closed)
+    none closed = ap (λ b. waiting_stage l (b || closed)) (sym (and_none (eqb (exchange_id_of_event event) l)))
 
     and_true : (a : Bool) → a ≡ ((a && true) || false)
     and_true true = refl
     and_true false = refl
 
-    by_end : (c closed : Bool) → stage_by (cond c (Some (id_of event)) None) (waiting_stage l closed) ≡ waiting_stage l ((eqb (id_of event) l && c) || closed)
+    by_end : (c closed : Bool) → stage_by (cond c (Some (exchange_id_of_event event)) None) (waiting_stage l closed) ≡ waiting_stage l ((eqb (exchange_id_of_event event) l && c) || closed)
     by_end false closed = none closed
-    by_end true true = ap (waiting_stage l) (or_true (eqb (id_of event) l && true))
-    by_end true false = ap (λ b. cond b Released (Waiting l)) (other_way l (id_of event) ∙ and_true (eqb (id_of event) l))
+    by_end true true = ap (waiting_stage l) (or_true (eqb (exchange_id_of_event event) l && true))
+    by_end true false = ap (λ b. cond b Released (Waiting l)) (other_way l (exchange_id_of_event event) ∙ and_true (eqb (exchange_id_of_event event) l))
 
 -- ---- until when it waits
 
@@ -245,29 +245,29 @@ stage_more l event o closed = by_end (not (is_arrival event) && ends o) closed
 record StandsBy (id l : ℕ) (items : List Item) (y : Option Exchange) : Type 0 where
   x : Exchange
   y_is : y ≡ Some x
-  stage : x.stage ≡ waiting_stage l (has_closed l items)
+  stage : x.stage ≡ waiting_stage l (exchange_has_closed l items)
   unwoken : was_woken id items ≡ false
 
-stands_apart : (id l : ℕ) (i : Item) (items : List Item) (key : Option Key) (x y : Option Exchange) → eqb (id_of i.event) id ≡ false → y ≡ changed_by key (ended_by i.event i.outcome) x →
+stands_apart : (id l : ℕ) (i : Item) (items : List Item) (key : Option Key) (x y : Option Exchange) → eqb (exchange_id_of_event i.event) id ≡ false → y ≡ changed_by key (ended_by i.event i.outcome) x →
     StandsBy id l items x → StandsBy id l (i ∷ items) y
 stands_apart id l i items key x y n h s =
     let c = stage_changed key (ended_by i.event i.outcome) s.x x s.y_is in
     record {
       x = c.0;
       y_is = h ∙ c.1;
-      stage = c.2 ∙ (ap (stage_by (ended_by i.event i.outcome)) s.stage ∙ stage_more l i.event i.outcome (has_closed l items));
-      unwoken = ap (λ b. cond (b && is_wake i.event) true (was_woken id items)) n ∙ s.unwoken;
+      stage = c.2 ∙ (ap (stage_by (ended_by i.event i.outcome)) s.stage ∙ stage_more l i.event i.outcome (exchange_has_closed l items));
+      unwoken = ap (λ b. cond (b && is_wake_event i.event) true (was_woken id items)) n ∙ s.unwoken;
     }
 
 module _ (table : Table) (limit first l : ℕ) (before : List Item) (arrival : Item) where
   abbrev start : State
-  start = begun table limit first
+  start = initial_state table limit first
 
   abbrev id : ℕ
-  id = id_of arrival.event
+  id = exchange_id_of_event arrival.event
 
   abbrev exchange : List Item → Option Exchange
-  exchange items = find_exchange id (left start (items ++ arrival ∷ before)).exchanges
+  exchange items = find_exchange id (state_after_trace start (items ++ arrival ∷ before)).exchanges
 
   -- it waits, went forward, or is over
   data Fate (items : List Item) (y : Option Exchange) : Type 0 where
@@ -276,23 +276,23 @@ module _ (table : Table) (limit first l : ℕ) (before : List Item) (arrival : I
     over : y ≡ None → Fate items y
 
   at_first : IsGood start (arrival ∷ before) → arrival.outcome ≡ Waits l → StandsBy id l [] (exchange [])
-  at_first g w = by_move (exchange []) (move_of table (left start before) arrival id (same_table start before) g.0)
+  at_first g w = by_move (exchange []) (move_of table (state_after_trace start before) arrival id (same_table start before) g.0)
     where
-      here : eqb (id_of arrival.event) (id_of arrival.event) ≡ true
-      here = eq-eqb (id_of arrival.event) (id_of arrival.event) refl
+      here : eqb (exchange_id_of_event arrival.event) (exchange_id_of_event arrival.event) ≡ true
+      here = eq-eqb (exchange_id_of_event arrival.event) (exchange_id_of_event arrival.event) refl
 
-      no_end : ends arrival.outcome ≡ true → ⊥
-      no_end h = false≢true (sym (ap ends w) ∙ h)
+      no_end : outcome_ends_exchange arrival.outcome ≡ true → ⊥
+      no_end h = false≢true (sym (ap outcome_ends_exchange w) ∙ h)
 
-      no_forward : goes_forward arrival.outcome ≡ true → ⊥
-      no_forward h = false≢true (sym (ap goes_forward w) ∙ h)
+      no_forward : outcome_goes_forward arrival.outcome ≡ true → ⊥
+      no_forward h = false≢true (sym (ap outcome_goes_forward w) ∙ h)
 
-      by_move : (y : Option Exchange) → Move id (find_exchange (id_of arrival.event) (left start before).exchanges) arrival.event arrival.outcome (find_exchange id (left start before).exchanges) y → StandsBy id l [] y
+      by_move : (y : Option Exchange) → Move id (find_exchange (exchange_id_of_event arrival.event) (state_after_trace start before).exchanges) arrival.event arrival.outcome (find_exchange id (state_after_trace start before).exchanges) y → StandsBy id l [] y
       by_move y (apart n h) = absurd (false≢true (sym n ∙ here))
       by_move y (opens at es now asked line e x_is f h) = absurd (no_forward f)
       by_move y (queues at es now asked line m e x_is f k h) =
           let same : m ≡ l = same_wait m l (sym f ∙ w) in
-          record { x = queued at es now id asked line m; y_is = h; stage = ap (λ n. Waiting n) same; unwoken = refl }
+          record { x = waiting_exchange at es now id asked line m; y_is = h; stage = ap (λ n. Waiting n) same; unwoken = refl }
         where
           same_wait : (a b : ℕ) → Waits a ≡ Waits b → a ≡ b
           same_wait a b q = cc
@@ -301,17 +301,17 @@ module _ (table : Table) (limit first l : ℕ) (before : List Item) (arrival : I
       by_move y (wakes at es z now e x_is s f h) = absurd (no_forward f)
       by_move y (closes z t e x_is f h) = absurd (no_end f)
 
-  fate_more : (i : Item) (items : List Item) (x y : Option Exchange) (w : Option Exchange) → (eqb (id_of i.event) id && is_arrival i.event) ≡ false → Move id w i.event i.outcome x y → Fate items x → Fate (i ∷ items) y
-  fate_more i items x y w a (apart n h) (stands_by s) = stands_by (stands_apart id l i items (key_by_step (asked_of w) i.event i.outcome) x y n h s)
+  fate_more : (i : Item) (items : List Item) (x y : Option Exchange) (w : Option Exchange) → (eqb (exchange_id_of_event i.event) id && is_arrival_event i.event) ≡ false → Move id w i.event i.outcome x y → Fate items x → Fate (i ∷ items) y
+  fate_more i items x y w a (apart n h) (stands_by s) = stands_by (stands_apart id l i items (key_invalidated_by_step (asked_of w) i.event i.outcome) x y n h s)
   fate_more i items x y w a (apart n h) (out z x_is s) =
-      let c = stage_changed (key_by_step (asked_of w) i.event i.outcome) (ended_by i.event i.outcome) z x x_is in
+      let c = stage_changed (key_invalidated_by_step (asked_of w) i.event i.outcome) (ended_by i.event i.outcome) z x x_is in
       out c.0 (h ∙ c.1) (c.2 ∙ (ap (stage_by (ended_by i.event i.outcome)) s ∙ stays (ended_by i.event i.outcome)))
     where
       stays : (gone : Option ℕ) → stage_by gone Forwarded ≡ Forwarded
       stays None = refl
       stays (Some j) = refl
   fate_more i items x y w a (apart n h) (over x_is) =
-      over (h ∙ (ap (changed_by (key_by_step (asked_of w) i.event i.outcome) (ended_by i.event i.outcome)) x_is ∙ none_changed (key_by_step (asked_of w) i.event i.outcome) (ended_by i.event i.outcome)))
+      over (h ∙ (ap (changed_by (key_invalidated_by_step (asked_of w) i.event i.outcome) (ended_by i.event i.outcome)) x_is ∙ none_changed (key_invalidated_by_step (asked_of w) i.event i.outcome) (ended_by i.event i.outcome)))
     where
       none_changed : (key : Option Key) (gone : Option ℕ) → changed_by key gone None ≡ None
       none_changed None None = refl
@@ -328,21 +328,21 @@ module _ (table : Table) (limit first l : ℕ) (before : List Item) (arrival : I
   fate_more i items x y w a (wakes at es z now e x_is r f h) s = out _ h refl
   fate_more i items x y w a (closes z t e x_is f h) s = over h
 
-  fate : (items : List Item) → IsGood start (items ++ arrival ∷ before) → arrival.outcome ≡ Waits l → NoneArrives id items → Fate items (exchange items)
+  fate : (items : List Item) → IsGood start (items ++ arrival ∷ before) → arrival.outcome ≡ Waits l → NoRequestArrives id items → Fate items (exchange items)
   fate [] g w n = stands_by (at_first g w)
   fate (i ∷ items) g w n =
-      fate_more i items (exchange items) (exchange (i ∷ items)) _ n.0 (move_of table (left start (items ++ arrival ∷ before)) i id (same_table start (items ++ arrival ∷ before)) g.0) (fate items g.1 w n.1)
+      fate_more i items (exchange items) (exchange (i ∷ items)) _ n.0 (move_of table (state_after_trace start (items ++ arrival ∷ before)) i id (same_table start (items ++ arrival ∷ before)) g.0) (fate items g.1 w n.1)
 
   -- while nothing happens to it
-  applies : (items : List Item) → IsGood start (items ++ arrival ∷ before) → arrival.outcome ≡ Waits l → NoneOf id items → StandsBy id l items (exchange items)
+  applies : (items : List Item) → IsGood start (items ++ arrival ∷ before) → arrival.outcome ≡ Waits l → NothingHappenedToExchange id items → StandsBy id l items (exchange items)
   applies [] g w n = at_first g w
   applies (i ∷ items) g w n =
-      by_move (applies items g.1 w n.1) (exchange (i ∷ items)) (move_of table (left start (items ++ arrival ∷ before)) i id (same_table start (items ++ arrival ∷ before)) g.0)
+      by_move (applies items g.1 w n.1) (exchange (i ∷ items)) (move_of table (state_after_trace start (items ++ arrival ∷ before)) i id (same_table start (items ++ arrival ∷ before)) g.0)
     where
-      not_it : (e : Event) → i.event ≡ e → id_of e ≡ id → ⊥
-      not_it e q same = false≢true (sym n.0 ∙ eq-eqb (id_of i.event) id (ap id_of q ∙ same))
+      not_it : (e : Event) → i.event ≡ e → exchange_id_of_event e ≡ id → ⊥
+      not_it e q same = false≢true (sym n.0 ∙ eq-eqb (exchange_id_of_event i.event) id (ap exchange_id_of_event q ∙ same))
 
-      by_move : StandsBy id l items (exchange items) → (y : Option Exchange) → Move id (find_exchange (id_of i.event) (left start (items ++ arrival ∷ before)).exchanges) i.event i.outcome (exchange items) y → StandsBy id l (i ∷ items) y
+      by_move : StandsBy id l items (exchange items) → (y : Option Exchange) → Move id (find_exchange (exchange_id_of_event i.event) (state_after_trace start (items ++ arrival ∷ before)).exchanges) i.event i.outcome (exchange items) y → StandsBy id l (i ∷ items) y
       by_move was y (apart k h) = stands_apart id l i items _ (exchange items) y k h was
       by_move was y (opens at es now asked line e x_is f h) = absurd (not_it (Arrive now id asked) e refl)
       by_move was y (queues at es now asked line m e x_is f k h) = absurd (not_it (Arrive now id asked) e refl)
@@ -351,43 +351,43 @@ module _ (table : Table) (limit first l : ℕ) (before : List Item) (arrival : I
       by_move was y (wakes at es z now e x_is s f h) = absurd (not_it (Wake now id) e refl)
       by_move was y (closes z t e x_is f h) = absurd (false≢true (sym n.0 ∙ t))
 
-pub waits_until_its_leader_ends : WaitsUntilItsLeaderEnds
+pub waits_until_its_leader_ends : RequestWaitsUntilItsLeaderEnds
 waits_until_its_leader_ends table limit first l items before arrival g w n =
     let p = good_plain table limit first (items ++ arrival ∷ before) g in
     let s = applies table limit first l before arrival items p w n in
-    ap (λ xs. stage_of (find_exchange (id_of arrival.event) xs)) (sym (exchanges_are_open table limit first (items ++ arrival ∷ before) p))
-    ∙ (ap stage_of s.y_is ∙ ap (λ (t : Stage). Some t) s.stage)
+    ap (λ xs. stage_of_exchange (find_exchange (exchange_id_of_event arrival.event) xs)) (sym (exchanges_are_open table limit first (items ++ arrival ∷ before) p))
+    ∙ (ap stage_of_exchange s.y_is ∙ ap (λ (t : Stage). Some t) s.stage)
 
 -- ---- the wake
 
-pub ready_by : (xs : List Exchange) (now id : ℕ) → fault_by xs (Wake now id) ≡ None → IsReady id xs
+pub ready_by : (xs : List Exchange) (now id : ℕ) → step_fault xs (Wake now id) ≡ None → ExchangeMayBeWoken id xs
 ready_by xs now id h = by_open (find_exchange id xs) refl h
   where
-    by_open : (w : Option Exchange) → find_exchange id xs ≡ w → fault_of w (Wake now id) ≡ None → IsReady id xs
+    by_open : (w : Option Exchange) → find_exchange id xs ≡ w → fault_at_exchange w (Wake now id) ≡ None → ExchangeMayBeWoken id xs
     by_open None e h = absurd (cc)
-    by_open (Some x) e h = record { x = x; is_open = e; stage = released_from (too_late now) x.stage h }
+    by_open (Some x) e h = record { x = x; is_open = e; stage = released_from (moment_too_late_fault now) x.stage h }
 
 closed_by : (l : ℕ) (closed : Bool) → is_released (waiting_stage l closed) ≡ true → closed ≡ true
 closed_by l true h = refl
 closed_by l false h = absurd (false≢true h)
 
-pub woken_once_behind_its_leader : WokenOnceBehindItsLeader
+pub woken_once_behind_its_leader : RequestIsWokenOnceBehindItsLeader
 woken_once_behind_its_leader table limit first now l items before wake arrival g w e n =
     let p = good_plain table limit first (wake ∷ (items ++ arrival ∷ before)) g in
-    let id = id_of arrival.event in
-    let xs = (left (begun table limit first) (items ++ arrival ∷ before)).exchanges in
-    let r = ready_by xs now id (ap (fault_by xs) (sym e) ∙ p.0.allowed) in
+    let id = exchange_id_of_event arrival.event in
+    let xs = (state_after_trace (initial_state table limit first) (items ++ arrival ∷ before)).exchanges in
+    let r = ready_by xs now id (ap (step_fault xs) (sym e) ∙ p.0.allowed) in
     by_fate r (fate table limit first l before arrival items p.1 w n)
   where
     same_stage : (y : Option Exchange) (a b : Exchange) → y ≡ Some a → y ≡ Some b → a.stage ≡ b.stage
     same_stage y a b h k = ap (λ (z : Exchange). z.stage) (same_Some a b (sym h ∙ k))
 
-    by_fate : IsReady (id_of arrival.event) (left (begun table limit first) (items ++ arrival ∷ before)).exchanges →
-        Fate table limit first l before arrival items (find_exchange (id_of arrival.event) (left (begun table limit first) (items ++ arrival ∷ before)).exchanges) →
-        (has_closed l items ≡ true) × (was_woken (id_of arrival.event) items ≡ false)
+    by_fate : ExchangeMayBeWoken (exchange_id_of_event arrival.event) (state_after_trace (initial_state table limit first) (items ++ arrival ∷ before)).exchanges →
+        Fate table limit first l before arrival items (find_exchange (exchange_id_of_event arrival.event) (state_after_trace (initial_state table limit first) (items ++ arrival ∷ before)).exchanges) →
+        (exchange_has_closed l items ≡ true) × (was_woken (exchange_id_of_event arrival.event) items ≡ false)
     by_fate r (stands_by s) =
-        let same : r.x.stage ≡ waiting_stage l (has_closed l items) = same_stage _ r.x s.x r.is_open s.y_is ∙ s.stage in
-        (closed_by l (has_closed l items) (ap is_released (sym same) ∙ r.stage), s.unwoken)
+        let same : r.x.stage ≡ waiting_stage l (exchange_has_closed l items) = same_stage _ r.x s.x r.is_open s.y_is ∙ s.stage in
+        (closed_by l (exchange_has_closed l items) (ap is_released (sym same) ∙ r.stage), s.unwoken)
     by_fate r (out x y_is s) = absurd (false≢true (ap is_released (sym s ∙ sym (same_stage _ r.x x r.is_open y_is)) ∙ r.stage))
     by_fate r (over y_is) =
         let none : None ≡ Some r.x = sym y_is ∙ r.is_open in
@@ -395,7 +395,7 @@ woken_once_behind_its_leader table limit first now l items before wake arrival g
 
 -- ---- those that may be woken
 
-all_ready : (P : ℕ → Type 0) (xs : List Exchange) → AllByRecursion P (ids_of xs) → AllByRecursion P (ready_ids xs)
+all_ready : (P : ℕ → Type 0) (xs : List Exchange) → AllByRecursion P (exchange_ids xs) → AllByRecursion P (ready_ids xs)
 all_ready P [] h = tt
 all_ready P (x ∷ xs) h = by_test (is_released x.stage) (all_ready P xs h.1)
   where
@@ -403,82 +403,82 @@ all_ready P (x ∷ xs) h = by_test (is_released x.stage) (all_ready P xs h.1)
     by_test true rest = (h.0, rest)
     by_test false rest = rest
 
-ready_in_order : (xs : List Exchange) (past : List Item) → AreInOrder (ids_of xs) past → AreInOrder (ready_ids xs) past
+ready_in_order : (xs : List Exchange) (past : List Item) → IdsAreInOrderOfArrival (exchange_ids xs) past → IdsAreInOrderOfArrival (ready_ids xs) past
 ready_in_order [] past h = tt
 ready_in_order (x ∷ xs) past h = by_test (is_released x.stage) (ready_in_order xs past h.1)
   where
-    by_test : (b : Bool) → AreInOrder (ready_ids xs) past → AreInOrder (cond b (x.id ∷ ready_ids xs) (ready_ids xs)) past
+    by_test : (b : Bool) → IdsAreInOrderOfArrival (ready_ids xs) past → IdsAreInOrderOfArrival (cond b (x.id ∷ ready_ids xs) (ready_ids xs)) past
     by_test true rest = (all_ready (λ m. ArrivesBefore x.id m past) xs h.0, rest)
     by_test false rest = rest
 
-pub ready_in_order_of_arrival : ReadyInOrderOfArrival
+pub ready_in_order_of_arrival : ReleasedAreInOrderOfArrival
 ready_in_order_of_arrival table limit first trace g = ready_in_order (open_exchanges table limit trace) trace (open_in_order_of_arrival table limit first trace g)
 
 -- no id arrives before itself
 never_before_itself : (id : ℕ) (past : List Item) → ArrivesBefore id id past → ⊥
-never_before_itself id past h = not_both _ _ (eq-eqb (id_of h.later.event) id h.later_id) h.later_arrives h.none_of_it.1.0
+never_before_itself id past h = not_both _ _ (eq-eqb (exchange_id_of_event h.later.event) id h.later_id) h.later_arrives h.none_of_it.1.0
 
-id_is_in : (id : ℕ) (P : ℕ → Type 0) (ids : List ℕ) → AllByRecursion P ids → is_in id ids ≡ true → P id
+id_is_in : (id : ℕ) (P : ℕ → Type 0) (ids : List ℕ) → AllByRecursion P ids → serial_is_in id ids ≡ true → P id
 id_is_in id P [] h m = absurd (false≢true m)
 id_is_in id P (n ∷ ids) h m = by_test (λ k. id_is_in id P ids h.1 k) (eqb n id) refl m
   where
-    by_test : (is_in id ids ≡ true → P id) → (b : Bool) → eqb n id ≡ b → (b || is_in id ids) ≡ true → P id
+    by_test : (serial_is_in id ids ≡ true → P id) → (b : Bool) → eqb n id ≡ b → (b || serial_is_in id ids) ≡ true → P id
     by_test rest true e m = subst P (eqb-true n id e) h.0
     by_test rest false e m = rest m
 
-ready_found : (id : ℕ) (xs : List Exchange) (past : List Item) → AreInOrder (ids_of xs) past → is_in id (ready_ids xs) ≡ true → IsReady id xs
+ready_found : (id : ℕ) (xs : List Exchange) (past : List Item) → IdsAreInOrderOfArrival (exchange_ids xs) past → serial_is_in id (ready_ids xs) ≡ true → ExchangeMayBeWoken id xs
 ready_found id [] past o m = absurd (false≢true m)
 ready_found id (x ∷ xs) past o m = by_id (λ k. ready_found id xs past o.1 k) (eqb x.id id) refl (is_released x.stage) refl m
   where
-    rest : (is_in id (ready_ids xs) ≡ true → IsReady id xs) → eqb x.id id ≡ false → is_in id (ready_ids xs) ≡ true → IsReady id (x ∷ xs)
+    rest : (serial_is_in id (ready_ids xs) ≡ true → ExchangeMayBeWoken id xs) → eqb x.id id ≡ false → serial_is_in id (ready_ids xs) ≡ true → ExchangeMayBeWoken id (x ∷ xs)
     rest others e m =
         let r = others m in
         record { x = r.x; is_open = ap (λ b. cond b (Some x) (find_exchange id xs)) e ∙ r.is_open; stage = r.stage }
 
-    by_id : (is_in id (ready_ids xs) ≡ true → IsReady id xs) → (b : Bool) → eqb x.id id ≡ b → (c : Bool) → is_released x.stage ≡ c → is_in id (cond c (x.id ∷ ready_ids xs) (ready_ids xs)) ≡ true → IsReady id (x ∷ xs)
+    by_id : (serial_is_in id (ready_ids xs) ≡ true → ExchangeMayBeWoken id xs) → (b : Bool) → eqb x.id id ≡ b → (c : Bool) → is_released x.stage ≡ c → serial_is_in id (cond c (x.id ∷ ready_ids xs) (ready_ids xs)) ≡ true → ExchangeMayBeWoken id (x ∷ xs)
     by_id others true e true s m = record { x = x; is_open = ap (λ b. cond b (Some x) (find_exchange id xs)) e; stage = s }
     by_id others true e false s m =
         let before = id_is_in id (λ n. ArrivesBefore x.id n past) (ready_ids xs) (all_ready (λ n. ArrivesBefore x.id n past) xs o.0) m in
         absurd (never_before_itself id past (subst (λ n. ArrivesBefore n id past) (eqb-true x.id id e) before))
-    by_id others false e true s m = rest others e (sym (ap (λ b. b || is_in id (ready_ids xs)) e) ∙ m)
+    by_id others false e true s m = rest others e (sym (ap (λ b. b || serial_is_in id (ready_ids xs)) e) ∙ m)
     by_id others false e false s m = rest others e m
 
-found_ready : (id : ℕ) (xs : List Exchange) (z : Exchange) → find_exchange id xs ≡ Some z → is_released z.stage ≡ true → is_in id (ready_ids xs) ≡ true
+found_ready : (id : ℕ) (xs : List Exchange) (z : Exchange) → find_exchange id xs ≡ Some z → is_released z.stage ≡ true → serial_is_in id (ready_ids xs) ≡ true
 found_ready id [] z f s = absurd (cc)
 found_ready id (x ∷ xs) z f s = by_id (λ g. found_ready id xs z g s) (eqb x.id id) refl f
   where
-    passed : (c : Bool) → is_in id (ready_ids xs) ≡ true → eqb x.id id ≡ false → is_in id (cond c (x.id ∷ ready_ids xs) (ready_ids xs)) ≡ true
-    passed true m e = ap (λ b. b || is_in id (ready_ids xs)) e ∙ m
+    passed : (c : Bool) → serial_is_in id (ready_ids xs) ≡ true → eqb x.id id ≡ false → serial_is_in id (cond c (x.id ∷ ready_ids xs) (ready_ids xs)) ≡ true
+    passed true m e = ap (λ b. b || serial_is_in id (ready_ids xs)) e ∙ m
     passed false m e = m
 
-    by_id : (find_exchange id xs ≡ Some z → is_in id (ready_ids xs) ≡ true) → (b : Bool) → eqb x.id id ≡ b → cond b (Some x) (find_exchange id xs) ≡ Some z → is_in id (ready_ids (x ∷ xs)) ≡ true
+    by_id : (find_exchange id xs ≡ Some z → serial_is_in id (ready_ids xs) ≡ true) → (b : Bool) → eqb x.id id ≡ b → cond b (Some x) (find_exchange id xs) ≡ Some z → serial_is_in id (ready_ids (x ∷ xs)) ≡ true
     by_id others true e f =
         let released : is_released x.stage ≡ true = ap (λ (y : Exchange). is_released y.stage) (same_Some x z f) ∙ s in
-        ap (λ c. is_in id (cond c (x.id ∷ ready_ids xs) (ready_ids xs))) released ∙ ap (λ b. b || is_in id (ready_ids xs)) e
+        ap (λ c. serial_is_in id (cond c (x.id ∷ ready_ids xs) (ready_ids xs))) released ∙ ap (λ b. b || serial_is_in id (ready_ids xs)) e
     by_id others false e f = passed (is_released x.stage) (others f) e
 
-pub woken_exactly_where_ready : WokenExactlyWhereReady
+pub woken_exactly_where_ready : WakeIsAcceptedExactlyWhereReady
 woken_exactly_where_ready table limit first now id trace g = (
   λ m.
       let r = ready_found id xs trace (open_in_order_of_arrival table limit first trace g) m in
-      ap (λ (w : Option Exchange). fault_of w (Wake now id)) r.is_open ∙ accepted r.x.stage (too_late now) r.stage,
+      ap (λ (w : Option Exchange). fault_at_exchange w (Wake now id)) r.is_open ∙ accepted r.x.stage (moment_too_late_fault now) r.stage,
   λ h. let r = ready_by xs now id h in found_ready id xs r.x r.is_open r.stage,
 )
   where
     xs : List Exchange
     xs = open_exchanges table limit trace
 
-    accepted : (s : Stage) (a : Option CoreFault) → is_released s ≡ true → or_fault a (not_ready s) ≡ a
+    accepted : (s : Stage) (a : Option CoreFault) → is_released s ≡ true → or_fault a (fault_if_not_released s) ≡ a
     accepted Forwarded a h = absurd (false≢true h)
     accepted (Waiting l) a h = absurd (false≢true h)
     accepted Released None h = refl
     accepted Released (Some f) h = refl
 
-pub woken_is_judged_anew : WokenIsJudgedAnew
+pub woken_is_judged_anew : WokenRequestIsJudgedAnew
 woken_is_judged_anew table limit first now id item past g e =
-    let r = ready_by xs now id (ap (fault_by xs) (sym e) ∙ g.0.allowed) in
-    let is : item.outcome ≡ woken table es now r.x (decision_of (policy_of table.lines r.x.line) es r.x.asked now) =
-    g.0.outcome_is ∙ (ap (λ (v : Event). outcome_by table es xs (next_serial first past) v) e ∙ ap (λ (w : Option Exchange). outcome_of table es xs w (next_serial first past) (Wake now id)) r.is_open) in
+    let r = ready_by xs now id (ap (step_fault xs) (sym e) ∙ g.0.allowed) in
+    let is : item.outcome ≡ outcome_of_wake table es now r.x (decision_of (policy_of table.lines r.x.line) es r.x.asked now) =
+    g.0.outcome_is ∙ (ap (λ (v : Event). outcome_of_event table es xs (next_serial first past) v) e ∙ ap (λ (w : Option Exchange). outcome_of table es xs w (next_serial first past) (Wake now id)) r.is_open) in
     record { x = r.x; is_open = r.is_open; gets = by_decision r.x (decision_of (policy_of table.lines r.x.line) es r.x.asked now) refl is }
   where
     es : List Stored
@@ -487,11 +487,11 @@ woken_is_judged_anew table limit first now id item past g e =
     xs : List Exchange
     xs = open_exchanges table limit past
 
-    by_decision : (x : Exchange) (d : Decision) → decision_of (policy_of table.lines x.line) es x.asked now ≡ d → item.outcome ≡ woken table es now x d →
-        ((s : ℕ) × IsReusable (policy_of table.lines x.line) es x.asked now s × (used_in item.outcome ≡ Some s))
-        ⊎ ((rule : ReuseRule) × (bytes : List ℕ) × IsLeast (policy_of table.lines x.line) es x.asked now rule × (item.outcome ≡ Forward x.line bytes))
-    by_decision x (decision.Hit s) d is = inl (s, reused_is_allowed (policy_of table.lines x.line) es x.asked now s d, ap used_in is)
-    by_decision x (decision.Forward rule against) d is = inr (rule, forward_text table x.asked (condition_at es against), (names_the_least (policy_of table.lines x.line) es x.asked now rule against d).0, is)
+    by_decision : (x : Exchange) (d : Decision) → decision_of (policy_of table.lines x.line) es x.asked now ≡ d → item.outcome ≡ outcome_of_wake table es now x d →
+        ((s : ℕ) × StoredResponseIsReusable (policy_of table.lines x.line) es x.asked now s × (serial_used_by_outcome item.outcome ≡ Some s))
+        ⊎ ((rule : ReuseRule) × (bytes : List ℕ) × IsLeastReuseRule (policy_of table.lines x.line) es x.asked now rule × (item.outcome ≡ Forward x.line bytes))
+    by_decision x (decision.Hit s) d is = inl (s, reused_is_allowed (policy_of table.lines x.line) es x.asked now s d, ap serial_used_by_outcome is)
+    by_decision x (decision.Forward rule against) d is = inr (rule, forward_text table x.asked (condition_about_serial es against), (names_the_least (policy_of table.lines x.line) es x.asked now rule against d).0, is)
 
 -- ---- one goes forward
 
@@ -501,20 +501,20 @@ record AtTheOrigin (rule : ReuseRule) (asked : Asked) (y : Option Exchange) : Ty
   y_is : y ≡ Some x
   asked_is : x.asked ≡ asked
   rule_is : x.rule ≡ rule
-  for_others : x.for_others ≡ is_for_others asked
+  for_others : x.for_others ≡ may_be_answered_for_others asked
   stage : x.stage ≡ Forwarded
 
 module _ (table : Table) (limit first now id : ℕ) (rule : ReuseRule) (asked : Asked) (before : List Item) (o : Outcome) where
   abbrev began : State
-  began = begun table limit first
+  began = initial_state table limit first
 
   abbrev first_item : Item
   first_item = record { event = Arrive now id asked; outcome = o }
 
   abbrev its : List Item → Option Exchange
-  its items = find_exchange id (left began (items ++ first_item ∷ before)).exchanges
+  its items = find_exchange id (state_after_trace began (items ++ first_item ∷ before)).exchanges
 
-  overtaken_at : (key : Key) (x : Exchange) → AtTheOrigin rule asked (Some x) → AtTheOrigin rule asked (Some (overtake key x))
+  overtaken_at : (key : Key) (x : Exchange) → AtTheOrigin rule asked (Some x) → AtTheOrigin rule asked (Some (overtaken_exchange key x))
   overtaken_at key x a = by_test (same_key x.asked.target.key key)
     where
       same : a.x ≡ x
@@ -531,7 +531,7 @@ module _ (table : Table) (limit first now id : ℕ) (rule : ReuseRule) (asked : 
       }
       by_test false = a
 
-  released_at : (i : ℕ) (x : Exchange) → AtTheOrigin rule asked (Some x) → AtTheOrigin rule asked (Some (release i x))
+  released_at : (i : ℕ) (x : Exchange) → AtTheOrigin rule asked (Some x) → AtTheOrigin rule asked (Some (released_exchange i x))
   released_at i x a =
       let stage : x.stage ≡ Forwarded = ap (λ (z : Exchange). z.stage) (same_Some x a.x a.y_is) ∙ a.stage in
       subst (λ b. AtTheOrigin rule asked (Some (cond b (record x { stage = Released }) x))) (sym (ap (waits_for i) stage)) a
@@ -543,10 +543,10 @@ module _ (table : Table) (limit first now id : ℕ) (rule : ReuseRule) (asked : 
   changed_at None None (Some x) a = a
   changed_at None (Some i) (Some x) a = released_at i x a
   changed_at (Some key) None (Some x) a = overtaken_at key x a
-  changed_at (Some key) (Some i) (Some x) a = overtaken_at key (release i x) (released_at i x a)
+  changed_at (Some key) (Some i) (Some x) a = overtaken_at key (released_exchange i x) (released_at i x a)
 
-  origin_more : (i : Item) (items : List Item) (w x y : Option Exchange) → Move id w i.event i.outcome x y → AtTheOrigin rule asked x → (has_closed id (i ∷ items) ≡ true) ⊎ AtTheOrigin rule asked y
-  origin_more i items w x y (apart n h) a = inr (subst (AtTheOrigin rule asked) (sym h) (changed_at (key_by_step (asked_of w) i.event i.outcome) (ended_by i.event i.outcome) x a))
+  origin_more : (i : Item) (items : List Item) (w x y : Option Exchange) → Move id w i.event i.outcome x y → AtTheOrigin rule asked x → (exchange_has_closed id (i ∷ items) ≡ true) ⊎ AtTheOrigin rule asked y
+  origin_more i items w x y (apart n h) a = inr (subst (AtTheOrigin rule asked) (sym h) (changed_at (key_invalidated_by_step (asked_of w) i.event i.outcome) (ended_by i.event i.outcome) x a))
   origin_more i items w x y (opens at es t r line e x_is f h) a =
       let none : None ≡ Some a.x = sym x_is ∙ a.y_is in
       absurd (cc)
@@ -563,44 +563,44 @@ module _ (table : Table) (limit first now id : ℕ) (rule : ReuseRule) (asked : 
       let same : z.stage ≡ Forwarded = ap (λ (v : Exchange). v.stage) (same_Some z a.x (sym x_is ∙ a.y_is)) ∙ a.stage in
       absurd (false≢true (ap is_released (sym same) ∙ s))
   origin_more i items w x y (closes z t e x_is f h) a =
-      inl (ap (λ b. (b && (not (is_arrival i.event) && ends i.outcome)) || has_closed id items) t ∙ (ap (λ b. (not b && ends i.outcome) || has_closed id items) e ∙ ap (λ b. b || has_closed id items) f))
+      inl (ap (λ b. (b && (not (is_arrival_event i.event) && outcome_ends_exchange i.outcome)) || exchange_has_closed id items) t ∙ (ap (λ b. (not b && outcome_ends_exchange i.outcome) || exchange_has_closed id items) e ∙ ap (λ b. b || exchange_has_closed id items) f))
 
-  origin : (items : List Item) → IsGood began (items ++ first_item ∷ before) → AtTheOrigin rule asked (its []) → (has_closed id items ≡ true) ⊎ AtTheOrigin rule asked (its items)
+  origin : (items : List Item) → IsGood began (items ++ first_item ∷ before) → AtTheOrigin rule asked (its []) → (exchange_has_closed id items ≡ true) ⊎ AtTheOrigin rule asked (its items)
   origin [] g a = inr a
   origin (i ∷ items) g a = by_rest (origin items g.1 a)
     where
-      by_rest : (has_closed id items ≡ true) ⊎ AtTheOrigin rule asked (its items) → (has_closed id (i ∷ items) ≡ true) ⊎ AtTheOrigin rule asked (its (i ∷ items))
-      by_rest (inl c) = inl (ap (λ b. (eqb (id_of i.event) id && (not (is_arrival i.event) && ends i.outcome)) || b) c ∙ sym (or_true (eqb (id_of i.event) id && (not (is_arrival i.event) && ends i.outcome))))
-      by_rest (inr a) = origin_more i items _ (its items) (its (i ∷ items)) (move_of table (left began (items ++ first_item ∷ before)) i id (same_table began (items ++ first_item ∷ before)) g.0) a
+      by_rest : (exchange_has_closed id items ≡ true) ⊎ AtTheOrigin rule asked (its items) → (exchange_has_closed id (i ∷ items) ≡ true) ⊎ AtTheOrigin rule asked (its (i ∷ items))
+      by_rest (inl c) = inl (ap (λ b. (eqb (exchange_id_of_event i.event) id && (not (is_arrival_event i.event) && outcome_ends_exchange i.outcome)) || b) c ∙ sym (or_true (eqb (exchange_id_of_event i.event) id && (not (is_arrival_event i.event) && outcome_ends_exchange i.outcome))))
+      by_rest (inr a) = origin_more i items _ (its items) (its (i ∷ items)) (move_of table (state_after_trace began (items ++ first_item ∷ before)) i id (same_table began (items ++ first_item ∷ before)) g.0) a
 
 -- it is, right behind the arrival at which it goes there
 at_the_arrival : (table : Table) (limit first now id line : ℕ) (rule : ReuseRule) (asked : Asked) (bytes : List ℕ) (before : List Item) (o : Outcome) → o ≡ Forward line bytes →
-    IsGood (begun table limit first) (record { event = Arrive now id asked; outcome = o } ∷ before) →
-    IsLeast (policy_of table.lines line) (held_entries table limit before) asked now rule →
-    AtTheOrigin rule asked (find_exchange id (left (begun table limit first) (record { event = Arrive now id asked; outcome = o } ∷ before)).exchanges)
+    IsGood (initial_state table limit first) (record { event = Arrive now id asked; outcome = o } ∷ before) →
+    IsLeastReuseRule (policy_of table.lines line) (held_entries table limit before) asked now rule →
+    AtTheOrigin rule asked (find_exchange id (state_after_trace (initial_state table limit first) (record { event = Arrive now id asked; outcome = o } ∷ before)).exchanges)
 at_the_arrival table limit first now id line rule asked bytes before o went g least =
-    let s = left (begun table limit first) before in
-    let y = opened s.table s.entries now id asked line in
+    let s = state_after_trace (initial_state table limit first) before in
+    let y = forwarded_exchange s.table s.entries now id asked line in
     let d = forwards (policy_of table.lines line) (held_entries table limit before) asked now rule least in
     let decided : decision_of (policy_of s.table.lines line) s.entries asked now ≡ decision.Forward rule d.0 =
-    ap (λ (t : Table). decision_of (policy_of t.lines line) s.entries asked now) (same_table (begun table limit first) before)
+    ap (λ (t : Table). decision_of (policy_of t.lines line) s.entries asked now) (same_table (initial_state table limit first) before)
     ∙ (ap (λ (es : List Stored). decision_of (policy_of table.lines line) es asked now) (entries_are_held table limit first before g.1) ∙ d.1) in
     let free : find_exchange id s.exchanges ≡ None = id_was_free (find_exchange id s.exchanges) now id asked g.0.allowed in
     record {
       x = y;
-      y_is = ap (λ (o : Outcome). find_exchange id (open_after s.table s.entries s.exchanges (Arrive now id asked) o)) went
+      y_is = ap (λ (o : Outcome). find_exchange id (open_exchanges_after s.table s.entries s.exchanges (Arrive now id asked) o)) went
           ∙ (find-push id s.exchanges y free ∙ ap (λ b. cond b (Some y) (find_exchange id s.exchanges)) (eq-eqb id id refl));
       asked_is = refl;
-      rule_is = ap rule_of decided;
+      rule_is = ap rule_of_decision decided;
       for_others = refl;
       stage = refl;
     }
 
-pub one_goes_forward : OneGoesForward
+pub one_goes_forward : OnlyOneGoesForwardForKey
 one_goes_forward table limit first key other rule why later earlier between before g same alike l may e others =
-    ap (λ (v : Event). has_closed (id_of v) between) e.arrives
+    ap (λ (v : Event). exchange_has_closed (exchange_id_of_event v) between) e.arrives
     ∙ by_fate (origin table limit first e.now e.id rule e.asked before earlier.outcome between p
-    (at_the_arrival table limit first e.now e.id e.line rule e.asked e.bytes before earlier.outcome e.forward (part (begun table limit first) between (item ∷ before) p) e.is_least))
+    (at_the_arrival table limit first e.now e.id e.line rule e.asked e.bytes before earlier.outcome e.forward (part (initial_state table limit first) between (item ∷ before) p) e.is_least))
   where
     item : Item
     item = record { event = Arrive e.now e.id e.asked; outcome = earlier.outcome }
@@ -611,28 +611,28 @@ one_goes_forward table limit first key other rule why later earlier between befo
     g' : IsGoodHistory table limit first (between ++ record { event = Arrive e.now e.id e.asked; outcome = earlier.outcome } ∷ before)
     g' = subst (λ (i : Item). IsGoodHistory table limit first (between ++ i ∷ before)) item_is g.1
 
-    p : IsGood (begun table limit first) (between ++ record { event = Arrive e.now e.id e.asked; outcome = earlier.outcome } ∷ before)
+    p : IsGood (initial_state table limit first) (between ++ record { event = Arrive e.now e.id e.asked; outcome = earlier.outcome } ∷ before)
     p = good_plain table limit first (between ++ record { event = Arrive e.now e.id e.asked; outcome = earlier.outcome } ∷ before) g'
 
     policy : Policy
     policy = policy_of table.lines l.line
 
-    its_leads : (x : Exchange) → x.asked ≡ e.asked → x.rule ≡ rule → x.for_others ≡ is_for_others e.asked → x.stage ≡ Forwarded → leads policy why l.asked.target.key x ≡ true
+    its_leads : (x : Exchange) → x.asked ≡ e.asked → x.rule ≡ rule → x.for_others ≡ may_be_answered_for_others e.asked → x.stage ≡ Forwarded → leads_waiters policy why l.asked.target.key x ≡ true
     its_leads x a r f t =
-        ap (λ (q : Asked). same_key q.target.key l.asked.target.key && (is_get q && (goes_alike x.rule why && (is_forwarded x.stage && may_lead policy x.for_others)))) a
-        ∙ (ap (λ (k : Key). same_key k l.asked.target.key && (is_get e.asked && (goes_alike x.rule why && (is_forwarded x.stage && may_lead policy x.for_others)))) e.of_the_key
-        ∙ (ap (λ (k : Key). same_key key k && (is_get e.asked && (goes_alike x.rule why && (is_forwarded x.stage && may_lead policy x.for_others)))) l.of_the_key
-        ∙ (ap (λ b. b && (is_get e.asked && (goes_alike x.rule why && (is_forwarded x.stage && may_lead policy x.for_others)))) same
-        ∙ (ap (λ b. b && (goes_alike x.rule why && (is_forwarded x.stage && may_lead policy x.for_others))) e.gets
-        ∙ (ap (λ (q : ReuseRule). goes_alike q why && (is_forwarded x.stage && may_lead policy x.for_others)) r
-        ∙ (ap (λ b. b && (is_forwarded x.stage && may_lead policy x.for_others)) alike
-        ∙ (ap (λ (q : Stage). is_forwarded q && may_lead policy x.for_others) t
-        ∙ (ap (may_lead policy) f ∙ others))))))))
+        ap (λ (q : Asked). same_key q.target.key l.asked.target.key && (is_get q && (goes_forward_for_same_reason x.rule why && (is_forwarded x.stage && may_lead_waiters policy x.for_others)))) a
+        ∙ (ap (λ (k : Key). same_key k l.asked.target.key && (is_get e.asked && (goes_forward_for_same_reason x.rule why && (is_forwarded x.stage && may_lead_waiters policy x.for_others)))) e.of_the_key
+        ∙ (ap (λ (k : Key). same_key key k && (is_get e.asked && (goes_forward_for_same_reason x.rule why && (is_forwarded x.stage && may_lead_waiters policy x.for_others)))) l.of_the_key
+        ∙ (ap (λ b. b && (is_get e.asked && (goes_forward_for_same_reason x.rule why && (is_forwarded x.stage && may_lead_waiters policy x.for_others)))) same
+        ∙ (ap (λ b. b && (goes_forward_for_same_reason x.rule why && (is_forwarded x.stage && may_lead_waiters policy x.for_others))) e.gets
+        ∙ (ap (λ (q : ReuseRule). goes_forward_for_same_reason q why && (is_forwarded x.stage && may_lead_waiters policy x.for_others)) r
+        ∙ (ap (λ b. b && (is_forwarded x.stage && may_lead_waiters policy x.for_others)) alike
+        ∙ (ap (λ (q : Stage). is_forwarded q && may_lead_waiters policy x.for_others) t
+        ∙ (ap (may_lead_waiters policy) f ∙ others))))))))
 
     past : List Item
     past = between ++ earlier ∷ before
 
-    by_fate : (has_closed e.id between ≡ true) ⊎ AtTheOrigin rule e.asked (its table limit first e.now e.id rule e.asked before earlier.outcome between) → has_closed e.id between ≡ true
+    by_fate : (exchange_has_closed e.id between ≡ true) ⊎ AtTheOrigin rule e.asked (its table limit first e.now e.id rule e.asked before earlier.outcome between) → exchange_has_closed e.id between ≡ true
     by_fate (inl c) = c
     by_fate (inr a) =
         let at : find_exchange e.id (open_exchanges table limit (between ++ earlier ∷ before)) ≡ Some a.x =

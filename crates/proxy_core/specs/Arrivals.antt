@@ -1,9 +1,11 @@
 -- Exchanges by the numbers of their arrivals, and an index of their ids.
 --
--- arrival_of: the arrival of an id     AreApart: no two have one number, no two one id
--- IsIndexed: the index tells the arrival of each id     Pass: some exchanges have numbers that pass a test
--- WaitersPass: so those do that wait for an id     Indexes: the numbers that pass are those of some open exchanges
--- AreIndexed: what the indexes say of the exchanges
+-- arrival_of: the arrival of an id     HaveDistinctArrivalsAndIds: no two have one number, no two one id
+-- IsIdIndexOf: the index tells the arrival of each id
+-- SelectedArrivalsPass: some exchanges have numbers that pass a test
+-- WaitingArrivalsPass: so those do that wait for an id
+-- IsExactIndexOfSelected: the numbers that pass are those of some open exchanges
+-- IndexesMatchExchanges: what the indexes say of the exchanges
 use Rattle.std.specs.Prelude.{◌≡◌, ℕ, ◌==◌, Bool, true, false, List, [], ◌∷◌, map, Option, Some, None, cond}
 use Rattle.std.specs.Option.{option_map_or}
 use Rattle.std.specs.Ordering.{nat_cmp}
@@ -18,36 +20,38 @@ arrival_of id [] = None
 arrival_of id (e ∷ es) = cond (e.1.id == id) (Some e.0) (arrival_of id es)
 
 -- no two have one number, and no two one id
-abbrev pub AreApart : List (ℕ × Exchange) → Type 0
-AreApart [] = Unit {0}
-AreApart (e ∷ es) = (lookup (is_at (nat_cmp e.0)) es ≡ None) × (arrival_of e.1.id es ≡ None) × AreApart es
+abbrev pub HaveDistinctArrivalsAndIds : List (ℕ × Exchange) → Type 0
+HaveDistinctArrivalsAndIds [] = Unit {0}
+HaveDistinctArrivalsAndIds (e ∷ es) = (lookup (is_at (nat_cmp e.0)) es ≡ None) × (arrival_of e.1.id es ≡ None)
+    × HaveDistinctArrivalsAndIds es
 
 -- the index tells the arrival of each id
-pub record IsIndexed (es : List (ℕ × Exchange)) (index : ℕ → Option ℕ) : Type 0 where
-  pub apart : AreApart es
+pub record IsIdIndexOf (es : List (ℕ × Exchange)) (index : ℕ → Option ℕ) : Type 0 where
+  pub apart : HaveDistinctArrivalsAndIds es
   pub indexed : (id : ℕ) → index id ≡ arrival_of id es
 
 -- each of these exchanges has a number that passes
-abbrev pub Pass : (Exchange → Bool) → (ℕ → Bool) → List (ℕ × Exchange) → Type 0
-Pass which test [] = Unit {0}
-Pass which test (e ∷ es) = (which e.1 ≡ true → test e.0 ≡ true) × Pass which test es
+abbrev pub SelectedArrivalsPass : (Exchange → Bool) → (ℕ → Bool) → List (ℕ × Exchange) → Type 0
+SelectedArrivalsPass which test [] = Unit {0}
+SelectedArrivalsPass which test (e ∷ es) = (which e.1 ≡ true → test e.0 ≡ true) × SelectedArrivalsPass which test es
 
 -- the number is that of an open exchange, and of such a one
-abbrev pub has : (Exchange → Bool) → List (ℕ × Exchange) → ℕ → Bool
-has which es n = option_map_or which (lookup (is_at (nat_cmp n)) es) false
+abbrev pub is_arrival_of_selected : (Exchange → Bool) → List (ℕ × Exchange) → ℕ → Bool
+is_arrival_of_selected which es n = option_map_or which (lookup (is_at (nat_cmp n)) es) false
 
 -- the numbers that pass are those of such exchanges: each of them, and none that is over
-abbrev pub Indexes : (Exchange → Bool) → (ℕ → Bool) → List (ℕ × Exchange) → Type 0
-Indexes which test es = (n : ℕ) → test n ≡ has which es n
+abbrev pub IsExactIndexOfSelected : (Exchange → Bool) → (ℕ → Bool) → List (ℕ × Exchange) → Type 0
+IsExactIndexOfSelected which test es = (n : ℕ) → test n ≡ is_arrival_of_selected which es n
 
-abbrev pub WaitersPass : ℕ → (ℕ → Bool) → List (ℕ × Exchange) → Type 0
-WaitersPass id test es = Pass (λ x. waits_for id x.stage) test es
+abbrev pub WaitingArrivalsPass : ℕ → (ℕ → Bool) → List (ℕ × Exchange) → Type 0
+WaitingArrivalsPass id test es = SelectedArrivalsPass (λ x. waits_for id x.stage) test es
 
 -- a change of each exchange, which keeps its number
-abbrev pub on_all : (Exchange → Exchange) → List (ℕ × Exchange) → List (ℕ × Exchange)
-on_all f es = map (λ e. (e.0, f e.1)) es
+abbrev pub map_exchanges : (Exchange → Exchange) → List (ℕ × Exchange) → List (ℕ × Exchange)
+map_exchanges f es = map (λ e. (e.0, f e.1)) es
 
 -- the indexes tell the arrival of each id, and who waits for it: nothing else stands there
-pub record AreIndexed (es : List (ℕ × Exchange)) (arrivals : ℕ → Option ℕ) (waiting : ℕ → ℕ → Bool) : Type 0 where
-  pub ids : IsIndexed es arrivals
-  pub waiters : (id : ℕ) → Indexes (λ x. waits_for id x.stage) (waiting id) es
+pub record IndexesMatchExchanges (es : List (ℕ × Exchange)) (arrivals : ℕ → Option ℕ)
+    (waiting : ℕ → ℕ → Bool) : Type 0 where
+  pub ids : IsIdIndexOf es arrivals
+  pub waiters : (id : ℕ) → IsExactIndexOfSelected (λ x. waits_for id x.stage) (waiting id) es

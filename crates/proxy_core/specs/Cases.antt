@@ -1,45 +1,45 @@
 -- The messages, stored responses and exchanges that the laws of worked cases speak of.
 use Rattle.std.specs.Prelude.{ℕ, true, false, List, [], ◌∷◌, codes, Some, None}
 use Rattle.hx_policy.specs.declared.words.Policy.{Policy}
-use Rattle.hx_policy.specs.Words.{plain}
+use Rattle.hx_policy.specs.Policies.{plain}
 use Rattle.hx_fields.specs.declared.field_line.Field.{Field}
 use Rattle.hx_fields.specs.Examples.{line}
 use Rattle.hx_framing.specs.declared.messages.Response.{Response}
 use Rattle.hx_target.specs.declared.keys.Key.{Key}
 use Rattle.hx_vary.specs.Vary.{kept_values}
 use Rattle.hx_hop.specs.declared.request_view.Asked.{Asked}
-use Rattle.hx_allow.specs.Lines.{Line, Table}
+use Rattle.hx_allow.specs.TableLines.{Line, Table}
 use Rattle.hx_store.specs.Stored.{Stored}
 use Rattle.hx_reuse.specs.declared.rule.ReuseRule.TheVariants.{UriMiss, NoLifetime, NoMaxStale}
-use Rattle.proxy_core.specs.Leading.{is_for_others}
+use Rattle.proxy_core.specs.Leading.{may_be_answered_for_others}
 use Rattle.proxy_core.specs.declared.open.stage.Stage.TheVariants.{Forwarded, Waiting}
 use Rattle.proxy_core.specs.declared.open.exchange.Exchange.{Exchange}
 use Rattle.proxy_core.specs.declared.outcome.Outcome.{Outcome}
 use Rattle.proxy_core.specs.declared.outcome.Outcome.TheVariants.{Reply, Forward, Waits, Ended}
 
-abbrev pub key_of : List ℕ → Key
-key_of path = record { host = codes "h"; port = 80; path_query = path }
+abbrev pub key_of_path : List ℕ → Key
+key_of_path path = record { host = codes "h"; port = 80; path_query = path }
 
 -- a request of this method for a path, with these lines
-abbrev pub asks_for : List ℕ → List ℕ → List Field → Asked
-asks_for method path fields = record {
+abbrev pub request_for : List ℕ → List ℕ → List Field → Asked
+request_for method path fields = record {
   method = method;
   minor = 1;
-  target = record { key = key_of path; table_path = path };
+  target = record { key = key_of_path path; table_path = path };
   fields = fields;
   content = None;
   close = false;
 }
 
-abbrev pub get : List Field → Asked
-get fields = asks_for (codes "GET") (codes "/a") fields
+abbrev pub get_a_with : List Field → Asked
+get_a_with fields = request_for (codes "GET") (codes "/a") fields
 
-abbrev pub head : Asked
-head = asks_for (codes "HEAD") (codes "/a") []
+abbrev pub head_of_a : Asked
+head_of_a = request_for (codes "HEAD") (codes "/a") []
 
 -- the second line of the table has no cache, and what is stored has two bytes at most
-abbrev pub line_that : Line
-line_that = record {
+abbrev pub line_with_no_cache : Line
+line_with_no_cache = record {
   host = None;
   methods = codes "*" ∷ [];
   path = codes "/";
@@ -53,28 +53,28 @@ table = record {
   capacity = 2;
   max_body = 1000;
   max_stored = 2;
-  lines = line_that ∷ record line_that { policy = plain false } ∷ [];
+  lines = line_with_no_cache ∷ record line_with_no_cache { policy = plain false } ∷ [];
 }
 
 -- the same, but for the words of its one line
-abbrev pub table_of : Policy → Table
-table_of policy = record table { lines = record line_that { policy = policy } ∷ [] }
+abbrev pub table_with_policy : Policy → Table
+table_with_policy policy = record table { lines = record line_with_no_cache { policy = policy } ∷ [] }
 
-abbrev pub explains : Policy
-explains = record (plain true) { explains_storing = true }
+abbrev pub explains_storing_policy : Policy
+explains_storing_policy = record (plain true) { explains_storing = true }
 
-abbrev pub gives_60 : Policy
-gives_60 = record (plain true) { lifetime = Some 60 }
+abbrev pub lifetime_60_policy : Policy
+lifetime_60_policy = record (plain true) { lifetime = Some 60 }
 
-abbrev pub no_cookies : Policy
-no_cookies = record (plain true) { stores_cookies = false }
+abbrev pub no_cookies_policy : Policy
+no_cookies_policy = record (plain true) { stores_cookies = false }
 
-abbrev pub no_errors : Policy
-no_errors = record (plain true) { stores_errors = false }
+abbrev pub no_errors_policy : Policy
+no_errors_policy = record (plain true) { stores_errors = false }
 
 -- a request that went forward at 100, since nothing was held for it
-abbrev pub went : Asked → Exchange
-went asked =
+abbrev pub forwarded_on_miss : Asked → Exchange
+forwarded_on_miss asked =
     record {
       id = 1;
       asked = asked;
@@ -83,74 +83,74 @@ went asked =
       request_time = 100;
       condition = None;
       overtaken = false;
-      for_others = is_for_others asked;
+      for_others = may_be_answered_for_others asked;
       stage = Forwarded;
     }
 
 -- one that went forward since what was held was stale
-abbrev pub revalidates : Exchange
-revalidates = record (went (get [])) { rule = NoMaxStale }
+abbrev pub forwarded_on_stale : Exchange
+forwarded_on_stale = record (forwarded_on_miss (get_a_with [])) { rule = NoMaxStale }
 
 -- a line that lets requests wait for that, and a request with Authorization
-abbrev pub lets_wait : Policy
-lets_wait = record (plain true) { waits_for_stale = true }
+abbrev pub wait_for_stale_policy : Policy
+wait_for_stale_policy = record (plain true) { waits_for_stale = true }
 
-abbrev pub authorized : Asked
-authorized = get (line (codes "Authorization") (codes "Basic eA==") ∷ [])
+abbrev pub get_a_with_authorization : Asked
+get_a_with_authorization = get_a_with (line (codes "Authorization") (codes "Basic eA==") ∷ [])
 
-abbrev pub over_line_2 : Exchange
-over_line_2 = record (went (get [])) { line = 2 }
+abbrev pub forwarded_over_line_2 : Exchange
+forwarded_over_line_2 = record (forwarded_on_miss (get_a_with [])) { line = 2 }
 
 -- one that waits for it
 abbrev pub waiting : Exchange
-waiting = record (went (get [])) { id = 2; stage = Waiting 1 }
+waiting = record (forwarded_on_miss (get_a_with [])) { id = 2; stage = Waiting 1 }
 
 -- one that asked about the stored response of serial 1, which states no lifetime, by its tag
-abbrev pub asked_about_e : Asked → Exchange
-asked_about_e asked =
-    record (went asked) {
+abbrev pub revalidates_e : Asked → Exchange
+revalidates_e asked =
+    record (forwarded_on_miss asked) {
       rule = NoLifetime;
       condition = Some (record { serial = 1; sent = record { etag = Some (codes "\"e\""); modified = None } });
     }
 
 -- one that no stored response may answer, of this id and for this path
-abbrev pub posted : ℕ → List ℕ → Exchange
-posted id path = record (went (asks_for (codes "POST") path [])) { id = id }
+abbrev pub post_exchange : ℕ → List ℕ → Exchange
+post_exchange id path = record (forwarded_on_miss (request_for (codes "POST") path [])) { id = id }
 
 -- an answer of these lines
-abbrev pub answer : ℕ → List Field → Response
-answer status fields = record { status = status; fields = fields; content = codes "hi"; announced = None }
+abbrev pub response_with : ℕ → List Field → Response
+response_with status fields = record { status = status; fields = fields; content = codes "hi"; announced = None }
 
-abbrev pub control : List ℕ → Field
-control value = line (codes "Cache-Control") value
+abbrev pub cache_control : List ℕ → Field
+cache_control value = line (codes "Cache-Control") value
 
-abbrev pub tag : List ℕ → Field
-tag value = line (codes "ETag") value
+abbrev pub etag_field : List ℕ → Field
+etag_field value = line (codes "ETag") value
 
-abbrev pub connection : List ℕ → Field
-connection value = line (codes "Connection") value
+abbrev pub connection_field : List ℕ → Field
+connection_field value = line (codes "Connection") value
 
-abbrev pub vary : List ℕ → Field
-vary value = line (codes "Vary") value
+abbrev pub vary_field : List ℕ → Field
+vary_field value = line (codes "Vary") value
 
-abbrev pub cookie : Field
-cookie = line (codes "Set-Cookie") (codes "a=1")
+abbrev pub set_cookie_field : Field
+set_cookie_field = line (codes "Set-Cookie") (codes "a=1")
 
-abbrev pub speaks : List ℕ → Field
-speaks value = line (codes "Accept-Language") value
+abbrev pub accept_language : List ℕ → Field
+accept_language value = line (codes "Accept-Language") value
 
 abbrev pub date_101 : Field
 date_101 = line (codes "Date") (codes "Thu, 01 Jan 1970 00:01:41 GMT")
 
 -- the answer of the first run, made and received at 101
-abbrev pub first_lines : List Field
-first_lines = date_101 ∷ control (codes "max-age=60") ∷ tag (codes "\"v1\"") ∷ []
+abbrev pub first_answer_fields : List Field
+first_answer_fields = date_101 ∷ cache_control (codes "max-age=60") ∷ etag_field (codes "\"v1\"") ∷ []
 
 -- a stored response of these lines, asked for at 100 and received at 101
 abbrev pub stored_with : ℕ → List Field → Stored
 stored_with serial fields = record {
   serial = serial;
-  key = key_of (codes "/a");
+  key = key_of_path (codes "/a");
   nominated = [];
   status = 200;
   fields = fields;
@@ -159,29 +159,32 @@ stored_with serial fields = record {
 }
 
 abbrev pub first_stored : Stored
-first_stored = stored_with 1 first_lines
+first_stored = stored_with 1 first_answer_fields
 
 -- one that was asked for in this language
 abbrev pub stored_in_language : ℕ → List ℕ → Stored
 stored_in_language serial language =
-    record (stored_with serial first_lines) { nominated = kept_values (vary (codes "Accept-Language") ∷ []) (speaks language ∷ []) }
+    record (stored_with serial first_answer_fields) {
+      nominated = kept_values (vary_field (codes "Accept-Language")
+          ∷ []) (accept_language language ∷ []);
+    }
 
--- one that states no lifetime, with the tag that `asked_about_e` asks about, and what a 304 brings
-abbrev pub stored_e : Stored
-stored_e = stored_with 1 (tag (codes "\"e\"") ∷ [])
+-- one that states no lifetime, with the tag that `revalidates_e` asks about, and what a 304 brings
+abbrev pub stored_without_lifetime : Stored
+stored_without_lifetime = stored_with 1 (etag_field (codes "\"e\"") ∷ [])
 
 abbrev pub lines_of_304 : List Field
-lines_of_304 = date_101 ∷ control (codes "max-age=60") ∷ tag (codes "\"e\"") ∷ []
+lines_of_304 = date_101 ∷ cache_control (codes "max-age=60") ∷ etag_field (codes "\"e\"") ∷ []
 
 -- three that are held: two of /a, in German and in English, and one of /b
 abbrev pub three_held : List Stored
 three_held =
     stored_in_language 3 (codes "de") ∷ stored_in_language 2 (codes "en")
-    ∷ record (stored_in_language 1 (codes "de")) { key = key_of (codes "/b") } ∷ []
+    ∷ record (stored_in_language 1 (codes "de")) { key = key_of_path (codes "/b") } ∷ []
 
 -- the bytes of a reply
-abbrev pub bytes_of : Outcome → List ℕ
-bytes_of (Reply r) = r.bytes
-bytes_of (Forward line bytes) = bytes
-bytes_of (Waits leader) = []
-bytes_of Ended = []
+abbrev pub reply_bytes : Outcome → List ℕ
+reply_bytes (Reply r) = r.bytes
+reply_bytes (Forward line bytes) = bytes
+reply_bytes (Waits leader) = []
+reply_bytes Ended = []

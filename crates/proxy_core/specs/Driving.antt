@@ -1,19 +1,22 @@
 -- A core that is driven by its public calls, whoever calls them and in whatever order: `Core::new`
 -- begins it, each accepted `arrive`, `answer`, `fail`, `wake` and `abandon` is a step.
 --
--- HasRun: the steps that led to a core     KeepsThePromises: what is then so     PromisesOfADrivenCore: the statement
+-- CoreWentThrough: the steps that led to a core
+-- KeepsThePromises: what is then so
+-- PromisesOfADrivenCore: the statement
 use Rattle.std.specs.Prelude.{◌≡◌, ℕ, List, [], ◌∷◌}
-use Rattle.hx_allow.specs.Lines.{Table}
-use Rattle.proxy_core.specs.State.{State, Steps}
-use Rattle.proxy_core.specs.Traces.{Item, begun}
+use Rattle.hx_allow.specs.TableLines.{Table}
+use Rattle.proxy_core.specs.State.{State, StepIsAccepted}
+use Rattle.proxy_core.specs.Traces.{Item, initial_state}
 use Rattle.proxy_core.specs.Histories.{IsGoodHistory, held_entries, open_exchanges, next_serial}
 use Rattle.proxy_core.specs.Headline.{Headline}
 
 -- the core was begun, and went through these steps, the latest first
-abbrev pub HasRun : Table → ℕ → ℕ → List Item → State → Type 0
-HasRun table limit first [] core = core ≡ begun table limit first
-HasRun table limit first (item ∷ past) core =
-    (before : State) × HasRun table limit first past before × Steps before item.event item.outcome core
+abbrev pub CoreWentThrough : Table → ℕ → ℕ → List Item → State → Type 0
+CoreWentThrough table limit first [] core = core ≡ initial_state table limit first
+CoreWentThrough table limit first (item ∷ past) core =
+    (before : State) × CoreWentThrough table limit first past before
+    × StepIsAccepted before item.event item.outcome core
 
 -- its trace is good, and has the headline; the core has the table and the room that it began with,
 -- and what is held, open and next after it
@@ -28,4 +31,4 @@ pub record KeepsThePromises (table : Table) (limit first : ℕ) (trace : List It
 
 abbrev pub PromisesOfADrivenCore : Type 0
 PromisesOfADrivenCore = (table : Table) (limit first : ℕ) (trace : List Item) (core : State) →
-    HasRun table limit first trace core → KeepsThePromises table limit first trace core
+    CoreWentThrough table limit first trace core → KeepsThePromises table limit first trace core

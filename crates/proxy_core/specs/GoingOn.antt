@@ -2,16 +2,18 @@
 -- exchange gives it, sends its request forward once more, or ends it. A trace has its latest item
 -- first.
 --
--- MayCome: the exchange is open, and in the stage of the event     AsksAgain, GoesOnBy: what follows an event
--- IsItsCondition: what a request carries to the origin              closes_by: whether the client's connection closes
+-- EventMayCome: the exchange is open, and in the stage of the event
+-- NeedsSecondForward, ExchangeGoesOnBy: what follows an event
+-- IsConditionOfEvent: what a request carries to the origin
+-- closes_by: whether the client's connection closes
 use Rattle.std.specs.Prelude.{◌≡◌, ◌⊎◌, ℕ, ◌<◌, true, List, Option, Some, None}
 use Rattle.hx_policy.specs.declared.words.Policy.{Policy}
 use Rattle.hx_fields.specs.declared.limits.TheConstants.{END_OF_TIME}
 use Rattle.hx_framing.specs.declared.messages.Response.{Response}
 use Rattle.hx_hop.specs.declared.request_view.Asked.{Asked}
-use Rattle.hx_allow.specs.Lines.{Table}
+use Rattle.hx_allow.specs.TableLines.{Table}
 use Rattle.hx_store.specs.Stored.{Stored}
-use Rattle.hx_reuse.specs.Meaning.{IsLeast, NamesTheResponse}
+use Rattle.hx_reuse.specs.ChosenAndNamed.{IsLeastReuseRule, RuleNamesTheResponse}
 use Rattle.hx_reuse.specs.declared.rule.ReuseRule.{ReuseRule}
 use Rattle.proxy_core.specs.declared.steps.condition.Condition.{Condition}
 use Rattle.proxy_core.specs.declared.open.exchange.Exchange.{Exchange}
@@ -21,60 +23,61 @@ use Rattle.proxy_core.specs.declared.outcome.Outcome.TheVariants.{Reply as Repli
 use Rattle.proxy_core.specs.declared.event.Event.{Event}
 use Rattle.proxy_core.specs.declared.event.Event.TheVariants.{Arrive, Answer, Fail, Wake, Abandon}
 use Rattle.proxy_core.specs.Leading.{is_forwarded, is_released}
-use Rattle.proxy_core.specs.Validating.{condition_at, is_validation}
+use Rattle.proxy_core.specs.Validating.{condition_about_serial, is_validation}
 use Rattle.proxy_core.specs.Outcomes.{forward_text}
-use Rattle.proxy_core.specs.Sending.{MayBeSentAt, GoesForward}
+use Rattle.proxy_core.specs.Sending.{StoredResponseMayBeSentAt, RequestGoesForward}
 
 -- A request arrives under an id that no open exchange has; an answer or a failure is of one that is
 -- at the origin; who waited is woken behind the end of the exchange that it waited for; any open
 -- one may be abandoned. Moments lie before the year 10000.
-abbrev pub MayCome : Option Exchange → Event → Type 0
-MayCome None (Arrive now id asked) = now < END_OF_TIME
-MayCome (Some x) (Answer now id r) = (now < END_OF_TIME) × (is_forwarded x.stage ≡ true)
-MayCome (Some x) (Fail now id kind) = (now < END_OF_TIME) × (is_forwarded x.stage ≡ true)
-MayCome (Some x) (Wake now id) = (now < END_OF_TIME) × (is_released x.stage ≡ true)
-MayCome (Some x) (Abandon id) = Unit {0}
-MayCome (Some x) (Arrive now id asked) = ⊥
-MayCome None (Answer now id r) = ⊥
-MayCome None (Fail now id kind) = ⊥
-MayCome None (Wake now id) = ⊥
-MayCome None (Abandon id) = ⊥
+abbrev pub EventMayCome : Option Exchange → Event → Type 0
+EventMayCome None (Arrive now id asked) = now < END_OF_TIME
+EventMayCome (Some x) (Answer now id r) = (now < END_OF_TIME) × (is_forwarded x.stage ≡ true)
+EventMayCome (Some x) (Fail now id kind) = (now < END_OF_TIME) × (is_forwarded x.stage ≡ true)
+EventMayCome (Some x) (Wake now id) = (now < END_OF_TIME) × (is_released x.stage ≡ true)
+EventMayCome (Some x) (Abandon id) = Unit {0}
+EventMayCome (Some x) (Arrive now id asked) = ⊥
+EventMayCome None (Answer now id r) = ⊥
+EventMayCome None (Fail now id kind) = ⊥
+EventMayCome None (Wake now id) = ⊥
+EventMayCome None (Abandon id) = ⊥
 
 -- the answer is a 304 to the proxy's own conditions, and there is no stored response to send for it
-abbrev pub AsksAgain : Table → List Stored → Exchange → ℕ → ℕ → Response → Type 0
-AsksAgain table held x now id r =
-    (is_validation x r ≡ true) × ((s : ℕ) → MayBeSentAt table held (Some x) (Answer now id r) s → ⊥)
+abbrev pub NeedsSecondForward : Table → List Stored → Exchange → ℕ → ℕ → Response → Type 0
+NeedsSecondForward table held x now id r =
+    (is_validation x r ≡ true) × ((s : ℕ) → StoredResponseMayBeSentAt table held (Some x) (Answer now id r) s → ⊥)
 
-abbrev pub IsReply : Outcome → Type 0
-IsReply outcome = (reply : Reply) × (outcome ≡ Replied reply)
+abbrev pub IsClientReply : Outcome → Type 0
+IsClientReply outcome = (reply : Reply) × (outcome ≡ Replied reply)
 
--- Behind an arrival (`IsReached` and `IsTurnedAway` say what that gives) an answer gives the client
+-- Behind an arrival (`RequestReachesCacheOrOrigin` and `RequestIsTurnedAway` say what that gives) an answer gives the
+-- client
 -- its reply, unless the client's own request has to go forward without the proxy's conditions; a
 -- failure gives it its reply; a wake does, or sends the request forward by the rule that stands
 -- now; and a client that went away ends its exchange.
-abbrev pub GoesOnBy : Table → List Stored → Option Exchange → Event → Outcome → Type 0
-GoesOnBy table held x (Arrive now id asked) outcome = Unit {0}
-GoesOnBy table held (Some x) (Answer now id r) outcome =
-    (AsksAgain table held x now id r → outcome ≡ Forward x.line (forward_text table x.asked None))
-    × ((AsksAgain table held x now id r → ⊥) → IsReply outcome)
-GoesOnBy table held (Some x) (Fail now id kind) outcome = IsReply outcome
-GoesOnBy table held (Some x) (Wake now id) outcome =
-    IsReply outcome ⊎ ((rule : ReuseRule) × GoesForward table held x.asked now x.line rule outcome)
-GoesOnBy table held None (Answer now id r) outcome = ⊥
-GoesOnBy table held None (Fail now id kind) outcome = ⊥
-GoesOnBy table held None (Wake now id) outcome = ⊥
-GoesOnBy table held x (Abandon id) outcome = outcome ≡ Ended
+abbrev pub ExchangeGoesOnBy : Table → List Stored → Option Exchange → Event → Outcome → Type 0
+ExchangeGoesOnBy table held x (Arrive now id asked) outcome = Unit {0}
+ExchangeGoesOnBy table held (Some x) (Answer now id r) outcome =
+    (NeedsSecondForward table held x now id r → outcome ≡ Forward x.line (forward_text table x.asked None))
+    × ((NeedsSecondForward table held x now id r → ⊥) → IsClientReply outcome)
+ExchangeGoesOnBy table held (Some x) (Fail now id kind) outcome = IsClientReply outcome
+ExchangeGoesOnBy table held (Some x) (Wake now id) outcome =
+    IsClientReply outcome ⊎ ((rule : ReuseRule) × RequestGoesForward table held x.asked now x.line rule outcome)
+ExchangeGoesOnBy table held None (Answer now id r) outcome = ⊥
+ExchangeGoesOnBy table held None (Fail now id kind) outcome = ⊥
+ExchangeGoesOnBy table held None (Wake now id) outcome = ⊥
+ExchangeGoesOnBy table held x (Abandon id) outcome = outcome ≡ Ended
 
 -- What a request carries beside its client's own fields: where it is judged, which is at its
 -- arrival or its wake, the conditions about the response that the least rule is on; behind a 304
 -- that answered none, nothing.
-abbrev pub IsItsCondition : Policy → List Stored → Asked → Event → Option Condition → Type 0
-IsItsCondition policy held asked (Arrive now id other) condition =
-    (rule : ReuseRule) × (against : Option ℕ) × IsLeast policy held asked now rule
-    × NamesTheResponse held asked rule against × (condition ≡ condition_at held against)
-IsItsCondition policy held asked (Wake now id) condition =
-    (rule : ReuseRule) × (against : Option ℕ) × IsLeast policy held asked now rule
-    × NamesTheResponse held asked rule against × (condition ≡ condition_at held against)
-IsItsCondition policy held asked (Answer now id r) condition = condition ≡ None
-IsItsCondition policy held asked (Fail now id kind) condition = ⊥
-IsItsCondition policy held asked (Abandon id) condition = ⊥
+abbrev pub IsConditionOfEvent : Policy → List Stored → Asked → Event → Option Condition → Type 0
+IsConditionOfEvent policy held asked (Arrive now id other) condition =
+    (rule : ReuseRule) × (against : Option ℕ) × IsLeastReuseRule policy held asked now rule
+    × RuleNamesTheResponse held asked rule against × (condition ≡ condition_about_serial held against)
+IsConditionOfEvent policy held asked (Wake now id) condition =
+    (rule : ReuseRule) × (against : Option ℕ) × IsLeastReuseRule policy held asked now rule
+    × RuleNamesTheResponse held asked rule against × (condition ≡ condition_about_serial held against)
+IsConditionOfEvent policy held asked (Answer now id r) condition = condition ≡ None
+IsConditionOfEvent policy held asked (Fail now id kind) condition = ⊥
+IsConditionOfEvent policy held asked (Abandon id) condition = ⊥

@@ -1,17 +1,17 @@
 -- Which open exchange others wait for, and which may be woken.
 --
--- can_wait: by this rule a request may wait                 leads: others that go by it wait for this exchange
--- leader: the first of these to arrive                     leader_for: the one that a request waits for
+-- can_wait: by this rule a request may wait                 leads_waiters: others that go by it wait for this exchange
+-- leader: the first of these to arrive                     leader_of_request: the one that a request waits for
 -- waits_for: an exchange waits for another
 -- ready_ids: the exchanges that may be woken, in the order of arrival
--- NoneLeads, IsFirstToLead: the same in words
+-- NoExchangeLeads, IsFirstLeader: the same in words
 use Rattle.std.specs.Prelude.{◌≡◌, ℕ, ◌==◌, ◌&&◌, ◌||◌, not, Bool, true, false, List, [], ◌∷◌, ◌++◌, Option, Some, None}
 use Rattle.std.specs.Prelude.{cond, bytes_eq, codes}
 use Rattle.std.specs.List.{AllByRecursion}
-use Rattle.hx_fields.specs.Lines.{has as has_line}
+use Rattle.hx_fields.specs.FieldLines.{has_field as has_line}
 use Rattle.hx_policy.specs.declared.words.Policy.{Policy}
 use Rattle.hx_directives.specs.Occurrences.{occurrences_of}
-use Rattle.hx_directives.specs.Answers.{has as has_directive}
+use Rattle.hx_directives.specs.Answers.{directive_occurs as has_directive}
 use Rattle.hx_directives.specs.declared.names.Directive.TheVariants.{NoStore}
 use Rattle.hx_target.specs.declared.keys.Key.{Key}
 use Rattle.hx_target.specs.Keys.{same_key}
@@ -67,34 +67,36 @@ abbrev pub can_wait : Policy → ReuseRule → Bool
 can_wait policy rule = is_uri_miss rule || (policy.waits_for_stale && has_expired rule)
 
 -- for the same reason: nothing was held for either, or what was held was stale for both
-abbrev pub goes_alike : ReuseRule → ReuseRule → Bool
-goes_alike rule other = (is_uri_miss rule && is_uri_miss other) || (has_expired rule && has_expired other)
+abbrev pub goes_forward_for_same_reason : ReuseRule → ReuseRule → Bool
+goes_forward_for_same_reason rule other = (is_uri_miss rule && is_uri_miss other) ||
+    (has_expired rule && has_expired other)
 
 -- Nothing in the request keeps what it is answered for itself: neither no-store nor Authorization
 -- (RFC 9111, sections 5.2.1.5 and 3.5). Of Authorization that is more than the rule, since nobody
 -- knows yet whether the answer will be public.
-abbrev pub is_for_others : Asked → Bool
-is_for_others asked =
+abbrev pub may_be_answered_for_others : Asked → Bool
+may_be_answered_for_others asked =
     not (has_directive (occurrences_of asked.fields) NoStore) && not (has_line asked.fields (codes "Authorization"))
 
 -- whom a line that lets requests wait for what is stale sends others behind: one whose answer may be for others
-abbrev pub may_lead : Policy → Bool → Bool
-may_lead policy for_others = not policy.waits_for_stale || for_others
+abbrev pub may_lead_waiters : Policy → Bool → Bool
+may_lead_waiters policy for_others = not policy.waits_for_stale || for_others
 
 -- a GET for the key went forward for that reason, isn't answered yet, and those of this line wait for it
-abbrev pub leads : Policy → ReuseRule → Key → Exchange → Bool
-leads policy rule key x =
+abbrev pub leads_waiters : Policy → ReuseRule → Key → Exchange → Bool
+leads_waiters policy rule key x =
     same_key x.asked.target.key key
-    && (is_get x.asked && (goes_alike x.rule rule && (is_forwarded x.stage && may_lead policy x.for_others)))
+    && (is_get x.asked && (goes_forward_for_same_reason x.rule rule &&
+    (is_forwarded x.stage && may_lead_waiters policy x.for_others)))
 
 -- of those the first to arrive
 abbrev pub leader : Policy → ReuseRule → Key → List Exchange → Option ℕ
 leader policy rule key [] = None
-leader policy rule key (x ∷ xs) = cond (leads policy rule key x) (Some x.id) (leader policy rule key xs)
+leader policy rule key (x ∷ xs) = cond (leads_waiters policy rule key x) (Some x.id) (leader policy rule key xs)
 
 -- a GET waits where its rule lets it, and one that is open leads. The policy is that of the line that allows it.
-abbrev pub leader_for : Policy → List Exchange → Asked → ReuseRule → Option ℕ
-leader_for policy xs asked rule =
+abbrev pub leader_of_request : Policy → List Exchange → Asked → ReuseRule → Option ℕ
+leader_of_request policy xs asked rule =
     cond (is_get asked && can_wait policy rule) (leader policy rule asked.target.key xs) None
 
 -- the ids of the exchanges that may be woken, in the order of arrival
@@ -103,17 +105,17 @@ ready_ids [] = []
 ready_ids (x ∷ xs) = cond (is_released x.stage) (x.id ∷ ready_ids xs) (ready_ids xs)
 
 -- none of these leads
-abbrev pub NoneLeads : Policy → ReuseRule → Key → List Exchange → Type 0
-NoneLeads policy rule key xs = AllByRecursion (λ (x : Exchange). leads policy rule key x ≡ false) xs
+abbrev pub NoExchangeLeads : Policy → ReuseRule → Key → List Exchange → Type 0
+NoExchangeLeads policy rule key xs = AllByRecursion (λ (x : Exchange). leads_waiters policy rule key x ≡ false) xs
 
 -- of the open exchanges, which stand in the order of arrival, the first GET of this key that went
 -- forward for this reason
-pub record IsFirstToLead (policy : Policy) (rule : ReuseRule) (key : Key) (xs : List Exchange)
+pub record IsFirstLeader (policy : Policy) (rule : ReuseRule) (key : Key) (xs : List Exchange)
     (leader : ℕ) : Type 0 where
   pub before : List Exchange
   pub x : Exchange
   pub behind : List Exchange
   pub open_are : xs ≡ before ++ x ∷ behind
   pub id : x.id ≡ leader
-  pub it_leads : leads policy rule key x ≡ true
-  pub none_before : NoneLeads policy rule key before
+  pub it_leads : leads_waiters policy rule key x ≡ true
+  pub none_before : NoExchangeLeads policy rule key before

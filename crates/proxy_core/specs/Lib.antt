@@ -9,7 +9,7 @@ pub mod Traces
 pub mod Histories
 pub mod Promises
 pub mod Carrying
-pub mod Meaning
+pub mod TraceMeaning
 pub mod Waiting
 pub mod Naming
 pub mod Sending
@@ -24,7 +24,7 @@ pub mod Validating
 pub mod Waiters
 pub mod Releases
 pub mod Gets
-pub mod Kept
+pub mod ExchangeIndexes
 pub mod Cases
 pub mod WrongTraces
 pub mod ReadAnswers

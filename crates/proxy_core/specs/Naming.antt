@@ -1,24 +1,25 @@
 -- What an answer names that isn't a stored response: the first rule against one (RFC 9111, section
 -- 4; RFC 5861, section 4; RFC 9211).
 --
--- NamesAtArrival: the line of the table that denies, that none allows, or the rule where only-if-cached stands
--- NamesOnError: why nothing is sent in place of an error
--- NamesItsRule: of an answer that is passed on, the one it has kept
--- NamesFirst: of an item                                          NamesFirstRules: of each item of a good trace
+-- AnswerAtArrivalNames: the line of the table that denies, that none allows, or the rule where only-if-cached stands
+-- AnswerAfterFailureNames: why nothing is sent in place of an error
+-- PassedAnswerNamesItsRule: of an answer that is passed on, the one it has kept
+-- AnswerNamesFirstRule: of an item
+-- EachOtherAnswerNamesTheFirstRule: of each item of a good trace
 use Rattle.std.specs.Prelude.{◌≡◌, ◌⊎◌, ℕ, true, false, List, ◌∷◌, Option, Some, None, is_some}
 use Rattle.hx_policy.specs.declared.words.Policy.{Policy}
 use Rattle.hx_directives.specs.Occurrences.{occurrences_of}
 use Rattle.hx_framing.specs.declared.messages.Response.{Response}
 use Rattle.hx_hop.specs.declared.request_view.Asked.{Asked}
 use Rattle.hx_hop.specs.Moments.{date_text_of}
-use Rattle.hx_allow.specs.Lines.{Table}
+use Rattle.hx_allow.specs.TableLines.{Table}
 use Rattle.hx_allow.specs.Matching.{verdict_of, policy_of}
 use Rattle.hx_allow.specs.declared.verdicts.Verdict.TheVariants.{Allowed, DeniedBy, NoLine as Unmatched}
 use Rattle.hx_store.specs.Stored.{Stored}
 use Rattle.hx_reuse.specs.Chosen.{chosen_of}
-use Rattle.hx_reuse.specs.Rules.{names_entry}
-use Rattle.hx_reuse.specs.Meaning.{IsLeast}
-use Rattle.hx_reuse.specs.OnError.{IsLeastOnError}
+use Rattle.hx_reuse.specs.Rules.{names_chosen}
+use Rattle.hx_reuse.specs.ChosenAndNamed.{IsLeastReuseRule}
+use Rattle.hx_reuse.specs.OnError.{IsLeastErrorRule}
 use Rattle.hx_reuse.specs.declared.rule.ReuseRule.{ReuseRule}
 use Rattle.hx_reuse.specs.declared.rule.ErrorRule.{ErrorRule}
 use Rattle.hx_status.specs.declared.cause.FailKind.{FailKind}
@@ -29,77 +30,81 @@ use Rattle.proxy_core.specs.declared.outcome.Outcome.{Outcome}
 use Rattle.proxy_core.specs.declared.outcome.Outcome.TheVariants.{Reply, Forward, Waits, Ended}
 use Rattle.proxy_core.specs.declared.event.Event.{Event}
 use Rattle.proxy_core.specs.declared.event.Event.TheVariants.{Arrive, Answer, Fail, Wake, Abandon}
-use Rattle.proxy_core.specs.Replies.{passed_text, refused_text, is_head}
-use Rattle.proxy_core.specs.Storing.{is_unasked, rule_shown}
-use Rattle.proxy_core.specs.Outcomes.{find_exchange, id_of, is_only_if_cached}
+use Rattle.proxy_core.specs.Replies.{passed_answer_text, refusal_reply_text, is_head}
+use Rattle.proxy_core.specs.Storing.{is_304_without_condition, storing_rule_to_explain}
+use Rattle.proxy_core.specs.Outcomes.{find_exchange, exchange_id_of_event, is_only_if_cached}
 use Rattle.proxy_core.specs.Traces.{Item}
 use Rattle.proxy_core.specs.Histories.{held_entries, open_exchanges, next_serial, IsGoodHistory}
-use Rattle.proxy_core.specs.Promises.{sends_nothing_held}
-use Rattle.proxy_core.specs.Carrying.{LeastWhenJudged}
+use Rattle.proxy_core.specs.Promises.{reply_uses_no_stored_response}
+use Rattle.proxy_core.specs.Carrying.{RuleWasLeastWhenJudged}
 
 -- To a request that arrives the proxy answers by itself alone: the line of the table that denies
 -- it; that none matches; or the least reuse rule that stands, where the request takes no response
 -- but a stored one.
-abbrev pub NamesAtArrival : Table → List Stored → ℕ → Asked → List ℕ → Type 0
-NamesAtArrival table held now asked bytes =
+abbrev pub AnswerAtArrivalNames : Table → List Stored → ℕ → Asked → List ℕ → Type 0
+AnswerAtArrivalNames table held now asked bytes =
     ((line : ℕ) × (verdict_of table.lines asked.method asked.target ≡ DeniedBy line)
-    × (bytes ≡ refused_text (date_text_of now) (Denied line) asked.close (is_head asked)))
+    × (bytes ≡ refusal_reply_text (date_text_of now) (Denied line) asked.close (is_head asked)))
     ⊎ (((verdict_of table.lines asked.method asked.target ≡ Unmatched)
-    × (bytes ≡ refused_text (date_text_of now) NoLine asked.close (is_head asked)))
+    × (bytes ≡ refusal_reply_text (date_text_of now) NoLine asked.close (is_head asked)))
     ⊎ ((line : ℕ) × (rule : ReuseRule) × (verdict_of table.lines asked.method asked.target ≡ Allowed line)
-    × (is_only_if_cached asked ≡ true) × IsLeast (policy_of table.lines line) held asked now rule
-    × (bytes ≡ refused_text (date_text_of now) (OnlyIfCached rule) asked.close (is_head asked))))
+    × (is_only_if_cached asked ≡ true) × IsLeastReuseRule (policy_of table.lines line) held asked now rule
+    × (bytes ≡ refusal_reply_text (date_text_of now) (OnlyIfCached rule) asked.close (is_head asked))))
 
 -- beside a reuse rule against the chosen response: the least rule against sending it in place of an error
-abbrev pub NamesErrorRule : Policy → List Stored → ℕ → Asked → ReuseRule → Option ErrorRule → Type 0
-NamesErrorRule policy held now asked rule error =
-    ((names_entry rule ≡ false) × (error ≡ None))
-    ⊎ ((names_entry rule ≡ true) × ((response : Stored) × (least : ErrorRule) × (chosen_of held asked ≡ Some response)
-    × IsLeastOnError policy response (occurrences_of asked.fields) now least × (error ≡ Some least)))
+abbrev pub AnswerNamesErrorRule : Policy → List Stored → ℕ → Asked → ReuseRule → Option ErrorRule → Type 0
+AnswerNamesErrorRule policy held now asked rule error =
+    ((names_chosen rule ≡ false) × (error ≡ None))
+    ⊎ ((names_chosen rule ≡ true) × ((response : Stored) × (least : ErrorRule) × (chosen_of held asked ≡ Some response)
+    × IsLeastErrorRule policy response (occurrences_of asked.fields) now least × (error ≡ Some least)))
 
 -- after a failure: its kind, the least reuse rule that stands now, and that rule
-abbrev pub NamesOnError : Table → List Stored → ℕ → Exchange → FailKind → List ℕ → Type 0
-NamesOnError table held now x kind bytes =
-    (rule : ReuseRule) × (error : Option ErrorRule) × IsLeast (policy_of table.lines x.line) held x.asked now rule
-    × NamesErrorRule (policy_of table.lines x.line) held now x.asked rule error
-    × (bytes ≡ refused_text (date_text_of now) (Origin kind rule error) x.asked.close (is_head x.asked))
+abbrev pub AnswerAfterFailureNames : Table → List Stored → ℕ → Exchange → FailKind → List ℕ → Type 0
+AnswerAfterFailureNames table held now x kind bytes =
+    (rule : ReuseRule) ×
+    (error : Option ErrorRule) × IsLeastReuseRule (policy_of table.lines x.line) held x.asked now rule
+    × AnswerNamesErrorRule (policy_of table.lines x.line) held now x.asked rule error
+    × (bytes ≡ refusal_reply_text (date_text_of now) (Origin kind rule error) x.asked.close (is_head x.asked))
 
 -- an answer that is passed on: the least rule that stood when its request was judged, at its
 -- arrival or when it was woken, which its exchange has kept, in Cache-Status; and where its line
 -- tells it the first storing rule against it, by the next serial
-abbrev pub NamesItsRule : Table → ℕ → List Item → Option ℕ → ℕ → Exchange → Response → List ℕ → Option ℕ → Type 0
-NamesItsRule table limit past next now x r bytes stored =
-    LeastWhenJudged table limit x past × (bytes
-    ≡ passed_text (policy_of table.lines x.line) table.name x r now (is_some stored) (rule_shown table x r now next))
+abbrev pub PassedAnswerNamesItsRule : Table → ℕ → List Item → Option ℕ → ℕ → Exchange → Response → List ℕ → Option ℕ
+    → Type 0
+PassedAnswerNamesItsRule table limit past next now x r bytes stored =
+    RuleWasLeastWhenJudged table limit x past × (bytes
+    ≡ passed_answer_text
+    (policy_of table.lines x.line) table.name x r now (is_some stored) (storing_rule_to_explain table x r now next))
 
 -- by its event and the exchange that it is of; a 304 that nobody asked for is a failure
-abbrev pub NamesByEvent : Table → ℕ → List Item → Option ℕ → Option Exchange → Event → List ℕ → Option ℕ → Type 0
-NamesByEvent table limit past next x (Arrive now id asked) bytes stored =
-    NamesAtArrival table (held_entries table limit past) now asked bytes
-NamesByEvent table limit past next (Some x) (Answer now id r) bytes stored =
-    ((is_unasked x.asked r ≡ false) × NamesItsRule table limit past next now x r bytes stored)
-    ⊎ ((is_unasked x.asked r ≡ true) × NamesOnError table (held_entries table limit past) now x BadAnswer bytes)
-NamesByEvent table limit past next (Some x) (Fail now id kind) bytes stored =
-    NamesOnError table (held_entries table limit past) now x kind bytes
-NamesByEvent table limit past next (Some x) (Wake now id) bytes stored = ⊥
-NamesByEvent table limit past next None (Answer now id r) bytes stored = ⊥
-NamesByEvent table limit past next None (Fail now id kind) bytes stored = ⊥
-NamesByEvent table limit past next None (Wake now id) bytes stored = ⊥
-NamesByEvent table limit past next x (Abandon id) bytes stored = ⊥
+abbrev pub AnswerNamesByEvent : Table → ℕ → List Item → Option ℕ → Option Exchange → Event → List ℕ → Option ℕ → Type 0
+AnswerNamesByEvent table limit past next x (Arrive now id asked) bytes stored =
+    AnswerAtArrivalNames table (held_entries table limit past) now asked bytes
+AnswerNamesByEvent table limit past next (Some x) (Answer now id r) bytes stored =
+    ((is_304_without_condition x.asked r ≡ false) × PassedAnswerNamesItsRule table limit past next now x r bytes stored)
+    ⊎ ((is_304_without_condition x.asked r ≡ true) × AnswerAfterFailureNames table
+    (held_entries table limit past) now x BadAnswer bytes)
+AnswerNamesByEvent table limit past next (Some x) (Fail now id kind) bytes stored =
+    AnswerAfterFailureNames table (held_entries table limit past) now x kind bytes
+AnswerNamesByEvent table limit past next (Some x) (Wake now id) bytes stored = ⊥
+AnswerNamesByEvent table limit past next None (Answer now id r) bytes stored = ⊥
+AnswerNamesByEvent table limit past next None (Fail now id kind) bytes stored = ⊥
+AnswerNamesByEvent table limit past next None (Wake now id) bytes stored = ⊥
+AnswerNamesByEvent table limit past next x (Abandon id) bytes stored = ⊥
 
 -- an item whose reply is no stored response, behind those before it
-abbrev pub NamesFirst : Table → ℕ → List Item → Option ℕ → Option Exchange → Event → Outcome → Type 0
-NamesFirst table limit past next x event (Reply r) =
-    sends_nothing_held (Reply r) ≡ true → NamesByEvent table limit past next x event r.bytes r.stored
-NamesFirst table limit past next x event (Forward line bytes) = Unit {0}
-NamesFirst table limit past next x event (Waits leader) = Unit {0}
-NamesFirst table limit past next x event Ended = Unit {0}
+abbrev pub AnswerNamesFirstRule : Table → ℕ → List Item → Option ℕ → Option Exchange → Event → Outcome → Type 0
+AnswerNamesFirstRule table limit past next x event (Reply r) =
+    reply_uses_no_stored_response (Reply r) ≡ true → AnswerNamesByEvent table limit past next x event r.bytes r.stored
+AnswerNamesFirstRule table limit past next x event (Forward line bytes) = Unit {0}
+AnswerNamesFirstRule table limit past next x event (Waits leader) = Unit {0}
+AnswerNamesFirstRule table limit past next x event Ended = Unit {0}
 
 -- ---- the statement
 
 -- Each answer that isn't a stored response names the first rule against one, over what was held and open before it.
-abbrev pub NamesFirstRules : Type 0
-NamesFirstRules =
+abbrev pub EachOtherAnswerNamesTheFirstRule : Type 0
+EachOtherAnswerNamesTheFirstRule =
     (table : Table) (limit first : ℕ) (item : Item) (past : List Item) → IsGoodHistory table limit first (item ∷ past) →
-    NamesFirst table limit past (next_serial first past)
-    (find_exchange (id_of item.event) (open_exchanges table limit past)) item.event item.outcome
+    AnswerNamesFirstRule table limit past (next_serial first past)
+    (find_exchange (exchange_id_of_event item.event) (open_exchanges table limit past)) item.event item.outcome

@@ -1,14 +1,14 @@
 -- A reply that was made, and what it will do to the store.
 --
--- reply_of: the outcome that it is      entries_by: the held responses that it leaves
--- finished: the core that it leaves     Leaves: it leaves what the step leaves
+-- outcome_of_pending_reply: the outcome that it is      entries_after_change: the held responses that it leaves
+-- state_after_reply: the core that it leaves     ReplyLeavesHeldAsStepDoes: it leaves what the step leaves
 use Rattle.std.specs.Prelude.{◌≡◌, ℕ, Bool, true, false, List, [], ◌∷◌, take, Option, Some, None}
 use Rattle.std.specs.Option.{ForSome}
 use Rattle.hx_framing.specs.declared.messages.Response.{Response}
 use Rattle.hx_target.specs.declared.keys.Key.{Key}
 use Rattle.hx_target.specs.Keys.{same_key}
 use Rattle.hx_store.specs.Stored.{Stored}
-use Rattle.hx_store.specs.Shelf.{holds, find_entry, without, promoted}
+use Rattle.hx_store.specs.Shelf.{holds_serial, find_entry, without_serials, with_promoted}
 use Rattle.proxy_core.specs.declared.open.exchange.Exchange.{Exchange}
 use Rattle.proxy_core.specs.declared.outcome.Outcome.{Outcome}
 use Rattle.proxy_core.specs.declared.outcome.Outcome.TheVariants.{Reply, Forward}
@@ -18,120 +18,124 @@ use Rattle.proxy_core.specs.declared.replies.pending.AfterAnswer.TheVariants.{En
 use Rattle.proxy_core.specs.declared.replies.pending.Change.{Change}
 use Rattle.proxy_core.specs.declared.replies.pending.Change.TheVariants.{Keep, Use, Freshen, Remove, Store}
 use Rattle.proxy_core.specs.declared.replies.pending.PendingReply.{PendingReply}
-use Rattle.proxy_core.specs.State.{State, taken, left_open, next_after, entries_after}
-use Rattle.proxy_core.specs.Storing.{made}
+use Rattle.proxy_core.specs.State.{State, entries_without_serials, exchanges_after_end, next_serial_after}
+use Rattle.proxy_core.specs.State.{entries_after}
+use Rattle.proxy_core.specs.Storing.{stored_response_made}
 
 -- the serial that is stored
-abbrev pub stored_by : Change → Option ℕ
-stored_by Keep = None
-stored_by (Use serial) = None
-stored_by (Freshen e) = None
-stored_by (Remove serial) = None
-stored_by (Store e) = Some e.serial
+abbrev pub serial_stored_by_change : Change → Option ℕ
+serial_stored_by_change Keep = None
+serial_stored_by_change (Use serial) = None
+serial_stored_by_change (Freshen e) = None
+serial_stored_by_change (Remove serial) = None
+serial_stored_by_change (Store e) = Some e.serial
 
 -- the serial that was sent
-abbrev pub used_by : Change → Option ℕ
-used_by Keep = None
-used_by (Use serial) = Some serial
-used_by (Freshen e) = Some e.serial
-used_by (Remove serial) = Some serial
-used_by (Store e) = None
+abbrev pub serial_used_by_change : Change → Option ℕ
+serial_used_by_change Keep = None
+serial_used_by_change (Use serial) = Some serial
+serial_used_by_change (Freshen e) = Some e.serial
+serial_used_by_change (Remove serial) = Some serial
+serial_used_by_change (Store e) = None
 
-abbrev pub reply_of : PendingReply → Outcome
-reply_of p = Reply (record {
+abbrev pub outcome_of_pending_reply : PendingReply → Outcome
+outcome_of_pending_reply p = Reply (record {
   bytes = p.bytes;
   close = p.close;
-  stored = stored_by p.change;
-  used = used_by p.change;
+  stored = serial_stored_by_change p.change;
+  used = serial_used_by_change p.change;
   removed = p.removed;
 })
 
 -- the held responses after a change, and after these serials are gone
-abbrev pub entries_by : ℕ → List ℕ → Change → List Stored → List Stored
-entries_by limit removed Keep es = taken removed es
-entries_by limit removed (Use serial) es = taken removed (promoted serial es)
-entries_by limit removed (Freshen e) es = taken removed (e ∷ without (e.serial ∷ []) es)
-entries_by limit removed (Remove serial) es = taken removed (without (serial ∷ []) es)
-entries_by limit removed (Store e) es = take limit (e ∷ without removed es)
+abbrev pub entries_after_change : ℕ → List ℕ → Change → List Stored → List Stored
+entries_after_change limit removed Keep es = entries_without_serials removed es
+entries_after_change limit removed (Use serial) es = entries_without_serials removed (with_promoted serial es)
+entries_after_change limit removed (Freshen e) es = entries_without_serials removed
+    (e ∷ without_serials (e.serial ∷ []) es)
+entries_after_change limit removed (Remove serial) es = entries_without_serials removed
+    (without_serials (serial ∷ []) es)
+entries_after_change limit removed (Store e) es = take limit (e ∷ without_serials removed es)
 
 -- the core after a pending reply by which the exchange of this id ends, and by which this key may be invalidated
-abbrev pub finished : State → ℕ → PendingReply → Option Key → State
-finished s id p invalidated = record {
+abbrev pub state_after_reply : State → ℕ → PendingReply → Option Key → State
+state_after_reply s id p invalidated = record {
   table = s.table;
   limit = s.limit;
-  entries = entries_by s.limit p.removed p.change s.entries;
-  exchanges = left_open invalidated id s.exchanges;
-  next = next_after s.next (stored_by p.change);
+  entries = entries_after_change s.limit p.removed p.change s.entries;
+  exchanges = exchanges_after_end invalidated id s.exchanges;
+  next = next_serial_after s.next (serial_stored_by_change p.change);
 }
 
 -- what is stored has the next serial
-abbrev pub IsNext : Option ℕ → Change → Type 0
-IsNext next Keep = Unit {0}
-IsNext next (Use serial) = Unit {0}
-IsNext next (Freshen e) = Unit {0}
-IsNext next (Remove serial) = Unit {0}
-IsNext next (Store e) = next ≡ Some e.serial
+abbrev pub StoresUnderNextSerial : Option ℕ → Change → Type 0
+StoresUnderNextSerial next Keep = Unit {0}
+StoresUnderNextSerial next (Use serial) = Unit {0}
+StoresUnderNextSerial next (Freshen e) = Unit {0}
+StoresUnderNextSerial next (Remove serial) = Unit {0}
+StoresUnderNextSerial next (Store e) = next ≡ Some e.serial
 
 -- and isn'p held yet
-abbrev pub IsNew : Change → List Stored → Type 0
-IsNew Keep es = Unit {0}
-IsNew (Use serial) es = Unit {0}
-IsNew (Freshen e) es = Unit {0}
-IsNew (Remove serial) es = Unit {0}
-IsNew (Store e) es = holds e.serial es ≡ false
+abbrev pub StoresNewSerial : Change → List Stored → Type 0
+StoresNewSerial Keep es = Unit {0}
+StoresNewSerial (Use serial) es = Unit {0}
+StoresNewSerial (Freshen e) es = Unit {0}
+StoresNewSerial (Remove serial) es = Unit {0}
+StoresNewSerial (Store e) es = holds_serial e.serial es ≡ false
 
 -- what is freshened is held
-abbrev pub IsHeld : Change → List Stored → Type 0
-IsHeld Keep es = Unit {0}
-IsHeld (Use serial) es = Unit {0}
-IsHeld (Freshen e) es = (holds e.serial es ≡ true)
+abbrev pub FreshensHeldResponse : Change → List Stored → Type 0
+FreshensHeldResponse Keep es = Unit {0}
+FreshensHeldResponse (Use serial) es = Unit {0}
+FreshensHeldResponse (Freshen e) es = (holds_serial e.serial es ≡ true)
     × ForSome (find_entry e.serial es) (λ old. same_key old.key e.key ≡ true)
-IsHeld (Remove serial) es = Unit {0}
-IsHeld (Store e) es = Unit {0}
+FreshensHeldResponse (Remove serial) es = Unit {0}
+FreshensHeldResponse (Store e) es = Unit {0}
 
 -- a held response is sent as it is, or none is, and what is stored is what the answer to an exchange makes
-abbrev pub Makes : Exchange → Response → ℕ → Change → Type 0
-Makes x r now Keep = Unit {0}
-Makes x r now (Use serial) = Unit {0}
-Makes x r now (Freshen e) = ⊥
-Makes x r now (Remove serial) = ⊥
-Makes x r now (Store e) = e ≡ made e.serial x r now
+abbrev pub ChangeIsMadeByAnswer : Exchange → Response → ℕ → Change → Type 0
+ChangeIsMadeByAnswer x r now Keep = Unit {0}
+ChangeIsMadeByAnswer x r now (Use serial) = Unit {0}
+ChangeIsMadeByAnswer x r now (Freshen e) = ⊥
+ChangeIsMadeByAnswer x r now (Remove serial) = ⊥
+ChangeIsMadeByAnswer x r now (Store e) = e ≡ stored_response_made e.serial x r now
 
 -- a held response is sent as it is, or none is, and none is stored
-abbrev pub IsPlain : Change → Type 0
-IsPlain Keep = Unit {0}
-IsPlain (Use serial) = Unit {0}
-IsPlain (Freshen e) = ⊥
-IsPlain (Remove serial) = ⊥
-IsPlain (Store e) = ⊥
+abbrev pub ChangeStoresNothing : Change → Type 0
+ChangeStoresNothing Keep = Unit {0}
+ChangeStoresNothing (Use serial) = Unit {0}
+ChangeStoresNothing (Freshen e) = ⊥
+ChangeStoresNothing (Remove serial) = ⊥
+ChangeStoresNothing (Store e) = ⊥
 
 -- a pending reply leaves of the held responses what the step leaves of them
-abbrev pub Leaves : ℕ → List Stored → Exchange → Event → PendingReply → Type 0
-Leaves limit es x event p = entries_by limit p.removed p.change es ≡ entries_after limit es (Some x) event (reply_of p)
+abbrev pub ReplyLeavesHeldAsStepDoes : ℕ → List Stored → Exchange → Event → PendingReply → Type 0
+ReplyLeavesHeldAsStepDoes limit es x event p = entries_after_change limit p.removed p.change es
+    ≡ entries_after limit es (Some x) event (outcome_of_pending_reply p)
 
 -- the outcome of an answer: the exchange ends, or goes forward once more
 abbrev pub outcome_after : Exchange → AfterAnswer → Outcome
-outcome_after x (Ends p) = reply_of p
+outcome_after x (Ends p) = outcome_of_pending_reply p
 outcome_after x (GoesOn bytes) = Forward x.line bytes
 
 -- what an answer leaves where the exchange ends by it
-abbrev pub AfterLeaves : ℕ → List Stored → Exchange → Event → AfterAnswer → Type 0
-AfterLeaves limit es x event (Ends p) = Leaves limit es x event p
-AfterLeaves limit es x event (GoesOn bytes) = Unit {0}
+abbrev pub AnswerLeavesHeldAsStepDoes : ℕ → List Stored → Exchange → Event → AfterAnswer → Type 0
+AnswerLeavesHeldAsStepDoes limit es x event (Ends p) = ReplyLeavesHeldAsStepDoes limit es x event p
+AnswerLeavesHeldAsStepDoes limit es x event (GoesOn bytes) = Unit {0}
 
 -- what an answer stores has the next serial, and what it freshens is held
-abbrev pub AfterFits : Option ℕ → List Stored → AfterAnswer → Type 0
-AfterFits next es (Ends p) = IsNext next p.change × IsHeld p.change es
-AfterFits next es (GoesOn bytes) = Unit {0}
+abbrev pub AnswerChangeFits : Option ℕ → List Stored → AfterAnswer → Type 0
+AnswerChangeFits next es (Ends p) = StoresUnderNextSerial next p.change × FreshensHeldResponse p.change es
+AnswerChangeFits next es (GoesOn bytes) = Unit {0}
 
-abbrev pub IsPlainAfter : AfterAnswer → Type 0
-IsPlainAfter (Ends p) = IsPlain p.change
-IsPlainAfter (GoesOn bytes) = Unit {0}
+abbrev pub AnswerStoresNothing : AfterAnswer → Type 0
+AnswerStoresNothing (Ends p) = ChangeStoresNothing p.change
+AnswerStoresNothing (GoesOn bytes) = Unit {0}
 
 -- a freshened response is kept, or let go
-abbrev pub IsRefresh : Bool → Stored → Change → Type 0
-IsRefresh kept e Keep = ⊥
-IsRefresh kept e (Use serial) = ⊥
-IsRefresh kept e (Freshen f) = (f ≡ e) × (kept ≡ true)
-IsRefresh kept e (Remove serial) = (serial ≡ e.serial) × (kept ≡ false)
-IsRefresh kept e (Store f) = ⊥
+abbrev pub IsChangeAfterFreshening : Bool → Stored → Change → Type 0
+IsChangeAfterFreshening kept e Keep = ⊥
+IsChangeAfterFreshening kept e (Use serial) = ⊥
+IsChangeAfterFreshening kept e (Freshen f) = (f ≡ e) × (kept ≡ true)
+IsChangeAfterFreshening kept e (Remove serial) = (serial ≡ e.serial) × (kept ≡ false)
+IsChangeAfterFreshening kept e (Store f) = ⊥

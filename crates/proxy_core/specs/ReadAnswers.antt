@@ -1,7 +1,8 @@
 -- Answers that were read: each is one that the stream of an origin spells (RFC 9112, sections 4 and
 -- 6). A core takes any response; whoever drives it hands it those that were read.
 --
--- IsRead: a response that some stream spells     IsReadEvent: an event that is no answer, or a read one
+-- WasReadFromAStream: a response that some stream spells
+-- EventIsReadFromAStream: an event that is no answer, or a read one
 use Rattle.std.specs.Prelude.{ℕ, Bool, List}
 use Rattle.hx_framing.specs.declared.messages.Response.{Response}
 use Rattle.hx_framing.specs.Reading.{Spelled}
@@ -10,7 +11,7 @@ use Rattle.proxy_core.specs.declared.event.Event.{Event}
 use Rattle.proxy_core.specs.declared.event.Event.TheVariants.{Arrive, Answer, Fail, Wake, Abandon}
 
 -- within some limit, to a HEAD or not, a stream begins with this response
-pub record IsRead (response : Response) : Type 0 where
+pub record WasReadFromAStream (response : Response) : Type 0 where
   pub max_body : ℕ
   pub to_head : Bool
   pub ended : Bool
@@ -18,9 +19,9 @@ pub record IsRead (response : Response) : Type 0 where
   pub rest : List ℕ
   pub reads : Reads max_body to_head ended bytes (Spelled response rest)
 
-abbrev pub IsReadEvent : Event → Type 0
-IsReadEvent (Answer now id response) = IsRead response
-IsReadEvent (Arrive now id asked) = Unit {0}
-IsReadEvent (Fail now id kind) = Unit {0}
-IsReadEvent (Wake now id) = Unit {0}
-IsReadEvent (Abandon id) = Unit {0}
+abbrev pub EventIsReadFromAStream : Event → Type 0
+EventIsReadFromAStream (Answer now id response) = WasReadFromAStream response
+EventIsReadFromAStream (Arrive now id asked) = Unit {0}
+EventIsReadFromAStream (Fail now id kind) = Unit {0}
+EventIsReadFromAStream (Wake now id) = Unit {0}
+EventIsReadFromAStream (Abandon id) = Unit {0}

@@ -2,25 +2,26 @@
 -- of the RFCs, over what is held and open.
 --
 -- MayBeReused of hx_reuse: what RFC 9111 lets be sent
--- MayBeSentInstead: what RFC 5861 lets be sent in place of an error
--- MayBeSentAt: what may be sent at an event                IsThatResponse: what is sent is that response
--- GoesForward, WaitsForTheFirst: the two ways to an origin's answer
--- IsReached, IsTurnedAway: what becomes of a request that is allowed, and of one that isn't
+-- MayBeSentInsteadOfError: what RFC 5861 lets be sent in place of an error
+-- StoredResponseMayBeSentAt: what may be sent at an event
+-- ReplyIsThatStoredResponse: what is sent is that response
+-- RequestGoesForward, RequestWaitsForTheFirst: the two ways to an origin's answer
+-- RequestReachesCacheOrOrigin, RequestIsTurnedAway: what becomes of a request that is allowed, and of one that isn't
 -- Below them are the statements that the laws of `src/laws.rt` prove.
 use Rattle.std.specs.Prelude.{◌≡◌, ◌≢◌, ◌⊎◌, ℕ, ◌||◌, true, false, List, ◌∷◌, Option, Some, None, is_some}
 use Rattle.hx_policy.specs.declared.words.Policy.{Policy}
 use Rattle.hx_directives.specs.Occurrences.{occurrences_of}
 use Rattle.hx_framing.specs.declared.messages.Response.{Response}
 use Rattle.hx_hop.specs.declared.request_view.Asked.{Asked}
-use Rattle.hx_allow.specs.Lines.{Table}
+use Rattle.hx_allow.specs.TableLines.{Table}
 use Rattle.hx_allow.specs.Matching.{verdict_of, policy_of}
 use Rattle.hx_allow.specs.declared.verdicts.Verdict.TheVariants.{Allowed, DeniedBy, NoLine as Unmatched}
 use Rattle.hx_store.specs.Stored.{Stored}
 use Rattle.hx_store.specs.Shelf.{find_entry}
-use Rattle.hx_reuse.specs.Rules.{applies, names_entry}
-use Rattle.hx_reuse.specs.Meaning.{IsChosen, IsLeast, NamesTheResponse}
-use Rattle.hx_reuse.specs.Reusable.{MayBeReused}
-use Rattle.hx_reuse.specs.OnError.{MayBeSentOnError}
+use Rattle.hx_reuse.specs.Rules.{reuse_rule_applies, names_chosen}
+use Rattle.hx_reuse.specs.ChosenAndNamed.{ResponseIsChosen, IsLeastReuseRule, RuleNamesTheResponse}
+use Rattle.hx_reuse.specs.Reusable.{ResponseMayBeReused}
+use Rattle.hx_reuse.specs.OnError.{ResponseMayBeSentOnError}
 use Rattle.hx_reuse.specs.declared.rule.ReuseRule.{ReuseRule}
 use Rattle.hx_status.specs.declared.cause.Cause.TheVariants.{Denied, NoLine, OnlyIfCached}
 use Rattle.hx_status.specs.declared.status.Detail.{Detail}
@@ -32,138 +33,145 @@ use Rattle.proxy_core.specs.declared.outcome.Outcome.{Outcome}
 use Rattle.proxy_core.specs.declared.outcome.Outcome.TheVariants.{Reply as Replied, Forward, Waits}
 use Rattle.proxy_core.specs.declared.event.Event.{Event}
 use Rattle.proxy_core.specs.declared.event.Event.TheVariants.{Arrive, Answer, Fail, Wake, Abandon}
-use Rattle.proxy_core.specs.Storing.{is_unasked}
-use Rattle.proxy_core.specs.Validating.{condition_at, is_validation, validated}
+use Rattle.proxy_core.specs.Storing.{is_304_without_condition}
+use Rattle.proxy_core.specs.Validating.{condition_about_serial, is_validation, stored_response_validated}
 use Rattle.proxy_core.specs.Replies.{stored_text}
-use Rattle.proxy_core.specs.Outcomes.{find_exchange, id_of, is_only_if_cached, is_error_status, refused, forward_text}
-use Rattle.proxy_core.specs.Outcomes.{as_hit, forwarded_as, collapsed_as}
-use Rattle.proxy_core.specs.Leading.{is_get, can_wait, leader_for, NoneLeads, IsFirstToLead}
-use Rattle.proxy_core.specs.State.{used_in, used_form}
+use Rattle.proxy_core.specs.Outcomes.{find_exchange, exchange_id_of_event, is_only_if_cached, is_error_status}
+use Rattle.proxy_core.specs.Outcomes.{outcome_of_refusal, forward_text}
+use Rattle.proxy_core.specs.Outcomes.{hit_status_info, forwarded_status_info, collapsed_status_info}
+use Rattle.proxy_core.specs.Leading.{is_get, can_wait, leader_of_request, NoExchangeLeads, IsFirstLeader}
+use Rattle.proxy_core.specs.State.{serial_used_by_outcome, stored_response_as_used}
 use Rattle.proxy_core.specs.Traces.{Item}
 use Rattle.proxy_core.specs.Histories.{held_entries, open_exchanges, IsGoodHistory}
 
 -- the serial is that of the held response that may be sent without asking the origin (RFC 9111, section 4)
-abbrev pub IsReusable : Policy → List Stored → Asked → ℕ → ℕ → Type 0
-IsReusable policy held asked now s =
-    (response : Stored) × MayBeReused policy held asked now response × (response.serial ≡ s)
+abbrev pub StoredResponseIsReusable : Policy → List Stored → Asked → ℕ → ℕ → Type 0
+StoredResponseIsReusable policy held asked now s =
+    (response : Stored) × ResponseMayBeReused policy held asked now response × (response.serial ≡ s)
 
 -- In place of an error: the operator lets the request be answered from the store, the response is
 -- the chosen one, no rule stands by which the operator, the request or what is held has no response
 -- to send, and RFC 5861, section 4 lets it be sent.
-pub record MayBeSentInstead (policy : Policy) (held : List Stored) (asked : Asked) (now : ℕ)
+pub record MayBeSentInsteadOfError (policy : Policy) (held : List Stored) (asked : Asked) (now : ℕ)
     (response : Stored) : Type 0 where
   pub operator_allows : policy.caches ≡ true
-  pub is_chosen : IsChosen held asked response
-  pub is_for_the_cache : (rule : ReuseRule) → names_entry rule ≡ false → applies rule policy held asked now ≡ false
-  pub may_be_sent : MayBeSentOnError policy response (occurrences_of asked.fields) now
+  pub is_chosen : ResponseIsChosen held asked response
+  pub is_for_the_cache : (rule : ReuseRule)
+      → names_chosen rule ≡ false → reuse_rule_applies rule policy held asked now ≡ false
+  pub may_be_sent : ResponseMayBeSentOnError policy response (occurrences_of asked.fields) now
 
 -- after a failure or an error: one that may be sent anyway, or in place of the error
-abbrev pub IsFallback : Policy → List Stored → Asked → ℕ → ℕ → Type 0
-IsFallback policy held asked now s =
-    IsReusable policy held asked now s
-    ⊎ ((response : Stored) × MayBeSentInstead policy held asked now response × (response.serial ≡ s))
+abbrev pub IsStoredFallback : Policy → List Stored → Asked → ℕ → ℕ → Type 0
+IsStoredFallback policy held asked now s =
+    StoredResponseIsReusable policy held asked now s
+    ⊎ ((response : Stored) × MayBeSentInsteadOfError policy held asked now response × (response.serial ≡ s))
 
 -- At an event, of an exchange that is open, the response of this serial may be sent: at an arrival
 -- that the table allows; at a 304 to the proxy's conditions, the one that it answers, or where it
 -- answers none one that may be sent anyway; at a 304 that nobody asked for, a 500, 502, 503 or 504,
 -- and at a failure; and to a request that waited, when it is woken.
-abbrev pub MayBeSentAt : Table → List Stored → Option Exchange → Event → ℕ → Type 0
-MayBeSentAt table held x (Arrive now id asked) s =
+abbrev pub StoredResponseMayBeSentAt : Table → List Stored → Option Exchange → Event → ℕ → Type 0
+StoredResponseMayBeSentAt table held x (Arrive now id asked) s =
     (line : ℕ) × (verdict_of table.lines asked.method asked.target ≡ Allowed line)
-    × IsReusable (policy_of table.lines line) held asked now s
-MayBeSentAt table held (Some x) (Answer now id r) s =
-    ((is_validation x r ≡ true) × ((e : Stored) × (validated held x r now ≡ Some e) × (e.serial ≡ s)))
-    ⊎ (((is_validation x r ≡ true) × (validated held x r now ≡ None)
-    × IsReusable (policy_of table.lines x.line) held x.asked now s)
-    ⊎ ((is_validation x r ≡ false) × ((is_unasked x.asked r || is_error_status r.status) ≡ true)
-    × IsFallback (policy_of table.lines x.line) held x.asked now s))
-MayBeSentAt table held (Some x) (Fail now id kind) s = IsFallback (policy_of table.lines x.line) held x.asked now s
-MayBeSentAt table held (Some x) (Wake now id) s = IsReusable (policy_of table.lines x.line) held x.asked now s
-MayBeSentAt table held None (Answer now id r) s = ⊥
-MayBeSentAt table held None (Fail now id kind) s = ⊥
-MayBeSentAt table held None (Wake now id) s = ⊥
-MayBeSentAt table held x (Abandon id) s = ⊥
+    × StoredResponseIsReusable (policy_of table.lines line) held asked now s
+StoredResponseMayBeSentAt table held (Some x) (Answer now id r) s =
+    ((is_validation x r ≡ true) × ((e : Stored) × (stored_response_validated held x r now ≡ Some e) × (e.serial ≡ s)))
+    ⊎ (((is_validation x r ≡ true) × (stored_response_validated held x r now ≡ None)
+    × StoredResponseIsReusable (policy_of table.lines x.line) held x.asked now s)
+    ⊎ ((is_validation x r ≡ false) × ((is_304_without_condition x.asked r || is_error_status r.status) ≡ true)
+    × IsStoredFallback (policy_of table.lines x.line) held x.asked now s))
+StoredResponseMayBeSentAt table held (Some x) (Fail now id kind) s = IsStoredFallback
+    (policy_of table.lines x.line) held x.asked now s
+StoredResponseMayBeSentAt table held (Some x) (Wake now id) s = StoredResponseIsReusable
+    (policy_of table.lines x.line) held x.asked now s
+StoredResponseMayBeSentAt table held None (Answer now id r) s = ⊥
+StoredResponseMayBeSentAt table held None (Fail now id kind) s = ⊥
+StoredResponseMayBeSentAt table held None (Wake now id) s = ⊥
+StoredResponseMayBeSentAt table held x (Abandon id) s = ⊥
 
 -- ---- an item
 
 -- By the least rule against a stored response a request goes to the origin of a line: its own text,
 -- with conditions where the rule is on a response that has a validator, about that one (RFC 9111,
 -- section 4.3.1).
-pub record GoesForward (table : Table) (held : List Stored) (asked : Asked) (now line : ℕ) (rule : ReuseRule)
+pub record RequestGoesForward (table : Table) (held : List Stored) (asked : Asked) (now line : ℕ) (rule : ReuseRule)
     (outcome : Outcome) : Type 0 where
-  pub is_least : IsLeast (policy_of table.lines line) held asked now rule
+  pub is_least : IsLeastReuseRule (policy_of table.lines line) held asked now rule
   pub against : Option ℕ
-  pub names : NamesTheResponse held asked rule against
-  pub outcome_is : outcome ≡ Forward line (forward_text table asked (condition_at held against))
+  pub names : RuleNamesTheResponse held asked rule against
+  pub outcome_is : outcome ≡ Forward line (forward_text table asked (condition_about_serial held against))
 
 -- a GET that may wait goes forward only where no other is at the origin for its reason
-abbrev pub NobodyLeads : Policy → List Exchange → Asked → ReuseRule → Type 0
-NobodyLeads policy xs asked rule =
-    is_get asked ≡ true → can_wait policy rule ≡ true → NoneLeads policy rule asked.target.key xs
+abbrev pub NoLeaderIsOpen : Policy → List Exchange → Asked → ReuseRule → Type 0
+NoLeaderIsOpen policy xs asked rule =
+    is_get asked ≡ true → can_wait policy rule ≡ true → NoExchangeLeads policy rule asked.target.key xs
 
 -- A GET for whose key nothing is held, or by the word of its line one for which what is held is
 -- stale, and that takes an answer of the origin, waits for the first to arrive of those that are at
 -- the origin for that reason (RFC 9111, section 4: collapsed requests).
-pub record WaitsForTheFirst (table : Table) (held : List Stored) (xs : List Exchange) (now : ℕ) (asked : Asked)
+pub record RequestWaitsForTheFirst (table : Table) (held : List Stored) (xs : List Exchange) (now : ℕ) (asked : Asked)
     (line : ℕ) (outcome : Outcome) : Type 0 where
   pub leader : ℕ
   pub takes_others : is_only_if_cached asked ≡ false
   pub gets : is_get asked ≡ true
   pub rule : ReuseRule
-  pub rule_is_least : IsLeast (policy_of table.lines line) held asked now rule
+  pub rule_is_least : IsLeastReuseRule (policy_of table.lines line) held asked now rule
   pub may_wait : can_wait (policy_of table.lines line) rule ≡ true
-  pub first_leads : IsFirstToLead (policy_of table.lines line) rule asked.target.key xs leader
+  pub first_leads : IsFirstLeader (policy_of table.lines line) rule asked.target.key xs leader
   pub outcome_is : outcome ≡ Waits leader
 
 -- A request that is allowed reaches the cache, which sends a stored response, or the origin of that
 -- line; or it waits for the answer to another request for its target; or it takes no response but a
 -- stored one, and is told the rule against that.
-abbrev pub IsReached : Table → List Stored → List Exchange → ℕ → Asked → ℕ → Outcome → Type 0
-IsReached table held xs now asked line outcome =
-    ((s : ℕ) × (used_in outcome ≡ Some s))
-    ⊎ (((rule : ReuseRule) × GoesForward table held asked now line rule outcome × (is_only_if_cached asked ≡ false)
-    × NobodyLeads (policy_of table.lines line) xs asked rule)
-    ⊎ (WaitsForTheFirst table held xs now asked line outcome
-    ⊎ ((rule : ReuseRule) × (is_only_if_cached asked ≡ true) × IsLeast (policy_of table.lines line) held asked now rule
-    × (outcome ≡ refused now (OnlyIfCached rule) asked))))
+abbrev pub RequestReachesCacheOrOrigin : Table → List Stored → List Exchange → ℕ → Asked → ℕ → Outcome → Type 0
+RequestReachesCacheOrOrigin table held xs now asked line outcome =
+    ((s : ℕ) × (serial_used_by_outcome outcome ≡ Some s))
+    ⊎ (((rule : ReuseRule)
+    × RequestGoesForward table held asked now line rule outcome × (is_only_if_cached asked ≡ false)
+    × NoLeaderIsOpen (policy_of table.lines line) xs asked rule)
+    ⊎ (RequestWaitsForTheFirst table held xs now asked line outcome
+    ⊎ ((rule : ReuseRule) × (is_only_if_cached asked ≡ true) × IsLeastReuseRule
+    (policy_of table.lines line) held asked now rule
+    × (outcome ≡ outcome_of_refusal now (OnlyIfCached rule) asked))))
 
 -- any other is turned away, by the line that denies it or because none matches
-abbrev pub IsTurnedAway : Table → ℕ → Asked → Outcome → Type 0
-IsTurnedAway table now asked outcome =
+abbrev pub RequestIsTurnedAway : Table → ℕ → Asked → Outcome → Type 0
+RequestIsTurnedAway table now asked outcome =
     ((line : ℕ) × (verdict_of table.lines asked.method asked.target ≡ DeniedBy line)
-    × (outcome ≡ refused now (Denied line) asked))
-    ⊎ ((verdict_of table.lines asked.method asked.target ≡ Unmatched) × (outcome ≡ refused now NoLine asked))
+    × (outcome ≡ outcome_of_refusal now (Denied line) asked))
+    ⊎ ((verdict_of table.lines asked.method asked.target ≡ Unmatched) × (outcome ≡ outcome_of_refusal now NoLine asked))
 
 -- The word of one that is sent in place of an error: it may be sent anyway, or in that place alone.
-abbrev pub WordAfterError : Policy → List Stored → Asked → ℕ → ℕ → Option Detail → Type 0
-WordAfterError policy held asked now s detail =
-    (IsReusable policy held asked now s → detail ≡ Some ReuseAfterError)
-    × ((IsReusable policy held asked now s → ⊥) → detail ≡ Some StaleIfError)
+abbrev pub DetailWordAfterError : Policy → List Stored → Asked → ℕ → ℕ → Option Detail → Type 0
+DetailWordAfterError policy held asked now s detail =
+    (StoredResponseIsReusable policy held asked now s → detail ≡ Some ReuseAfterError)
+    × ((StoredResponseIsReusable policy held asked now s → ⊥) → detail ≡ Some StaleIfError)
 
 -- The word of one that is sent at an answer: none where the 304 answers it; else that the 304
 -- answered none, or that of an error.
-abbrev pub WordAtAnswer : Policy → List Stored → Exchange → ℕ → Response → ℕ → Option Detail → Type 0
-WordAtAnswer policy held x now r s detail =
-    (is_some (validated held x r now) ≡ true → detail ≡ None)
-    × (is_validation x r ≡ true → validated held x r now ≡ None → detail ≡ Some ReuseAfter304)
-    × (is_validation x r ≡ false → WordAfterError policy held x.asked now s detail)
+abbrev pub DetailWordAtAnswer : Policy → List Stored → Exchange → ℕ → Response → ℕ → Option Detail → Type 0
+DetailWordAtAnswer policy held x now r s detail =
+    (is_some (stored_response_validated held x r now) ≡ true → detail ≡ None)
+    × (is_validation x r ≡ true → stored_response_validated held x r now ≡ None → detail ≡ Some ReuseAfter304)
+    × (is_validation x r ≡ false → DetailWordAfterError policy held x.asked now s detail)
 
 -- what Cache-Status tells of a stored response (RFC 9211): a hit, or why the request had gone
 -- forward, what came, and the word of the step
-abbrev pub ShowsHow : Table → List Stored → Option Exchange → Event → ℕ → CacheStatusInfo → Type 0
-ShowsHow table held x (Arrive now id asked) s h = (line : ℕ)
-    × (verdict_of table.lines asked.method asked.target ≡ Allowed line) × (h ≡ as_hit (policy_of table.lines line))
-ShowsHow table held (Some x) (Answer now id r) s h = (detail : Option Detail)
-    × (h ≡ forwarded_as (policy_of table.lines x.line) x (Some r.status) detail)
-    × WordAtAnswer (policy_of table.lines x.line) held x now r s detail
-ShowsHow table held (Some x) (Fail now id kind) s h = (detail : Option Detail)
-    × (h ≡ forwarded_as (policy_of table.lines x.line) x None detail)
-    × WordAfterError (policy_of table.lines x.line) held x.asked now s detail
-ShowsHow table held (Some x) (Wake now id) s h = h ≡ collapsed_as (policy_of table.lines x.line) x
-ShowsHow table held None (Answer now id r) s h = ⊥
-ShowsHow table held None (Fail now id kind) s h = ⊥
-ShowsHow table held None (Wake now id) s h = ⊥
-ShowsHow table held x (Abandon id) s h = ⊥
+abbrev pub CacheStatusShowsHow : Table → List Stored → Option Exchange → Event → ℕ → CacheStatusInfo → Type 0
+CacheStatusShowsHow table held x (Arrive now id asked) s h = (line : ℕ)
+    × (verdict_of table.lines asked.method asked.target ≡ Allowed line) ×
+    (h ≡ hit_status_info (policy_of table.lines line))
+CacheStatusShowsHow table held (Some x) (Answer now id r) s h = (detail : Option Detail)
+    × (h ≡ forwarded_status_info (policy_of table.lines x.line) x (Some r.status) detail)
+    × DetailWordAtAnswer (policy_of table.lines x.line) held x now r s detail
+CacheStatusShowsHow table held (Some x) (Fail now id kind) s h = (detail : Option Detail)
+    × (h ≡ forwarded_status_info (policy_of table.lines x.line) x None detail)
+    × DetailWordAfterError (policy_of table.lines x.line) held x.asked now s detail
+CacheStatusShowsHow table held (Some x) (Wake now id) s h = h ≡ collapsed_status_info (policy_of table.lines x.line) x
+CacheStatusShowsHow table held None (Answer now id r) s h = ⊥
+CacheStatusShowsHow table held None (Fail now id kind) s h = ⊥
+CacheStatusShowsHow table held None (Wake now id) s h = ⊥
+CacheStatusShowsHow table held x (Abandon id) s h = ⊥
 
 -- the moment of an event, and the request that it is about
 abbrev pub IsAbout : Option Exchange → Event → ℕ → Asked → Type 0
@@ -178,7 +186,8 @@ IsAbout x (Abandon id) now asked = ⊥
 
 -- What is sent is the held response of this serial, freshened where the 304 answers it: its
 -- content, its head, or its 304 to the client's own conditions, by what `stored_text` says.
-pub record IsThatResponse (table : Table) (held : List Stored) (x : Option Exchange) (event : Event) (outcome : Outcome)
+pub record ReplyIsThatStoredResponse (table : Table) (held : List Stored) (x : Option Exchange) (event : Event)
+    (outcome : Outcome)
     (s : ℕ) : Type 0 where
   pub response : Stored
   pub is_held : find_entry s held ≡ Some response
@@ -186,68 +195,71 @@ pub record IsThatResponse (table : Table) (held : List Stored) (x : Option Excha
   pub asked : Asked
   pub about : IsAbout x event now asked
   pub info : CacheStatusInfo
-  pub shows_how : ShowsHow table held x event s info
+  pub shows_how : CacheStatusShowsHow table held x event s info
   pub reply : Reply
   pub outcome_is : outcome ≡ Replied reply
-  pub bytes_are : reply.bytes ≡ stored_text table.name (used_form x event response) now info asked
+  pub bytes_are : reply.bytes ≡ stored_text table.name (stored_response_as_used x event response) now info asked
 
 -- ---- the statements
 
 -- A stored response is sent exactly where one is held that may be.
-abbrev pub SendsStoredWhereItMay : Type 0
-SendsStoredWhereItMay = (table : Table) (limit first s : ℕ) (item : Item) (past : List Item)
+abbrev pub StoredResponseIsSentWhereItMayBe : Type 0
+StoredResponseIsSentWhereItMayBe = (table : Table) (limit first s : ℕ) (item : Item) (past : List Item)
     → IsGoodHistory table limit first (item ∷ past) →
-    MayBeSentAt table (held_entries table limit past)
-    (find_exchange (id_of item.event) (open_exchanges table limit past)) item.event s → used_in item.outcome ≡ Some s
+    StoredResponseMayBeSentAt table (held_entries table limit past)
+    (find_exchange (exchange_id_of_event item.event) (open_exchanges table limit past)) item.event s
+    → serial_used_by_outcome item.outcome ≡ Some s
 
-abbrev pub SendsStoredNowhereElse : Type 0
-SendsStoredNowhereElse = (table : Table) (limit first s : ℕ) (item : Item) (past : List Item)
+abbrev pub StoredResponseIsSentNowhereElse : Type 0
+StoredResponseIsSentNowhereElse = (table : Table) (limit first s : ℕ) (item : Item) (past : List Item)
     → IsGoodHistory table limit first (item ∷ past) →
-    used_in item.outcome ≡ Some s → MayBeSentAt table (held_entries table limit past)
-    (find_exchange (id_of item.event) (open_exchanges table limit past)) item.event s
+    serial_used_by_outcome item.outcome ≡ Some s → StoredResponseMayBeSentAt table (held_entries table limit past)
+    (find_exchange (exchange_id_of_event item.event) (open_exchanges table limit past)) item.event s
 
 -- A request that arrives goes to the origin of a line exactly where that is the table's first line
 -- that matches and it allows, a rule stands against a stored response, the request takes others
 -- too, and there is none for whose answer it waits.
-abbrev pub ForwardsWhereAllowed : Type 0
-ForwardsWhereAllowed =
+abbrev pub RequestIsForwardedWhereAllowed : Type 0
+RequestIsForwardedWhereAllowed =
     (table : Table) (limit first now id line : ℕ) (asked : Asked) (rule : ReuseRule) (item : Item) (past : List Item) →
     IsGoodHistory table limit first (item ∷ past) → item.event ≡ Arrive now id asked →
     verdict_of table.lines asked.method asked.target ≡ Allowed line
-    → IsLeast (policy_of table.lines line) (held_entries table limit past) asked now rule
+    → IsLeastReuseRule (policy_of table.lines line) (held_entries table limit past) asked now rule
     → is_only_if_cached asked ≡ false →
-    leader_for (policy_of table.lines line) (open_exchanges table limit past) asked rule ≡ None →
+    leader_of_request (policy_of table.lines line) (open_exchanges table limit past) asked rule ≡ None →
     (bytes : List ℕ) × (item.outcome ≡ Forward line bytes)
 
-abbrev pub ForwardsNowhereElse : Type 0
-ForwardsNowhereElse =
+abbrev pub RequestIsForwardedNowhereElse : Type 0
+RequestIsForwardedNowhereElse =
     (table : Table) (limit first now id line : ℕ) (asked : Asked) (bytes : List ℕ) (item : Item) (past : List Item) →
     IsGoodHistory table limit first (item ∷ past) → item.event ≡ Arrive now id asked
     → item.outcome ≡ Forward line bytes →
     (verdict_of table.lines asked.method asked.target ≡ Allowed line)
-    × ((rule : ReuseRule) × IsLeast (policy_of table.lines line) (held_entries table limit past) asked now rule
-    × (leader_for (policy_of table.lines line) (open_exchanges table limit past) asked rule ≡ None))
+    × ((rule : ReuseRule) × IsLeastReuseRule (policy_of table.lines line) (held_entries table limit past) asked now rule
+    × (leader_of_request (policy_of table.lines line) (open_exchanges table limit past) asked rule ≡ None))
     × (is_only_if_cached asked ≡ false)
 
 -- A request that the table allows reaches the cache, which sends a stored response, or the origin
 -- of that line; or it waits for the answer to another; or it takes no response but a stored one,
 -- and is told the rule against that.
-abbrev pub ReachesWhereAllowed : Type 0
-ReachesWhereAllowed = (table : Table) (limit first now id line : ℕ) (asked : Asked) (item : Item) (past : List Item) →
+abbrev pub AllowedRequestReachesCacheOrOrigin : Type 0
+AllowedRequestReachesCacheOrOrigin = (table : Table) (limit first now id line : ℕ) (asked : Asked) (item : Item)
+    (past : List Item) →
     IsGoodHistory table limit first (item ∷ past) → item.event ≡ Arrive now id asked →
     verdict_of table.lines asked.method asked.target ≡ Allowed line
-    → IsReached table (held_entries table limit past) (open_exchanges table limit past) now asked line item.outcome
+    → RequestReachesCacheOrOrigin table (held_entries table limit past)
+    (open_exchanges table limit past) now asked line item.outcome
 
 -- Any other is refused, by the line that denies it or because none matches.
-abbrev pub RefusesWhereNotAllowed : Type 0
-RefusesWhereNotAllowed = (table : Table) (limit first now id : ℕ) (asked : Asked) (item : Item) (past : List Item) →
+abbrev pub OtherRequestIsRefused : Type 0
+OtherRequestIsRefused = (table : Table) (limit first now id : ℕ) (asked : Asked) (item : Item) (past : List Item) →
     IsGoodHistory table limit first (item ∷ past) → item.event ≡ Arrive now id asked →
     ((line : ℕ) → verdict_of table.lines asked.method asked.target ≢ Allowed line)
-    → IsTurnedAway table now asked item.outcome
+    → RequestIsTurnedAway table now asked item.outcome
 
 -- and what is sent is that response
 abbrev pub SendsWhatIsHeld : Type 0
 SendsWhatIsHeld = (table : Table) (limit first s : ℕ) (item : Item) (past : List Item)
-    → IsGoodHistory table limit first (item ∷ past) → used_in item.outcome ≡ Some s →
-    IsThatResponse table (held_entries table limit past)
-    (find_exchange (id_of item.event) (open_exchanges table limit past)) item.event item.outcome s
+    → IsGoodHistory table limit first (item ∷ past) → serial_used_by_outcome item.outcome ≡ Some s →
+    ReplyIsThatStoredResponse table (held_entries table limit past)
+    (find_exchange (exchange_id_of_event item.event) (open_exchanges table limit past)) item.event item.outcome s

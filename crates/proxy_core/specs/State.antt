@@ -1,19 +1,21 @@
 -- What an event with its outcome leaves of the core.
 --
--- State: what contracts see of a core     left_open: the exchanges that an end leaves     after: what a step leaves
--- Steps: a step that was done             Refuses: one that wasn't
+-- State: what contracts see of a core
+-- exchanges_after_end: the exchanges that an end leaves
+-- state_after: what a step leaves
+-- StepIsAccepted: a step that was done             StepIsRefusedWith: one that wasn't
 use Rattle.std.specs.Prelude.{◌≡◌, ◌⊎◌, ℕ, ◌+◌, ◌^◌, ◌≤◌, ◌==◌, nat_lt, not, true, false, List, [], ◌∷◌, ◌++◌, take}
 use Rattle.std.specs.Prelude.{filter, map, Option, Some, None, option_map, cond}
 use Rattle.hx_target.specs.declared.keys.Key.{Key}
 use Rattle.hx_target.specs.Keys.{same_key}
 use Rattle.hx_framing.specs.declared.messages.Response.{Response}
 use Rattle.hx_hop.specs.declared.request_view.Asked.{Asked}
-use Rattle.hx_allow.specs.Lines.{Table}
+use Rattle.hx_allow.specs.TableLines.{Table}
 use Rattle.hx_allow.specs.Matching.{verdict_of, policy_of}
 use Rattle.hx_allow.specs.declared.verdicts.Verdict.{Verdict}
 use Rattle.hx_allow.specs.declared.verdicts.Verdict.TheVariants as verdict
 use Rattle.hx_store.specs.Stored.{Stored}
-use Rattle.hx_store.specs.Shelf.{holds, find_entry, without, in_front}
+use Rattle.hx_store.specs.Shelf.{holds_serial, find_entry, without_serials, with_in_front}
 use Rattle.hx_reuse.specs.Rules.{decision_of}
 use Rattle.hx_reuse.specs.declared.decision.Decision.{Decision}
 use Rattle.hx_reuse.specs.declared.decision.Decision.TheVariants as decision
@@ -26,12 +28,12 @@ use Rattle.proxy_core.specs.declared.outcome.Outcome.{Outcome}
 use Rattle.proxy_core.specs.declared.outcome.Outcome.TheVariants.{Reply, Forward, Waits, Ended}
 use Rattle.proxy_core.specs.declared.event.Event.{Event}
 use Rattle.proxy_core.specs.declared.event.Event.TheVariants.{Arrive, Answer, Fail, Wake, Abandon}
-use Rattle.proxy_core.specs.declared.fault.CoreFault.{CoreFault}
-use Rattle.proxy_core.specs.declared.fault.CoreFault.TheVariants.{OutOfMemory}
-use Rattle.proxy_core.specs.Leading.{waits_for, is_for_others}
-use Rattle.proxy_core.specs.Outcomes.{find_exchange, id_of, outcome_by, fault_by}
-use Rattle.proxy_core.specs.Storing.{made, key_invalidated}
-use Rattle.proxy_core.specs.Validating.{condition_at, is_answered, refreshed}
+use Rattle.proxy_core.specs.declared.core_fault.CoreFault.{CoreFault}
+use Rattle.proxy_core.specs.declared.core_fault.CoreFault.TheVariants.{OutOfMemory}
+use Rattle.proxy_core.specs.Leading.{waits_for, may_be_answered_for_others}
+use Rattle.proxy_core.specs.Outcomes.{find_exchange, exchange_id_of_event, outcome_of_event, step_fault}
+use Rattle.proxy_core.specs.Storing.{stored_response_made, key_invalidated}
+use Rattle.proxy_core.specs.Validating.{condition_about_serial, stored_response_is_answered, freshened_by_304}
 
 -- the operator's table, the most responses that are held, those held, the latest stored or used first, the open
 -- exchanges in the order of arrival, and the next serial if one is left
@@ -42,199 +44,211 @@ pub record State : Type 0 where
   pub exchanges : List Exchange
   pub next : Option ℕ
 
-abbrev pub stored_in : Outcome → Option ℕ
-stored_in (Reply r) = r.stored
-stored_in (Forward line bytes) = None
-stored_in (Waits leader) = None
-stored_in Ended = None
+abbrev pub serial_stored_by_outcome : Outcome → Option ℕ
+serial_stored_by_outcome (Reply r) = r.stored
+serial_stored_by_outcome (Forward line bytes) = None
+serial_stored_by_outcome (Waits leader) = None
+serial_stored_by_outcome Ended = None
 
-abbrev pub used_in : Outcome → Option ℕ
-used_in (Reply r) = r.used
-used_in (Forward line bytes) = None
-used_in (Waits leader) = None
-used_in Ended = None
+abbrev pub serial_used_by_outcome : Outcome → Option ℕ
+serial_used_by_outcome (Reply r) = r.used
+serial_used_by_outcome (Forward line bytes) = None
+serial_used_by_outcome (Waits leader) = None
+serial_used_by_outcome Ended = None
 
-abbrev pub removed_in : Outcome → List ℕ
-removed_in (Reply r) = r.removed
-removed_in (Forward line bytes) = []
-removed_in (Waits leader) = []
-removed_in Ended = []
+abbrev pub serials_removed_by_outcome : Outcome → List ℕ
+serials_removed_by_outcome (Reply r) = r.removed
+serials_removed_by_outcome (Forward line bytes) = []
+serials_removed_by_outcome (Waits leader) = []
+serials_removed_by_outcome Ended = []
 
 -- what a step makes of a held response that it sends: one that a 304 answers is freshened
-abbrev pub used_form : Option Exchange → Event → Stored → Stored
-used_form (Some x) (Answer now id r) e = cond (is_answered x r now e) (refreshed x r now e) e
-used_form (Some x) (Arrive now id asked) e = e
-used_form (Some x) (Fail now id kind) e = e
-used_form (Some x) (Wake now id) e = e
-used_form (Some x) (Abandon id) e = e
-used_form None event e = e
+abbrev pub stored_response_as_used : Option Exchange → Event → Stored → Stored
+stored_response_as_used (Some x) (Answer now id r) e = cond (stored_response_is_answered x r now e)
+    (freshened_by_304 x r now e) e
+stored_response_as_used (Some x) (Arrive now id asked) e = e
+stored_response_as_used (Some x) (Fail now id kind) e = e
+stored_response_as_used (Some x) (Wake now id) e = e
+stored_response_as_used (Some x) (Abandon id) e = e
+stored_response_as_used None event e = e
 
 -- what is used comes first
-abbrev pub used_list : Option Exchange → Event → Option ℕ → List Stored → List Stored
-used_list x event None es = es
-used_list x event (Some serial) es =
-    in_front (option_map (used_form x event) (find_entry serial es)) (without (serial ∷ []) es)
+abbrev pub entries_after_use : Option Exchange → Event → Option ℕ → List Stored → List Stored
+entries_after_use x event None es = es
+entries_after_use x event (Some serial) es =
+    with_in_front (option_map (stored_response_as_used x event) (find_entry serial es))
+    (without_serials (serial ∷ []) es)
 
 -- the response that an answer makes
-abbrev pub stored_form : Option Exchange → Event → ℕ → Option Stored
-stored_form (Some x) (Answer now id r) serial = Some (made serial x r now)
-stored_form (Some x) (Arrive now id asked) serial = None
-stored_form (Some x) (Fail now id kind) serial = None
-stored_form (Some x) (Wake now id) serial = None
-stored_form (Some x) (Abandon id) serial = None
-stored_form None event serial = None
+abbrev pub stored_response_by_answer : Option Exchange → Event → ℕ → Option Stored
+stored_response_by_answer (Some x) (Answer now id r) serial = Some (stored_response_made serial x r now)
+stored_response_by_answer (Some x) (Arrive now id asked) serial = None
+stored_response_by_answer (Some x) (Fail now id kind) serial = None
+stored_response_by_answer (Some x) (Wake now id) serial = None
+stored_response_by_answer (Some x) (Abandon id) serial = None
+stored_response_by_answer None event serial = None
 
-abbrev pub taken : List ℕ → List Stored → List Stored
-taken [] es = es
-taken (s ∷ gone) es = without (s ∷ gone) es
+abbrev pub entries_without_serials : List ℕ → List Stored → List Stored
+entries_without_serials [] es = es
+entries_without_serials (s ∷ gone) es = without_serials (s ∷ gone) es
 
 -- what is removed goes; what is stored comes first, and beyond the limit the last one goes
-abbrev pub stored_list : Option Exchange → Event → Option ℕ → List ℕ → ℕ → List Stored → List Stored
-stored_list x event None removed limit es = taken removed es
-stored_list x event (Some serial) removed limit es =
-    take limit (in_front (stored_form x event serial) (without removed es))
+abbrev pub entries_after_storing : Option Exchange → Event → Option ℕ → List ℕ → ℕ → List Stored → List Stored
+entries_after_storing x event None removed limit es = entries_without_serials removed es
+entries_after_storing x event (Some serial) removed limit es =
+    take limit (with_in_front (stored_response_by_answer x event serial) (without_serials removed es))
 
 abbrev pub entries_after : ℕ → List Stored → Option Exchange → Event → Outcome → List Stored
 entries_after limit es x event o =
-    stored_list x event (stored_in o) (removed_in o) limit (used_list x event (used_in o) es)
+    entries_after_storing x event (serial_stored_by_outcome o) (serials_removed_by_outcome o) limit
+    (entries_after_use x event (serial_used_by_outcome o) es)
 
 -- an exchange that waits for the one of this id waits no longer
-abbrev pub release : ℕ → Exchange → Exchange
-release id x = cond (waits_for id x.stage) (record x { stage = Released }) x
+abbrev pub released_exchange : ℕ → Exchange → Exchange
+released_exchange id x = cond (waits_for id x.stage) (record x { stage = Released }) x
 
 -- an exchange ends, and releases those that wait for it
-abbrev pub closed : ℕ → List Exchange → List Exchange
-closed id xs = map (release id) (filter (λ x. not (x.id == id)) xs)
+abbrev pub exchanges_after_close : ℕ → List Exchange → List Exchange
+exchanges_after_close id xs = map (released_exchange id) (filter (λ x. not (x.id == id)) xs)
 
 -- what an exchange of this key will be answered may be what an invalidation was to drop (RFC 9111, section 4.4)
-abbrev pub overtake : Key → Exchange → Exchange
-overtake key x = cond (same_key x.asked.target.key key) (record x { overtaken = true }) x
+abbrev pub overtaken_exchange : Key → Exchange → Exchange
+overtaken_exchange key x = cond (same_key x.asked.target.key key) (record x { overtaken = true }) x
 
 -- an exchange ends, by an answer that invalidates what is held for a key, or by one that doesn't
-abbrev pub left_open : Option Key → ℕ → List Exchange → List Exchange
-left_open None id xs = closed id xs
-left_open (Some key) id xs = map (overtake key) (closed id xs)
+abbrev pub exchanges_after_end : Option Key → ℕ → List Exchange → List Exchange
+exchanges_after_end None id xs = exchanges_after_close id xs
+exchanges_after_end (Some key) id xs = map (overtaken_exchange key) (exchanges_after_close id xs)
 
 -- the key that an answer to an exchange invalidates
-abbrev pub invalidated_by : Option Exchange → Response → Option Key
-invalidated_by None r = None
-invalidated_by (Some x) r = key_invalidated x r
+abbrev pub key_invalidated_by_response : Option Exchange → Response → Option Key
+key_invalidated_by_response None r = None
+key_invalidated_by_response (Some x) r = key_invalidated x r
 
 -- the rule that is kept of a decision
-abbrev pub rule_of : Decision → ReuseRule
-rule_of (decision.Hit serial) = UriMiss
-rule_of (decision.Forward rule against) = rule
+abbrev pub rule_of_decision : Decision → ReuseRule
+rule_of_decision (decision.Hit serial) = UriMiss
+rule_of_decision (decision.Forward rule against) = rule
 
 -- the serial that a rule names
-abbrev pub named_by : Decision → Option ℕ
-named_by (decision.Hit serial) = None
-named_by (decision.Forward rule against) = against
+abbrev pub serial_named_by_decision : Decision → Option ℕ
+serial_named_by_decision (decision.Hit serial) = None
+serial_named_by_decision (decision.Forward rule against) = against
 
-abbrev pub opened : Table → List Stored → ℕ → ℕ → Asked → ℕ → Exchange
-opened table es now id asked line = record {
+abbrev pub forwarded_exchange : Table → List Stored → ℕ → ℕ → Asked → ℕ → Exchange
+forwarded_exchange table es now id asked line = record {
   id = id;
   asked = asked;
   line = line;
-  rule = rule_of (decision_of (policy_of table.lines line) es asked now);
+  rule = rule_of_decision (decision_of (policy_of table.lines line) es asked now);
   request_time = now;
-  condition = condition_at es (named_by (decision_of (policy_of table.lines line) es asked now));
+  condition = condition_about_serial es
+      (serial_named_by_decision (decision_of (policy_of table.lines line) es asked now));
   overtaken = false;
-  for_others = is_for_others asked;
+  for_others = may_be_answered_for_others asked;
   stage = Forwarded;
 }
 
 -- the line by which the table allows a request
-abbrev pub line_of : Verdict → ℕ
-line_of (verdict.Allowed line) = line
-line_of (verdict.DeniedBy line) = line
-line_of verdict.NoLine = 0
+abbrev pub line_of_verdict : Verdict → ℕ
+line_of_verdict (verdict.Allowed line) = line
+line_of_verdict (verdict.DeniedBy line) = line
+line_of_verdict verdict.NoLine = 0
 
 -- the same of a request that waits for another's answer
-abbrev pub queued : Table → List Stored → ℕ → ℕ → Asked → ℕ → ℕ → Exchange
-queued table es now id asked line leader = record {
+abbrev pub waiting_exchange : Table → List Stored → ℕ → ℕ → Asked → ℕ → ℕ → Exchange
+waiting_exchange table es now id asked line leader = record {
   id = id;
   asked = asked;
   line = line;
-  rule = rule_of (decision_of (policy_of table.lines line) es asked now);
+  rule = rule_of_decision (decision_of (policy_of table.lines line) es asked now);
   request_time = now;
-  condition = condition_at es (named_by (decision_of (policy_of table.lines line) es asked now));
+  condition = condition_about_serial es
+      (serial_named_by_decision (decision_of (policy_of table.lines line) es asked now));
   overtaken = false;
-  for_others = is_for_others asked;
+  for_others = may_be_answered_for_others asked;
   stage = Waiting leader;
 }
 
 -- an exchange that opens, by the one that leads
-abbrev pub placed : Option ℕ → Exchange → Exchange
-placed None x = x
-placed (Some leader) x = record x { stage = Waiting leader }
+abbrev pub exchange_with_leader : Option ℕ → Exchange → Exchange
+exchange_with_leader None x = x
+exchange_with_leader (Some leader) x = record x { stage = Waiting leader }
 
 -- the request of an exchange goes forward at a moment, with this rule and these conditions of the proxy
-abbrev pub goes_out : ℕ → ReuseRule → Option Condition → Exchange → Exchange
-goes_out now rule condition x =
+abbrev pub exchange_gone_forward : ℕ → ReuseRule → Option Condition → Exchange → Exchange
+exchange_gone_forward now rule condition x =
     record x { rule = rule; request_time = now; condition = condition; overtaken = false; stage = Forwarded }
 
 -- that of an id does
-abbrev pub sent_out : ℕ → ℕ → ReuseRule → Option Condition → Exchange → Exchange
-sent_out id now rule condition x = cond (x.id == id) (goes_out now rule condition x) x
+abbrev pub exchange_sent_forward : ℕ → ℕ → ReuseRule → Option Condition → Exchange → Exchange
+exchange_sent_forward id now rule condition x = cond (x.id == id) (exchange_gone_forward now rule condition x) x
 
 -- that of an id goes forward once more: the client's own request, with the rule that it has
-abbrev pub gone_out : ℕ → ℕ → Exchange → Exchange
-gone_out id now x = cond (x.id == id) (goes_out now x.rule None x) x
+abbrev pub exchange_forwarded_again : ℕ → ℕ → Exchange → Exchange
+exchange_forwarded_again id now x = cond (x.id == id) (exchange_gone_forward now x.rule None x) x
 
 -- a request that waited goes forward by the rule that stands now, in its place among the others
-abbrev pub woken_out : Table → List Stored → ℕ → ℕ → Option Exchange → List Exchange → List Exchange
-woken_out table es id now None xs = xs
-woken_out table es id now (Some x) xs =
-    map (sent_out id now (rule_of (decision_of (policy_of table.lines x.line) es x.asked now))
-    (condition_at es (named_by (decision_of (policy_of table.lines x.line) es x.asked now)))) xs
+abbrev pub exchanges_after_wake : Table → List Stored → ℕ → ℕ → Option Exchange → List Exchange → List Exchange
+exchanges_after_wake table es id now None xs = xs
+exchanges_after_wake table es id now (Some x) xs =
+    map (exchange_sent_forward id now (rule_of_decision (decision_of (policy_of table.lines x.line) es x.asked now))
+    (condition_about_serial es (serial_named_by_decision (decision_of (policy_of table.lines x.line) es x.asked now))))
+    xs
 
 -- the open exchanges after an event, in the order of arrival
-abbrev pub open_after : Table → List Stored → List Exchange → Event → Outcome → List Exchange
-open_after table es xs (Arrive now id asked) (Forward line bytes) = xs ++ opened table es now id asked line ∷ []
-open_after table es xs (Arrive now id asked) (Waits leader) =
-    xs ++ queued table es now id asked (line_of (verdict_of table.lines asked.method asked.target)) leader ∷ []
-open_after table es xs (Arrive now id asked) (Reply r) = xs
-open_after table es xs (Arrive now id asked) Ended = xs
-open_after table es xs (Answer now id r) (Forward line bytes) = map (gone_out id now) xs
-open_after table es xs (Answer now id r) (Reply reply) = left_open (invalidated_by (find_exchange id xs) r) id xs
-open_after table es xs (Answer now id r) (Waits leader) = left_open (invalidated_by (find_exchange id xs) r) id xs
-open_after table es xs (Answer now id r) Ended = left_open (invalidated_by (find_exchange id xs) r) id xs
-open_after table es xs (Fail now id kind) outcome = closed id xs
-open_after table es xs (Wake now id) (Forward line bytes) = woken_out table es id now (find_exchange id xs) xs
-open_after table es xs (Wake now id) (Reply r) = closed id xs
-open_after table es xs (Wake now id) (Waits leader) = closed id xs
-open_after table es xs (Wake now id) Ended = closed id xs
-open_after table es xs (Abandon id) outcome = closed id xs
+abbrev pub open_exchanges_after : Table → List Stored → List Exchange → Event → Outcome → List Exchange
+open_exchanges_after table es xs (Arrive now id asked)
+    (Forward line bytes) = xs ++ forwarded_exchange table es now id asked line ∷ []
+open_exchanges_after table es xs (Arrive now id asked) (Waits leader) =
+    xs ++ waiting_exchange table es now id asked
+    (line_of_verdict (verdict_of table.lines asked.method asked.target)) leader ∷ []
+open_exchanges_after table es xs (Arrive now id asked) (Reply r) = xs
+open_exchanges_after table es xs (Arrive now id asked) Ended = xs
+open_exchanges_after table es xs (Answer now id r) (Forward line bytes) = map (exchange_forwarded_again id now) xs
+open_exchanges_after table es xs (Answer now id r) (Reply reply) = exchanges_after_end
+    (key_invalidated_by_response (find_exchange id xs) r) id xs
+open_exchanges_after table es xs (Answer now id r) (Waits leader) = exchanges_after_end
+    (key_invalidated_by_response (find_exchange id xs) r) id xs
+open_exchanges_after table es xs (Answer now id r) Ended = exchanges_after_end
+    (key_invalidated_by_response (find_exchange id xs) r) id xs
+open_exchanges_after table es xs (Fail now id kind) outcome = exchanges_after_close id xs
+open_exchanges_after table es xs (Wake now id) (Forward line bytes) = exchanges_after_wake table es id now
+    (find_exchange id xs) xs
+open_exchanges_after table es xs (Wake now id) (Reply r) = exchanges_after_close id xs
+open_exchanges_after table es xs (Wake now id) (Waits leader) = exchanges_after_close id xs
+open_exchanges_after table es xs (Wake now id) Ended = exchanges_after_close id xs
+open_exchanges_after table es xs (Abandon id) outcome = exchanges_after_close id xs
 
 -- the serial after this one, if one is left
-abbrev pub next_of : ℕ → Option ℕ
-next_of serial = cond (nat_lt (serial + 1) (2 ^ 64)) (Some (serial + 1)) None
+abbrev pub serial_after_this : ℕ → Option ℕ
+serial_after_this serial = cond (nat_lt (serial + 1) (2 ^ 64)) (Some (serial + 1)) None
 
-abbrev pub next_after : Option ℕ → Option ℕ → Option ℕ
-next_after next None = next
-next_after next (Some serial) = next_of serial
+abbrev pub next_serial_after : Option ℕ → Option ℕ → Option ℕ
+next_serial_after next None = next
+next_serial_after next (Some serial) = serial_after_this serial
 
-abbrev pub after : State → Event → Outcome → State
-after s event outcome = record {
+abbrev pub state_after : State → Event → Outcome → State
+state_after s event outcome = record {
   table = s.table;
   limit = s.limit;
-  entries = entries_after s.limit s.entries (find_exchange (id_of event) s.exchanges) event outcome;
-  exchanges = open_after s.table s.entries s.exchanges event outcome;
-  next = next_after s.next (stored_in outcome);
+  entries = entries_after s.limit s.entries (find_exchange (exchange_id_of_event event) s.exchanges) event outcome;
+  exchanges = open_exchanges_after s.table s.entries s.exchanges event outcome;
+  next = next_serial_after s.next (serial_stored_by_outcome outcome);
 }
 
 -- no serial from the next one on is held
-abbrev pub NoneFrom : Option ℕ → List Stored → Type 0
-NoneFrom None es = Unit {0}
-NoneFrom (Some next) es = (serial : ℕ) → next ≤ serial → holds serial es ≡ false
+abbrev pub NoSerialIsHeldFrom : Option ℕ → List Stored → Type 0
+NoSerialIsHeldFrom None es = Unit {0}
+NoSerialIsHeldFrom (Some next) es = (serial : ℕ) → next ≤ serial → holds_serial serial es ≡ false
 
 -- one accepted step: no fault stands, the outcome is that of its case, and the core is as the case leaves it
-pub record Steps (s : State) (event : Event) (outcome : Outcome) (t : State) : Type 0 where
-  pub allowed : fault_by s.exchanges event ≡ None
-  pub outcome_is : outcome ≡ outcome_by s.table s.entries s.exchanges s.next event
-  pub leaves : t ≡ after s event outcome
+pub record StepIsAccepted (s : State) (event : Event) (outcome : Outcome) (t : State) : Type 0 where
+  pub allowed : step_fault s.exchanges event ≡ None
+  pub outcome_is : outcome ≡ outcome_of_event s.table s.entries s.exchanges s.next event
+  pub leaves : t ≡ state_after s event outcome
 
 -- a step is refused by the least fault that stands, or where none does because memory ran out
-abbrev pub Refuses : State → Event → CoreFault → Type 0
-Refuses s event fault =
-    (fault_by s.exchanges event ≡ Some fault) ⊎ ((fault_by s.exchanges event ≡ None) × (fault ≡ OutOfMemory))
+abbrev pub StepIsRefusedWith : State → Event → CoreFault → Type 0
+StepIsRefusedWith s event fault =
+    (step_fault s.exchanges event ≡ Some fault) ⊎ ((step_fault s.exchanges event ≡ None) × (fault ≡ OutOfMemory))

@@ -1,7 +1,10 @@
 -- Going forward to have a held response validated, and what a 304 does for it (RFC 9111, section 4.3).
 --
--- condition_on, condition_at: what a request carries of a held response     is_validation: a 304 to what it carried
--- is_answered: the 304 answers a held response     refreshed: what that becomes     is_kept: and whether it is kept
+-- condition_about_stored, condition_about_serial: what a request carries of a held response
+-- is_validation: a 304 to what it carried
+-- stored_response_is_answered: the 304 answers a held response
+-- freshened_by_304: what that becomes
+-- freshened_may_be_kept: and whether it is kept
 use Rattle.std.specs.Prelude.{ℕ, ◌==◌, nat_lt, ◌&&◌, Bool, false, List, length, codes, Option, Some, None, option_map}
 use Rattle.std.specs.Prelude.{is_some, is_none, cond}
 use Rattle.std.specs.Option.{option_and_then}
@@ -12,77 +15,78 @@ use Rattle.hx_hop.specs.Answering.{answered_of}
 use Rattle.hx_hop.specs.Stripping.{lists_cache_field}
 use Rattle.hx_hop.specs.declared.response_view.Answered.{Answered}
 use Rattle.hx_hop.specs.declared.request_view.Asked.{Asked}
-use Rattle.hx_hop.specs.declared.validators.Conditions.{Conditions}
-use Rattle.hx_allow.specs.Lines.{Table}
+use Rattle.hx_hop.specs.declared.conditions.Conditions.{Conditions}
+use Rattle.hx_allow.specs.TableLines.{Table}
 use Rattle.hx_allow.specs.Matching.{policy_of}
 use Rattle.hx_store.specs.Stored.{Stored}
 use Rattle.hx_store.specs.Shelf.{find_entry}
 use Rattle.hx_reuse.specs.Lifetimes.{lifetime_under}
 use Rattle.hx_storable.specs.Rules.{storage_rule_of}
-use Rattle.hx_storable.specs.declared.known_facts.Facts.{Facts}
+use Rattle.hx_storable.specs.declared.known_facts.StoringFacts.{StoringFacts}
 use Rattle.hx_validate.specs.Validators.{has_validator, conditions_of}
 use Rattle.hx_validate.specs.Answering.{answers304, freshened_of}
-use Rattle.hx_validate.specs.Room.{leaves_room}
+use Rattle.hx_validate.specs.Room.{head_leaves_room}
 use Rattle.proxy_core.specs.declared.steps.condition.Condition.{Condition}
 use Rattle.proxy_core.specs.declared.open.exchange.Exchange.{Exchange}
 
 -- a held response that has a validator is asked about (RFC 9111, section 4.3.1)
-abbrev pub condition_on : Stored → Option Condition
-condition_on e = cond (has_validator e.fields) (Some (record { serial = e.serial; sent = conditions_of e.fields })) None
+abbrev pub condition_about_stored : Stored → Option Condition
+condition_about_stored e = cond (has_validator e.fields) (Some
+    (record { serial = e.serial; sent = conditions_of e.fields })) None
 
 -- the held response of a serial, where a rule names one
-abbrev pub condition_at : List Stored → Option ℕ → Option Condition
-condition_at es None = None
-condition_at es (Some serial) = option_and_then condition_on (find_entry serial es)
+abbrev pub condition_about_serial : List Stored → Option ℕ → Option Condition
+condition_about_serial es None = None
+condition_about_serial es (Some serial) = option_and_then condition_about_stored (find_entry serial es)
 
 -- what the request carries
-abbrev pub sent_with : Option Condition → Option Conditions
-sent_with condition = option_map (λ (c : Condition). c.sent) condition
+abbrev pub conditions_to_send : Option Condition → Option Conditions
+conditions_to_send condition = option_map (λ (c : Condition). c.sent) condition
 
 -- a 304 to a request that carried the proxy's conditions
 abbrev pub is_validation : Exchange → Response → Bool
 is_validation x r = (r.status == 304) && is_some x.condition
 
 -- a response to these conditions answers a held response
-abbrev pub is_answered_by : Option Condition → Response → ℕ → Stored → Bool
-is_answered_by None r now e = false
-is_answered_by (Some c) r now e = (r.status == 304)
+abbrev pub condition_is_answered : Option Condition → Response → ℕ → Stored → Bool
+condition_is_answered None r now e = false
+condition_is_answered (Some c) r now e = (r.status == 304)
     && ((c.serial == e.serial) && answers304 e c.sent (answered_of r now))
 
-abbrev pub is_answered : Exchange → Response → ℕ → Stored → Bool
-is_answered x r now e = is_answered_by x.condition r now e
+abbrev pub stored_response_is_answered : Exchange → Response → ℕ → Stored → Bool
+stored_response_is_answered x r now e = condition_is_answered x.condition r now e
 
 -- the serial that was asked about
-abbrev pub serial_asked : Option Condition → Option ℕ
-serial_asked condition = option_map (λ (c : Condition). c.serial) condition
+abbrev pub serial_asked_about : Option Condition → Option ℕ
+serial_asked_about condition = option_map (λ (c : Condition). c.serial) condition
 
 -- the held response that is asked about
-abbrev pub asked_about : List Stored → Exchange → Option Stored
-asked_about es x = option_and_then (λ serial. find_entry serial es) (serial_asked x.condition)
+abbrev pub stored_response_asked_about : List Stored → Exchange → Option Stored
+stored_response_asked_about es x = option_and_then (λ serial. find_entry serial es) (serial_asked_about x.condition)
 
-abbrev pub if_answered : Exchange → Response → ℕ → Option Stored → Option Stored
-if_answered x r now None = None
-if_answered x r now (Some e) = cond (is_answered x r now e) (Some e) None
+abbrev pub stored_response_if_answered : Exchange → Response → ℕ → Option Stored → Option Stored
+stored_response_if_answered x r now None = None
+stored_response_if_answered x r now (Some e) = cond (stored_response_is_answered x r now e) (Some e) None
 
 -- the held response that a 304 answers
-abbrev pub validated : List Stored → Exchange → Response → ℕ → Option Stored
-validated es x r now = if_answered x r now (asked_about es x)
+abbrev pub stored_response_validated : List Stored → Exchange → Response → ℕ → Option Stored
+stored_response_validated es x r now = stored_response_if_answered x r now (stored_response_asked_about es x)
 
 -- what it becomes: the times are those of the 304 (RFC 9111, section 4.3.4)
-abbrev pub refreshed : Exchange → Response → ℕ → Stored → Stored
-refreshed x r now e =
+abbrev pub freshened_by_304 : Exchange → Response → ℕ → Stored → Stored
+freshened_by_304 x r now e =
     freshened_of e (answered_of r now) x.asked (times_of (answered_of r now).fields x.request_time now)
 
 -- the same request, of method GET: what answers a HEAD may be kept for a GET
-abbrev pub as_get : Asked → Asked
-as_get asked = record asked { method = codes "GET" }
+abbrev pub as_get_request : Asked → Asked
+as_get_request asked = record asked { method = codes "GET" }
 
-abbrev pub head_of : Stored → Answered
-head_of e = record { status = e.status; fields = e.fields }
+abbrev pub head_of_stored : Stored → Answered
+head_of_stored e = record { status = e.status; fields = e.fields }
 
 -- what the storing rules ask of a freshened response: it is held already, under its serial
-abbrev pub kept_facts : Table → Exchange → Response → Stored → Facts
-kept_facts table x r e = record {
+abbrev pub storing_facts_of_freshened : Table → Exchange → Response → Stored → StoringFacts
+storing_facts_of_freshened table x r e = record {
   policy = policy_of table.lines x.line;
   vary_star = is_star e.fields;
   listed = lists_cache_field r.fields;
@@ -95,6 +99,7 @@ kept_facts table x r e = record {
 
 -- No storing rule stands against a freshened response.
 -- own: and its head leaves room for what is added to it where it is sent ("What a 304 brings has a bound")
-abbrev pub is_kept : Table → Exchange → Response → Stored → Bool
-is_kept table x r e =
-    is_none (storage_rule_of (as_get x.asked) (head_of e) (kept_facts table x r e)) && leaves_room e.fields
+abbrev pub freshened_may_be_kept : Table → Exchange → Response → Stored → Bool
+freshened_may_be_kept table x r e =
+    is_none (storage_rule_of (as_get_request x.asked) (head_of_stored e) (storing_facts_of_freshened table x r e))
+    && head_leaves_room e.fields

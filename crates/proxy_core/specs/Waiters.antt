@@ -9,48 +9,50 @@ use Rattle.proxy_core.specs.declared.open.stage.Stage.TheVariants.{Waiting}
 use Rattle.proxy_core.specs.declared.open.wait_index.WaitIndex.{WaitIndex}
 use Rattle.proxy_core.specs.Leading.{waits_for}
 
-abbrev pub set_has : Option (BTreeSet ℕ) → ℕ → Bool
-set_has set n = option_map_or (λ s. contains nat_cmp s n) set false
+abbrev pub set_contains : Option (BTreeSet ℕ) → ℕ → Bool
+set_contains set n = option_map_or (λ s. contains nat_cmp s n) set false
 
 -- the arrival is there as one that waits for the exchange of this id
-abbrev pub waits_in : WaitIndex → ℕ → ℕ → Bool
-waits_in index id n = set_has (get nat_cmp index.arrivals id) n
+abbrev pub is_in_wait_index : WaitIndex → ℕ → ℕ → Bool
+is_in_wait_index index id n = set_contains (get nat_cmp index.arrivals id) n
 
-abbrev pub HasNone : WaitIndex → Type 0
-HasNone index = (id m : ℕ) → waits_in index id m ≡ false
+abbrev pub IsEmptyWaitIndex : WaitIndex → Type 0
+IsEmptyWaitIndex index = (id m : ℕ) → is_in_wait_index index id m ≡ false
 
-abbrev pub IsSameIndex : WaitIndex → WaitIndex → Type 0
-IsSameIndex old new = (id m : ℕ) → waits_in new id m ≡ waits_in old id m
+abbrev pub IsSameWaitIndex : WaitIndex → WaitIndex → Type 0
+IsSameWaitIndex old new = (id m : ℕ) → is_in_wait_index new id m ≡ is_in_wait_index old id m
 
 -- an arrival was entered whose exchange stands so, and one was taken out
-abbrev pub IsEntered : Stage → ℕ → WaitIndex → WaitIndex → Type 0
-IsEntered stage n old new = (id m : ℕ) → waits_in new id m ≡ ((waits_for id stage && n == m) || waits_in old id m)
+abbrev pub WaiterIsEntered : Stage → ℕ → WaitIndex → WaitIndex → Type 0
+WaiterIsEntered stage n old new = (id m : ℕ) → is_in_wait_index new id m ≡
+    ((waits_for id stage && n == m) || is_in_wait_index old id m)
 
-abbrev pub HasLeft : Stage → ℕ → WaitIndex → WaitIndex → Type 0
-HasLeft stage n old new = (id m : ℕ) → waits_in new id m ≡ (not (waits_for id stage && n == m) && waits_in old id m)
+abbrev pub WaiterHasLeft : Stage → ℕ → WaitIndex → WaitIndex → Type 0
+WaiterHasLeft stage n old new = (id m : ℕ) → is_in_wait_index new id m ≡ (not (waits_for id stage && n == m)
+    && is_in_wait_index old id m)
 
 -- it was entered where others wait for that exchange, and else nothing was done
-abbrev pub IsEnteredIf : Bool → ℕ → ℕ → WaitIndex → WaitIndex → Type 0
-IsEnteredIf true id n old new = IsEntered (Waiting id) n old new
-IsEnteredIf false id n old new = IsSameIndex old new × ((m : ℕ) → waits_in old id m ≡ false)
+abbrev pub WaiterIsEnteredIf : Bool → ℕ → ℕ → WaitIndex → WaitIndex → Type 0
+WaiterIsEnteredIf true id n old new = WaiterIsEntered (Waiting id) n old new
+WaiterIsEnteredIf false id n old new = IsSameWaitIndex old new × ((m : ℕ) → is_in_wait_index old id m ≡ false)
 
 -- those that wait for the exchange of this id, and the index without them
-abbrev pub HasAll : Option (BTreeSet ℕ) → ℕ → WaitIndex → Type 0
-HasAll set id index = (m : ℕ) → set_has set m ≡ waits_in index id m
+abbrev pub SetHoldsAllWaiters : Option (BTreeSet ℕ) → ℕ → WaitIndex → Type 0
+SetHoldsAllWaiters set id index = (m : ℕ) → set_contains set m ≡ is_in_wait_index index id m
 
-abbrev pub IsEmptied : ℕ → WaitIndex → WaitIndex → Type 0
-IsEmptied id old new = (q m : ℕ) → waits_in new q m ≡ (not (id == q) && waits_in old q m)
+abbrev pub WaitersAreTakenOut : ℕ → WaitIndex → WaitIndex → Type 0
+WaitersAreTakenOut id old new = (q m : ℕ) → is_in_wait_index new q m ≡ (not (id == q) && is_in_wait_index old q m)
 
 -- the arrival isn't in the index
-abbrev pub IsNotIn : ℕ → WaitIndex → Type 0
-IsNotIn n index = (id : ℕ) → waits_in index id n ≡ false
+abbrev pub IsNotInWaitIndex : ℕ → WaitIndex → Type 0
+IsNotInWaitIndex n index = (id : ℕ) → is_in_wait_index index id n ≡ false
 
 -- no id is in the index for nothing, and the same of each id but this one
-abbrev pub HasMembers : BTreeSet ℕ → Type 0
-HasMembers set = IsEmpty set → ⊥
+abbrev pub SetHasMembers : BTreeSet ℕ → Type 0
+SetHasMembers set = IsEmpty set → ⊥
 
-abbrev pub IsTrim : WaitIndex → Type 0
-IsTrim index = (id : ℕ) → ForSome (get nat_cmp index.arrivals id) HasMembers
+abbrev pub HasNoEmptyWaiterSets : WaitIndex → Type 0
+HasNoEmptyWaiterSets index = (id : ℕ) → ForSome (get nat_cmp index.arrivals id) SetHasMembers
 
-abbrev pub IsTrimBeside : ℕ → WaitIndex → Type 0
-IsTrimBeside id index = (q : ℕ) → (id == q) ≡ false → ForSome (get nat_cmp index.arrivals q) HasMembers
+abbrev pub HasNoOtherEmptyWaiterSets : ℕ → WaitIndex → Type 0
+HasNoOtherEmptyWaiterSets id index = (q : ℕ) → (id == q) ≡ false → ForSome (get nat_cmp index.arrivals q) SetHasMembers

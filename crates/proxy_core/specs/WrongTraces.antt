@@ -2,57 +2,60 @@
 -- item should have been isn't said
 -- here: the law `the_headline_refuses` shows of each that it is refused.
 --
--- edge: an operator's table     goes_well: these events, latest first, each with the outcome of its case
--- wrong: another outcome of the last event     Refuses: no headline
+-- edge_table: an operator's table
+-- trace_of_good_events: these events, latest first, each with the outcome of its case
+-- trace_with_wrong_item: another outcome of the last event     HeadlineRefuses: no headline
 use Rattle.std.specs.Prelude.{ℕ, false, List, [], ◌∷◌, codes, Option, Some, None}
-use Rattle.hx_policy.specs.Words.{plain}
+use Rattle.hx_policy.specs.Policies.{plain}
 use Rattle.hx_fields.specs.declared.field_line.Field.{Field}
 use Rattle.hx_framing.specs.declared.messages.Response.{Response}
 use Rattle.hx_hop.specs.declared.request_view.Asked.{Asked}
-use Rattle.hx_allow.specs.Lines.{Table}
+use Rattle.hx_allow.specs.TableLines.{Table}
 use Rattle.proxy_core.specs.declared.steps.condition.Condition.{Condition}
 use Rattle.proxy_core.specs.declared.outcome.Outcome.{Outcome}
 use Rattle.proxy_core.specs.declared.outcome.Outcome.TheVariants.{Reply, Forward}
 use Rattle.proxy_core.specs.declared.event.Event.{Event}
 use Rattle.proxy_core.specs.declared.event.Event.TheVariants.{Arrive, Answer}
-use Rattle.proxy_core.specs.Outcomes.{outcome_by}
+use Rattle.proxy_core.specs.Outcomes.{outcome_of_event}
 use Rattle.proxy_core.specs.Traces.{Item}
 use Rattle.proxy_core.specs.Histories.{held_entries, open_exchanges, next_serial}
-use Rattle.proxy_core.specs.Headline.{GoesWhereAllowed, Headline}
-use Rattle.proxy_core.specs.Cases.{asks_for, answer, control, tag, vary, speaks, line_that}
+use Rattle.proxy_core.specs.Headline.{RequestGoesForwardWhereAllowed, Headline}
+use Rattle.proxy_core.specs.Cases.{request_for, response_with, cache_control, etag_field, vary_field, accept_language}
+use Rattle.proxy_core.specs.Cases.{line_with_no_cache}
 
 -- line 1 denies /admin, line 2 has no cache, line 3 lets all others through; two responses are held at most
-abbrev pub edge : Table
-edge = record {
+abbrev pub edge_table : Table
+edge_table = record {
   name = codes "edge";
   capacity = 2;
   max_body = 1000;
   max_stored = 10;
-  lines = record line_that { path = codes "/admin"; origin = None }
-      ∷ record line_that { path = codes "/raw"; policy = plain false } ∷ line_that ∷ [];
+  lines = record line_with_no_cache { path = codes "/admin"; origin = None }
+      ∷ record line_with_no_cache { path = codes "/raw"; policy = plain false } ∷ line_with_no_cache ∷ [];
 }
 
-abbrev pub goes_well : List Event → List Item
-goes_well [] = []
-goes_well (event ∷ before) = record {
+abbrev pub trace_of_good_events : List Event → List Item
+trace_of_good_events [] = []
+trace_of_good_events (event ∷ before) = record {
   event = event;
-  outcome = outcome_by edge (held_entries edge 2 (goes_well before)) (open_exchanges edge 2 (goes_well before))
-      (next_serial 1 (goes_well before)) event;
-} ∷ goes_well before
+  outcome = outcome_of_event edge_table (held_entries edge_table 2 (trace_of_good_events before))
+      (open_exchanges edge_table 2 (trace_of_good_events before))
+      (next_serial 1 (trace_of_good_events before)) event;
+} ∷ trace_of_good_events before
 
-abbrev pub wrong : List Event → Event → Outcome → List Item
-wrong before event outcome = record { event = event; outcome = outcome } ∷ goes_well before
+abbrev pub trace_with_wrong_item : List Event → Event → Outcome → List Item
+trace_with_wrong_item before event outcome = record { event = event; outcome = outcome } ∷ trace_of_good_events before
 
-abbrev pub Refuses : List Item → Type 0
-Refuses trace = Headline edge 2 1 trace → ⊥
+abbrev pub HeadlineRefuses : List Item → Type 0
+HeadlineRefuses trace = Headline edge_table 2 1 trace → ⊥
 
 -- ---- what is asked and answered
 
-abbrev pub asks : List ℕ → List ℕ → List Field → Asked
-asks method path fields = asks_for method path fields
+abbrev pub get_or_other_request : List ℕ → List ℕ → List Field → Asked
+get_or_other_request method path fields = request_for method path fields
 
 abbrev pub get_of : List ℕ → Asked
-get_of path = asks (codes "GET") path []
+get_of path = get_or_other_request (codes "GET") path []
 
 abbrev pub get_a : Asked
 get_a = get_of (codes "/a")
@@ -70,98 +73,104 @@ abbrev pub get_raw : Asked
 get_raw = get_of (codes "/raw")
 
 abbrev pub post_a : Asked
-post_a = asks (codes "POST") (codes "/a") []
+post_a = get_or_other_request (codes "POST") (codes "/a") []
 
-abbrev pub only_cached : Asked
-only_cached = asks (codes "GET") (codes "/a") (control (codes "only-if-cached") ∷ [])
+abbrev pub get_a_only_if_cached : Asked
+get_a_only_if_cached = get_or_other_request (codes "GET") (codes "/a") (cache_control (codes "only-if-cached") ∷ [])
 
 -- GET /a in this language
-abbrev pub a_in : List ℕ → Asked
-a_in language = asks (codes "GET") (codes "/a") (speaks language ∷ [])
+abbrev pub get_a_in_language : List ℕ → Asked
+get_a_in_language language = get_or_other_request (codes "GET") (codes "/a") (accept_language language ∷ [])
 
 -- fresh for a minute, with a tag; and one that is stale after it and may be sent for a day where the origin fails
-abbrev pub fresh : Response
-fresh = answer 200 (control (codes "max-age=60") ∷ tag (codes "\"v\"") ∷ [])
+abbrev pub fresh_for_a_minute : Response
+fresh_for_a_minute = response_with 200 (cache_control (codes "max-age=60") ∷ etag_field (codes "\"v\"") ∷ [])
 
-abbrev pub fresh_or_on_error : Response
-fresh_or_on_error = answer 200 (control (codes "max-age=60, stale-if-error=86400") ∷ [])
+abbrev pub fresh_or_stale_if_error : Response
+fresh_or_stale_if_error = response_with 200 (cache_control (codes "max-age=60, stale-if-error=86400") ∷ [])
 
-abbrev pub by_language : Response
-by_language = answer 200 (control (codes "max-age=60") ∷ vary (codes "Accept-Language") ∷ [])
+abbrev pub varies_by_language : Response
+varies_by_language = response_with 200 (cache_control (codes "max-age=60") ∷ vary_field (codes "Accept-Language") ∷ [])
 
-abbrev pub not_modified : List Field → Response
-not_modified fields = answer 304 fields
+abbrev pub response_304 : List Field → Response
+response_304 fields = response_with 304 fields
 
 -- a reply of these bytes, that the store has no part in
-abbrev pub says : List ℕ → Outcome
-says bytes = Reply (record { bytes = bytes; close = false; stored = None; used = None; removed = [] })
+abbrev pub reply_without_store : List ℕ → Outcome
+reply_without_store bytes = Reply (record { bytes = bytes; close = false; stored = None; used = None; removed = [] })
 
 -- a reply of these bytes, which is stored as this and takes these away
-abbrev pub replies : List ℕ → Option ℕ → List ℕ → Outcome
-replies bytes stored removed =
+abbrev pub reply_that_stores : List ℕ → Option ℕ → List ℕ → Outcome
+reply_that_stores bytes stored removed =
     Reply (record { bytes = bytes; close = false; stored = stored; used = None; removed = removed })
 
 -- the stored response of this serial, in these bytes
-abbrev pub sends : ℕ → List ℕ → Outcome
-sends serial bytes = Reply (record { bytes = bytes; close = false; stored = None; used = Some serial; removed = [] })
+abbrev pub reply_that_sends_stored : ℕ → List ℕ → Outcome
+reply_that_sends_stored serial bytes = Reply
+    (record { bytes = bytes; close = false; stored = None; used = Some serial; removed = [] })
 
 -- ---- what went before, the latest first
 
 -- GET /a was answered at 101, fresh until 161, and is held as 1
-abbrev pub held_a : List Event
-held_a = Answer 101 1 fresh ∷ Arrive 100 1 get_a ∷ []
+abbrev pub events_that_store_a : List Event
+events_that_store_a = Answer 101 1 fresh_for_a_minute ∷ Arrive 100 1 get_a ∷ []
 
 -- two are at the origin, of /a: the second waits for the first
-abbrev pub one_waits : List Event
-one_waits = Arrive 100 2 get_a ∷ Arrive 100 1 get_a ∷ []
+abbrev pub events_where_one_waits : List Event
+events_where_one_waits = Arrive 100 2 get_a ∷ Arrive 100 1 get_a ∷ []
 
 -- the first has ended, and the second may be woken
-abbrev pub may_wake : List Event
-may_wake = Answer 101 1 (answer 200 (control (codes "no-store") ∷ [])) ∷ one_waits
+abbrev pub events_before_a_wake : List Event
+events_before_a_wake = Answer 101 1 (response_with 200 (cache_control (codes "no-store") ∷ [])) ∷ events_where_one_waits
 
 -- stale, and the request asks about it
-abbrev pub asks_again : List Event
-asks_again = Arrive 200 2 get_a ∷ held_a
+abbrev pub events_that_revalidate : List Event
+events_that_revalidate = Arrive 200 2 get_a ∷ events_that_store_a
 
 -- the 304 to that answered none
-abbrev pub second_time : List Event
-second_time = Answer 201 2 (not_modified (tag (codes "\"w\"") ∷ [])) ∷ asks_again
+abbrev pub events_with_second_forward : List Event
+events_with_second_forward = Answer 201 2 (response_304 (etag_field (codes "\"w\"") ∷ [])) ∷ events_that_revalidate
 
 -- ---- items of their own, of which no case is asked
 
-abbrev pub item : Event → Outcome → Item
-item event outcome = record { event = event; outcome = outcome }
+abbrev pub item_of : Event → Outcome → Item
+item_of event outcome = record { event = event; outcome = outcome }
 
 -- the proxy's conditions about the response that is held as 1
-abbrev pub asks_about_v : Option Condition
-asks_about_v = Some (record { serial = 1; sent = record { etag = Some (codes "\"v\""); modified = None } })
+abbrev pub condition_about_v : Option Condition
+condition_about_v = Some (record { serial = 1; sent = record { etag = Some (codes "\"v\""); modified = None } })
 
 -- this doesn't go where it is allowed
-abbrev pub not_goes : List Item → Event → Outcome → Type 0
-not_goes past event outcome = GoesWhereAllowed edge 2 (item event outcome) past → ⊥
+abbrev pub GoingForwardIsWrong : List Item → Event → Outcome → Type 0
+GoingForwardIsWrong past event outcome = RequestGoesForwardWhereAllowed edge_table 2 (item_of event outcome) past → ⊥
 
-abbrev pub goes_3 : Outcome
-goes_3 = Forward 3 []
+abbrev pub forward_over_line_3 : Outcome
+forward_over_line_3 = Forward 3 []
 
-abbrev pub thrice_forward : List Item
-thrice_forward = item (Answer 102 1 (answer 304 [])) goes_3 ∷ item (Answer 101 1 (answer 304 [])) goes_3
-    ∷ item (Arrive 100 1 get_a) goes_3 ∷ []
+abbrev pub trace_with_three_forwards : List Item
+trace_with_three_forwards = item_of (Answer 102 1 (response_with 304 [])) forward_over_line_3 ∷ item_of
+    (Answer 101 1 (response_with 304 [])) forward_over_line_3
+    ∷ item_of (Arrive 100 1 get_a) forward_over_line_3 ∷ []
 
-abbrev pub two_replies : List Item
-two_replies =
-    item (Answer 102 1 fresh) (says []) ∷ item (Answer 101 1 fresh) (says []) ∷ item (Arrive 100 1 get_a) goes_3 ∷ []
+abbrev pub trace_with_two_replies : List Item
+trace_with_two_replies =
+    item_of (Answer 102 1 fresh_for_a_minute) (reply_without_store []) ∷ item_of (Answer 101 1 fresh_for_a_minute)
+    (reply_without_store []) ∷ item_of (Arrive 100 1 get_a) forward_over_line_3 ∷ []
 
 -- GET /a was stored as 1, POST /a invalidated it, and it is sent
-abbrev pub invalidated_since_stored : List Item
-invalidated_since_stored =
-    item (Arrive 120 3 get_a) (sends 1 [])
-    ∷ item (Answer 111 2 (answer 200 [])) (says []) ∷ item (Arrive 110 2 post_a) goes_3
-    ∷ item (Answer 101 1 fresh) (replies [] (Some 1) []) ∷ item (Arrive 100 1 get_a) goes_3 ∷ []
+abbrev pub trace_sends_invalidated : List Item
+trace_sends_invalidated =
+    item_of (Arrive 120 3 get_a) (reply_that_sends_stored 1 [])
+    ∷ item_of (Answer 111 2 (response_with 200 [])) (reply_without_store []) ∷ item_of
+    (Arrive 110 2 post_a) forward_over_line_3
+    ∷ item_of (Answer 101 1 fresh_for_a_minute) (reply_that_stores [] (Some 1) []) ∷ item_of
+    (Arrive 100 1 get_a) forward_over_line_3 ∷ []
 
 -- it was invalidated while its answer was on its way
-abbrev pub invalidated_on_its_way : List Item
-invalidated_on_its_way =
-    item (Arrive 120 3 get_a) (sends 1 [])
-    ∷ item (Answer 112 1 fresh) (replies [] (Some 1) [])
-    ∷ item (Answer 111 2 (answer 200 [])) (says []) ∷ item (Arrive 110 2 post_a) goes_3
-    ∷ item (Arrive 100 1 get_a) goes_3 ∷ []
+abbrev pub trace_stores_invalidated : List Item
+trace_stores_invalidated =
+    item_of (Arrive 120 3 get_a) (reply_that_sends_stored 1 [])
+    ∷ item_of (Answer 112 1 fresh_for_a_minute) (reply_that_stores [] (Some 1) [])
+    ∷ item_of (Answer 111 2 (response_with 200 [])) (reply_without_store []) ∷ item_of
+    (Arrive 110 2 post_a) forward_over_line_3
+    ∷ item_of (Arrive 100 1 get_a) forward_over_line_3 ∷ []

@@ -1,13 +1,14 @@
 //! The core: the operator's table, a shelf, the open exchanges and the next serial.
 ghost use Rattle.std.specs.Prelude.{◌≡◌, ◌≤◌, [], Some, IfOk, IfErr, OnErr, option_copied, slice_get, IfSome};
-ghost use Rattle.proxy_core.specs.Waiting.{IsReady};
+ghost use Rattle.proxy_core.specs.Waiting.{ExchangeMayBeWoken};
 ghost use Rattle.proxy_core.specs.Leading.{ready_ids};
-ghost use Rattle.proxy_core.specs.Outcomes.{find_exchange, fault_by, not_forwarded, not_ready, or_fault};
+ghost use Rattle.proxy_core.specs.Outcomes.{find_exchange, step_fault, fault_if_not_forwarded, fault_if_not_released};
+ghost use Rattle.proxy_core.specs.Outcomes.{or_fault};
 ghost use Rattle.proxy_core.specs.declared.event.Event.TheVariants.{Abandon};
-ghost use Rattle.proxy_core.specs.State.{State, Steps, Refuses};
+ghost use Rattle.proxy_core.specs.State.{State, StepIsAccepted, StepIsRefusedWith};
 
+use crate::core_fault::CoreFault;
 use crate::event::Event;
-use crate::fault::CoreFault;
 use crate::moments::moment_fault;
 use crate::open::exchange::Exchange;
 use crate::open::exchanges::Exchanges;
@@ -21,8 +22,8 @@ use std::alloc::{AllocError, Global};
 use std::marker::Model;
 
 /// The fault of an answer or a failure where no origin was asked.
-pub(crate) fn not_forwarded(stage: Stage) -> Option<CoreFault>
-    ensures { result ≡ not_forwarded stage }
+pub(crate) fn fault_if_not_forwarded(stage: Stage) -> Option<CoreFault>
+    ensures { result ≡ fault_if_not_forwarded stage }
 {
     if is_forwarded(stage) {
         None
@@ -32,8 +33,8 @@ pub(crate) fn not_forwarded(stage: Stage) -> Option<CoreFault>
 }
 
 /// The fault of a wake where nothing waits, or what it waits for is open.
-pub(crate) fn not_ready(stage: Stage) -> Option<CoreFault>
-    ensures { result ≡ not_ready stage }
+pub(crate) fn fault_if_not_released(stage: Stage) -> Option<CoreFault>
+    ensures { result ≡ fault_if_not_released stage }
 {
     if is_released(stage) {
         None
@@ -43,7 +44,7 @@ pub(crate) fn not_ready(stage: Stage) -> Option<CoreFault>
 }
 
 /// The first of two faults that stands.
-pub(crate) fn first_of(fault: Option<CoreFault>, later: Option<CoreFault>) -> Option<CoreFault>
+pub(crate) fn first_fault(fault: Option<CoreFault>, later: Option<CoreFault>) -> Option<CoreFault>
     ensures { result ≡ or_fault fault later }
 {
     match fault {
@@ -73,7 +74,7 @@ impl<S: Shelf + Drop> Drop for Core<S> {
 }
 
 impl<S: Shelf> Model for Core<S> {
-    ghost use Rattle.proxy_core.specs.State.{State, NoneFrom};
+    ghost use Rattle.proxy_core.specs.State.{State, NoSerialIsHeldFrom};
 
     ghost Value = { State };
 
@@ -85,7 +86,7 @@ impl<S: Shelf> Model for Core<S> {
       next = c.next;
     } };
 
-    ghost invariant = { λ c. NoneFrom c.next (S.entries c.shelf) };
+    ghost invariant = { λ c. NoSerialIsHeldFrom c.next (S.entries c.shelf) };
 }
 
 impl<S: Shelf> Core<S> {
@@ -127,14 +128,14 @@ impl<S: Shelf> Core<S> {
     /// The first of them. No memory is taken.
     pub fn first_ready(&self) -> Option<u64>
         ensures value { result ≡ slice_get (ready_ids self.now.exchanges) 0 }
-        ensures ready { IfSome result (λ id. IsReady id self.now.exchanges) }
+        ensures ready { IfSome result (λ id. ExchangeMayBeWoken id self.now.exchanges) }
     {
         self.exchanges.first_ready()
     }
 
     /// The least fault that stands at an event, out of memory aside.
     pub fn fault(&self, event: &Event) -> Option<CoreFault>
-        ensures { result ≡ fault_by self.now.exchanges event.now }
+        ensures { result ≡ step_fault self.now.exchanges event.now }
     {
         match event {
             Event::Arrive(now, id, _) => match self.exchanges.find(*id) {
@@ -142,15 +143,15 @@ impl<S: Shelf> Core<S> {
                 None => moment_fault(*now),
             },
             Event::Answer(now, id, _) => match self.exchanges.find(*id) {
-                Some(x) => first_of(moment_fault(*now), not_forwarded(x.stage)),
+                Some(x) => first_fault(moment_fault(*now), fault_if_not_forwarded(x.stage)),
                 None => Some(CoreFault::UnknownId),
             },
             Event::Fail(now, id, _) => match self.exchanges.find(*id) {
-                Some(x) => first_of(moment_fault(*now), not_forwarded(x.stage)),
+                Some(x) => first_fault(moment_fault(*now), fault_if_not_forwarded(x.stage)),
                 None => Some(CoreFault::UnknownId),
             },
             Event::Wake(now, id) => match self.exchanges.find(*id) {
-                Some(x) => first_of(moment_fault(*now), not_ready(x.stage)),
+                Some(x) => first_fault(moment_fault(*now), fault_if_not_released(x.stage)),
                 None => Some(CoreFault::UnknownId),
             },
             Event::Abandon(id) => match self.exchanges.find(*id) {
@@ -162,8 +163,8 @@ impl<S: Shelf> Core<S> {
 
     /// The client went away: its exchange ends without an answer. No memory is taken.
     pub fn abandon(&mut self, id: u64) -> Result<Outcome, CoreFault>
-        ensures ok { IfOk result (λ outcome. Steps self.old (Abandon id) outcome self.new) }
-        ensures err { IfErr result (λ fault. fault_by self.old.exchanges (Abandon id) ≡ Some fault) }
+        ensures ok { IfOk result (λ outcome. StepIsAccepted self.old (Abandon id) outcome self.new) }
+        ensures err { IfErr result (λ fault. step_fault self.old.exchanges (Abandon id) ≡ Some fault) }
         ensures unchanged { OnErr result (self.new ≡ self.old) }
     {
         match self.exchanges.find(id) {

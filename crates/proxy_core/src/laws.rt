@@ -1,21 +1,31 @@
 //! What the definitions of a good trace come to, for a reader who has to believe them.
 
-ghost use Rattle.proxy_core.specs.Meaning.{OpenFromArrivalToEnd, OpenByArrivalAlone, HasItsRequest, KeepsItsRule};
-ghost use Rattle.proxy_core.specs.Meaning.{OvertakenWhereInvalidated, NextIsCounted, StoredHasTheNext, LeavesNoChoice};
-ghost use Rattle.proxy_core.specs.Meaning.{GoodOverWhatIsHeld, GoodOverTheList, KeepsWhatIsHeld, KeepsWhatIsOpen};
-ghost use Rattle.proxy_core.specs.Meaning.{KeepsTheNext};
-ghost use Rattle.proxy_core.specs.Carrying.{CarriesItsArrival, OpenInOrderOfArrival};
+ghost use Rattle.proxy_core.specs.TraceMeaning.{ExchangeIsOpenFromArrivalToEnd, ExchangeOpensByArrivalAlone};
+ghost use Rattle.proxy_core.specs.TraceMeaning.{OpenExchangeHasItsRequest, OpenExchangeKeepsItsRule};
+ghost use Rattle.proxy_core.specs.TraceMeaning.{ExchangeIsOvertakenWhereInvalidated, NextSerialIsCounted};
+ghost use Rattle.proxy_core.specs.TraceMeaning.{StoredResponseHasTheNextSerial, EventsDetermineTheTrace};
+ghost use Rattle.proxy_core.specs.TraceMeaning.{IsGoodOverHeldAndOverList, IsGoodOverTheCoresList};
+ghost use Rattle.proxy_core.specs.TraceMeaning.{CoreKeepsTheHeldResponses, CoreKeepsTheOpenExchanges};
+ghost use Rattle.proxy_core.specs.TraceMeaning.{CoreKeepsTheNextSerial};
+ghost use Rattle.proxy_core.specs.Carrying.{OpenExchangeCarriesItsArrival, ExchangesAreOpenInOrderOfArrival};
 ghost use Rattle.proxy_core.specs.Driving.{PromisesOfADrivenCore};
-ghost use Rattle.proxy_core.specs.Headline.{EveryGoodTraceHasIt, NoOtherTraceHasIt};
-ghost use Rattle.proxy_core.specs.Naming.{NamesFirstRules};
-ghost use Rattle.proxy_core.specs.Sending.{SendsStoredWhereItMay, SendsStoredNowhereElse, SendsWhatIsHeld};
-ghost use Rattle.proxy_core.specs.Sending.{ForwardsWhereAllowed, ForwardsNowhereElse, ReachesWhereAllowed};
-ghost use Rattle.proxy_core.specs.Sending.{RefusesWhereNotAllowed};
-ghost use Rattle.proxy_core.specs.Waiting.{WaitsWhereOneLeads, WaitsNowhereElse, OneGoesForward};
-ghost use Rattle.proxy_core.specs.Waiting.{WaitsUntilItsLeaderEnds, WokenOnceBehindItsLeader, ReadyInOrderOfArrival};
-ghost use Rattle.proxy_core.specs.Waiting.{WokenExactlyWhereReady, WokenIsJudgedAnew, PlainLinesWaitForMisses};
-ghost use Rattle.proxy_core.specs.StoredAnswers.{RemovesJustThat, StoresNowhereElse, StoresWhereItMay};
-ghost use Rattle.proxy_core.specs.Uncached.{StoresNothingOverIt, SendsNothingOverIt, GoesForwardOverIt};
+ghost use Rattle.proxy_core.specs.Headline.{EveryGoodTraceHasTheHeadline, NoOtherTraceHasTheHeadline};
+ghost use Rattle.proxy_core.specs.Naming.{EachOtherAnswerNamesTheFirstRule};
+ghost use Rattle.proxy_core.specs.Sending.{StoredResponseIsSentWhereItMayBe, StoredResponseIsSentNowhereElse};
+ghost use Rattle.proxy_core.specs.Sending.{SendsWhatIsHeld};
+ghost use Rattle.proxy_core.specs.Sending.{RequestIsForwardedWhereAllowed, RequestIsForwardedNowhereElse};
+ghost use Rattle.proxy_core.specs.Sending.{AllowedRequestReachesCacheOrOrigin};
+ghost use Rattle.proxy_core.specs.Sending.{OtherRequestIsRefused};
+ghost use Rattle.proxy_core.specs.Waiting.{RequestWaitsWhereOneLeads, RequestWaitsNowhereElse};
+ghost use Rattle.proxy_core.specs.Waiting.{OnlyOneGoesForwardForKey};
+ghost use Rattle.proxy_core.specs.Waiting.{RequestWaitsUntilItsLeaderEnds, RequestIsWokenOnceBehindItsLeader};
+ghost use Rattle.proxy_core.specs.Waiting.{ReleasedAreInOrderOfArrival};
+ghost use Rattle.proxy_core.specs.Waiting.{WakeIsAcceptedExactlyWhereReady, WokenRequestIsJudgedAnew};
+ghost use Rattle.proxy_core.specs.Waiting.{PlainLinesWaitForMisses};
+ghost use Rattle.proxy_core.specs.StoredAnswers.{ItemRemovesExactlyThese, NothingElseIsStored};
+ghost use Rattle.proxy_core.specs.StoredAnswers.{AnswerIsStoredWhereItMayBe};
+ghost use Rattle.proxy_core.specs.Uncached.{NothingIsStoredOverUncachedLine, NothingStoredIsSentOverUncachedLine};
+ghost use Rattle.proxy_core.specs.Uncached.{RequestGoesForwardOverUncachedLine};
 
 pub(crate) mod event_cases;
 pub(crate) mod headline_cases;
@@ -25,65 +35,65 @@ pub(crate) mod worked_cases;
 /// After a good trace an exchange is open from its arrival to its end and not else, with the
 /// request and the rule of its arrival.
 pub fn open_from_arrival_to_end()
-    ensures ends { OpenFromArrivalToEnd }
-    ensures alone { OpenByArrivalAlone }
-    ensures request { HasItsRequest }
-    ensures rule { KeepsItsRule }
+    ensures ends { ExchangeIsOpenFromArrivalToEnd }
+    ensures alone { ExchangeOpensByArrivalAlone }
+    ensures request { OpenExchangeHasItsRequest }
+    ensures rule { OpenExchangeKeepsItsRule }
 {}
 
 /// After a good trace an open exchange goes to the line that allows its request, names the least
 /// rule that stood at its arrival, or when it was woken, and has the conditions and the moment with
 /// which it went forward last. Open exchanges stand in the order of arrival.
 pub fn an_open_exchange_carries_its_arrival()
-    ensures carries { CarriesItsArrival }
-    ensures order { OpenInOrderOfArrival }
+    ensures carries { OpenExchangeCarriesItsArrival }
+    ensures order { ExchangesAreOpenInOrderOfArrival }
 {}
 
 /// After a good trace an open exchange is overtaken exactly where its key was invalidated since it last went forward.
 pub fn overtaken_where_invalidated()
-    ensures { OvertakenWhereInvalidated }
+    ensures { ExchangeIsOvertakenWhereInvalidated }
 {}
 
 /// After a good trace the next serial is the first plus the number stored, and what is stored has it.
 pub fn serials_are_counted()
-    ensures next { NextIsCounted }
-    ensures stored { StoredHasTheNext }
+    ensures next { NextSerialIsCounted }
+    ensures stored { StoredResponseHasTheNextSerial }
 {}
 
 /// Two good traces of the same events have the same outcomes.
 pub fn a_good_trace_leaves_no_choice()
-    ensures { LeavesNoChoice }
+    ensures { EventsDetermineTheTrace }
 {}
 
 /// The list that a core keeps has exactly what is held by the count over its history, so a trace is good over the one
 /// where it is good over the other.
 pub fn a_core_keeps_what_is_held()
-    ensures held { GoodOverWhatIsHeld }
-    ensures listed { GoodOverTheList }
-    ensures entries { KeepsWhatIsHeld }
-    ensures exchanges { KeepsWhatIsOpen }
-    ensures next { KeepsTheNext }
+    ensures held { IsGoodOverHeldAndOverList }
+    ensures listed { IsGoodOverTheCoresList }
+    ensures entries { CoreKeepsTheHeldResponses }
+    ensures exchanges { CoreKeepsTheOpenExchanges }
+    ensures next { CoreKeepsTheNextSerial }
 {}
 
 /// In a good trace a request goes to the origin of a line exactly where the table allows it by that line, a rule stands
 /// against a stored response, and the request takes others too.
 pub fn a_request_goes_forward_where_it_is_allowed()
-    ensures every { ForwardsWhereAllowed }
-    ensures only { ForwardsNowhereElse }
+    ensures every { RequestIsForwardedWhereAllowed }
+    ensures only { RequestIsForwardedNowhereElse }
 {}
 
 /// In a good trace a request reaches cache or origin exactly where the table allows it; any other is refused.
 pub fn a_request_reaches_cache_or_origin_where_it_is_allowed()
-    ensures allowed { ReachesWhereAllowed }
-    ensures refused { RefusesWhereNotAllowed }
+    ensures allowed { AllowedRequestReachesCacheOrOrigin }
+    ensures refused { OtherRequestIsRefused }
 {}
 
 /// In a good trace a stored response is sent exactly where one is held that RFC 9111, section 4
 /// lets be reused for that request then, that a 304 validates, or that RFC 5861, section 4 lets be
 /// sent in place of an error. What is sent is that response.
 pub fn a_stored_response_is_sent_where_one_may_be()
-    ensures every { SendsStoredWhereItMay }
-    ensures only { SendsStoredNowhereElse }
+    ensures every { StoredResponseIsSentWhereItMayBe }
+    ensures only { StoredResponseIsSentNowhereElse }
     ensures itself { SendsWhatIsHeld }
 {}
 
@@ -91,16 +101,16 @@ pub fn a_stored_response_is_sent_where_one_may_be()
 /// line of the table, the least reuse rule that stands now with the least error rule, or where the
 /// answer is passed on the least that stood at the arrival, or when the request was woken.
 pub fn each_answer_names_its_first_rule()
-    ensures { NamesFirstRules }
+    ensures { EachOtherAnswerNamesTheFirstRule }
 {}
 
 /// In a good trace nothing that goes over a line without cache is stored, and no request over it is
 /// answered from the store: each goes forward, and one that takes no response but a stored one is
 /// told the operator's rule.
 pub fn a_line_without_cache_touches_no_stored_response()
-    ensures stores { StoresNothingOverIt }
-    ensures sends { SendsNothingOverIt }
-    ensures forwards { GoesForwardOverIt }
+    ensures stores { NothingIsStoredOverUncachedLine }
+    ensures sends { NothingStoredIsSentOverUncachedLine }
+    ensures forwards { RequestGoesForwardOverUncachedLine }
 {}
 
 /// In a good trace a GET waits exactly where the first rule against a stored response lets it, and
@@ -109,9 +119,9 @@ pub fn a_line_without_cache_touches_no_stored_response()
 /// So while one that arrived is at the origin for a reason, none that may wait for that goes there
 /// for it. One that another rule sends forward, as a GET with Range, doesn't wait.
 pub fn requests_for_one_target_wait_for_the_first()
-    ensures waits { WaitsWhereOneLeads }
-    ensures only { WaitsNowhereElse }
-    ensures one { OneGoesForward }
+    ensures waits { RequestWaitsWhereOneLeads }
+    ensures only { RequestWaitsNowhereElse }
+    ensures one { OnlyOneGoesForwardForKey }
 {}
 
 /// Over a line that doesn't let them wait for what is stale, GETs wait where nothing is held for
@@ -124,11 +134,11 @@ pub fn a_plain_line_waits_for_what_is_missing_alone()
 /// may be woken from then on, once; those that may be woken stand in the order of arrival. What a
 /// woken one gets is decided anew, and it doesn't wait again.
 pub fn a_waiting_request_is_woken_once_behind_its_leader()
-    ensures waits { WaitsUntilItsLeaderEnds }
-    ensures once { WokenOnceBehindItsLeader }
-    ensures order { ReadyInOrderOfArrival }
-    ensures ready { WokenExactlyWhereReady }
-    ensures anew { WokenIsJudgedAnew }
+    ensures waits { RequestWaitsUntilItsLeaderEnds }
+    ensures once { RequestIsWokenOnceBehindItsLeader }
+    ensures order { ReleasedAreInOrderOfArrival }
+    ensures ready { WakeIsAcceptedExactlyWhereReady }
+    ensures anew { WokenRequestIsJudgedAnew }
 {}
 
 /// In a good trace the answer to an open exchange is stored exactly where RFC 9111, section 3 lets
@@ -136,20 +146,20 @@ pub fn a_waiting_request_is_woken_once_behind_its_leader()
 /// place: under the next serial. What goes with a step is what a stored answer takes the place of,
 /// what an unsafe request invalidates, and what a 304 freshens and may not be kept.
 pub fn an_answer_is_stored_where_it_may_be()
-    ensures every { StoresWhereItMay }
-    ensures only { StoresNowhereElse }
-    ensures removed { RemovesJustThat }
+    ensures every { AnswerIsStoredWhereItMayBe }
+    ensures only { NothingElseIsStored }
+    ensures removed { ItemRemovesExactlyThese }
 {}
 
 /// No trace but a good one has the headline, where each answer of an origin has a final status: the
 /// record leaves no outcome open.
 pub fn no_other_trace_has_the_headline()
-    ensures { NoOtherTraceHasIt }
+    ensures { NoOtherTraceHasTheHeadline }
 {}
 
 /// Every good trace has the headline.
 pub fn every_good_trace_has_the_headline()
-    ensures { EveryGoodTraceHasIt }
+    ensures { EveryGoodTraceHasTheHeadline }
 {}
 
 /// Whoever drives a core by its public calls has gone through a good trace, with all that each good trace keeps.

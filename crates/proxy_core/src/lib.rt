@@ -12,9 +12,9 @@
 //! `specs/State.antt` what it leaves. Nothing here reads a clock: each step is handed its moment.
 #![tactic(auto)]
 
+mod core_fault;
 mod core_state;
 mod event;
-mod fault;
 mod laws;
 mod moments;
 mod open;
@@ -23,10 +23,12 @@ mod replies;
 mod runs;
 mod steps;
 
+pub use crate::core_fault::CoreFault;
 pub use crate::core_state::Core;
 pub use crate::event::Event;
-pub use crate::fault::CoreFault;
-pub use crate::laws::event_cases::{what_events_are, what_outcomes_are, what_traces_have};
+pub use crate::laws::event_cases::{
+    worked_counts_of_traces, worked_kinds_of_events, worked_kinds_of_outcomes,
+};
 pub use crate::laws::headline_cases::{
     the_headline_refuses_no_answer, the_headline_refuses_other_names,
     the_headline_refuses_other_requests, the_headline_refuses_other_waits,
@@ -39,11 +41,11 @@ pub use crate::laws::promise_cases::{
     what_is_invalidated_is_not_sent,
 };
 pub use crate::laws::worked_cases::{
-    answers_are_passed_on_so, faults_and_serials_in_order, statuses_of_errors,
-    stored_responses_are_sent_so, what_a_304_leaves, what_a_step_leaves_open,
+    faults_and_serials_in_order, statuses_of_errors, what_a_304_leaves, what_a_step_leaves_open,
     what_a_step_leaves_stored, what_an_answer_gives, what_an_arrival_gives, what_invalidates,
     what_is_made_of_an_answer, what_is_sent_after_a_failure, which_304_was_asked_for,
     which_answers_are_stored, who_waits_for_what_is_stale, who_waits_for_whom,
+    worked_passed_answers, worked_stored_replies,
 };
 pub use crate::laws::{
     a_core_keeps_what_is_held, a_driven_core_keeps_the_promises, a_good_trace_leaves_no_choice,

@@ -1,12 +1,12 @@
 //! Moments.
 ghost use Rattle.std.specs.Prelude.{◌≡◌};
-ghost use Rattle.proxy_core.specs.Moments.{too_late};
+ghost use Rattle.proxy_core.specs.Moments.{moment_too_late_fault};
 
-use crate::fault::CoreFault;
+use crate::core_fault::CoreFault;
 
 /// The fault of a moment in Unix seconds, if it is one: the year 10000 and later have no date.
 pub(crate) fn moment_fault(now: u64) -> Option<CoreFault>
-    ensures { result ≡ too_late now }
+    ensures { result ≡ moment_too_late_fault now }
 {
     if now < 253_402_300_800 {
         None

@@ -1,6 +1,6 @@
 //! What a step gives.
 
-use crate::fault::CoreFault;
+use crate::core_fault::CoreFault;
 use hx_fields::Bytes;
 use hx_store::Serials;
 

@@ -1,13 +1,13 @@
 //! Whole runs: events in order, up to the first fault.
 ghost use Rattle.std.specs.Prelude.{◌≡◌, ◌≤◌, [], length, MatchOption, slice_get, IfOk, IfErr, OnErr};
-ghost use Rattle.proxy_core.specs.State.{Steps, Refuses};
+ghost use Rattle.proxy_core.specs.State.{StepIsAccepted, StepIsRefusedWith};
 ghost use Rattle.proxy_core.specs.Traces.{trace_of};
-ghost use Rattle.proxy_core.specs.Histories.{IsGoodHistory, StopsAt, open_exchanges};
+ghost use Rattle.proxy_core.specs.Histories.{IsGoodHistory, HistoryStopsAt, open_exchanges};
 ghost use Rattle.proxy_core.specs.Headline.{Headline};
 
+use crate::core_fault::CoreFault;
 use crate::core_state::Core;
 use crate::event::Event;
-use crate::fault::CoreFault;
 use crate::outcome::{Outcome, Run};
 use hx_allow::Config;
 use hx_store::Shelf;
@@ -16,8 +16,8 @@ use std::alloc::Global;
 impl<S: Shelf> Core<S> {
     /// One event.
     fn step(&mut self, alloc: Global, event: &Event) -> Result<Outcome, CoreFault>
-        ensures ok { IfOk result (λ outcome. Steps self.old event.now outcome self.new) }
-        ensures err { IfErr result (λ fault. Refuses self.old event.now fault) }
+        ensures ok { IfOk result (λ outcome. StepIsAccepted self.old event.now outcome self.new) }
+        ensures err { IfErr result (λ fault. StepIsRefusedWith self.old event.now fault) }
         ensures unchanged { OnErr result (self.new ≡ self.old) }
     {
         match event {
@@ -43,7 +43,7 @@ pub fn run<S: Shelf + Drop>(
     ensures within { length result.outcomes.items ≤ length events.now }
     ensures good { IsGoodHistory config (S.limit shelf) first_serial (trace_of events.now result.outcomes.items) }
     ensures stopped { MatchOption result.stopped (length result.outcomes.items ≡ length events.now)
-        (λ fault. StopsAt (open_exchanges config (S.limit shelf) (trace_of events.now result.outcomes.items))
+        (λ fault. HistoryStopsAt (open_exchanges config (S.limit shelf) (trace_of events.now result.outcomes.items))
         (slice_get events.now (length result.outcomes.items)) fault) }
     ensures headline { Headline config (S.limit shelf) first_serial (trace_of events.now result.outcomes.items) }
 {

@@ -5,60 +5,60 @@ use Rattle.std.specs.List.{AllByRecursion}
 use Rattle.std.specs.Option.{option_and_then}
 use Rattle.std.proofs.lemmas.Bool.{and_parts, eqb-true, eq-eqb, false≢true, leb-true}
 use Rattle.hx_framing.specs.declared.messages.Response.{Response}
-use Rattle.hx_framing.specs.Text.{field_lines}
-use Rattle.hx_allow.specs.Lines.{Table}
+use Rattle.hx_framing.specs.Text.{field_lines_text}
+use Rattle.hx_allow.specs.TableLines.{Table}
 use Rattle.hx_allow.specs.Matching.{policy_of}
 use Rattle.hx_hop.specs.Answering.{answered_of}
 use Rattle.hx_reuse.specs.Rules.{decision_of}
 use Rattle.hx_reuse.specs.declared.decision.Decision.{Decision}
 use Rattle.hx_store.specs.Stored.{Stored}
-use Rattle.hx_store.specs.Serials.{is_in}
-use Rattle.hx_store.specs.Shelf.{find_entry, holds, serials}
-use Rattle.hx_store.specs.Recency.{is_the, recent_after, touches}
+use Rattle.hx_store.specs.Serials.{serial_is_in}
+use Rattle.hx_store.specs.Shelf.{find_entry, holds_serial, serials}
+use Rattle.hx_store.specs.Recency.{is_that_serial, recent_after_change, stores_or_uses}
 use Rattle.hx_store.proofs.Recency.{held_more, is_in-after, is_in-take}
 use Rattle.hx_store.proofs.EntryLists.{find-serial, find_holds}
 use Rattle.hx_storable.specs.Rules.{storage_rule_of}
 use Rattle.hx_validate.specs.Answering.{answers304}
-use Rattle.hx_validate.specs.Room.{leaves_room}
+use Rattle.hx_validate.specs.Room.{head_leaves_room}
 use Rattle.proxy_core.specs.declared.steps.condition.Condition.{Condition}
 use Rattle.proxy_core.specs.declared.open.exchange.Exchange.{Exchange}
 use Rattle.proxy_core.specs.declared.outcome.Outcome.{Outcome}
 use Rattle.proxy_core.specs.declared.event.Event.{Event}
 use Rattle.proxy_core.specs.declared.event.Event.TheVariants.{Arrive, Answer, Fail, Wake, Abandon}
 use Rattle.hx_status.specs.declared.cause.FailKind.TheVariants.{BadAnswer}
-use Rattle.proxy_core.specs.Histories.{IsGoodHistory, done_by, held_entries, held_entry, held_serials, next_serial, open_exchanges}
-use Rattle.proxy_core.specs.Moments.{too_late}
-use Rattle.proxy_core.specs.Outcomes.{failed, fallback_for, fault_of, find_exchange, id_of, is_error_status, not_forwarded, outcome_of, passed_unless, revalidated}
-use Rattle.proxy_core.specs.ReadAnswers.{IsReadEvent}
-use Rattle.proxy_core.specs.State.{removed_in, stored_form, stored_in, used_form, used_in}
-use Rattle.proxy_core.specs.Storing.{is_unasked}
-use Rattle.proxy_core.specs.Traces.{Item, begun, left}
-use Rattle.proxy_core.specs.Validating.{as_get, head_of, if_answered, is_answered, is_answered_by, is_kept, is_validation, kept_facts, refreshed, serial_asked, validated}
+use Rattle.proxy_core.specs.Histories.{IsGoodHistory, store_change_of, held_entries, held_entry, held_serials, next_serial, open_exchanges}
+use Rattle.proxy_core.specs.Moments.{moment_too_late_fault}
+use Rattle.proxy_core.specs.Outcomes.{outcome_of_failure, fallback_for, fault_at_exchange, find_exchange, exchange_id_of_event, is_error_status, fault_if_not_forwarded, outcome_of, outcome_of_passing_on_or_stale, outcome_of_304}
+use Rattle.proxy_core.specs.ReadAnswers.{EventIsReadFromAStream}
+use Rattle.proxy_core.specs.State.{serials_removed_by_outcome, stored_response_by_answer, serial_stored_by_outcome, stored_response_as_used, serial_used_by_outcome}
+use Rattle.proxy_core.specs.Storing.{is_304_without_condition}
+use Rattle.proxy_core.specs.Traces.{Item, initial_state, state_after_trace}
+use Rattle.proxy_core.specs.Validating.{as_get_request, head_of_stored, stored_response_if_answered, stored_response_is_answered, condition_is_answered, freshened_may_be_kept, is_validation, storing_facts_of_freshened, freshened_by_304, serial_asked_about, stored_response_validated}
 use Rattle.proxy_core.proofs.HeldEntries.{EachIs-find, held_found}
 use Rattle.proxy_core.proofs.HeldLaw.{entries_are_held, good_plain, stands_for}
 use Rattle.proxy_core.proofs.Leaving.{serial_stays, unanswered, validated_is}
 use Rattle.proxy_core.proofs.SentResponses.{sends_what_is_held}
-use Rattle.proxy_core_laws.specs.HeldHeads.{FreshensWithRoom, HoldsBounded, HoldsWithRoom, IsAsStored, IsBounded, KeepsBounded}
+use Rattle.proxy_core_laws.specs.HeldHeads.{FreshenedHeadLeavesRoom, HeldHeadIsBounded, HeldHeadLeavesRoom, ResponseIsAsStored, HeadIsBounded, FreshenedHeadIsBounded}
 use Rattle.proxy_core_laws.proofs.HeldReplies.{first_none, in_time}
 use Rattle.proxy_core_laws.proofs.ReadHeads.{stores_bounded}
 
 -- ---- what leaves room
 
-roomy : (e : Stored) → leaves_room e.fields ≡ true → IsBounded e
+roomy : (e : Stored) → head_leaves_room e.fields ≡ true → HeadIsBounded e
 roomy e room =
-    let parts = and_parts (nat_le (length e.fields + 4) 100) (nat_le (length (field_lines e.fields) + 256) 32768) room in
+    let parts = and_parts (nat_le (length e.fields + 4) 100) (nat_le (length (field_lines_text e.fields) + 256) 32768) room in
     let lines = leb-true (length e.fields + 4) 100 parts.0 in
-    let bytes = leb-true (length (field_lines e.fields) + 256) 32768 parts.1 in
+    let bytes = leb-true (length (field_lines_text e.fields) + 256) 32768 parts.1 in
     record { lines = omega (arith, lines); bytes = omega (arith, bytes) }
 
-pub keeps_bounded : KeepsBounded
+pub keeps_bounded : FreshenedHeadIsBounded
 keeps_bounded table x r e kept =
-    let parts = and_parts (is_none (storage_rule_of (as_get x.asked) (head_of e) (kept_facts table x r e))) (leaves_room e.fields) kept in
+    let parts = and_parts (is_none (storage_rule_of (as_get_request x.asked) (head_of_stored e) (storing_facts_of_freshened table x r e))) (head_leaves_room e.fields) kept in
     (parts.1, roomy e parts.1)
 
 -- it leaves room, or is as it was stored
 abbrev IsEither : ℕ → Stored → Type 0
-IsEither s e = (leaves_room e.fields ≡ true) ⊎ IsAsStored s e
+IsEither s e = (head_leaves_room e.fields ≡ true) ⊎ ResponseIsAsStored s e
 
 -- ---- what is held under a serial
 
@@ -67,7 +67,7 @@ some_same h = cc
 
 module _ (table : Table) (limit first : ℕ) (past : List Item) (good : IsGoodHistory table limit first past) where
   abbrev es : List Stored
-  es = (left (begun table limit first) past).entries
+  es = (state_after_trace (initial_state table limit first) past).entries
 
   same_list : es ≡ held_entries table limit past
   same_list = entries_are_held table limit first past (good_plain table limit first past good)
@@ -80,60 +80,60 @@ module _ (table : Table) (limit first : ℕ) (past : List Item) (good : IsGoodHi
   same_serials : serials (held_entries table limit past) ≡ held_serials limit past
   same_serials = ap serials (sym same_list) ∙ (stands_for table limit first past (good_plain table limit first past good)).serials_are
 
-  pub held_in : (s : ℕ) (e : Stored) → find_entry s (held_entries table limit past) ≡ Some e → is_in s (held_serials limit past) ≡ true
+  pub held_in : (s : ℕ) (e : Stored) → find_entry s (held_entries table limit past) ≡ Some e → serial_is_in s (held_serials limit past) ≡ true
   held_in s e found =
-      ap (is_in s) (sym same_serials) ∙ ap (λ n. holds n (held_entries table limit past)) (sym (find-serial s (held_entries table limit past) e found)) ∙ find_holds s (held_entries table limit past) e found
+      ap (serial_is_in s) (sym same_serials) ∙ ap (λ n. holds_serial n (held_entries table limit past)) (sym (find-serial s (held_entries table limit past) e found)) ∙ find_holds s (held_entries table limit past) e found
 
-  pub found_again : (s : ℕ) (e : Stored) → is_in s (held_serials limit past) ≡ true → held_entry table limit past s ≡ Some e → find_entry s (held_entries table limit past) ≡ Some e
+  pub found_again : (s : ℕ) (e : Stored) → serial_is_in s (held_serials limit past) ≡ true → held_entry table limit past s ≡ Some e → find_entry s (held_entries table limit past) ≡ Some e
   found_again s e inside look =
-      let some = held_found s (held_entries table limit past) (ap (is_in s) same_serials ∙ inside) in
+      let some = held_found s (held_entries table limit past) (ap (serial_is_in s) same_serials ∙ inside) in
       let same : some.0 ≡ e = some_same (sym (entry_of s some.0 some.1) ∙ look) in
       subst (λ (f : Stored). find_entry s (held_entries table limit past) ≡ Some f) same some.1
 
 -- ---- what a 304 answers
 
 module _ (table : Table) (es : List Stored) (xs : List Exchange) (next : Option ℕ) where
-  by_condition : (c : Option Condition) (r : Response) (now : ℕ) (e : Stored) → is_answered_by c r now e ≡ true → find_entry e.serial es ≡ Some e
-      → option_and_then (λ s. find_entry s es) (serial_asked c) ≡ Some e
+  by_condition : (c : Option Condition) (r : Response) (now : ℕ) (e : Stored) → condition_is_answered c r now e ≡ true → find_entry e.serial es ≡ Some e
+      → option_and_then (λ s. find_entry s es) (serial_asked_about c) ≡ Some e
   by_condition None r now e h found = absurd cc
   by_condition (Some c) r now e h found =
       let status = and_parts (r.status == 304) ((c.serial == e.serial) && answers304 e c.sent (answered_of r now)) h in
       let same = and_parts (c.serial == e.serial) (answers304 e c.sent (answered_of r now)) status.1 in
       ap (λ s. find_entry s es) (eqb-true c.serial e.serial same.0) ∙ found
 
-  validated_so : (x : Exchange) (r : Response) (now : ℕ) (e : Stored) → is_answered x r now e ≡ true → find_entry e.serial es ≡ Some e → validated es x r now ≡ Some e
-  validated_so x r now e h found = ap (if_answered x r now) (by_condition x.condition r now e h found) ∙ ap (λ b. cond b (Some e) None) h
+  validated_so : (x : Exchange) (r : Response) (now : ℕ) (e : Stored) → stored_response_is_answered x r now e ≡ true → find_entry e.serial es ≡ Some e → stored_response_validated es x r now ≡ Some e
+  validated_so x r now e h found = ap (stored_response_if_answered x r now) (by_condition x.condition r now e h found) ∙ ap (λ b. cond b (Some e) None) h
 
-  validation_so : (x : Exchange) (r : Response) (now : ℕ) (e : Stored) → is_answered x r now e ≡ true → is_validation x r ≡ true
+  validation_so : (x : Exchange) (r : Response) (now : ℕ) (e : Stored) → stored_response_is_answered x r now e ≡ true → is_validation x r ≡ true
   validation_so x r now e h = by_test (is_validation x r) refl
     where
       by_test : (t : Bool) → is_validation x r ≡ t → t ≡ true
       by_test true is = refl
       by_test false is = absurd (false≢true (sym (unanswered x r now e is) ∙ h))
 
-  stays : (k : Bool) (s n : ℕ) → n ≡ s → is_in s (cond k [] (n ∷ [])) ≡ false → k ≡ true
+  stays : (k : Bool) (s n : ℕ) → n ≡ s → serial_is_in s (cond k [] (n ∷ [])) ≡ false → k ≡ true
   stays true s n same out = refl
   stays false s n same out = absurd (false≢true (sym out ∙ ap (λ b. b || false) (eq-eqb n s same)))
 
   -- it is kept, or its serial is among those that go
-  kept_so : (x : Exchange) (now id : ℕ) (r : Response) (s : ℕ) (e : Stored) → is_answered x r now e ≡ true → find_entry s es ≡ Some e
-      → is_in s (removed_in (outcome_of table es xs (Some x) next (Answer now id r))) ≡ false → is_kept table x r (refreshed x r now e) ≡ true
+  kept_so : (x : Exchange) (now id : ℕ) (r : Response) (s : ℕ) (e : Stored) → stored_response_is_answered x r now e ≡ true → find_entry s es ≡ Some e
+      → serial_is_in s (serials_removed_by_outcome (outcome_of table es xs (Some x) next (Answer now id r))) ≡ false → freshened_may_be_kept table x r (freshened_by_304 x r now e) ≡ true
   kept_so x now id r s e h found out =
       let serial = find-serial s es e found in
       let d : Decision = decision_of (policy_of table.lines x.line) es x.asked now in
-      let other : Outcome = cond (is_unasked x.asked r) (failed table es now x BadAnswer (Some r.status) (fallback_for (policy_of table.lines x.line) es x.asked now d)) (passed_unless table es now x r next (is_error_status r.status) (fallback_for (policy_of table.lines x.line) es x.asked now d)) in
-      let outcome : outcome_of table es xs (Some x) next (Answer now id r) ≡ revalidated table es now x r (Some e) d =
-      ap (λ b. cond b (revalidated table es now x r (validated es x r now) d) other) (validation_so x r now e h)
-      ∙ ap (λ o. revalidated table es now x r o d) (validated_so x r now e h (ap (λ n. find_entry n es) serial ∙ found))
+      let other : Outcome = cond (is_304_without_condition x.asked r) (outcome_of_failure table es now x BadAnswer (Some r.status) (fallback_for (policy_of table.lines x.line) es x.asked now d)) (outcome_of_passing_on_or_stale table es now x r next (is_error_status r.status) (fallback_for (policy_of table.lines x.line) es x.asked now d)) in
+      let outcome : outcome_of table es xs (Some x) next (Answer now id r) ≡ outcome_of_304 table es now x r (Some e) d =
+      ap (λ b. cond b (outcome_of_304 table es now x r (stored_response_validated es x r now) d) other) (validation_so x r now e h)
+      ∙ ap (λ o. outcome_of_304 table es now x r o d) (validated_so x r now e h (ap (λ n. find_entry n es) serial ∙ found))
       in
-      stays (is_kept table x r (refreshed x r now e)) s (refreshed x r now e).serial (serial_stays x r now e ∙ serial) (ap (λ o. is_in s (removed_in o)) (sym outcome) ∙ out)
+      stays (freshened_may_be_kept table x r (freshened_by_304 x r now e)) s (freshened_by_304 x r now e).serial (serial_stays x r now e ∙ serial) (ap (λ o. serial_is_in s (serials_removed_by_outcome o)) (sym outcome) ∙ out)
 
   used_so : (x : Option Exchange) (event : Event) (s : ℕ) (e : Stored) → find_entry s es ≡ Some e → IsEither s e
-      → is_in s (removed_in (outcome_of table es xs x next event)) ≡ false → IsEither s (used_form x event e)
-  used_so (Some x) (Answer now id r) s e found is out = by_test (is_answered x r now e) refl
+      → serial_is_in s (serials_removed_by_outcome (outcome_of table es xs x next event)) ≡ false → IsEither s (stored_response_as_used x event e)
+  used_so (Some x) (Answer now id r) s e found is out = by_test (stored_response_is_answered x r now e) refl
     where
-      by_test : (t : Bool) → is_answered x r now e ≡ t → IsEither s (cond t (refreshed x r now e) e)
-      by_test true h = inl (keeps_bounded table x r (refreshed x r now e) (kept_so x now id r s e h found out)).0
+      by_test : (t : Bool) → stored_response_is_answered x r now e ≡ t → IsEither s (cond t (freshened_by_304 x r now e) e)
+      by_test true h = inl (keeps_bounded table x r (freshened_by_304 x r now e) (kept_so x now id r s e h found out)).0
       by_test false h = is
   used_so (Some x) (Arrive now id asked) s e found is out = is
   used_so (Some x) (Fail now id kind) s e found is out = is
@@ -143,14 +143,14 @@ module _ (table : Table) (es : List Stored) (xs : List Exchange) (next : Option 
 
 -- ---- what an answer makes
 
-made_so : (x : Option Exchange) (event : Event) (s : ℕ) (e : Stored) → fault_of x event ≡ None → IsReadEvent event → stored_form x event s ≡ Some e → IsEither s e
+made_so : (x : Option Exchange) (event : Event) (s : ℕ) (e : Stored) → fault_at_exchange x event ≡ None → EventIsReadFromAStream event → stored_response_by_answer x event s ≡ Some e → IsEither s e
 made_so (Some x) (Answer now id r) s e allowed is h =
     inr (record {
       exchange = x;
       response = r;
       now = now;
       was_read = is;
-      early = in_time now (first_none (too_late now) (not_forwarded x.stage) allowed);
+      early = in_time now (first_none (moment_too_late_fault now) (fault_if_not_forwarded x.stage) allowed);
       is = some_same (sym h);
     })
 made_so (Some x) (Arrive now id asked) s e allowed is h = absurd cc
@@ -172,78 +172,78 @@ both_false : (a b : Bool) → a ≡ false → b ≡ false → (a || b) ≡ false
 both_false true b h k = absurd cc
 both_false false b h k = k
 
-the_serial : (o : Option ℕ) (s : ℕ) → is_the o s ≡ true → o ≡ Some s
+the_serial : (o : Option ℕ) (s : ℕ) → is_that_serial o s ≡ true → o ≡ Some s
 the_serial None s h = absurd cc
 the_serial (Some x) s h = ap (λ (n : ℕ). Some n) (eqb-true x s h)
 
 -- among what is held after an item: it isn't removed there, and was held before where the item doesn't touch it
-module _ (table : Table) (limit : ℕ) (item : Item) (past : List Item) (s : ℕ) (inside : is_in s (held_serials limit (item ∷ past)) ≡ true) where
-  left_in : ((touches (done_by item) s || is_in s (held_serials limit past)) && not (is_in s (removed_in item.outcome))) ≡ true
+module _ (table : Table) (limit : ℕ) (item : Item) (past : List Item) (s : ℕ) (inside : serial_is_in s (held_serials limit (item ∷ past)) ≡ true) where
+  left_in : ((stores_or_uses (store_change_of item) s || serial_is_in s (held_serials limit past)) && not (serial_is_in s (serials_removed_by_outcome item.outcome))) ≡ true
   left_in =
-      sym (is_in-after s (done_by item) (held_serials limit past))
-      ∙ (and_parts (is_in s (recent_after (done_by item) (held_serials limit past))) _
-      (sym (is_in-take s limit (recent_after (done_by item) (held_serials limit past))) ∙ ap (is_in s) (sym (held_more limit (done_by item) (map done_by past))) ∙ inside)).0
+      sym (is_in-after s (store_change_of item) (held_serials limit past))
+      ∙ (and_parts (serial_is_in s (recent_after_change (store_change_of item) (held_serials limit past))) _
+      (sym (is_in-take s limit (recent_after_change (store_change_of item) (held_serials limit past))) ∙ ap (serial_is_in s) (sym (held_more limit (store_change_of item) (map store_change_of past))) ∙ inside)).0
 
-  stays_in : (is_in s (removed_in item.outcome) ≡ false) × (touches (done_by item) s ≡ false → is_in s (held_serials limit past) ≡ true)
-  stays_in = after_parts (touches (done_by item) s) (is_in s (held_serials limit past)) (is_in s (removed_in item.outcome)) left_in
+  stays_in : (serial_is_in s (serials_removed_by_outcome item.outcome) ≡ false) × (stores_or_uses (store_change_of item) s ≡ false → serial_is_in s (held_serials limit past) ≡ true)
+  stays_in = after_parts (stores_or_uses (store_change_of item) s) (serial_is_in s (held_serials limit past)) (serial_is_in s (serials_removed_by_outcome item.outcome)) left_in
 
-  not_removed : is_in s (removed_in item.outcome) ≡ false
+  not_removed : serial_is_in s (serials_removed_by_outcome item.outcome) ≡ false
   not_removed = stays_in.0
 
 module _ (table : Table) (limit first : ℕ) where
   abbrev Earlier : ℕ → List Item → Type 0
-  Earlier s past = (f : Stored) → is_in s (held_serials limit past) ≡ true → held_entry table limit past s ≡ Some f → IsEither s f
+  Earlier s past = (f : Stored) → serial_is_in s (held_serials limit past) ≡ true → held_entry table limit past s ≡ Some f → IsEither s f
 
-  held_either : (trace : List Item) → IsGoodHistory table limit first trace → AllByRecursion (λ item. IsReadEvent item.event) trace → (s : ℕ) (e : Stored)
-      → is_in s (held_serials limit trace) ≡ true → held_entry table limit trace s ≡ Some e → IsEither s e
+  held_either : (trace : List Item) → IsGoodHistory table limit first trace → AllByRecursion (λ item. EventIsReadFromAStream item.event) trace → (s : ℕ) (e : Stored)
+      → serial_is_in s (held_serials limit trace) ≡ true → held_entry table limit trace s ≡ Some e → IsEither s e
   held_either [] good read s e inside h = absurd cc
   held_either (item ∷ past) good read s e inside h =
-      by_tests (λ f k look. held_either past good.1 read.1 s f k look) (is_the (stored_in item.outcome) s) refl (is_the (used_in item.outcome) s) refl h
+      by_tests (λ f k look. held_either past good.1 read.1 s f k look) (is_that_serial (serial_stored_by_outcome item.outcome) s) refl (is_that_serial (serial_used_by_outcome item.outcome) s) refl h
     where
       x : Option Exchange
-      x = find_exchange (id_of item.event) (open_exchanges table limit past)
+      x = find_exchange (exchange_id_of_event item.event) (open_exchanges table limit past)
 
       before : List Stored
       before = held_entries table limit past
 
-      by_used : Earlier s past → used_in item.outcome ≡ Some s → option_map (used_form x item.event) (held_entry table limit past s) ≡ Some e → IsEither s e
+      by_used : Earlier s past → serial_used_by_outcome item.outcome ≡ Some s → option_map (stored_response_as_used x item.event) (held_entry table limit past s) ≡ Some e → IsEither s e
       by_used earlier used k =
           let is = sends_what_is_held table limit first s item past good used in
           let look : held_entry table limit past s ≡ Some is.response = entry_of table limit first past good.1 s is.response is.is_held in
           let either = earlier is.response (held_in table limit first past good.1 s is.response is.is_held) look in
-          let same : used_form x item.event is.response ≡ e = some_same (sym (ap (option_map (used_form x item.event)) look) ∙ k) in
+          let same : stored_response_as_used x item.event is.response ≡ e = some_same (sym (ap (option_map (stored_response_as_used x item.event)) look) ∙ k) in
           subst (IsEither s) same (used_so table before (open_exchanges table limit past) (next_serial first past) x item.event s is.response is.is_held either
-          (ap (λ o. is_in s (removed_in o)) (sym good.0.outcome_is) ∙ not_removed table limit item past s inside))
+          (ap (λ o. serial_is_in s (serials_removed_by_outcome o)) (sym good.0.outcome_is) ∙ not_removed table limit item past s inside))
 
-      by_tests : Earlier s past → (t : Bool) → is_the (stored_in item.outcome) s ≡ t → (u : Bool) → is_the (used_in item.outcome) s ≡ u
-          → cond t (stored_form x item.event s) (cond u (option_map (used_form x item.event) (held_entry table limit past s)) (held_entry table limit past s)) ≡ Some e → IsEither s e
+      by_tests : Earlier s past → (t : Bool) → is_that_serial (serial_stored_by_outcome item.outcome) s ≡ t → (u : Bool) → is_that_serial (serial_used_by_outcome item.outcome) s ≡ u
+          → cond t (stored_response_by_answer x item.event s) (cond u (option_map (stored_response_as_used x item.event) (held_entry table limit past s)) (held_entry table limit past s)) ≡ Some e → IsEither s e
       by_tests earlier true is u using k = made_so x item.event s e good.0.allowed read.0 k
-      by_tests earlier false is true using k = by_used earlier (the_serial (used_in item.outcome) s using) k
-      by_tests earlier false is false using k = earlier e ((stays_in table limit item past s inside).1 (both_false (is_the (stored_in item.outcome) s) (is_the (used_in item.outcome) s) is using)) k
+      by_tests earlier false is true using k = by_used earlier (the_serial (serial_used_by_outcome item.outcome) s using) k
+      by_tests earlier false is false using k = earlier e ((stays_in table limit item past s inside).1 (both_false (is_that_serial (serial_stored_by_outcome item.outcome) s) (is_that_serial (serial_used_by_outcome item.outcome) s) is using)) k
 
-pub holds_with_room : HoldsWithRoom
+pub holds_with_room : HeldHeadLeavesRoom
 holds_with_room table limit first trace good read s e inside h = held_either table limit first trace good read s e inside h
 
-pub holds_bounded : HoldsBounded
+pub holds_bounded : HeldHeadIsBounded
 holds_bounded table limit first trace good read s e inside h = by_case (held_either table limit first trace good read s e inside h)
   where
-    by_case : IsEither s e → IsBounded e
+    by_case : IsEither s e → HeadIsBounded e
     by_case (inl room) = roomy e room
     by_case (inr as_stored) =
         let read = as_stored.was_read in
-        subst IsBounded (sym as_stored.is) (stores_bounded read.max_body s as_stored.now read.to_head read.ended read.bytes read.rest as_stored.exchange as_stored.response read.reads as_stored.early)
+        subst HeadIsBounded (sym as_stored.is) (stores_bounded read.max_body s as_stored.now read.to_head read.ended read.bytes read.rest as_stored.exchange as_stored.response read.reads as_stored.early)
 
 -- ---- what was freshened
 
-pub freshens_with_room : FreshensWithRoom
+pub freshens_with_room : FreshenedHeadLeavesRoom
 freshens_with_room table limit first now id x r e item past good event_is open_is valid inside =
     let es : List Stored = held_entries table limit past in
     let is = validated_is es x r now e valid in
     let from : outcome_of table es (open_exchanges table limit past) (Some x) (next_serial first past) (Answer now id r) ≡ item.outcome =
     ap (λ o. outcome_of table es (open_exchanges table limit past) o (next_serial first past) (Answer now id r)) (sym open_is)
-    ∙ ap (λ (v : Event). outcome_of table es (open_exchanges table limit past) (find_exchange (id_of v) (open_exchanges table limit past)) (next_serial first past) v) (sym event_is)
+    ∙ ap (λ (v : Event). outcome_of table es (open_exchanges table limit past) (find_exchange (exchange_id_of_event v) (open_exchanges table limit past)) (next_serial first past) v) (sym event_is)
     ∙ sym good.0.outcome_is
     in
     let out = not_removed table limit item past e.serial inside in
-    let kept = kept_so table es (open_exchanges table limit past) (next_serial first past) x now id r e.serial e is.answered is.found (ap (λ o. is_in e.serial (removed_in o)) from ∙ out) in
-    (keeps_bounded table x r (refreshed x r now e) kept).0
+    let kept = kept_so table es (open_exchanges table limit past) (next_serial first past) x now id r e.serial e is.answered is.found (ap (λ o. serial_is_in e.serial (serials_removed_by_outcome o)) from ∙ out) in
+    (keeps_bounded table x r (freshened_by_304 x r now e) kept).0

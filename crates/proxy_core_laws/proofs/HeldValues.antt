@@ -5,39 +5,39 @@ use Rattle.std.specs.List.{AllByRecursion, cons_option, filter_map}
 use Rattle.std.proofs.lemmas.Bool.{eqb-true}
 use Rattle.std.proofs.lemmas.List.Elements.{All-filter, All-head, All-map, All-weaker}
 use Rattle.hx_fields.specs.declared.field_line.Field.{Field}
-use Rattle.hx_fields.specs.Lines.{is_named, only, only_value, values_of}
-use Rattle.hx_framing.specs.Written.{IsWritableField}
+use Rattle.hx_fields.specs.FieldLines.{is_named, only_one, only_value, values_of}
+use Rattle.hx_framing.specs.Written.{FieldIsWritable}
 use Rattle.hx_framing.specs.declared.messages.Response.{Response}
 use Rattle.hx_framing.proofs.ReadResponses.{final_status}
-use Rattle.hx_allow.specs.Lines.{Table}
+use Rattle.hx_allow.specs.TableLines.{Table}
 use Rattle.hx_store.specs.Stored.{Stored}
-use Rattle.hx_store.specs.Recency.{is_the}
+use Rattle.hx_store.specs.Recency.{is_that_serial}
 use Rattle.hx_store.specs.Shelf.{find_entry}
 use Rattle.hx_validate.specs.Answering.{freshened_of}
-use Rattle.hx_validate.specs.Validators.{conditions_of, is_date, is_entity_tag, passing}
-use Rattle.hx_hop_laws.specs.OneMessage.{AreFieldValues, IsFieldValue}
+use Rattle.hx_validate.specs.Validators.{conditions_of, is_date, is_entity_tag, value_if_passes}
+use Rattle.hx_hop_laws.specs.OneMessage.{ConditionsAreFieldValues, IsFieldValue}
 use Rattle.proxy_core.specs.declared.open.exchange.Exchange.{Exchange}
 use Rattle.proxy_core.specs.declared.event.Event.{Event}
 use Rattle.proxy_core.specs.declared.event.Event.TheVariants.{Arrive, Answer, Fail, Wake, Abandon}
 use Rattle.proxy_core.specs.Histories.{IsGoodHistory, held_entry, open_exchanges}
-use Rattle.proxy_core.specs.Outcomes.{find_exchange, id_of}
-use Rattle.proxy_core.specs.ReadAnswers.{IsReadEvent}
-use Rattle.proxy_core.specs.State.{stored_form, stored_in, used_form, used_in}
-use Rattle.proxy_core.specs.Storing.{made}
+use Rattle.proxy_core.specs.Outcomes.{find_exchange, exchange_id_of_event}
+use Rattle.proxy_core.specs.ReadAnswers.{EventIsReadFromAStream}
+use Rattle.proxy_core.specs.State.{stored_response_by_answer, serial_stored_by_outcome, stored_response_as_used, serial_used_by_outcome}
+use Rattle.proxy_core.specs.Storing.{stored_response_made}
 use Rattle.proxy_core.specs.Traces.{Item}
-use Rattle.proxy_core.specs.Validating.{is_answered, refreshed}
-use Rattle.proxy_core_laws.specs.SentMessages.{AsksByFieldValues, HoldsWhatFits}
+use Rattle.proxy_core.specs.Validating.{stored_response_is_answered, freshened_by_304}
+use Rattle.proxy_core_laws.specs.SentMessages.{ConditionsOfHistoryAreFieldValues, HeldContentFits}
 use Rattle.proxy_core_laws.proofs.HeldReplies.{holds_sendable}
 use Rattle.proxy_core.proofs.StoredAnswers.{stores_nowhere_else}
 
 -- ---- validators
 
-only_fits : (values : List (List ℕ)) → All IsFieldValue values → IfSome (only values) IsFieldValue
+only_fits : (values : List (List ℕ)) → All IsFieldValue values → IfSome (only_one values) IsFieldValue
 only_fits [] all = tt
 only_fits (value ∷ []) all = All-head IsFieldValue value [] all
 only_fits (value ∷ other ∷ more) all = tt
 
-passing_fits : (test : List ℕ → Bool) (o : Option (List ℕ)) → IfSome o IsFieldValue → IfSome (passing test o) IsFieldValue
+passing_fits : (test : List ℕ → Bool) (o : Option (List ℕ)) → IfSome o IsFieldValue → IfSome (value_if_passes test o) IsFieldValue
 passing_fits test None is = tt
 passing_fits test (Some value) is = by_test (test value)
   where
@@ -45,18 +45,18 @@ passing_fits test (Some value) is = by_test (test value)
     by_test true = is
     by_test false = tt
 
-value_fits : (fields : List Field) (name : List ℕ) → All IsWritableField fields → IfSome (only_value fields name) IsFieldValue
+value_fits : (fields : List Field) (name : List ℕ) → All FieldIsWritable fields → IfSome (only_value fields name) IsFieldValue
 value_fits fields name all =
     only_fits (values_of fields name) (All-map IsFieldValue (λ (f : Field). f.value) (filter (is_named name) fields)
-    (All-weaker IsWritableField (λ (f : Field). IsFieldValue f.value) (λ f is. (is.value, is.trimmed)) (filter (is_named name) fields) (All-filter (is_named name) IsWritableField fields all)))
+    (All-weaker FieldIsWritable (λ (f : Field). IsFieldValue f.value) (λ f is. (is.value, is.trimmed)) (filter (is_named name) fields) (All-filter (is_named name) FieldIsWritable fields all)))
 
-pub conditions_fit : (fields : List Field) → All IsWritableField fields → AreFieldValues (conditions_of fields)
+pub conditions_fit : (fields : List Field) → All FieldIsWritable fields → ConditionsAreFieldValues (conditions_of fields)
 conditions_fit fields all = record {
   etag = passing_fits is_entity_tag (only_value fields (codes "ETag")) (value_fits fields (codes "ETag") all);
   modified = passing_fits is_date (only_value fields (codes "Last-Modified")) (value_fits fields (codes "Last-Modified") all);
 }
 
-pub asks_by_field_values : AsksByFieldValues
+pub asks_by_field_values : ConditionsOfHistoryAreFieldValues
 asks_by_field_values table limit first trace good read serial e h = conditions_fit e.fields (holds_sendable table limit first trace good read serial e h).fields
 
 -- ---- a content
@@ -64,56 +64,56 @@ asks_by_field_values table limit first trace good read serial e h = conditions_f
 some_same : {B : Type 0} {x y : B} → Some x ≡ Some y → x ≡ y
 some_same h = cc
 
-refreshed_content : (x : Exchange) (r : Response) (now : ℕ) (e : Stored) → (refreshed x r now e).content ≡ e.content
+refreshed_content : (x : Exchange) (r : Response) (now : ℕ) (e : Stored) → (freshened_by_304 x r now e).content ≡ e.content
 unfolding freshened_of
 refreshed_content x r now e = refl
 
-pub used_content : (x : Option Exchange) (event : Event) (e : Stored) → (used_form x event e).content ≡ e.content
-used_content (Some x) (Answer now id r) e = elim (is_answered x r now e) as (λ b. (cond b (refreshed x r now e) e).content ≡ e.content) [ true ↦ refreshed_content x r now e | false ↦ refl ]
+pub used_content : (x : Option Exchange) (event : Event) (e : Stored) → (stored_response_as_used x event e).content ≡ e.content
+used_content (Some x) (Answer now id r) e = elim (stored_response_is_answered x r now e) as (λ b. (cond b (freshened_by_304 x r now e) e).content ≡ e.content) [ true ↦ refreshed_content x r now e | false ↦ refl ]
 used_content (Some x) (Arrive now id asked) e = refl
 used_content (Some x) (Fail now id kind) e = refl
 used_content (Some x) (Wake now id) e = refl
 used_content (Some x) (Abandon id) e = refl
 used_content None event e = refl
 
-the_serial : (o : Option ℕ) (s : ℕ) → is_the o s ≡ true → o ≡ Some s
+the_serial : (o : Option ℕ) (s : ℕ) → is_that_serial o s ≡ true → o ≡ Some s
 the_serial None s h = absurd cc
 the_serial (Some x) s h = ap (λ (n : ℕ). Some n) (eqb-true x s h)
 
 module _ (table : Table) (limit first : ℕ) where
-  made_fits : (item : Item) (past : List Item) (s : ℕ) (e : Stored) → IsGoodHistory table limit first (item ∷ past) → IsReadEvent item.event → stored_in item.outcome ≡ Some s
-      → stored_form (find_exchange (id_of item.event) (open_exchanges table limit past)) item.event s ≡ Some e → length e.content ≤ table.max_stored
+  made_fits : (item : Item) (past : List Item) (s : ℕ) (e : Stored) → IsGoodHistory table limit first (item ∷ past) → EventIsReadFromAStream item.event → serial_stored_by_outcome item.outcome ≡ Some s
+      → stored_response_by_answer (find_exchange (exchange_id_of_event item.event) (open_exchanges table limit past)) item.event s ≡ Some e → length e.content ≤ table.max_stored
   made_fits item past s e good read stored h =
       let is = stores_nowhere_else table limit first s item past good stored in
-      let answer : IsReadEvent (Answer is.now is.id is.response) = subst IsReadEvent is.event_is read in
+      let answer : EventIsReadFromAStream (Answer is.now is.id is.response) = subst EventIsReadFromAStream is.event_is read in
       let final = final_status answer.max_body answer.to_head answer.ended answer.bytes is.response answer.rest answer.reads in
       let fits : length is.response.content ≤ table.max_stored = (is.may_be_stored final.0).fits in
-      let open_is : find_exchange (id_of item.event) (open_exchanges table limit past) ≡ Some is.exchange = ap (λ (v : Event). find_exchange (id_of v) (open_exchanges table limit past)) is.event_is ∙ is.is_open in
-      let form : stored_form (find_exchange (id_of item.event) (open_exchanges table limit past)) item.event s ≡ Some (made s is.exchange is.response is.now) =
-      ap (λ (o : Option Exchange). stored_form o item.event s) open_is ∙ ap (λ (v : Event). stored_form (Some is.exchange) v s) is.event_is in
+      let open_is : find_exchange (exchange_id_of_event item.event) (open_exchanges table limit past) ≡ Some is.exchange = ap (λ (v : Event). find_exchange (exchange_id_of_event v) (open_exchanges table limit past)) is.event_is ∙ is.is_open in
+      let form : stored_response_by_answer (find_exchange (exchange_id_of_event item.event) (open_exchanges table limit past)) item.event s ≡ Some (stored_response_made s is.exchange is.response is.now) =
+      ap (λ (o : Option Exchange). stored_response_by_answer o item.event s) open_is ∙ ap (λ (v : Event). stored_response_by_answer (Some is.exchange) v s) is.event_is in
       subst (λ (f : Stored). length f.content ≤ table.max_stored) (some_same (sym form ∙ h)) fits
 
   used_fits : (x : Option Exchange) (event : Event) (o : Option Stored) (e : Stored) → ((f : Stored) → o ≡ Some f → length f.content ≤ table.max_stored)
-      → option_map (used_form x event) o ≡ Some e → length e.content ≤ table.max_stored
+      → option_map (stored_response_as_used x event) o ≡ Some e → length e.content ≤ table.max_stored
   used_fits x event None e before h = absurd cc
   used_fits x event (Some f) e before h = subst (λ (c : List ℕ). length c ≤ table.max_stored) (sym (used_content x event f) ∙ ap (λ (g : Stored). g.content) (some_same h)) (before f refl)
 
-  pub fits_after : (trace : List Item) → IsGoodHistory table limit first trace → AllByRecursion (λ item. IsReadEvent item.event) trace → (s : ℕ) (e : Stored)
+  pub fits_after : (trace : List Item) → IsGoodHistory table limit first trace → AllByRecursion (λ item. EventIsReadFromAStream item.event) trace → (s : ℕ) (e : Stored)
       → held_entry table limit trace s ≡ Some e → length e.content ≤ table.max_stored
   fits_after [] good read s e h = absurd cc
   fits_after (item ∷ past) good read s e h =
-      by_tests (is_the (stored_in item.outcome) s) refl (is_the (used_in item.outcome) s) (λ f k. fits_after past good.1 read.1 s f k) h
+      by_tests (is_that_serial (serial_stored_by_outcome item.outcome) s) refl (is_that_serial (serial_used_by_outcome item.outcome) s) (λ f k. fits_after past good.1 read.1 s f k) h
     where
       x : Option Exchange
-      x = find_exchange (id_of item.event) (open_exchanges table limit past)
+      x = find_exchange (exchange_id_of_event item.event) (open_exchanges table limit past)
 
-      by_tests : (t : Bool) → is_the (stored_in item.outcome) s ≡ t → (u : Bool) → ((f : Stored) → held_entry table limit past s ≡ Some f → length f.content ≤ table.max_stored)
-          → cond t (stored_form x item.event s) (cond u (option_map (used_form x item.event) (held_entry table limit past s)) (held_entry table limit past s)) ≡ Some e → length e.content ≤ table.max_stored
-      by_tests true is u before k = made_fits item past s e good read.0 (the_serial (stored_in item.outcome) s is) k
+      by_tests : (t : Bool) → is_that_serial (serial_stored_by_outcome item.outcome) s ≡ t → (u : Bool) → ((f : Stored) → held_entry table limit past s ≡ Some f → length f.content ≤ table.max_stored)
+          → cond t (stored_response_by_answer x item.event s) (cond u (option_map (stored_response_as_used x item.event) (held_entry table limit past s)) (held_entry table limit past s)) ≡ Some e → length e.content ≤ table.max_stored
+      by_tests true is u before k = made_fits item past s e good read.0 (the_serial (serial_stored_by_outcome item.outcome) s is) k
       by_tests false is true before k = used_fits x item.event (held_entry table limit past s) e before k
       by_tests false is false before k = before e k
 
-pub holds_what_fits : HoldsWhatFits
+pub holds_what_fits : HeldContentFits
 holds_what_fits table limit first trace good read serial e h = fits_after table limit first trace good read serial e h
 
 -- ---- what is found among what is held

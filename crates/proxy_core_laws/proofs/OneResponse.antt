@@ -4,19 +4,19 @@ use Rattle.std.specs.Prelude.{IfSome, None, Some, codes}
 use Rattle.std.specs.List.{list_all}
 use Rattle.std.proofs.lemmas.List.Elements.{All-nil, All-cons, All-append, All-filter}
 use Rattle.httparse.specs.Grammar.{is_token_byte}
-use Rattle.hx_framing.specs.declared.fault.FrameFault.{FrameFault}
-use Rattle.hx_framing.specs.declared.fault.FrameFault.TheVariants as frame
+use Rattle.hx_framing.specs.declared.frame_fault.FrameFault.{FrameFault}
+use Rattle.hx_framing.specs.declared.frame_fault.FrameFault.TheVariants as frame
 use Rattle.hx_fields.specs.declared.limits.TheConstants.{END_OF_TIME}
 use Rattle.hx_fields.specs.declared.field_line.Field.{Field}
 use Rattle.hx_framing.specs.declared.messages.Response.{Response}
-use Rattle.hx_framing.specs.Lengths.{is_interim, is_without_content}
+use Rattle.hx_framing.specs.Lengths.{is_interim, response_has_no_content}
 use Rattle.hx_framing.specs.Reading.{Spelled}
 use Rattle.hx_framing.specs.ResponseReading.{Reads}
-use Rattle.hx_framing.specs.WrittenResponse.{response_back, sent_text}
-use Rattle.hx_framing.specs.Written.{IsWritableField}
+use Rattle.hx_framing.specs.WrittenResponse.{response_as_read_back, sent_response_text}
+use Rattle.hx_framing.specs.Written.{FieldIsWritable}
 use Rattle.hx_framing.proofs.WrittenResponses.{response_is_read_back}
-use Rattle.hx_target.specs.declared.faults.TargetFault.{TargetFault}
-use Rattle.hx_target.specs.declared.faults.TargetFault.TheVariants as target
+use Rattle.hx_target.specs.declared.target_fault.TargetFault.{TargetFault}
+use Rattle.hx_target.specs.declared.target_fault.TargetFault.TheVariants as target
 use Rattle.hx_hop.specs.Answering.{answered_of, dated_of}
 use Rattle.hx_hop.specs.Stripping.{is_hop_line, stripped}
 use Rattle.hx_hop.specs.Moments.{date_text_of}
@@ -25,14 +25,14 @@ use Rattle.hx_status.specs.declared.cause.Cause.TheVariants.{Denied, NoLine, Onl
 use Rattle.hx_status.specs.declared.cause.FailKind.{FailKind}
 use Rattle.hx_status.specs.declared.cause.FailKind.TheVariants.{Refused}
 use Rattle.hx_status.specs.Member.{member_text}
-use Rattle.hx_status.specs.Refusals.{frame_status, origin_status, status_of, target_status, text_of}
+use Rattle.hx_status.specs.Refusals.{frame_status, origin_status, refusal_status, target_status, refusal_text}
 use Rattle.hx_hop_laws.specs.OneMessage.{IsFieldValue}
 use Rattle.hx_hop_laws.proofs.DateValues.{date_value}
 use Rattle.hx_hop_laws.proofs.SentRequests.{line_of}
-use Rattle.hx_hop_laws.specs.OneResponse.{AreAdded, FitsAReader, sent_on}
+use Rattle.hx_hop_laws.specs.OneResponse.{LinesMayBeAdded, ResponseFitsAReader, response_passed_on}
 use Rattle.hx_hop_laws.proofs.SentResponses.{clean, dated_fit, sent_without}
-use Rattle.proxy_core.specs.Replies.{content_sent, is_head, line, status_passed}
-use Rattle.proxy_core_laws.specs.OneResponse.{PassesOneResponse, RefusesAsOneResponse, shown_by_the_proxy}
+use Rattle.proxy_core.specs.Replies.{content_unless_head, is_head, line, cache_status_of_passed_answer}
+use Rattle.proxy_core_laws.specs.OneResponse.{PassedAnswerIsOneResponse, ProxysAnswerIsOneResponse, proxys_answer_sent}
 use Rattle.proxy_core_laws.proofs.StoredReplies.{widened}
 use Rattle.proxy_core_laws.proofs.ReplyValues.{member_value, plain_value, text_value}
 
@@ -56,15 +56,15 @@ plain_text : IsFieldValue (codes "text/plain")
 plain_text = plain_value
 
 -- An answer that was read, of a HEAD or not, is one response where it goes on to a HEAD or not (h: it was read so, g: it goes on so).
-module _ (h g ended close : Bool) (max_body most now : ℕ) (bytes rest : List ℕ) (r : Response) (added : List Field) (are : AreAdded added) where
-  goes_on : Reads max_body h ended bytes (Spelled r rest) → now < END_OF_TIME → most < 2 ^ 64 → FitsAReader most (sent_on g r now added close) → (over : Bool) (behind : List ℕ)
-      → Reads most g over (sent_text (sent_on g r now added close) ++ behind) (Spelled (response_back g (sent_on g r now added close)) behind)
+module _ (h g ended close : Bool) (max_body most now : ℕ) (bytes rest : List ℕ) (r : Response) (added : List Field) (are : LinesMayBeAdded added) where
+  goes_on : Reads max_body h ended bytes (Spelled r rest) → now < END_OF_TIME → most < 2 ^ 64 → ResponseFitsAReader most (response_passed_on g r now added close) → (over : Bool) (behind : List ℕ)
+      → Reads most g over (sent_response_text (response_passed_on g r now added close) ++ behind) (Spelled (response_as_read_back g (response_passed_on g r now added close)) behind)
   goes_on reads early small limits over behind =
       let is = clean max_body h ended bytes r rest reads in
-      response_is_read_back g (sent_on g r now added close) most over behind (record {
+      response_is_read_back g (response_passed_on g r now added close) most over behind (record {
         status = is.status;
-        fields = All-append IsWritableField (dated_of (stripped r.fields) now) added
-            (dated_fit (stripped r.fields) now early (All-filter (λ f. not (is_hop_line r.fields f)) IsWritableField r.fields is.fields)) are.fields;
+        fields = All-append FieldIsWritable (dated_of (stripped r.fields) now) added
+            (dated_fit (stripped r.fields) now early (All-filter (λ f. not (is_hop_line r.fields f)) FieldIsWritable r.fields is.fields)) are.fields;
         lengths = sent_without r.fields added now (codes "content-length") is.lengths are.lengths refl;
         codings = sent_without r.fields added now (codes "transfer-encoding") is.codings are.codings refl;
         small = shown_small g is.announced limits.content;
@@ -84,11 +84,11 @@ module _ (h g ended close : Bool) (max_body most now : ℕ) (bytes rest : List �
           by_status false true announced within = announced
           by_status false false announced within = omega (arith, small, within)
 
-      none_sent : (g : Bool) → (is_without_content h r.status ≡ true → r.content ≡ []) → is_without_content g r.status ≡ true → cond g [] r.content ≡ []
+      none_sent : (g : Bool) → (response_has_no_content h r.status ≡ true → r.content ≡ []) → response_has_no_content g r.status ≡ true → cond g [] r.content ≡ []
       none_sent true none without = refl
       none_sent false none without = none (widened h r.status without)
 
-      shown : (g : Bool) → is_without_content g r.status ≡ false
+      shown : (g : Bool) → response_has_no_content g r.status ≡ false
           → cond ((r.status == 204) || (r.status == 304)) None (cond g r.announced (Some (length r.content))) ≡ Some (length (cond g [] r.content))
       shown true some = absurd cc
       shown false some = by_tests (is_interim r.status) (r.status == 204) (r.status == 304) some
@@ -99,12 +99,12 @@ module _ (h g ended close : Bool) (max_body most now : ℕ) (bytes rest : List �
           by_tests false false true h = absurd cc
           by_tests false false false h = refl
 
-pub passes_one_response : PassesOneResponse
+pub passes_one_response : PassedAnswerIsOneResponse
 passes_one_response max_body most now to_head ended stored bytes rest name policy rule x r reads early token small limits over behind =
-    let shown : List ℕ = member_text name (status_passed policy x r.status (answered_of r now).fields now stored rule) in
-    let value : IsFieldValue shown = member_value name (status_passed policy x r.status (answered_of r now).fields now stored rule) token in
+    let shown : List ℕ = member_text name (cache_status_of_passed_answer policy x r.status (answered_of r now).fields now stored rule) in
+    let value : IsFieldValue shown = member_value name (cache_status_of_passed_answer policy x r.status (answered_of r now).fields now stored rule) token in
     goes_on to_head (is_head x.asked) ended x.asked.close max_body most now bytes rest r (line (codes "Cache-Status") shown ∷ []) (record {
-      fields = All-cons IsWritableField (line (codes "Cache-Status") shown) [] (line_of (codes "Cache-Status") shown shown_name (omega arith) value) (All-nil IsWritableField);
+      fields = All-cons FieldIsWritable (line (codes "Cache-Status") shown) [] (line_of (codes "Cache-Status") shown shown_name (omega arith) value) (All-nil FieldIsWritable);
       lengths = refl;
       codings = refl;
     }) reads early small limits over behind
@@ -115,7 +115,7 @@ passes_one_response max_body most now to_head ended stored bytes rest name polic
 record IsOwnStatus (status : ℕ) : Type 0 where
   low : 200 ≤ status
   high : status ≤ 599
-  has_content : is_without_content false status ≡ false
+  has_content : response_has_no_content false status ≡ false
 
 kind_status : (kind : FailKind) → IsOwnStatus (origin_status kind)
 kind_status Refused = record { low = omega arith; high = omega arith; has_content = refl }
@@ -129,7 +129,7 @@ target_is : (fault : TargetFault) → IsOwnStatus (target_status fault)
 target_is target.Form = record { low = omega arith; high = omega arith; has_content = refl }
 target_is _ = record { low = omega arith; high = omega arith; has_content = refl }
 
-own_status : (cause : Cause) → IsOwnStatus (status_of cause)
+own_status : (cause : Cause) → IsOwnStatus (refusal_status cause)
 own_status (Denied line) = record { low = omega arith; high = omega arith; has_content = refl }
 own_status NoLine = record { low = omega arith; high = omega arith; has_content = refl }
 own_status (OnlyIfCached rule) = record { low = omega arith; high = omega arith; has_content = refl }
@@ -137,19 +137,19 @@ own_status (Origin kind rule error) = kind_status kind
 own_status (Frame fault) = frame_is fault
 own_status (Target fault) = target_is fault
 
-pub refuses_as_one_response : RefusesAsOneResponse
+pub refuses_as_one_response : ProxysAnswerIsOneResponse
 refuses_as_one_response most now cause close head early small length_small limits over behind =
     let is = own_status cause in
     let date : List ℕ = date_text_of now in
-    let text : List ℕ = text_of cause in
-    response_is_read_back head (shown_by_the_proxy now cause close head) most over behind (record {
+    let text : List ℕ = refusal_text cause in
+    response_is_read_back head (proxys_answer_sent now cause close head) most over behind (record {
       status = (is.low, is.high);
       fields =
-          All-cons IsWritableField (line (codes "Date") date) (line (codes "Content-Type") (codes "text/plain") ∷ line (codes "Refusal") text ∷ [])
+          All-cons FieldIsWritable (line (codes "Date") date) (line (codes "Content-Type") (codes "text/plain") ∷ line (codes "Refusal") text ∷ [])
           (line_of (codes "Date") date date_name (omega arith) (date_value now early))
-          (All-cons IsWritableField (line (codes "Content-Type") (codes "text/plain")) (line (codes "Refusal") text ∷ [])
+          (All-cons FieldIsWritable (line (codes "Content-Type") (codes "text/plain")) (line (codes "Refusal") text ∷ [])
           (line_of (codes "Content-Type") (codes "text/plain") type_name (omega arith) plain_text)
-          (All-cons IsWritableField (line (codes "Refusal") text) [] (line_of (codes "Refusal") text refusal_name (omega arith) (text_value cause)) (All-nil IsWritableField)));
+          (All-cons FieldIsWritable (line (codes "Refusal") text) [] (line_of (codes "Refusal") text refusal_name (omega arith) (text_value cause)) (All-nil FieldIsWritable)));
       lengths = refl;
       codings = refl;
       small = length_small;
@@ -159,10 +159,10 @@ refuses_as_one_response most now cause close head early small length_small limit
       short = limits.short;
     }) limits.content
   where
-    none_sent : (h : Bool) → is_without_content h (status_of cause) ≡ true → content_sent h (text_of cause) ≡ []
+    none_sent : (h : Bool) → response_has_no_content h (refusal_status cause) ≡ true → content_unless_head h (refusal_text cause) ≡ []
     none_sent true none = refl
-    none_sent false none = let some : is_without_content false (status_of cause) ≡ false = (own_status cause).has_content in absurd cc
+    none_sent false none = let some : response_has_no_content false (refusal_status cause) ≡ false = (own_status cause).has_content in absurd cc
 
-    shown : (h : Bool) → is_without_content h (status_of cause) ≡ false → Some (length (text_of cause)) ≡ Some (length (content_sent h (text_of cause)))
+    shown : (h : Bool) → response_has_no_content h (refusal_status cause) ≡ false → Some (length (refusal_text cause)) ≡ Some (length (content_unless_head h (refusal_text cause)))
     shown true some = absurd cc
     shown false some = refl

@@ -2,7 +2,7 @@
 use Rattle.std.proofs.Common.{◌≡◌, ℕ, ◌==◌, Bool, true, false, not, cond, List, [], ◌∷◌, ◌++◌, sym, subst}
 use Rattle.std.specs.Prelude.{All, Option, None, Some, filter, map}
 use Rattle.std.proofs.lemmas.List.Elements.{All-nil, All-cons, All-append, All-filter, All-head, All-map, All-tail, All-weaker}
-use Rattle.hx_allow.specs.Lines.{Table}
+use Rattle.hx_allow.specs.TableLines.{Table}
 use Rattle.hx_target.specs.declared.keys.Key.{Key}
 use Rattle.hx_store.specs.Stored.{Stored}
 use Rattle.proxy_core.specs.declared.open.exchange.Exchange.{Exchange}
@@ -12,42 +12,42 @@ use Rattle.proxy_core.specs.declared.outcome.Outcome.{Outcome}
 use Rattle.proxy_core.specs.declared.outcome.Outcome.TheVariants.{Reply, Forward, Waits, Ended}
 use Rattle.proxy_core.specs.Histories.{held_entries, open_exchanges}
 use Rattle.proxy_core.specs.Outcomes.{find_exchange}
-use Rattle.proxy_core.specs.State.{closed, left_open, gone_out, open_after, opened, overtake, queued, release, sent_out, woken_out, invalidated_by}
+use Rattle.proxy_core.specs.State.{exchanges_after_close, exchanges_after_end, exchange_forwarded_again, open_exchanges_after, forwarded_exchange, overtaken_exchange, waiting_exchange, released_exchange, exchange_sent_forward, exchanges_after_wake, key_invalidated_by_response}
 use Rattle.proxy_core.specs.Traces.{Item}
 use Rattle.proxy_core.proofs.Gets.{gone_out-asked, overtake-asked, release-asked, sent_out-asked}
-use Rattle.proxy_core_laws.specs.SentMessages.{AreHandedWhatWasRead, IsHandedWhatWasRead, IsReadRequest, KeepsWhatWasRead}
+use Rattle.proxy_core_laws.specs.SentMessages.{EventsWereRead, EventWasRead, RequestWasRead, OpenRequestsWereRead}
 
 -- (a record, so that what it is of can be read off it)
 record HasReadRequest (x : Exchange) : Type 0 where
-  is : IsReadRequest x.asked
+  is : RequestWasRead x.asked
 
 mapped : (f : Exchange → Exchange) → ((x : Exchange) → (f x).asked ≡ x.asked) → (xs : List Exchange) → All HasReadRequest xs → All HasReadRequest (map f xs)
 mapped f same xs all =
-    All-map HasReadRequest f xs (All-weaker HasReadRequest (λ x. HasReadRequest (f x)) (λ x has. record { is = subst IsReadRequest (sym (same x)) has.is }) xs all)
+    All-map HasReadRequest f xs (All-weaker HasReadRequest (λ x. HasReadRequest (f x)) (λ x has. record { is = subst RequestWasRead (sym (same x)) has.is }) xs all)
 
-closed_so : (id : ℕ) (xs : List Exchange) → All HasReadRequest xs → All HasReadRequest (closed id xs)
-closed_so id xs all = mapped (release id) (release-asked id) (filter (λ (x : Exchange). not (x.id == id)) xs) (All-filter (λ (x : Exchange). not (x.id == id)) HasReadRequest xs all)
+closed_so : (id : ℕ) (xs : List Exchange) → All HasReadRequest xs → All HasReadRequest (exchanges_after_close id xs)
+closed_so id xs all = mapped (released_exchange id) (release-asked id) (filter (λ (x : Exchange). not (x.id == id)) xs) (All-filter (λ (x : Exchange). not (x.id == id)) HasReadRequest xs all)
 
-left_so : (key : Option Key) (id : ℕ) (xs : List Exchange) → All HasReadRequest xs → All HasReadRequest (left_open key id xs)
+left_so : (key : Option Key) (id : ℕ) (xs : List Exchange) → All HasReadRequest xs → All HasReadRequest (exchanges_after_end key id xs)
 left_so None id xs all = closed_so id xs all
-left_so (Some key) id xs all = mapped (overtake key) (overtake-asked key) (closed id xs) (closed_so id xs all)
+left_so (Some key) id xs all = mapped (overtaken_exchange key) (overtake-asked key) (exchanges_after_close id xs) (closed_so id xs all)
 
-woken_so : (table : Table) (es : List Stored) (id now : ℕ) (o : Option Exchange) (xs : List Exchange) → All HasReadRequest xs → All HasReadRequest (woken_out table es id now o xs)
+woken_so : (table : Table) (es : List Stored) (id now : ℕ) (o : Option Exchange) (xs : List Exchange) → All HasReadRequest xs → All HasReadRequest (exchanges_after_wake table es id now o xs)
 woken_so table es id now None xs all = all
-woken_so table es id now (Some x) xs all = mapped (sent_out id now _ _) (sent_out-asked id now _ _) xs all
+woken_so table es id now (Some x) xs all = mapped (exchange_sent_forward id now _ _) (sent_out-asked id now _ _) xs all
 
-added : (xs : List Exchange) (x : Exchange) → All HasReadRequest xs → IsReadRequest x.asked → All HasReadRequest (xs ++ x ∷ [])
+added : (xs : List Exchange) (x : Exchange) → All HasReadRequest xs → RequestWasRead x.asked → All HasReadRequest (xs ++ x ∷ [])
 added xs x all is = All-append HasReadRequest xs (x ∷ []) all (All-cons HasReadRequest x [] (record { is = is }) (All-nil HasReadRequest))
 
-after_so : (table : Table) (es : List Stored) (xs : List Exchange) (event : Event) (outcome : Outcome) → IsHandedWhatWasRead event → All HasReadRequest xs → All HasReadRequest (open_after table es xs event outcome)
-after_so table es xs (Arrive now id asked) (Forward line bytes) is all = added xs (opened table es now id asked line) all is
-after_so table es xs (Arrive now id asked) (Waits leader) is all = added xs (queued table es now id asked _ leader) all is
+after_so : (table : Table) (es : List Stored) (xs : List Exchange) (event : Event) (outcome : Outcome) → EventWasRead event → All HasReadRequest xs → All HasReadRequest (open_exchanges_after table es xs event outcome)
+after_so table es xs (Arrive now id asked) (Forward line bytes) is all = added xs (forwarded_exchange table es now id asked line) all is
+after_so table es xs (Arrive now id asked) (Waits leader) is all = added xs (waiting_exchange table es now id asked _ leader) all is
 after_so table es xs (Arrive now id asked) (Reply r) is all = all
 after_so table es xs (Arrive now id asked) Ended is all = all
-after_so table es xs (Answer now id r) (Forward line bytes) is all = mapped (gone_out id now) (gone_out-asked id now) xs all
-after_so table es xs (Answer now id r) (Reply reply) is all = left_so (invalidated_by (find_exchange id xs) r) id xs all
-after_so table es xs (Answer now id r) (Waits leader) is all = left_so (invalidated_by (find_exchange id xs) r) id xs all
-after_so table es xs (Answer now id r) Ended is all = left_so (invalidated_by (find_exchange id xs) r) id xs all
+after_so table es xs (Answer now id r) (Forward line bytes) is all = mapped (exchange_forwarded_again id now) (gone_out-asked id now) xs all
+after_so table es xs (Answer now id r) (Reply reply) is all = left_so (key_invalidated_by_response (find_exchange id xs) r) id xs all
+after_so table es xs (Answer now id r) (Waits leader) is all = left_so (key_invalidated_by_response (find_exchange id xs) r) id xs all
+after_so table es xs (Answer now id r) Ended is all = left_so (key_invalidated_by_response (find_exchange id xs) r) id xs all
 after_so table es xs (Fail now id kind) outcome is all = closed_so id xs all
 after_so table es xs (Wake now id) (Forward line bytes) is all = woken_so table es id now (find_exchange id xs) xs all
 after_so table es xs (Wake now id) (Reply r) is all = closed_so id xs all
@@ -55,21 +55,21 @@ after_so table es xs (Wake now id) (Waits leader) is all = closed_so id xs all
 after_so table es xs (Wake now id) Ended is all = closed_so id xs all
 after_so table es xs (Abandon id) outcome is all = closed_so id xs all
 
-open_so : (table : Table) (limit : ℕ) (trace : List Item) → AreHandedWhatWasRead trace → All HasReadRequest (open_exchanges table limit trace)
+open_so : (table : Table) (limit : ℕ) (trace : List Item) → EventsWereRead trace → All HasReadRequest (open_exchanges table limit trace)
 open_so table limit [] is = All-nil HasReadRequest
 open_so table limit (item ∷ past) is =
     after_so table (held_entries table limit past) (open_exchanges table limit past) item.event item.outcome is.0 (open_so table limit past is.1)
 
-found_so : (id : ℕ) (xs : List Exchange) (x : Exchange) → All HasReadRequest xs → find_exchange id xs ≡ Some x → IsReadRequest x.asked
+found_so : (id : ℕ) (xs : List Exchange) (x : Exchange) → All HasReadRequest xs → find_exchange id xs ≡ Some x → RequestWasRead x.asked
 found_so id [] x all h = absurd cc
 found_so id (y ∷ ys) x all h = by_id (y.id == id) (λ k. found_so id ys x (All-tail HasReadRequest y ys all) k) h
   where
-    by_id : (b : Bool) → (find_exchange id ys ≡ Some x → IsReadRequest x.asked) → cond b (Some y) (find_exchange id ys) ≡ Some x → IsReadRequest x.asked
-    by_id true later k = subst (λ (z : Exchange). IsReadRequest z.asked) same (All-head HasReadRequest y ys all).is
+    by_id : (b : Bool) → (find_exchange id ys ≡ Some x → RequestWasRead x.asked) → cond b (Some y) (find_exchange id ys) ≡ Some x → RequestWasRead x.asked
+    by_id true later k = subst (λ (z : Exchange). RequestWasRead z.asked) same (All-head HasReadRequest y ys all).is
       where
         same : y ≡ x
         same = cc
     by_id false later k = later k
 
-pub keeps_what_was_read : KeepsWhatWasRead
+pub keeps_what_was_read : OpenRequestsWereRead
 keeps_what_was_read table limit first id trace x good is h = found_so id (open_exchanges table limit trace) x (open_so table limit trace is) h

@@ -10,27 +10,27 @@ use Rattle.httparse.specs.Grammar as grammar
 use Rattle.httpdate.specs.Text.{day_name, four_digits, imf_fixdate, month_name, time_of_day, two_digits}
 use Rattle.httpdate.specs.declared.parts.Parts.{Parts}
 use Rattle.hx_fields.specs.declared.field_line.Field.{Field}
-use Rattle.hx_fields.specs.Lines.{is_named, without_named}
-use Rattle.hx_framing.specs.declared.fault.FrameFault.TheVariants as fault
+use Rattle.hx_fields.specs.FieldLines.{is_named, without_named}
+use Rattle.hx_framing.specs.declared.frame_fault.FrameFault.TheVariants as fault
 use Rattle.hx_framing.specs.declared.heads.status_head.StatusHead.{StatusHead}
 use Rattle.hx_framing.specs.declared.messages.Response.{Response}
-use Rattle.hx_framing.specs.Body.{Body, Short, Bad, Whole}
-use Rattle.hx_framing.specs.Contents.{body_at}
-use Rattle.hx_framing.specs.Head.{field_of}
+use Rattle.hx_framing.specs.Body.{ContentFound, Short, Bad, Whole}
+use Rattle.hx_framing.specs.Contents.{content_at}
+use Rattle.hx_framing.specs.Head.{field_of_grammar}
 use Rattle.hx_framing.specs.Lengths.{framing_of_response, without_lengths}
-use Rattle.hx_framing.specs.Places.{head_length, most_head_bytes}
-use Rattle.hx_framing.specs.Reading.{Faulty, Spelled, cut_off, with_body}
-use Rattle.hx_framing.specs.ResponseReading.{FrontBy, Reads, response_of, with_framing, without_head}
-use Rattle.hx_framing.specs.StatusHead.{Judges}
-use Rattle.hx_framing.specs.Text.{field_line, field_lines}
+use Rattle.hx_framing.specs.HeadEnd.{head_length, most_head_bytes}
+use Rattle.hx_framing.specs.Reading.{Faulty, Spelled, reading_cut_off, reading_with_content}
+use Rattle.hx_framing.specs.ResponseReading.{FrontReadsByLength, Reads, response_of_head, reading_with_framing, reading_without_response_head}
+use Rattle.hx_framing.specs.StatusHead.{ResponseHeadIsJudged}
+use Rattle.hx_framing.specs.Text.{field_line_text, field_lines_text}
 use Rattle.hx_framing.proofs.HeadEnds.{head_within_bytes}
 use Rattle.hx_hop.specs.Answering.{dated_of, has_one_date}
 use Rattle.hx_hop.specs.Forwarding.{line}
-use Rattle.hx_hop.specs.Moments.{civil_of, date_text_of}
+use Rattle.hx_hop.specs.Moments.{date_parts_of, date_text_of}
 use Rattle.hx_hop.specs.Stripping.{is_hop_line, stripped}
 use Rattle.proxy_core.specs.declared.open.exchange.Exchange.{Exchange}
-use Rattle.proxy_core.specs.Storing.{made}
-use Rattle.proxy_core_laws.specs.HeldHeads.{StoresBounded, StoresWithRoom}
+use Rattle.proxy_core.specs.Storing.{stored_response_made}
+use Rattle.proxy_core_laws.specs.HeldHeads.{StoredHeadIsBounded, StoredHeadLeavesRoom}
 
 -- ---- the head that was read
 
@@ -38,22 +38,22 @@ use Rattle.proxy_core_laws.specs.HeldHeads.{StoresBounded, StoresWithRoom}
 record IsReadHead (r : Response) : Type 0 where
   head : StatusHead
   text : List ℕ
-  judged : Judges text (Ok head)
+  judged : ResponseHeadIsJudged text (Ok head)
   short : length text ≤ 32768
   fields_are : r.fields ≡ without_lengths head.fields
 
-of_body : (e h : Bool) (head : StatusHead) (body : Body) (r : Response) (rest : List ℕ) → Spelled r rest ≡ with_body e (response_of h head) body → r.fields ≡ without_lengths head.fields
+of_body : (e h : Bool) (head : StatusHead) (body : ContentFound) (r : Response) (rest : List ℕ) → Spelled r rest ≡ reading_with_content e (response_of_head h head) body → r.fields ≡ without_lengths head.fields
 of_body true h head Short r rest is = absurd cc
 of_body false h head Short r rest is = absurd cc
 of_body e h head (Bad f) r rest is = absurd cc
 of_body e h head (Whole content behind) r rest is =
-    let same : r ≡ response_of h head content = cc in ap (λ (q : Response). q.fields) same
+    let same : r ≡ response_of_head h head content = cc in ap (λ (q : Response). q.fields) same
 
 of_framing : (max : ℕ) (h e : Bool) (head : StatusHead) (bytes : List ℕ) (r : Response) (rest : List ℕ)
-    → Spelled r rest ≡ with_framing max h e head bytes (framing_of_response max h head) → r.fields ≡ without_lengths head.fields
+    → Spelled r rest ≡ reading_with_framing max h e head bytes (framing_of_response max h head) → r.fields ≡ without_lengths head.fields
 of_framing max h e head bytes r rest is =
-    (elim (framing_of_response max h head) as (λ j. Spelled r rest ≡ with_framing max h e head bytes j → r.fields ≡ without_lengths head.fields) [
-      | Ok framing ↦ λ k. of_body e h head (body_at max framing e bytes) r rest k
+    (elim (framing_of_response max h head) as (λ j. Spelled r rest ≡ reading_with_framing max h e head bytes j → r.fields ≡ without_lengths head.fields) [
+      | Ok framing ↦ λ k. of_body e h head (content_at max framing e bytes) r rest k
       | Err f ↦ λ k. absurd cc
     ]) is
 
@@ -62,16 +62,16 @@ take_few zero bytes = omega arith
 take_few (suc n) [] = omega arith
 take_few (suc n) (b ∷ bytes) = let fewer = take_few n bytes in omega (arith, fewer)
 
-no_head : (e : Bool) (bytes : List ℕ) (r : Response) (rest : List ℕ) → Spelled r rest ≡ without_head e bytes → ⊥
+no_head : (e : Bool) (bytes : List ℕ) (r : Response) (rest : List ℕ) → Spelled r rest ≡ reading_without_response_head e bytes → ⊥
 no_head e bytes r rest is = by_tests (nat_lt most_head_bytes (length bytes)) e is
   where
-    by_tests : (t u : Bool) → Spelled r rest ≡ cond t (Faulty fault.Head) (cut_off u) → ⊥
+    by_tests : (t u : Bool) → Spelled r rest ≡ cond t (Faulty fault.Head) (reading_cut_off u) → ⊥
     by_tests true u h = cc
     by_tests false true h = cc
     by_tests false false h = cc
 
 of_head : (max : ℕ) (h e : Bool) (bytes : List ℕ) (o : Option ℕ) (r : Response) (rest : List ℕ) → head_length (take most_head_bytes bytes) ≡ o
-    → FrontBy max h e bytes o (Spelled r rest) → IsReadHead r
+    → FrontReadsByLength max h e bytes o (Spelled r rest) → IsReadHead r
 of_head max h e bytes None r rest place is = absurd (no_head e bytes r rest is)
 of_head max h e bytes (Some n) r rest place (Err f, judges, final, is) = absurd cc
 of_head max h e bytes (Some n) r rest place (Ok head, judges, final, is) =
@@ -113,7 +113,7 @@ some_end crlf = omega arith
 some_end lf = omega arith
 
 -- at most a blank and a CR are added to a line
-line_longer : (f : grammar.Field) (n m : ℕ) → length (field_line (field_of f)) ≡ n → length (print_field f) ≡ m → n ≤ m + 2
+line_longer : (f : grammar.Field) (n m : ℕ) → length (field_line_text (field_of_grammar f)) ≡ n → length (print_field f) ≡ m → n ≤ m + 2
 line_longer f n m sent came =
     let value = trim_short f.raw in
     let end = some_end f.end in
@@ -121,12 +121,12 @@ line_longer f n m sent came =
     let theirs = simp length-append at came in
     omega (arith, value, end, ours, theirs)
 
-lines_longer : (fs : List grammar.Field) → length (field_lines (map field_of fs)) ≤ length (flat_map print_field fs) + 2 * length fs
+lines_longer : (fs : List grammar.Field) → length (field_lines_text (map field_of_grammar fs)) ≤ length (flat_map print_field fs) + 2 * length fs
 lines_longer [] = omega arith
 lines_longer (f ∷ fs) =
-    let one = line_longer f (length (field_line (field_of f))) (length (print_field f)) refl refl in
+    let one = line_longer f (length (field_line_text (field_of_grammar f))) (length (print_field f)) refl refl in
     let more = lines_longer fs in
-    let sent = length-append (field_line (field_of f)) (field_lines (map field_of fs)) in
+    let sent = length-append (field_line_text (field_of_grammar f)) (field_lines_text (map field_of_grammar fs)) in
     let came = length-append (print_field f) (flat_map print_field fs) in
     omega (arith, one, more, sent, came)
 
@@ -144,23 +144,23 @@ fewer_lines p (x ∷ xs) = by_test (p x) (fewer_lines p xs)
     by_test true fewer = omega (arith, fewer)
     by_test false fewer = omega (arith, fewer)
 
-pub fewer_bytes : (p : Field → Bool) (xs : List Field) → length (field_lines (filter p xs)) ≤ length (field_lines xs)
+pub fewer_bytes : (p : Field → Bool) (xs : List Field) → length (field_lines_text (filter p xs)) ≤ length (field_lines_text xs)
 fewer_bytes p [] = omega arith
 fewer_bytes p (x ∷ xs) = by_test (p x) (fewer_bytes p xs)
   where
-    by_test : (t : Bool) → length (field_lines (filter p xs)) ≤ length (field_lines xs) → length (field_lines (cond t (x ∷ filter p xs) (filter p xs))) ≤ length (field_lines (x ∷ xs))
+    by_test : (t : Bool) → length (field_lines_text (filter p xs)) ≤ length (field_lines_text xs) → length (field_lines_text (cond t (x ∷ filter p xs) (filter p xs))) ≤ length (field_lines_text (x ∷ xs))
     by_test true fewer =
-        let a = length-append (field_line x) (field_lines (filter p xs)) in
-        let b = length-append (field_line x) (field_lines xs) in
+        let a = length-append (field_line_text x) (field_lines_text (filter p xs)) in
+        let b = length-append (field_line_text x) (field_lines_text xs) in
         omega (arith, fewer, a, b)
     by_test false fewer =
-        let b = length-append (field_line x) (field_lines xs) in
+        let b = length-append (field_line_text x) (field_lines_text xs) in
         omega (arith, fewer, b)
 
 -- so many lines and bytes
 pub record AreWithin (lines bytes : ℕ) (fields : List Field) : Type 0 where
   pub few : length fields ≤ lines
-  pub short : length (field_lines fields) ≤ bytes
+  pub short : length (field_lines_text fields) ≤ bytes
 
 pub within_fewer : (lines bytes : ℕ) (p : Field → Bool) (fields : List Field) → AreWithin lines bytes fields → AreWithin lines bytes (filter p fields)
 within_fewer lines bytes p fields are =
@@ -173,15 +173,15 @@ within_fewer lines bytes p fields are =
 read_within : (r : Response) → IsReadHead r → AreWithin 100 32968 r.fields
 read_within r is = subst (AreWithin 100 32968) (sym is.fields_are) (lengths_within is.head is.text is.judged is.short)
   where
-    lengths_within : (head : StatusHead) (text : List ℕ) → Judges text (Ok head) → length text ≤ 32768 → AreWithin 100 32968 (without_lengths head.fields)
+    lengths_within : (head : StatusHead) (text : List ℕ) → ResponseHeadIsJudged text (Ok head) → length text ≤ 32768 → AreWithin 100 32968 (without_lengths head.fields)
     lengths_within head text (g, is, same) short =
         within_fewer 100 32968 (λ f. not (is_named (codes "transfer-encoding") f)) (without_named head.fields (codes "content-length"))
         (within_fewer 100 32968 (λ f. not (is_named (codes "content-length") f)) head.fields
         (subst (AreWithin 100 32968) (sym (ap (λ (s : StatusHead). s.fields) same)) (head_within g text is.0.1 is.1 short)))
       where
-        head_within : (g : ResponseHead) (text : List ℕ) → text ≡ print_response g ++ [] → length g.fields ≤ 100 → length text ≤ 32768 → AreWithin 100 32968 (map field_of g.fields)
+        head_within : (g : ResponseHead) (text : List ℕ) → text ≡ print_response g ++ [] → length g.fields ≤ 100 → length text ≤ 32768 → AreWithin 100 32968 (map field_of_grammar g.fields)
         head_within g text is few short =
-            let count = length-map g.fields field_of in
+            let count = length-map g.fields field_of_grammar in
             let longer = lines_longer g.fields in
             let section = section_within g (length (print_response g ++ [])) refl in
             let whole = ap length is in
@@ -209,13 +209,13 @@ date_short : (p : Parts) → length (imf_fixdate p) ≤ 29
 date_short p =
     date_sum (day_name p.wday) (two_digits p.day) (month_name p.mon) (four_digits p.year) (time_of_day p) (length (imf_fixdate p)) (day_short p.wday) refl (month_short p.mon) refl refl refl
 
-one_line : (name value : List ℕ) (n : ℕ) → length (field_lines (line name value ∷ [])) ≡ n → n ≡ length name + length value + 4
+one_line : (name value : List ℕ) (n : ℕ) → length (field_lines_text (line name value ∷ [])) ≡ n → n ≡ length name + length value + 4
 one_line name value n whole = let parts = simp length-append at whole in omega (arith, parts)
 
-date_line_short : (now : ℕ) → length (field_lines (line (codes "Date") (date_text_of now) ∷ [])) ≤ 37
+date_line_short : (now : ℕ) → length (field_lines_text (line (codes "Date") (date_text_of now) ∷ [])) ≤ 37
 date_line_short now =
-    let date = date_short (civil_of now) in
-    let parts = one_line (codes "Date") (date_text_of now) (length (field_lines (line (codes "Date") (date_text_of now) ∷ []))) refl in
+    let date = date_short (date_parts_of now) in
+    let parts = one_line (codes "Date") (date_text_of now) (length (field_lines_text (line (codes "Date") (date_text_of now) ∷ []))) refl in
     omega (arith, date, parts)
 
 dated_within : (lines bytes : ℕ) (fields : List Field) (now : ℕ) → AreWithin lines bytes fields → AreWithin (lines + 1) (bytes + 37) (dated_of fields now)
@@ -238,24 +238,24 @@ dated_within most longest fields now are = by_test (has_one_date fields)
         let short = rest.short in
         let one = date_line_short now in
         let count = length-append others date in
-        let lines = ap length (flat_map-append field_line others date) ∙ length-append (field_lines others) (field_lines date) in
+        let lines = ap length (flat_map-append field_line_text others date) ∙ length-append (field_lines_text others) (field_lines_text date) in
         record { few = omega (arith, few, count); short = omega (arith, short, one, lines) }
 
 -- what is stored of an answer within so many lines and bytes
-stored_within : (lines bytes serial now : ℕ) (x : Exchange) (r : Response) → AreWithin lines bytes r.fields → AreWithin (lines + 1) (bytes + 37) (made serial x r now).fields
+stored_within : (lines bytes serial now : ℕ) (x : Exchange) (r : Response) → AreWithin lines bytes r.fields → AreWithin (lines + 1) (bytes + 37) (stored_response_made serial x r now).fields
 stored_within lines bytes serial now x r are =
     let own = within_fewer lines bytes (λ f. not (is_hop_line r.fields f)) r.fields are in
     let dated = dated_within lines bytes (stripped r.fields) now own in
     within_fewer (lines + 1) (bytes + 37) (λ f. not (is_named (codes "Age") f)) (dated_of (stripped r.fields) now) dated
 
-pub stores_bounded : StoresBounded
+pub stores_bounded : StoredHeadIsBounded
 stores_bounded max_body serial now h ended bytes rest x r reads early =
     let kept = stored_within 100 32968 serial now x r (read_within r (read_head max_body h ended bytes r rest reads)) in
     record { lines = kept.few; bytes = kept.short }
 
-pub stores_with_room : StoresWithRoom
+pub stores_with_room : StoredHeadLeavesRoom
 stores_with_room serial now x r few short =
     let kept = stored_within 95 32475 serial now x r (record { few = few; short = short }) in
     let lines = kept.few in
     let bytes = kept.short in
-    and_from _ _ (le-leb (length (made serial x r now).fields + 4) 100 (omega (arith, lines))) (le-leb (length (field_lines (made serial x r now).fields) + 256) 32768 (omega (arith, bytes)))
+    and_from _ _ (le-leb (length (stored_response_made serial x r now).fields + 4) 100 (omega (arith, lines))) (le-leb (length (field_lines_text (stored_response_made serial x r now).fields) + 256) 32768 (omega (arith, bytes)))

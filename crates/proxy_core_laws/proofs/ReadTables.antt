@@ -11,14 +11,14 @@ use Rattle.http_header.proofs.TokenLemmas.{AllPass-from_test}
 use Rattle.httparse.specs.Grammar.{IsToken, is_token_byte}
 use Rattle.toml.specs.Data.{Members, get_member, as_integer}
 use Rattle.hx_allow.specs.Keys.{key_text}
-use Rattle.hx_allow.specs.Lines.{Table}
-use Rattle.hx_allow.specs.Tables.{fault_or_table, is_name, is_name_byte, judge_table, number_at, table_fault, table_of}
+use Rattle.hx_allow.specs.TableLines.{Table}
+use Rattle.hx_allow.specs.Tables.{fault_or_table_read, is_name, is_name_byte, judge_table, number_at, table_fault, table_read}
 use Rattle.hx_allow.specs.Values.{first_unknown, is_some_and, text_at, within}
-use Rattle.hx_allow.specs.declared.faults.ConfigFault.{ConfigFault}
-use Rattle.hx_allow.specs.declared.faults.ConfigFault.TheVariants.{UnknownKey, BadName}
-use Rattle.hx_allow.specs.declared.faults.NumberKey.TheVariants.{MaxStored}
+use Rattle.hx_allow.specs.declared.config_faults.ConfigFault.{ConfigFault}
+use Rattle.hx_allow.specs.declared.config_faults.ConfigFault.TheVariants.{UnknownKey, BadName}
+use Rattle.hx_allow.specs.declared.config_faults.NumberKey.TheVariants.{MaxStored}
 use Rattle.hx_allow.specs.declared.values.Scope.TheVariants.{Top}
-use Rattle.proxy_core_laws.specs.SentMessages.{IsReadTable, NamesAToken, StoresNoneTooLong}
+use Rattle.proxy_core_laws.specs.SentMessages.{TableWasRead, TableNameIsAToken, StoredContentFits64Bits}
 
 -- ---- a name
 
@@ -86,32 +86,32 @@ within_high low high (Some (pos n)) = by_test (nat_le low n) (nat_le n high) ref
 -- ---- a table that was read
 
 module _ (t : Members) (table : Table) where
-  by_fault : (o : Option ConfigFault) → table_fault t ≡ o → Ok table ≡ fault_or_table o t → (table_of t ≡ table) × (table_fault t ≡ None)
+  by_fault : (o : Option ConfigFault) → table_fault t ≡ o → Ok table ≡ fault_or_table_read o t → (table_read t ≡ table) × (table_fault t ≡ None)
   by_fault (Some fault) is e = absurd cc
   by_fault None is e = (cc, is)
 
-  said : Ok table ≡ judge_table t → (table_of t ≡ table) × (table_fault t ≡ None)
+  said : Ok table ≡ judge_table t → (table_read t ≡ table) × (table_fault t ≡ None)
   unfolding judge_table
   said e = by_fault (table_fault t) refl e
 
-read_as : (table : Table) → IsReadTable table → (t : Members) × (table_of t ≡ table) × (table_fault t ≡ None)
+read_as : (table : Table) → TableWasRead table → (t : Members) × (table_read t ≡ table) × (table_fault t ≡ None)
 read_as table (text, inl (t, is, same)) = let says = said t table same in (t, says.0, says.1)
 read_as table (text, inr (none, same)) = absurd cc
 
-pub names_a_token : NamesAToken
-unfolding table_of
+pub names_a_token : TableNameIsAToken
+unfolding table_read
 names_a_token table read =
     let is = read_as table read in
     subst (λ (u : Table). IsToken u.name) is.1 (text_is_token (text_at (codes "name") is.0) (name_is_present is.0 is.2))
 
-pub names_are_short : (table : Table) → IsReadTable table → length table.name ≤ 32
-unfolding table_of
+pub names_are_short : (table : Table) → TableWasRead table → length table.name ≤ 32
+unfolding table_read
 names_are_short table read =
     let is = read_as table read in
     subst (λ (u : Table). length u.name ≤ 32) is.1 (text_is_short (text_at (codes "name") is.0) (name_is_present is.0 is.2))
 
-pub stores_none_too_long : StoresNoneTooLong
-unfolding table_of
+pub stores_none_too_long : StoredContentFits64Bits
+unfolding table_read
 stores_none_too_long table read =
     let is = read_as table read in
     let high : unwrap_or (number_at MaxStored is.0) 0 ≤ 16777216 = within_high 0 16777216 (option_and_then as_integer (get_member (key_text MaxStored) is.0)) in

@@ -7,15 +7,15 @@ use Rattle.std.proofs.lemmas.Bool.Decides.{nat_tests}
 use Rattle.std.proofs.lemmas.List.Elements.{All-nil, All-cons, All-append, All-weaker}
 use Rattle.httparse.specs.Grammar.{IsToken, is_ows, is_token_byte, is_value_byte}
 use Rattle.http_header.proofs.TokenLemmas.{AllPass-from_test}
-use Rattle.hx_framing.specs.declared.fault.FrameFault.{FrameFault}
-use Rattle.hx_framing.specs.declared.fault.FrameFault.TheVariants as frame
-use Rattle.hx_target.specs.declared.faults.TargetFault.{TargetFault}
-use Rattle.hx_target.specs.declared.faults.TargetFault.TheVariants as target
+use Rattle.hx_framing.specs.declared.frame_fault.FrameFault.{FrameFault}
+use Rattle.hx_framing.specs.declared.frame_fault.FrameFault.TheVariants as frame
+use Rattle.hx_target.specs.declared.target_fault.TargetFault.{TargetFault}
+use Rattle.hx_target.specs.declared.target_fault.TargetFault.TheVariants as target
 use Rattle.hx_reuse.specs.declared.rule.ReuseRule.{ReuseRule}
 use Rattle.hx_reuse.specs.declared.rule.ReuseRule.TheVariants.{UriMiss}
 use Rattle.hx_reuse.specs.declared.rule.ErrorRule.{ErrorRule}
 use Rattle.hx_reuse.specs.declared.rule.ErrorRule.TheVariants as on_error
-use Rattle.hx_reuse.specs.Words.{detail_of, error_word_of, reason_of}
+use Rattle.hx_reuse.specs.RuleNames.{reuse_rule_detail, error_rule_word, reuse_rule_reason}
 use Rattle.hx_status.specs.declared.cause.Cause.{Cause}
 use Rattle.hx_status.specs.declared.cause.Cause.TheVariants.{Denied, NoLine, OnlyIfCached, Origin, Frame, Target}
 use Rattle.hx_status.specs.declared.cause.FailKind.{FailKind}
@@ -27,8 +27,8 @@ use Rattle.hx_status.specs.declared.status.How.TheVariants.{Hit, Fwd}
 use Rattle.hx_status.specs.declared.status.Status.{Status}
 use Rattle.hx_storable.specs.declared.rule.StoreRule.{StoreRule}
 use Rattle.hx_storable.specs.declared.rule.StoreRule.TheVariants.{Operator}
-use Rattle.hx_status.specs.Member.{detail_or, flag_text, fwd_status_text, how_text, member_text, not_stored_word, ttl_text, word_of, word_or, word_text}
-use Rattle.hx_status.specs.Refusals.{error_text, frame_word, kind_word, origin_text, rule_text, target_word, text_of}
+use Rattle.hx_status.specs.Member.{detail_of_step_or_rule, flag_text, fwd_status_text, hit_or_forward_text, member_text, not_stored_word, ttl_text, detail_word, word_or_not_stored, detail_word_text}
+use Rattle.hx_status.specs.Refusals.{error_rule_text, frame_word, fail_kind_word, origin_text, reuse_rule_text, target_word, refusal_text}
 use Rattle.hx_hop_laws.specs.OneMessage.{IsFieldValue}
 use Rattle.hx_hop_laws.proofs.ReadTargets.{IsVisible, pass_visible}
 use Rattle.hx_hop_laws.proofs.SentRequests.{visible_seen, visible_value}
@@ -92,19 +92,19 @@ signed_visible (negsuc n) = joined (codes "-") (decimal (suc n)) (word (codes "-
 
 -- ---- words
 
-reason_visible : (rule : ReuseRule) → list_all seen (reason_of rule) ≡ true
+reason_visible : (rule : ReuseRule) → list_all seen (reuse_rule_reason rule) ≡ true
 reason_visible UriMiss = refl
 reason_visible _ = refl
 
-detail_visible : (rule : ReuseRule) → list_all seen (word_text (detail_of rule)) ≡ true
+detail_visible : (rule : ReuseRule) → list_all seen (detail_word_text (reuse_rule_detail rule)) ≡ true
 detail_visible UriMiss = refl
 detail_visible _ = refl
 
-error_visible : (rule : ErrorRule) → list_all seen (codes ";stale-if-error=" ++ error_word_of rule) ≡ true
+error_visible : (rule : ErrorRule) → list_all seen (codes ";stale-if-error=" ++ error_rule_word rule) ≡ true
 error_visible on_error.NoDirective = refl
 error_visible _ = refl
 
-kind_visible : (kind : FailKind) → list_all seen (kind_word kind) ≡ true
+kind_visible : (kind : FailKind) → list_all seen (fail_kind_word kind) ≡ true
 kind_visible Refused = refl
 kind_visible _ = refl
 
@@ -116,15 +116,15 @@ target_visible : (fault : TargetFault) → list_all seen (target_word fault) ≡
 target_visible target.Form = refl
 target_visible _ = refl
 
-step_visible : (detail : Detail) → list_all seen (word_text (Some (word_of detail))) ≡ true
+step_visible : (detail : Detail) → list_all seen (detail_word_text (Some (detail_word detail))) ≡ true
 step_visible StaleIfError = refl
 step_visible _ = refl
 
 -- ---- the member of Cache-Status
 
-how_visible : (how : How) → AreVisible (how_text how)
+how_visible : (how : How) → AreVisible (hit_or_forward_text how)
 how_visible Hit = word (codes ";hit") refl
-how_visible (Fwd rule) = joined (codes ";fwd=") (reason_of rule) (word (codes ";fwd=") refl) (word (reason_of rule) (reason_visible rule))
+how_visible (Fwd rule) = joined (codes ";fwd=") (reuse_rule_reason rule) (word (codes ";fwd=") refl) (word (reuse_rule_reason rule) (reason_visible rule))
 
 came_visible : (came : Option ℕ) → AreVisible (fwd_status_text came)
 came_visible None = word [] refl
@@ -138,42 +138,42 @@ flag_visible : (flag : Bool) (text : List ℕ) → AreVisible text → AreVisibl
 flag_visible true text all = all
 flag_visible false text all = word [] refl
 
-named_visible : (detail : Option Detail) (how : How) → AreVisible (word_text (detail_or detail how))
-named_visible (Some detail) how = word (word_text (Some (word_of detail))) (step_visible detail)
+named_visible : (detail : Option Detail) (how : How) → AreVisible (detail_word_text (detail_of_step_or_rule detail how))
+named_visible (Some detail) how = word (detail_word_text (Some (detail_word detail))) (step_visible detail)
 named_visible None Hit = word [] refl
-named_visible None (Fwd rule) = word (word_text (detail_of rule)) (detail_visible rule)
+named_visible None (Fwd rule) = word (detail_word_text (reuse_rule_detail rule)) (detail_visible rule)
 
-not_stored_visible : (rule : StoreRule) → list_all seen (word_text (Some (not_stored_word rule))) ≡ true
+not_stored_visible : (rule : StoreRule) → list_all seen (detail_word_text (Some (not_stored_word rule))) ≡ true
 not_stored_visible Operator = refl
 not_stored_visible _ = refl
 
-visible_or : (o : Option (List ℕ)) (rule : Option StoreRule) → AreVisible (word_text o) → AreVisible (word_text (word_or o rule))
+visible_or : (o : Option (List ℕ)) (rule : Option StoreRule) → AreVisible (detail_word_text o) → AreVisible (detail_word_text (word_or_not_stored o rule))
 visible_or (Some text) rule are = are
 visible_or None None are = are
-visible_or None (Some rule) are = word (word_text (Some (not_stored_word rule))) (not_stored_visible rule)
+visible_or None (Some rule) are = word (detail_word_text (Some (not_stored_word rule))) (not_stored_visible rule)
 
 visible_field_value : (text : List ℕ) → AreVisible text → IsFieldValue text
 visible_field_value text are = (visible_value text are.all, trim_word text (visible_seen text are.all))
 
 pub member_value : (name : List ℕ) (status : Status) → IsToken name → IsFieldValue (member_text name status)
 member_value name status token =
-    let how = joined name (how_text status.how) (name_visible name token) (how_visible status.how) in
+    let how = joined name (hit_or_forward_text status.how) (name_visible name token) (how_visible status.how) in
     let came = joined _ (fwd_status_text status.fwd_status) how (came_visible status.fwd_status) in
     let ttl = joined _ (ttl_text status.ttl) came (ttl_visible status.ttl) in
     let stored = joined _ (flag_text status.stored (codes ";stored")) ttl (flag_visible status.stored (codes ";stored") (word (codes ";stored") refl)) in
     let collapsed = joined _ (flag_text status.collapsed (codes ";collapsed")) stored (flag_visible status.collapsed (codes ";collapsed") (word (codes ";collapsed") refl)) in
-    visible_field_value (member_text name status) (joined _ (word_text (word_or (detail_or status.detail status.how) status.not_stored)) collapsed
-    (visible_or (detail_or status.detail status.how) status.not_stored (named_visible status.detail status.how)))
+    visible_field_value (member_text name status) (joined _ (detail_word_text (word_or_not_stored (detail_of_step_or_rule status.detail status.how) status.not_stored)) collapsed
+    (visible_or (detail_of_step_or_rule status.detail status.how) status.not_stored (named_visible status.detail status.how)))
 
 -- ---- the proxy's own texts
 
-rule_visible : (rule : ReuseRule) → AreVisible (rule_text rule)
+rule_visible : (rule : ReuseRule) → AreVisible (reuse_rule_text rule)
 rule_visible rule =
-    joined (codes ";fwd=" ++ reason_of rule) (word_text (detail_of rule)) (how_visible (Fwd rule)) (word (word_text (detail_of rule)) (detail_visible rule))
+    joined (codes ";fwd=" ++ reuse_rule_reason rule) (detail_word_text (reuse_rule_detail rule)) (how_visible (Fwd rule)) (word (detail_word_text (reuse_rule_detail rule)) (detail_visible rule))
 
-errors_visible : (error : Option ErrorRule) → AreVisible (error_text error)
+errors_visible : (error : Option ErrorRule) → AreVisible (error_rule_text error)
 errors_visible None = word [] refl
-errors_visible (Some rule) = word (error_text (Some rule)) (error_visible rule)
+errors_visible (Some rule) = word (error_rule_text (Some rule)) (error_visible rule)
 
 -- a front of words with blanks between them, and a last word
 fronted : (b : ℕ) (middle last : List ℕ) → seen b ≡ true → list_all is_value_byte (b ∷ middle) ≡ true → 0 < length last → AreVisible last → IsFieldValue ((b ∷ middle) ++ last)
@@ -206,7 +206,7 @@ some_decimal n = by_test (n / 10 == 0)
     by_test true = omega arith
     by_test false = omega (arith, more)
 
-some_kind : (kind : FailKind) → nat_lt 0 (length (kind_word kind)) ≡ true
+some_kind : (kind : FailKind) → nat_lt 0 (length (fail_kind_word kind)) ≡ true
 some_kind Refused = refl
 some_kind _ = refl
 
@@ -223,19 +223,19 @@ some_by text h = grind (arith, nat_tests)
 
 origin_value : (kind : FailKind) (rule : ReuseRule) (error : Option ErrorRule) → IsFieldValue (origin_text kind rule error)
 origin_value kind rule error =
-    let last : List ℕ = kind_word kind ++ rule_text rule ++ error_text error in
-    let are : AreVisible last = joined (kind_word kind ++ rule_text rule) (error_text error) (joined (kind_word kind) (rule_text rule) (word (kind_word kind) (kind_visible kind)) (rule_visible rule)) (errors_visible error) in
-    let kinds : 0 < length (kind_word kind) = some_by (kind_word kind) (some_kind kind) in
-    let some : 0 < length last = omega (arith, kinds, length-append (kind_word kind ++ rule_text rule) (error_text error), length-append (kind_word kind) (rule_text rule)) in
-    subst IsFieldValue (regroup (kind_word kind) (rule_text rule) (error_text error)) (fronted 111 (codes "rigin ") last refl refl some are)
+    let last : List ℕ = fail_kind_word kind ++ reuse_rule_text rule ++ error_rule_text error in
+    let are : AreVisible last = joined (fail_kind_word kind ++ reuse_rule_text rule) (error_rule_text error) (joined (fail_kind_word kind) (reuse_rule_text rule) (word (fail_kind_word kind) (kind_visible kind)) (rule_visible rule)) (errors_visible error) in
+    let kinds : 0 < length (fail_kind_word kind) = some_by (fail_kind_word kind) (some_kind kind) in
+    let some : 0 < length last = omega (arith, kinds, length-append (fail_kind_word kind ++ reuse_rule_text rule) (error_rule_text error), length-append (fail_kind_word kind) (reuse_rule_text rule)) in
+    subst IsFieldValue (regroup (fail_kind_word kind) (reuse_rule_text rule) (error_rule_text error)) (fronted 111 (codes "rigin ") last refl refl some are)
   where
     regroup : (a b c : List ℕ) → codes "origin " ++ (a ++ b ++ c) ≡ codes "origin " ++ a ++ b ++ c
     regroup a b c = simp append_assoc refl
 
-pub text_value : (cause : Cause) → IsFieldValue (text_of cause)
+pub text_value : (cause : Cause) → IsFieldValue (refusal_text cause)
 text_value (Denied line) = fronted 100 (codes "enied by line ") (decimal line) refl refl (some_decimal line) (decimal_visible line)
 text_value NoLine = fronted 110 (codes "o line allows ") (codes "it") refl refl (omega arith) (word (codes "it") refl)
-text_value (OnlyIfCached rule) = visible_field_value (codes "only-if-cached" ++ rule_text rule) (joined (codes "only-if-cached") (rule_text rule) (word (codes "only-if-cached") refl) (rule_visible rule))
+text_value (OnlyIfCached rule) = visible_field_value (codes "only-if-cached" ++ reuse_rule_text rule) (joined (codes "only-if-cached") (reuse_rule_text rule) (word (codes "only-if-cached") refl) (rule_visible rule))
 text_value (Origin kind rule error) = origin_value kind rule error
 text_value (Frame fault) = fronted 114 (codes "efused: ") (frame_word fault) refl refl (some_by (frame_word fault) (some_frame fault)) (word (frame_word fault) (frame_visible fault))
 text_value (Target fault) = fronted 114 (codes "efused: ") (target_word fault) refl refl (some_by (target_word fault) (some_target fault)) (word (target_word fault) (target_visible fault))

@@ -10,16 +10,16 @@ use Rattle.hx_framing.specs.declared.messages.Response.{Response}
 use Rattle.hx_framing.specs.Reading.{Spelled}
 use Rattle.hx_framing.specs.RequestReading.{Reads as ReadsRequest}
 use Rattle.hx_framing.specs.Text.{request_text}
-use Rattle.hx_framing.specs.Written.{read_back}
-use Rattle.hx_framing.specs.WrittenResponse.{response_back, sent_head_text}
+use Rattle.hx_framing.specs.Written.{request_as_read_back}
+use Rattle.hx_framing.specs.WrittenResponse.{response_as_read_back, sent_response_head_text}
 use Rattle.hx_framing.proofs.RequestOnce.{read_once_lem as request_read_once}
 use Rattle.hx_framing.proofs.ResponseOnce.{read_once_lem as response_read_once}
-use Rattle.hx_allow.specs.Lines.{Table}
+use Rattle.hx_allow.specs.TableLines.{Table}
 use Rattle.hx_allow.specs.Matching.{policy_of, verdict_of}
 use Rattle.hx_allow.specs.declared.verdicts.Verdict.{Verdict}
 use Rattle.hx_allow.specs.declared.verdicts.Verdict.TheVariants as verdict
 use Rattle.hx_hop.specs.declared.request_view.Asked.{Asked}
-use Rattle.hx_hop.specs.declared.validators.Conditions.{Conditions}
+use Rattle.hx_hop.specs.declared.conditions.Conditions.{Conditions}
 use Rattle.hx_hop.specs.Forwarding.{forwarded_of}
 use Rattle.hx_hop.specs.Moments.{date_text_of}
 use Rattle.hx_store.specs.Stored.{Stored}
@@ -32,13 +32,13 @@ use Rattle.hx_status.specs.declared.cause.Cause.{Cause}
 use Rattle.hx_status.specs.declared.cause.Cause.TheVariants.{Denied, NoLine, OnlyIfCached, Origin}
 use Rattle.hx_status.specs.declared.cause.FailKind.{FailKind}
 use Rattle.hx_status.specs.declared.cause.FailKind.TheVariants.{BadAnswer}
-use Rattle.hx_status.specs.Refusals.{text_of}
-use Rattle.hx_validate.specs.NotModified.{wants_304}
+use Rattle.hx_status.specs.Refusals.{refusal_text}
+use Rattle.hx_validate.specs.NotModified.{gets_304}
 use Rattle.hx_validate.specs.Validators.{conditions_of, has_validator}
-use Rattle.hx_hop_laws.specs.OneMessage.{AreFieldValues, IsWithinLimits}
+use Rattle.hx_hop_laws.specs.OneMessage.{ConditionsAreFieldValues, RequestIsWithinLimits}
 use Rattle.hx_hop_laws.proofs.SentRequests.{forwards_one_request}
 use Rattle.hx_storable.specs.declared.rule.StoreRule.{StoreRule}
-use Rattle.proxy_core.specs.Storing.{rule_shown}
+use Rattle.proxy_core.specs.Storing.{storing_rule_to_explain}
 use Rattle.proxy_core.specs.declared.steps.condition.Condition.{Condition}
 use Rattle.proxy_core.specs.declared.open.exchange.Exchange.{Exchange}
 use Rattle.proxy_core.specs.declared.steps.fallback.Fallback.{Fallback}
@@ -48,20 +48,20 @@ use Rattle.proxy_core.specs.declared.event.Event.TheVariants.{Arrive, Answer, Fa
 use Rattle.proxy_core.specs.declared.outcome.Outcome.{Outcome}
 use Rattle.proxy_core.specs.declared.outcome.Outcome.TheVariants.{Forward}
 use Rattle.proxy_core.specs.Histories.{held_entries, held_entry, held_serials, next_serial, open_exchanges}
-use Rattle.proxy_core.specs.Leading.{leader_for}
-use Rattle.proxy_core.specs.Outcomes.{allowed, answered, arrived, failed, fallback_for, fault_of, find_exchange, forward_text, id_of, is_error_status, is_only_if_cached, not_forwarded, not_ready, outcome_of, passed, passed_unless, refused, revalidated, sent_on, stored_serial, unanswered, woken}
-use Rattle.proxy_core.specs.Moments.{too_late}
-use Rattle.proxy_core.specs.ReadAnswers.{IsRead, IsReadEvent}
-use Rattle.proxy_core.specs.Replies.{is_head, not_modified_text, passed_text, refused_text, status_sent, stored_text, whole_text}
-use Rattle.proxy_core.specs.Sending.{IsAbout, IsThatResponse}
-use Rattle.proxy_core.specs.State.{used_form, used_in}
-use Rattle.proxy_core.specs.Storing.{is_unasked}
+use Rattle.proxy_core.specs.Leading.{leader_of_request}
+use Rattle.proxy_core.specs.Outcomes.{outcome_of_allowed_request, outcome_of_answer, outcome_of_arrival, outcome_of_failure, fallback_for, fault_at_exchange, find_exchange, forward_text, exchange_id_of_event, is_error_status, is_only_if_cached, fault_if_not_forwarded, fault_if_not_released, outcome_of, outcome_of_passing_on, outcome_of_passing_on_or_stale, outcome_of_refusal, outcome_of_304, outcome_of_waiting_or_forwarding, serial_of_stored_answer, outcome_without_stored_response, outcome_of_wake}
+use Rattle.proxy_core.specs.Moments.{moment_too_late_fault}
+use Rattle.proxy_core.specs.ReadAnswers.{WasReadFromAStream, EventIsReadFromAStream}
+use Rattle.proxy_core.specs.Replies.{is_head, not_modified_text, passed_answer_text, refusal_reply_text, cache_status_of_sent, stored_text, whole_stored_text}
+use Rattle.proxy_core.specs.Sending.{IsAbout, ReplyIsThatStoredResponse}
+use Rattle.proxy_core.specs.State.{stored_response_as_used, serial_used_by_outcome}
+use Rattle.proxy_core.specs.Storing.{is_304_without_condition}
 use Rattle.proxy_core.specs.Traces.{Item}
-use Rattle.proxy_core.specs.Validating.{condition_at, condition_on, is_validation, refreshed, sent_with, validated}
+use Rattle.proxy_core.specs.Validating.{condition_about_serial, condition_about_stored, is_validation, freshened_by_304, conditions_to_send, stored_response_validated}
 use Rattle.proxy_core.proofs.SentResponses.{sends_what_is_held}
-use Rattle.proxy_core_laws.specs.OneResponse.{passed_on, shown_by_the_proxy}
-use Rattle.proxy_core_laws.specs.StoredReplies.{IsSendable, sent_as_304, sent_whole}
-use Rattle.proxy_core_laws.specs.SentMessages.{AreHandedWhatWasRead, IsHandedWhatWasRead, IsOneMessage, IsOneRequest, IsOneResponse, IsReadRequest, OneRequestIsAll, OneResponseIsAll, SendsOneMessageEachTime, is_to_head}
+use Rattle.proxy_core_laws.specs.OneResponse.{passed_answer_sent, proxys_answer_sent}
+use Rattle.proxy_core_laws.specs.StoredReplies.{StoredIsSendable, stored_sent_as_304, stored_sent_whole}
+use Rattle.proxy_core_laws.specs.SentMessages.{EventsWereRead, EventWasRead, OutcomeIsOneMessage, BytesAreOneRequest, BytesAreOneResponse, RequestWasRead, OneRequestIsNoMore, OneResponseIsNoMore, EachStepSendsOneMessage, event_is_to_head}
 use Rattle.proxy_core_laws.proofs.OneResponse.{passes_one_response, refuses_as_one_response}
 use Rattle.proxy_core_laws.proofs.StoredReplies.{sends_a_304_as_one, sends_whole_as_one}
 use Rattle.proxy_core_laws.proofs.HeldReplies.{first_none, holds_sendable, in_time, left_so}
@@ -71,15 +71,15 @@ use Rattle.proxy_core_laws.proofs.ReadTables.{names_a_token, stores_none_too_lon
 
 -- ---- one request
 
-pub one_request : (name : List ℕ) (asked : Asked) (conditions : Option Conditions) → IsToken name → IsReadRequest asked → IfSome conditions AreFieldValues
-    → IsOneRequest name (request_text (forwarded_of asked name conditions))
+pub one_request : (name : List ℕ) (asked : Asked) (conditions : Option Conditions) → IsToken name → RequestWasRead asked → IfSome conditions ConditionsAreFieldValues
+    → BytesAreOneRequest name (request_text (forwarded_of asked name conditions))
 one_request name asked conditions token is are = record {
   asked = asked;
   conditions = conditions;
   was_read = is;
   text_is = refl;
-  alone = subst (λ (a : Asked). (most : ℕ) → most < 2 ^ 64 → IsWithinLimits most (forwarded_of a name conditions) → (over continued : Bool) (behind : List ℕ)
-      → ReadsRequest most over continued (request_text (forwarded_of a name conditions) ++ behind) (Spelled (read_back (forwarded_of a name conditions)) behind)) (sym is.asked_is)
+  alone = subst (λ (a : Asked). (most : ℕ) → most < 2 ^ 64 → RequestIsWithinLimits most (forwarded_of a name conditions) → (over continued : Bool) (behind : List ℕ)
+      → ReadsRequest most over continued (request_text (forwarded_of a name conditions) ++ behind) (Spelled (request_as_read_back (forwarded_of a name conditions)) behind)) (sym is.asked_is)
       (λ most small limits over continued behind.
       forwards_one_request is.max_body most is.ended is.continue_sent is.bytes is.rest is.request is.target name conditions is.reads is.judged token are small limits over continued behind);
 }
@@ -87,19 +87,19 @@ one_request name asked conditions token is are = record {
 -- ---- one response
 
 -- the text of a refusal stands in its head, so it is no longer than that
-short_text : (now : ℕ) (cause : Cause) (close head : Bool) → length (sent_head_text (shown_by_the_proxy now cause close head)) ≤ 32768 → length (text_of cause) < 2 ^ 64
+short_text : (now : ℕ) (cause : Cause) (close head : Bool) → length (sent_response_head_text (proxys_answer_sent now cause close head)) ≤ 32768 → length (refusal_text cause) < 2 ^ 64
 short_text now cause close head short = let parts = simp length-append at short in omega (arith, parts)
 
-pub one_refusal : (now : ℕ) (cause : Cause) (close head : Bool) → now < END_OF_TIME → IsOneResponse head (refused_text (date_text_of now) cause close head)
+pub one_refusal : (now : ℕ) (cause : Cause) (close head : Bool) → now < END_OF_TIME → BytesAreOneResponse head (refusal_reply_text (date_text_of now) cause close head)
 one_refusal now cause close head early = record {
-  sent = shown_by_the_proxy now cause close head;
+  sent = proxys_answer_sent now cause close head;
   text_is = refl;
   alone = λ most small limits over behind. refuses_as_one_response most now cause close head early small (short_text now cause close head limits.short) limits over behind;
 }
 
-one_passed : (policy : Policy) (rule : Option StoreRule) (name : List ℕ) (x : Exchange) (r : Response) (now : ℕ) (stored : Bool) → now < END_OF_TIME → IsToken name → IsRead r → IsOneResponse (is_head x.asked) (passed_text policy name x r now stored rule)
+one_passed : (policy : Policy) (rule : Option StoreRule) (name : List ℕ) (x : Exchange) (r : Response) (now : ℕ) (stored : Bool) → now < END_OF_TIME → IsToken name → WasReadFromAStream r → BytesAreOneResponse (is_head x.asked) (passed_answer_text policy name x r now stored rule)
 one_passed policy rule name x r now stored early token is = record {
-  sent = passed_on policy name x r now stored rule;
+  sent = passed_answer_sent policy name x r now stored rule;
   text_is = refl;
   alone = λ most small limits over behind. passes_one_response is.max_body most now is.to_head is.ended stored is.bytes is.rest name policy rule x r is.reads early token small limits over behind;
 }
@@ -109,95 +109,95 @@ one_passed policy rule name x r now stored early token is = record {
 never : {C : Type 0} (s : ℕ) → ◌≡◌ {A = Option ℕ} (Some s) None → C
 never s h = cc
 
-module _ (table : Table) (es : List Stored) (token : IsToken table.name) (fit : (against : Option ℕ) → IfSome (sent_with (condition_at es against)) AreFieldValues) where
-  module _ (now : ℕ) (early : now < END_OF_TIME) (asked : Asked) (is : IsReadRequest asked) where
-    forward_one : (line : ℕ) (condition : Option Condition) → IfSome (sent_with condition) AreFieldValues → IsOneMessage table.name (is_head asked) (Forward line (forward_text table asked condition))
-    forward_one line condition are = one_request table.name asked (sent_with condition) token is are
+module _ (table : Table) (es : List Stored) (token : IsToken table.name) (fit : (against : Option ℕ) → IfSome (conditions_to_send (condition_about_serial es against)) ConditionsAreFieldValues) where
+  module _ (now : ℕ) (early : now < END_OF_TIME) (asked : Asked) (is : RequestWasRead asked) where
+    forward_one : (line : ℕ) (condition : Option Condition) → IfSome (conditions_to_send condition) ConditionsAreFieldValues → OutcomeIsOneMessage table.name (is_head asked) (Forward line (forward_text table asked condition))
+    forward_one line condition are = one_request table.name asked (conditions_to_send condition) token is are
 
-    refused_one : (cause : Cause) → IsOneMessage table.name (is_head asked) (refused now cause asked)
+    refused_one : (cause : Cause) → OutcomeIsOneMessage table.name (is_head asked) (outcome_of_refusal now cause asked)
     refused_one cause = one_refusal now cause asked.close (is_head asked) early
 
-    sent_on_one : (line : ℕ) (condition : Option Condition) (leader : Option ℕ) → IfSome (sent_with condition) AreFieldValues → IsOneMessage table.name (is_head asked) (sent_on table line asked condition leader)
+    sent_on_one : (line : ℕ) (condition : Option Condition) (leader : Option ℕ) → IfSome (conditions_to_send condition) ConditionsAreFieldValues → OutcomeIsOneMessage table.name (is_head asked) (outcome_of_waiting_or_forwarding table line asked condition leader)
     sent_on_one line condition (Some leader) are = tt
     sent_on_one line condition None are = forward_one line condition are
 
-    unanswered_one : (xs : List Exchange) (line : ℕ) (rule : ReuseRule) (against : Option ℕ) (b : Bool) → IsOneMessage table.name (is_head asked) (unanswered table xs line now asked rule (condition_at es against) b)
+    unanswered_one : (xs : List Exchange) (line : ℕ) (rule : ReuseRule) (against : Option ℕ) (b : Bool) → OutcomeIsOneMessage table.name (is_head asked) (outcome_without_stored_response table xs line now asked rule (condition_about_serial es against) b)
     unanswered_one xs line rule against true = refused_one (OnlyIfCached rule)
-    unanswered_one xs line rule against false = sent_on_one line (condition_at es against) (leader_for (policy_of table.lines line) xs asked rule) (fit against)
+    unanswered_one xs line rule against false = sent_on_one line (condition_about_serial es against) (leader_of_request (policy_of table.lines line) xs asked rule) (fit against)
 
-    allowed_one : (xs : List Exchange) (line : ℕ) (d : Decision) → used_in (allowed table es xs line now asked d) ≡ None → IsOneMessage table.name (is_head asked) (allowed table es xs line now asked d)
+    allowed_one : (xs : List Exchange) (line : ℕ) (d : Decision) → serial_used_by_outcome (outcome_of_allowed_request table es xs line now asked d) ≡ None → OutcomeIsOneMessage table.name (is_head asked) (outcome_of_allowed_request table es xs line now asked d)
     allowed_one xs line (decision.Hit serial) unused = never serial unused
     allowed_one xs line (decision.Forward rule against) unused = unanswered_one xs line rule against (is_only_if_cached asked)
 
-    arrived_one : (xs : List Exchange) (v : Verdict) → used_in (arrived table es xs now asked v) ≡ None → IsOneMessage table.name (is_head asked) (arrived table es xs now asked v)
+    arrived_one : (xs : List Exchange) (v : Verdict) → serial_used_by_outcome (outcome_of_arrival table es xs now asked v) ≡ None → OutcomeIsOneMessage table.name (is_head asked) (outcome_of_arrival table es xs now asked v)
     arrived_one xs (verdict.Allowed line) unused = allowed_one xs line (decision_of (policy_of table.lines line) es asked now) unused
     arrived_one xs (verdict.DeniedBy line) unused = refused_one (Denied line)
     arrived_one xs verdict.NoLine unused = refused_one NoLine
 
-  module _ (now : ℕ) (early : now < END_OF_TIME) (x : Exchange) (is : IsReadRequest x.asked) where
-    woken_one : (d : Decision) → used_in (woken table es now x d) ≡ None → IsOneMessage table.name (is_head x.asked) (woken table es now x d)
+  module _ (now : ℕ) (early : now < END_OF_TIME) (x : Exchange) (is : RequestWasRead x.asked) where
+    woken_one : (d : Decision) → serial_used_by_outcome (outcome_of_wake table es now x d) ≡ None → OutcomeIsOneMessage table.name (is_head x.asked) (outcome_of_wake table es now x d)
     woken_one (decision.Hit serial) unused = never serial unused
-    woken_one (decision.Forward rule against) unused = forward_one now early x.asked is x.line (condition_at es against) (fit against)
+    woken_one (decision.Forward rule against) unused = forward_one now early x.asked is x.line (condition_about_serial es against) (fit against)
 
-    failed_one : (kind : FailKind) (came : Option ℕ) (f : Fallback) → used_in (failed table es now x kind came f) ≡ None → IsOneMessage table.name (is_head x.asked) (failed table es now x kind came f)
+    failed_one : (kind : FailKind) (came : Option ℕ) (f : Fallback) → serial_used_by_outcome (outcome_of_failure table es now x kind came f) ≡ None → OutcomeIsOneMessage table.name (is_head x.asked) (outcome_of_failure table es now x kind came f)
     failed_one kind came (Sends serial detail) unused = never serial unused
     failed_one kind came (Refuses rule error) unused = refused_one now early x.asked is (Origin kind rule error)
 
-    module _ (r : Response) (read : IsRead r) where
-      passed_one : (rule : Option StoreRule) (stored : Option ℕ) → IsOneMessage table.name (is_head x.asked) (passed table es now x r rule stored)
+    module _ (r : Response) (read : WasReadFromAStream r) where
+      passed_one : (rule : Option StoreRule) (stored : Option ℕ) → OutcomeIsOneMessage table.name (is_head x.asked) (outcome_of_passing_on table es now x r rule stored)
       passed_one rule stored = one_passed (policy_of table.lines x.line) rule table.name x r now (is_some stored) early token read
 
-      passed_unless_one : (next : Option ℕ) (b : Bool) (f : Fallback) → used_in (passed_unless table es now x r next b f) ≡ None → IsOneMessage table.name (is_head x.asked) (passed_unless table es now x r next b f)
+      passed_unless_one : (next : Option ℕ) (b : Bool) (f : Fallback) → serial_used_by_outcome (outcome_of_passing_on_or_stale table es now x r next b f) ≡ None → OutcomeIsOneMessage table.name (is_head x.asked) (outcome_of_passing_on_or_stale table es now x r next b f)
       passed_unless_one next true (Sends serial detail) unused = never serial unused
-      passed_unless_one next true (Refuses rule error) unused = passed_one (rule_shown table x r now next) (stored_serial table x r now next)
-      passed_unless_one next false f unused = passed_one (rule_shown table x r now next) (stored_serial table x r now next)
+      passed_unless_one next true (Refuses rule error) unused = passed_one (storing_rule_to_explain table x r now next) (serial_of_stored_answer table x r now next)
+      passed_unless_one next false f unused = passed_one (storing_rule_to_explain table x r now next) (serial_of_stored_answer table x r now next)
 
-      revalidated_one : (o : Option Stored) (d : Decision) → used_in (revalidated table es now x r o d) ≡ None → IsOneMessage table.name (is_head x.asked) (revalidated table es now x r o d)
-      revalidated_one (Some e) d unused = never (refreshed x r now e).serial unused
+      revalidated_one : (o : Option Stored) (d : Decision) → serial_used_by_outcome (outcome_of_304 table es now x r o d) ≡ None → OutcomeIsOneMessage table.name (is_head x.asked) (outcome_of_304 table es now x r o d)
+      revalidated_one (Some e) d unused = never (freshened_by_304 x r now e).serial unused
       revalidated_one None (decision.Hit serial) unused = never serial unused
       revalidated_one None (decision.Forward rule against) unused = forward_one now early x.asked is x.line None tt
 
-      answered_one : (next : Option ℕ) (d : Decision) → used_in (answered table es now x r next d) ≡ None → IsOneMessage table.name (is_head x.asked) (answered table es now x r next d)
+      answered_one : (next : Option ℕ) (d : Decision) → serial_used_by_outcome (outcome_of_answer table es now x r next d) ≡ None → OutcomeIsOneMessage table.name (is_head x.asked) (outcome_of_answer table es now x r next d)
       answered_one next d unused = by_304 (is_validation x r) unused
         where
           again : Outcome
-          again = revalidated table es now x r (validated es x r now) d
+          again = outcome_of_304 table es now x r (stored_response_validated es x r now) d
 
           failing : Outcome
-          failing = failed table es now x BadAnswer (Some r.status) (fallback_for (policy_of table.lines x.line) es x.asked now d)
+          failing = outcome_of_failure table es now x BadAnswer (Some r.status) (fallback_for (policy_of table.lines x.line) es x.asked now d)
 
           passing : Outcome
-          passing = passed_unless table es now x r next (is_error_status r.status) (fallback_for (policy_of table.lines x.line) es x.asked now d)
+          passing = outcome_of_passing_on_or_stale table es now x r next (is_error_status r.status) (fallback_for (policy_of table.lines x.line) es x.asked now d)
 
-          by_unasked : (b : Bool) → used_in (cond b failing passing) ≡ None → IsOneMessage table.name (is_head x.asked) (cond b failing passing)
+          by_unasked : (b : Bool) → serial_used_by_outcome (cond b failing passing) ≡ None → OutcomeIsOneMessage table.name (is_head x.asked) (cond b failing passing)
           by_unasked true none = failed_one BadAnswer (Some r.status) (fallback_for (policy_of table.lines x.line) es x.asked now d) none
           by_unasked false none = passed_unless_one next (is_error_status r.status) (fallback_for (policy_of table.lines x.line) es x.asked now d) none
 
-          by_304 : (b : Bool) → used_in (cond b again (cond (is_unasked x.asked r) failing passing)) ≡ None
-              → IsOneMessage table.name (is_head x.asked) (cond b again (cond (is_unasked x.asked r) failing passing))
-          by_304 true none = revalidated_one (validated es x r now) d none
-          by_304 false none = by_unasked (is_unasked x.asked r) none
+          by_304 : (b : Bool) → serial_used_by_outcome (cond b again (cond (is_304_without_condition x.asked r) failing passing)) ≡ None
+              → OutcomeIsOneMessage table.name (is_head x.asked) (cond b again (cond (is_304_without_condition x.asked r) failing passing))
+          by_304 true none = revalidated_one (stored_response_validated es x r now) d none
+          by_304 false none = by_unasked (is_304_without_condition x.asked r) none
 
-  unsent_one : (xs : List Exchange) (x : Option Exchange) (next : Option ℕ) (event : Event) → fault_of x event ≡ None → IsHandedWhatWasRead event → ((z : Exchange) → x ≡ Some z → IsReadRequest z.asked)
-      → used_in (outcome_of table es xs x next event) ≡ None → IsOneMessage table.name (is_to_head x event) (outcome_of table es xs x next event)
+  unsent_one : (xs : List Exchange) (x : Option Exchange) (next : Option ℕ) (event : Event) → fault_at_exchange x event ≡ None → EventWasRead event → ((z : Exchange) → x ≡ Some z → RequestWasRead z.asked)
+      → serial_used_by_outcome (outcome_of table es xs x next event) ≡ None → OutcomeIsOneMessage table.name (event_is_to_head x event) (outcome_of table es xs x next event)
   unsent_one xs (Some x) next (Arrive now id asked) free is open_read unused = absurd cc
   unsent_one xs None next (Arrive now id asked) free is open_read unused = arrived_one now (in_time now free) asked is xs (verdict_of table.lines asked.method asked.target) unused
   unsent_one xs (Some x) next (Answer now id r) free is open_read unused =
-      answered_one now (in_time now (first_none (too_late now) (not_forwarded x.stage) free)) x (open_read x refl) r is next (decision_of (policy_of table.lines x.line) es x.asked now) unused
+      answered_one now (in_time now (first_none (moment_too_late_fault now) (fault_if_not_forwarded x.stage) free)) x (open_read x refl) r is next (decision_of (policy_of table.lines x.line) es x.asked now) unused
   unsent_one xs None next (Answer now id r) free is open_read unused = tt
   unsent_one xs (Some x) next (Fail now id kind) free is open_read unused =
-      failed_one now (in_time now (first_none (too_late now) (not_forwarded x.stage) free)) x (open_read x refl) kind None
+      failed_one now (in_time now (first_none (moment_too_late_fault now) (fault_if_not_forwarded x.stage) free)) x (open_read x refl) kind None
       (fallback_for (policy_of table.lines x.line) es x.asked now (decision_of (policy_of table.lines x.line) es x.asked now)) unused
   unsent_one xs None next (Fail now id kind) free is open_read unused = tt
   unsent_one xs (Some x) next (Wake now id) free is open_read unused =
-      woken_one now (in_time now (first_none (too_late now) (not_ready x.stage) free)) x (open_read x refl) (decision_of (policy_of table.lines x.line) es x.asked now) unused
+      woken_one now (in_time now (first_none (moment_too_late_fault now) (fault_if_not_released x.stage) free)) x (open_read x refl) (decision_of (policy_of table.lines x.line) es x.asked now) unused
   unsent_one xs None next (Wake now id) free is open_read unused = tt
   unsent_one xs x next (Abandon id) free is open_read unused = tt
 
 -- ---- a stored response that is sent
 
 -- to the client that asked
-pub about_head : (x : Option Exchange) (event : Event) (now : ℕ) (asked : Asked) → IsAbout x event now asked → is_head asked ≡ is_to_head x event
+pub about_head : (x : Option Exchange) (event : Event) (now : ℕ) (asked : Asked) → IsAbout x event now asked → is_head asked ≡ event_is_to_head x event
 about_head x (Arrive t id a) now asked is = sym (ap is_head is.1)
 about_head (Some x) (Answer t id r) now asked is = sym (ap is_head is.1)
 about_head (Some x) (Fail t id kind) now asked is = sym (ap is_head is.1)
@@ -207,39 +207,39 @@ about_head None (Fail t id kind) now asked is = absurd is
 about_head None (Wake t id) now asked is = absurd is
 about_head x (Abandon id) now asked is = absurd is
 
-module _ (table : Table) (held : List Stored) (x : Option Exchange) (event : Event) (outcome : Outcome) (s : ℕ) (is : IsThatResponse table held x event outcome s) (token : IsToken table.name) where
+module _ (table : Table) (held : List Stored) (x : Option Exchange) (event : Event) (outcome : Outcome) (s : ℕ) (is : ReplyIsThatStoredResponse table held x event outcome s) (token : IsToken table.name) where
   abbrev form : Stored
-  form = used_form x event is.response
+  form = stored_response_as_used x event is.response
 
-  one_stored : IsSendable form → length form.content < 2 ^ 64 → IsOneResponse (is_head is.asked) (stored_text table.name form is.now is.info is.asked)
-  one_stored sendable small = by_test (wants_304 is.asked form)
+  one_stored : StoredIsSendable form → length form.content < 2 ^ 64 → BytesAreOneResponse (is_head is.asked) (stored_text table.name form is.now is.info is.asked)
+  one_stored sendable small = by_test (gets_304 is.asked form)
     where
-      by_test : (t : Bool) → IsOneResponse (is_head is.asked) (cond t (not_modified_text table.name form is.now is.info is.asked) (whole_text table.name form is.now is.info is.asked))
+      by_test : (t : Bool) → BytesAreOneResponse (is_head is.asked) (cond t (not_modified_text table.name form is.now is.info is.asked) (whole_stored_text table.name form is.now is.info is.asked))
       by_test true = record {
-        sent = sent_as_304 table.name form is.now (status_sent 304 form is.now is.info) is.asked;
+        sent = stored_sent_as_304 table.name form is.now (cache_status_of_sent 304 form is.now is.info) is.asked;
         text_is = refl;
-        alone = λ most little limits over behind. sends_a_304_as_one most is.now table.name form (status_sent 304 form is.now is.info) is.asked sendable token limits over behind;
+        alone = λ most little limits over behind. sends_a_304_as_one most is.now table.name form (cache_status_of_sent 304 form is.now is.info) is.asked sendable token limits over behind;
       }
       by_test false = record {
-        sent = sent_whole table.name form is.now (status_sent form.status form is.now is.info) is.asked;
+        sent = stored_sent_whole table.name form is.now (cache_status_of_sent form.status form is.now is.info) is.asked;
         text_is = refl;
-        alone = λ most little limits over behind. sends_whole_as_one most is.now table.name form (status_sent form.status form is.now is.info) is.asked sendable token small limits over behind;
+        alone = λ most little limits over behind. sends_whole_as_one most is.now table.name form (cache_status_of_sent form.status form is.now is.info) is.asked sendable token small limits over behind;
       }
 
-  sent_one : IsSendable form → length form.content < 2 ^ 64 → IsOneMessage table.name (is_to_head x event) outcome
+  sent_one : StoredIsSendable form → length form.content < 2 ^ 64 → OutcomeIsOneMessage table.name (event_is_to_head x event) outcome
   sent_one sendable small =
-      subst (λ (o : Outcome). IsOneMessage table.name (is_to_head x event) o) (sym is.outcome_is)
-      (subst (λ (h : Bool). IsOneResponse h is.reply.bytes) (about_head x event is.now is.asked is.about)
-      (subst (λ (bytes : List ℕ). IsOneResponse (is_head is.asked) bytes) (sym is.bytes_are) (one_stored sendable small)))
+      subst (λ (o : Outcome). OutcomeIsOneMessage table.name (event_is_to_head x event) o) (sym is.outcome_is)
+      (subst (λ (h : Bool). BytesAreOneResponse h is.reply.bytes) (about_head x event is.now is.asked is.about)
+      (subst (λ (bytes : List ℕ). BytesAreOneResponse (is_head is.asked) bytes) (sym is.bytes_are) (one_stored sendable small)))
 
 -- ---- the law
 
 -- what was read of requests and answers was read of answers
-pub answers_of : (trace : List Item) → AreHandedWhatWasRead trace → AllByRecursion (λ item. IsReadEvent item.event) trace
+pub answers_of : (trace : List Item) → EventsWereRead trace → AllByRecursion (λ item. EventIsReadFromAStream item.event) trace
 answers_of [] is = tt
 answers_of (item ∷ past) is = (one item.event is.0, answers_of past is.1)
   where
-    one : (event : Event) → IsHandedWhatWasRead event → IsReadEvent event
+    one : (event : Event) → EventWasRead event → EventIsReadFromAStream event
     one (Arrive now id asked) h = tt
     one (Answer now id r) h = h
     one (Fail now id kind) h = tt
@@ -247,21 +247,21 @@ answers_of (item ∷ past) is = (one item.event is.0, answers_of past is.1)
     one (Abandon id) h = tt
 
 -- the conditions that a held response gives
-conditions_held : (es : List Stored) → ((s : ℕ) (e : Stored) → find_entry s es ≡ Some e → IsSendable e) → (against : Option ℕ) → IfSome (sent_with (condition_at es against)) AreFieldValues
+conditions_held : (es : List Stored) → ((s : ℕ) (e : Stored) → find_entry s es ≡ Some e → StoredIsSendable e) → (against : Option ℕ) → IfSome (conditions_to_send (condition_about_serial es against)) ConditionsAreFieldValues
 conditions_held es sendable None = tt
 conditions_held es sendable (Some s) = by_found (find_entry s es) refl
   where
-    by_validator : (e : Stored) (b : Bool) → IsSendable e → IfSome (sent_with (cond b (Some (record { serial = e.serial; sent = conditions_of e.fields })) None)) AreFieldValues
+    by_validator : (e : Stored) (b : Bool) → StoredIsSendable e → IfSome (conditions_to_send (cond b (Some (record { serial = e.serial; sent = conditions_of e.fields })) None)) ConditionsAreFieldValues
     by_validator e true is = conditions_fit e.fields is.fields
     by_validator e false is = tt
 
-    by_found : (o : Option Stored) → find_entry s es ≡ o → IfSome (sent_with (option_and_then condition_on o)) AreFieldValues
+    by_found : (o : Option Stored) → find_entry s es ≡ o → IfSome (conditions_to_send (option_and_then condition_about_stored o)) ConditionsAreFieldValues
     by_found None found = tt
     by_found (Some e) found = by_validator e (has_validator e.fields) (sendable s e found)
 
-pub sends_one_message_each_time : SendsOneMessageEachTime
+pub sends_one_message_each_time : EachStepSendsOneMessage
 sends_one_message_each_time table limit first item past table_read good read =
-    by_used (used_in item.outcome) refl
+    by_used (serial_used_by_outcome item.outcome) refl
   where
     token : IsToken table.name
     token = names_a_token table table_read
@@ -273,42 +273,42 @@ sends_one_message_each_time table limit first item past table_read good read =
     xs = open_exchanges table limit past
 
     x : Option Exchange
-    x = find_exchange (id_of item.event) xs
+    x = find_exchange (exchange_id_of_event item.event) xs
 
-    answers : AllByRecursion (λ i. IsReadEvent i.event) (item ∷ past)
+    answers : AllByRecursion (λ i. EventIsReadFromAStream i.event) (item ∷ past)
     answers = answers_of (item ∷ past) read
 
-    held_so : (s : ℕ) (e : Stored) → find_entry s es ≡ Some e → IsSendable e × (length e.content < 2 ^ 64)
+    held_so : (s : ℕ) (e : Stored) → find_entry s es ≡ Some e → StoredIsSendable e × (length e.content < 2 ^ 64)
     held_so s e found =
         let at = found_held (held_entry table limit past) (held_serials limit past) s e found in
         let fits = fits_after table limit first past good.1 answers.1 at.0 e at.1 in
         let small = stores_none_too_long table table_read in
         (holds_sendable table limit first past good.1 answers.1 at.0 e at.1, omega (arith, fits, small))
 
-    by_used : (o : Option ℕ) → used_in item.outcome ≡ o → IsOneMessage table.name (is_to_head x item.event) item.outcome
+    by_used : (o : Option ℕ) → serial_used_by_outcome item.outcome ≡ o → OutcomeIsOneMessage table.name (event_is_to_head x item.event) item.outcome
     by_used (Some s) used =
         let is = sends_what_is_held table limit first s item past good used in
         let held = held_so s is.response is.is_held in
         sent_one table es x item.event item.outcome s is token (left_so x item.event is.response good.0.allowed answers.0 held.0)
         (subst (λ (c : List ℕ). length c < 2 ^ 64) (sym (used_content x item.event is.response)) held.1)
     by_used None unused =
-        subst (λ (o : Outcome). IsOneMessage table.name (is_to_head x item.event) o) (sym good.0.outcome_is)
+        subst (λ (o : Outcome). OutcomeIsOneMessage table.name (event_is_to_head x item.event) o) (sym good.0.outcome_is)
         (unsent_one table es token (conditions_held es (λ s e found. (held_so s e found).0)) xs x (next_serial first past) item.event good.0.allowed read.0
-        (λ z open_is. keeps_what_was_read table limit first (id_of item.event) past z good.1 read.1 open_is) (sym (ap used_in good.0.outcome_is) ∙ unused))
+        (λ z open_is. keeps_what_was_read table limit first (exchange_id_of_event item.event) past z good.1 read.1 open_is) (sym (ap serial_used_by_outcome good.0.outcome_is) ∙ unused))
 
 -- ---- two messages are no one message
 
 same_spelled : {M : Type 0} (m n : M) (rest behind : List ℕ) → Spelled m rest ≡ Spelled n behind → (m ≡ n) × (rest ≡ behind)
 same_spelled m n rest behind h = (cc, cc)
 
-pub one_request_is_all : OneRequestIsAll
+pub one_request_is_all : OneRequestIsNoMore
 one_request_is_all name bytes behind one most over continued request rest small limits reads =
-    let sent = read_back (forwarded_of one.asked name one.conditions) in
+    let sent = request_as_read_back (forwarded_of one.asked name one.conditions) in
     same_spelled request sent rest behind
     (request_read_once most over continued (bytes ++ behind) (Spelled request rest) (Spelled sent behind) reads (one.alone most small limits over continued behind))
 
-pub one_response_is_all : OneResponseIsAll
+pub one_response_is_all : OneResponseIsNoMore
 one_response_is_all to_head bytes behind one most over response rest small limits reads =
-    let sent = response_back to_head one.sent in
+    let sent = response_as_read_back to_head one.sent in
     same_spelled response sent rest behind
     (response_read_once most to_head over (bytes ++ behind) (Spelled response rest) (Spelled sent behind) reads (one.alone most small limits over behind))

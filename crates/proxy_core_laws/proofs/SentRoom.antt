@@ -5,23 +5,23 @@ use Rattle.std.specs.List.{AllByRecursion}
 use Rattle.std.proofs.Math.Nat.{min-le_right}
 use Rattle.httparse.specs.Grammar.{IsToken}
 use Rattle.hx_fields.specs.declared.field_line.Field.{Field}
-use Rattle.hx_fields.specs.Lines.{has as has_line}
+use Rattle.hx_fields.specs.FieldLines.{has_field as has_line}
 use Rattle.hx_directives.specs.Occurrences.{occurrences_of}
-use Rattle.hx_directives.specs.Answers.{has, seconds}
+use Rattle.hx_directives.specs.Answers.{directive_occurs, seconds_of_directive}
 use Rattle.hx_directives.specs.declared.names.Directive.TheVariants.{MaxAge, SMaxage}
-use Rattle.hx_policy.specs.Words.{given_lifetime}
+use Rattle.hx_policy.specs.Policies.{given_lifetime}
 use Rattle.hx_policy.specs.declared.words.Policy.{Policy}
 use Rattle.hx_allow.specs.Matching.{policy_of}
-use Rattle.hx_reuse.specs.Lifetimes.{given, lifetime_under}
+use Rattle.hx_reuse.specs.Lifetimes.{lifetime_with_given, lifetime_under}
 use Rattle.hx_age.specs.Age.{age_of}
 use Rattle.hx_age.specs.declared.lifetimes.Lifetime.{Lifetime}
-use Rattle.hx_age.specs.Lifetime.{explicit_of, lifetime_of, stated_seconds, until_expires}
+use Rattle.hx_age.specs.Lifetime.{explicit_lifetime, lifetime_of, stated_seconds, until_expires}
 use Rattle.hx_framing.specs.declared.messages.Response.{Response}
 use Rattle.hx_framing.proofs.ReadResponses.{final_status}
-use Rattle.hx_allow.specs.Lines.{Table}
+use Rattle.hx_allow.specs.TableLines.{Table}
 use Rattle.hx_store.specs.Stored.{Stored}
-use Rattle.hx_validate.specs.NotModified.{wants_304}
-use Rattle.hx_validate.specs.Room.{leaves_room}
+use Rattle.hx_validate.specs.NotModified.{gets_304}
+use Rattle.hx_validate.specs.Room.{head_leaves_room}
 use Rattle.proxy_core.specs.declared.open.exchange.Exchange.{Exchange}
 use Rattle.proxy_core.specs.declared.event.Event.{Event}
 use Rattle.proxy_core.specs.declared.event.Event.TheVariants.{Arrive, Answer, Fail, Wake, Abandon}
@@ -29,15 +29,15 @@ use Rattle.proxy_core.specs.declared.outcome.Outcome.{Outcome}
 use Rattle.proxy_core.specs.declared.outcome.Outcome.TheVariants.{Reply as Replied}
 use Rattle.proxy_core.specs.declared.outcome.Reply.{Reply}
 use Rattle.proxy_core.specs.Histories.{held_entries, held_entry, held_serials, open_exchanges}
-use Rattle.proxy_core.specs.Outcomes.{find_exchange, id_of}
-use Rattle.proxy_core.specs.ReadAnswers.{IsRead, IsReadEvent}
-use Rattle.proxy_core.specs.Replies.{fwd_status_of, is_head, not_modified_text, status_sent, stored_text, ttl_at, whole_text}
-use Rattle.proxy_core.specs.Sending.{IsThatResponse}
-use Rattle.proxy_core.specs.State.{used_form}
+use Rattle.proxy_core.specs.Outcomes.{find_exchange, exchange_id_of_event}
+use Rattle.proxy_core.specs.ReadAnswers.{WasReadFromAStream, EventIsReadFromAStream}
+use Rattle.proxy_core.specs.Replies.{fwd_status_of, is_head, not_modified_text, cache_status_of_sent, stored_text, ttl_of_stored, whole_stored_text}
+use Rattle.proxy_core.specs.Sending.{ReplyIsThatStoredResponse}
+use Rattle.proxy_core.specs.State.{stored_response_as_used}
 use Rattle.proxy_core.proofs.SentResponses.{sends_what_is_held}
-use Rattle.proxy_core_laws.specs.HeldHeads.{IsCounted, IsOneAnyway, IsShown, SendsWhatLeavesRoom}
-use Rattle.proxy_core_laws.specs.SentMessages.{IsHandedWhatWasRead, is_to_head}
-use Rattle.proxy_core_laws.specs.StoredReplies.{IsSendable, sent_as_304, sent_whole}
+use Rattle.proxy_core_laws.specs.HeldHeads.{SecondsAreInRange, IsOneSentResponse, StatusIsInRange, ResponseWithRoomIsSentAsOne}
+use Rattle.proxy_core_laws.specs.SentMessages.{EventWasRead, event_is_to_head}
+use Rattle.proxy_core_laws.specs.StoredReplies.{StoredIsSendable, stored_sent_as_304, stored_sent_whole}
 use Rattle.proxy_core_laws.proofs.HeldReplies.{holds_sendable, left_so}
 use Rattle.proxy_core_laws.proofs.HeldValues.{fits_after, found_held, used_content}
 use Rattle.proxy_core_laws.proofs.ReadTables.{names_a_token, names_are_short, stores_none_too_long}
@@ -47,11 +47,11 @@ use Rattle.proxy_core_laws.proofs.StoredReplies.{sends_a_304_as_one, sends_whole
 
 -- ---- what Cache-Status tells
 
-counted : (a b : ℕ) → a ≤ 2147483648 → b ≤ 2147483648 → IsCounted (pos a -ℤ pos b)
+counted : (a b : ℕ) → a ≤ 2147483648 → b ≤ 2147483648 → SecondsAreInRange (pos a -ℤ pos b)
 counted a zero low high = omega (arith, low)
 counted a (suc n) low high = by_test (nat_lt a (suc n))
   where
-    by_test : (t : Bool) → IsCounted (cond t (negsuc (suc n - suc a)) (pos (a - suc n)))
+    by_test : (t : Bool) → SecondsAreInRange (cond t (negsuc (suc n - suc a)) (pos (a - suc n)))
     by_test true = omega (arith, high)
     by_test false = omega (arith, low)
 
@@ -59,7 +59,7 @@ no_lifetime : Lifetime
 no_lifetime = record { explicit = false; seconds = 0 }
 
 by_directives : (shared own expires : Bool) (a b c : ℕ)
-    → (if shared then explicit_of a else if own then explicit_of b else if expires then explicit_of c else no_lifetime).seconds ≤ 2147483648
+    → (if shared then explicit_lifetime a else if own then explicit_lifetime b else if expires then explicit_lifetime c else no_lifetime).seconds ≤ 2147483648
 unfolding no_lifetime
 by_directives true own expires a b c = min-le_right a 2147483648
 by_directives false true expires a b c = min-le_right b 2147483648
@@ -70,7 +70,7 @@ lifetime_low : (fields : List Field) → (lifetime_of fields).seconds ≤ 214748
 unfolding no_lifetime
 lifetime_low fields =
     let found = occurrences_of fields in
-    by_directives (has found SMaxage) (has found MaxAge) (has_line fields (codes "Expires")) (stated_seconds (seconds found SMaxage)) (stated_seconds (seconds found MaxAge)) (until_expires fields)
+    by_directives (directive_occurs found SMaxage) (directive_occurs found MaxAge) (has_line fields (codes "Expires")) (stated_seconds (seconds_of_directive found SMaxage)) (stated_seconds (seconds_of_directive found MaxAge)) (until_expires fields)
 
 age_low : (e : Stored) (now : ℕ) → age_of e.times now ≤ 2147483648
 age_low e now = min-le_right _ 2147483648
@@ -83,32 +83,32 @@ came_low (Some n) status is = by_test (n == status)
     by_test true = tt
     by_test false = is
 
-read_low : (r : Response) → IsRead r → r.status ≤ 999
+read_low : (r : Response) → WasReadFromAStream r → r.status ≤ 999
 read_low r is = let final = final_status is.max_body is.to_head is.ended is.bytes r is.rest is.reads in let high = final.1 in omega (arith, high)
 
 -- so is what the operator gives
 lifetime_under_low : (policy : Policy) (status : ℕ) (fields : List Field) → (lifetime_under policy status fields).seconds ≤ 2147483648
 lifetime_under_low policy status fields = by_given (lifetime_of fields).explicit (given_lifetime policy status)
   where
-    by_given : (stated : Bool) (o : Option ℕ) → (cond stated (lifetime_of fields) (given o (lifetime_of fields))).seconds ≤ 2147483648
+    by_given : (stated : Bool) (o : Option ℕ) → (cond stated (lifetime_of fields) (lifetime_with_given o (lifetime_of fields))).seconds ≤ 2147483648
     by_given true o = lifetime_low fields
     by_given false None = lifetime_low fields
     by_given false (Some n) = min-le_right n 2147483648
 
-left_counted : (policy : Policy) (e : Stored) (now : ℕ) → IsCounted (ttl_at policy e now)
+left_counted : (policy : Policy) (e : Stored) (now : ℕ) → SecondsAreInRange (ttl_of_stored policy e now)
 left_counted policy e now =
     counted (lifetime_under policy e.status e.fields).seconds (age_of e.times now) (lifetime_under_low policy e.status e.fields) (age_low e now)
 
-shown_of : (table : Table) (held : List Stored) (x : Option Exchange) (event : Event) (outcome : Outcome) (s : ℕ) (is : IsThatResponse table held x event outcome s) → IsHandedWhatWasRead event
-    → (status : ℕ) (e : Stored) → IsShown (status_sent status e is.now is.info)
+shown_of : (table : Table) (held : List Stored) (x : Option Exchange) (event : Event) (outcome : Outcome) (s : ℕ) (is : ReplyIsThatStoredResponse table held x event outcome s) → EventWasRead event
+    → (status : ℕ) (e : Stored) → StatusIsInRange (cache_status_of_sent status e is.now is.info)
 shown_of table held x (Arrive now id asked) outcome s is read status e =
-    subst IsShown (sym (ap (status_sent status e is.now) is.shows_how.2)) (record { came = tt; left = left_counted (policy_of table.lines is.shows_how.0) e is.now; is_held = refl })
+    subst StatusIsInRange (sym (ap (cache_status_of_sent status e is.now) is.shows_how.2)) (record { came = tt; left = left_counted (policy_of table.lines is.shows_how.0) e is.now; is_held = refl })
 shown_of table held (Some x) (Answer now id r) outcome s is read status e =
-    subst IsShown (sym (ap (status_sent status e is.now) is.shows_how.1)) (record { came = came_low (Some r.status) status (read_low r read); left = left_counted (policy_of table.lines x.line) e is.now; is_held = refl })
+    subst StatusIsInRange (sym (ap (cache_status_of_sent status e is.now) is.shows_how.1)) (record { came = came_low (Some r.status) status (read_low r read); left = left_counted (policy_of table.lines x.line) e is.now; is_held = refl })
 shown_of table held (Some x) (Fail now id kind) outcome s is read status e =
-    subst IsShown (sym (ap (status_sent status e is.now) is.shows_how.1)) (record { came = tt; left = left_counted (policy_of table.lines x.line) e is.now; is_held = refl })
+    subst StatusIsInRange (sym (ap (cache_status_of_sent status e is.now) is.shows_how.1)) (record { came = tt; left = left_counted (policy_of table.lines x.line) e is.now; is_held = refl })
 shown_of table held (Some x) (Wake now id) outcome s is read status e =
-    subst IsShown (sym (ap (status_sent status e is.now) is.shows_how)) (record { came = tt; left = left_counted (policy_of table.lines x.line) e is.now; is_held = refl })
+    subst StatusIsInRange (sym (ap (cache_status_of_sent status e is.now) is.shows_how)) (record { came = tt; left = left_counted (policy_of table.lines x.line) e is.now; is_held = refl })
 shown_of table held None (Answer now id r) outcome s is read status e = absurd is.shows_how
 shown_of table held None (Fail now id kind) outcome s is read status e = absurd is.shows_how
 shown_of table held None (Wake now id) outcome s is read status e = absurd is.shows_how
@@ -116,27 +116,27 @@ shown_of table held x (Abandon id) outcome s is read status e = absurd is.shows_
 
 -- ---- what is sent
 
-module _ (table : Table) (held : List Stored) (x : Option Exchange) (event : Event) (outcome : Outcome) (s : ℕ) (is : IsThatResponse table held x event outcome s) (read : IsHandedWhatWasRead event) (token : IsToken table.name) (short : length table.name ≤ 32) where
+module _ (table : Table) (held : List Stored) (x : Option Exchange) (event : Event) (outcome : Outcome) (s : ℕ) (is : ReplyIsThatStoredResponse table held x event outcome s) (read : EventWasRead event) (token : IsToken table.name) (short : length table.name ≤ 32) where
   abbrev form : Stored
-  form = used_form x event is.response
+  form = stored_response_as_used x event is.response
 
-  one_anyway : IsSendable form → length form.content < 2 ^ 64 → leaves_room form.fields ≡ true → IsOneAnyway (is_head is.asked) (stored_text table.name form is.now is.info is.asked)
-  one_anyway sendable small room = by_test (wants_304 is.asked form)
+  one_anyway : StoredIsSendable form → length form.content < 2 ^ 64 → head_leaves_room form.fields ≡ true → IsOneSentResponse (is_head is.asked) (stored_text table.name form is.now is.info is.asked)
+  one_anyway sendable small room = by_test (gets_304 is.asked form)
     where
-      by_test : (t : Bool) → IsOneAnyway (is_head is.asked) (cond t (not_modified_text table.name form is.now is.info is.asked) (whole_text table.name form is.now is.info is.asked))
+      by_test : (t : Bool) → IsOneSentResponse (is_head is.asked) (cond t (not_modified_text table.name form is.now is.info is.asked) (whole_stored_text table.name form is.now is.info is.asked))
       by_test true = record {
-        sent = sent_as_304 table.name form is.now (status_sent 304 form is.now is.info) is.asked;
+        sent = stored_sent_as_304 table.name form is.now (cache_status_of_sent 304 form is.now is.info) is.asked;
         text_is = refl;
         alone = λ most little within over behind.
-            sends_a_304_as_one most is.now table.name form (status_sent 304 form is.now is.info) is.asked sendable token
-            (fits_as_304_where_room_is_left most is.now table.name form (status_sent 304 form is.now is.info) is.asked room short (shown_of table held x event outcome s is read 304 form)) over behind;
+            sends_a_304_as_one most is.now table.name form (cache_status_of_sent 304 form is.now is.info) is.asked sendable token
+            (fits_as_304_where_room_is_left most is.now table.name form (cache_status_of_sent 304 form is.now is.info) is.asked room short (shown_of table held x event outcome s is read 304 form)) over behind;
       }
       by_test false = record {
-        sent = sent_whole table.name form is.now (status_sent form.status form is.now is.info) is.asked;
+        sent = stored_sent_whole table.name form is.now (cache_status_of_sent form.status form is.now is.info) is.asked;
         text_is = refl;
         alone = λ most little within over behind.
-            sends_whole_as_one most is.now table.name form (status_sent form.status form is.now is.info) is.asked sendable token small
-            (fits_where_room_is_left most is.now table.name form (status_sent form.status form is.now is.info) is.asked room short (shown_of table held x event outcome s is read form.status form) sendable.status.1 small within) over behind;
+            sends_whole_as_one most is.now table.name form (cache_status_of_sent form.status form is.now is.info) is.asked sendable token small
+            (fits_where_room_is_left most is.now table.name form (cache_status_of_sent form.status form is.now is.info) is.asked room short (shown_of table held x event outcome s is read form.status form) sendable.status.1 small within) over behind;
       }
 
 same_reply : (a b : Reply) → Replied a ≡ Replied b → a ≡ b
@@ -145,11 +145,11 @@ same_reply a b h = cc
 some_same : {B : Type 0} {x y : B} → Some x ≡ Some y → x ≡ y
 some_same h = cc
 
-pub sends_what_leaves_room : SendsWhatLeavesRoom
+pub sends_what_leaves_room : ResponseWithRoomIsSentAsOne
 sends_what_leaves_room table limit first serial e item past reply table_read good read used replied found room =
-    let x : Option Exchange = find_exchange (id_of item.event) (open_exchanges table limit past) in
+    let x : Option Exchange = find_exchange (exchange_id_of_event item.event) (open_exchanges table limit past) in
     let is = sends_what_is_held table limit first serial item past good used in
-    let answers : AllByRecursion (λ i. IsReadEvent i.event) (item ∷ past) = answers_of (item ∷ past) read in
+    let answers : AllByRecursion (λ i. EventIsReadFromAStream i.event) (item ∷ past) = answers_of (item ∷ past) read in
     let same : e ≡ is.response = some_same (sym found ∙ is.is_held) in
     let at = found_held (held_entry table limit past) (held_serials limit past) serial is.response is.is_held in
     let fits = fits_after table limit first past good.1 answers.1 at.0 is.response at.1 in
@@ -158,8 +158,8 @@ sends_what_leaves_room table limit first serial e item past reply table_read goo
     let small : length is.response.content < 2 ^ 64 = omega (arith, fits, most) in
     let text = one_anyway table (held_entries table limit past) x item.event item.outcome serial is read.0 (names_a_token table table_read) (names_are_short table table_read) sendable
     (subst (λ (c : List ℕ). length c < 2 ^ 64) (sym (used_content x item.event is.response)) small)
-    (subst (λ (f : Stored). leaves_room (used_form x item.event f).fields ≡ true) same room)
+    (subst (λ (f : Stored). head_leaves_room (stored_response_as_used x item.event f).fields ≡ true) same room)
     in
-    subst (λ (q : Reply). IsOneAnyway (is_to_head x item.event) q.bytes) (same_reply is.reply reply (sym is.outcome_is ∙ replied))
-    (subst (λ (h : Bool). IsOneAnyway h is.reply.bytes) (about_head x item.event is.now is.asked is.about)
-    (subst (λ (bytes : List ℕ). IsOneAnyway (is_head is.asked) bytes) (sym is.bytes_are) text))
+    subst (λ (q : Reply). IsOneSentResponse (event_is_to_head x item.event) q.bytes) (same_reply is.reply reply (sym is.outcome_is ∙ replied))
+    (subst (λ (h : Bool). IsOneSentResponse h is.reply.bytes) (about_head x item.event is.now is.asked is.about)
+    (subst (λ (bytes : List ℕ). IsOneSentResponse (is_head is.asked) bytes) (sym is.bytes_are) text))

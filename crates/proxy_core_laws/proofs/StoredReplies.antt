@@ -8,10 +8,10 @@ use Rattle.std.proofs.lemmas.List.Folds.{list_any-append}
 use Rattle.httparse.specs.Grammar.{IsToken, is_token_byte}
 use Rattle.hx_fields.specs.declared.limits.TheConstants.{END_OF_TIME}
 use Rattle.hx_fields.specs.declared.field_line.Field.{Field}
-use Rattle.hx_fields.specs.Lines.{has, is_named}
+use Rattle.hx_fields.specs.FieldLines.{has_field, is_named}
 use Rattle.hx_framing.specs.declared.messages.Response.{Response}
-use Rattle.hx_framing.specs.Lengths.{is_interim, is_without_content}
-use Rattle.hx_framing.specs.Written.{IsWritableField}
+use Rattle.hx_framing.specs.Lengths.{is_interim, response_has_no_content}
+use Rattle.hx_framing.specs.Written.{FieldIsWritable}
 use Rattle.hx_framing.proofs.WrittenResponses.{response_is_read_back}
 use Rattle.hx_age.specs.Age.{age_of}
 use Rattle.hx_hop.specs.Answering.{dated_of}
@@ -20,53 +20,53 @@ use Rattle.hx_hop.proofs.Lines.{list_any_fewer}
 use Rattle.hx_status.specs.declared.status.Status.{Status}
 use Rattle.hx_status.specs.Member.{member_text}
 use Rattle.hx_store.specs.Stored.{Stored}
-use Rattle.hx_validate.specs.Answering.{freshened_of, is_brought, is_replaced}
-use Rattle.hx_validate.specs.NotModified.{is_carried, not_modified_of}
+use Rattle.hx_validate.specs.Answering.{freshened_of, is_line_of_304, is_replaced_by_304}
+use Rattle.hx_validate.specs.NotModified.{is_carried_by_304, fields_of_304}
 use Rattle.hx_hop_laws.proofs.SentRequests.{line_of}
 use Rattle.hx_hop_laws.proofs.SentResponses.{IsCleanAnswer, clean, dated_fit, dated_without, stripped_without}
-use Rattle.proxy_core.specs.Replies.{content_sent, is_head, line}
-use Rattle.proxy_core_laws.specs.StoredReplies.{FreshensSendable, SendsA304AsOne, SendsWholeAsOne, StoresSendable, lines_shown, sent_as_304, sent_whole}
+use Rattle.proxy_core.specs.Replies.{content_unless_head, is_head, line}
+use Rattle.proxy_core_laws.specs.StoredReplies.{FreshenedIsSendable, A304IsSentAsOneResponse, WholeIsSentAsOneResponse, StoredAnswerIsSendable, fields_as_sent, stored_sent_as_304, stored_sent_whole}
 use Rattle.proxy_core_laws.proofs.ReplyValues.{decimal_value, member_value}
 
 -- ---- what is stored
 
-pub widened : (h : Bool) (status : ℕ) → is_without_content false status ≡ true → is_without_content h status ≡ true
+pub widened : (h : Bool) (status : ℕ) → response_has_no_content false status ≡ true → response_has_no_content h status ≡ true
 widened true status none = refl
 widened false status none = none
 
 module _ (h : Bool) (r : Response) (now : ℕ) (is : IsCleanAnswer h r) (early : now < END_OF_TIME) where
-  answer_fits : All IsWritableField (dated_of (stripped r.fields) now)
-  answer_fits = dated_fit (stripped r.fields) now early (All-filter (λ f. not (is_hop_line r.fields f)) IsWritableField r.fields is.fields)
+  answer_fits : All FieldIsWritable (dated_of (stripped r.fields) now)
+  answer_fits = dated_fit (stripped r.fields) now early (All-filter (λ f. not (is_hop_line r.fields f)) FieldIsWritable r.fields is.fields)
 
-  answer_without : (name : List ℕ) → has r.fields name ≡ false → is_named name (line (codes "Date") []) ≡ false → has (dated_of (stripped r.fields) now) name ≡ false
+  answer_without : (name : List ℕ) → has_field r.fields name ≡ false → is_named name (line (codes "Date") []) ≡ false → has_field (dated_of (stripped r.fields) now) name ≡ false
   answer_without name none other = dated_without (stripped r.fields) now name (stripped_without r.fields name none) other
 
-pub stores_sendable : StoresSendable
+pub stores_sendable : StoredAnswerIsSendable
 stores_sendable max_body serial now h ended bytes rest x r reads early =
     let is = clean max_body h ended bytes r rest reads in
     let answer : List Field = dated_of (stripped r.fields) now in record {
       status = is.status;
-      fields = All-filter (λ f. not (is_named (codes "Age") f)) IsWritableField answer (answer_fits h r now is early);
+      fields = All-filter (λ f. not (is_named (codes "Age") f)) FieldIsWritable answer (answer_fits h r now is early);
       lengths = list_any_fewer (λ f. not (is_named (codes "Age") f)) (is_named (codes "content-length")) answer (answer_without h r now is early (codes "content-length") is.lengths refl);
       codings = list_any_fewer (λ f. not (is_named (codes "Age") f)) (is_named (codes "transfer-encoding")) answer (answer_without h r now is early (codes "transfer-encoding") is.codings refl);
       without = λ none. is.without (widened h r.status none);
     }
 
-kept_without : (stored answer : List Field) (name : List ℕ) → has stored name ≡ false → has answer name ≡ false
-    → has (filter (λ line. not (is_replaced answer line)) stored ++ filter is_brought answer) name ≡ false
+kept_without : (stored answer : List Field) (name : List ℕ) → has_field stored name ≡ false → has_field answer name ≡ false
+    → has_field (filter (λ line. not (is_replaced_by_304 answer line)) stored ++ filter is_line_of_304 answer) name ≡ false
 kept_without stored answer name none other =
-    list_any-append (is_named name) (filter (λ line. not (is_replaced answer line)) stored) (filter is_brought answer)
-    ∙ or_from _ _ (list_any_fewer (λ line. not (is_replaced answer line)) (is_named name) stored none) (list_any_fewer is_brought (is_named name) answer other)
+    list_any-append (is_named name) (filter (λ line. not (is_replaced_by_304 answer line)) stored) (filter is_line_of_304 answer)
+    ∙ or_from _ _ (list_any_fewer (λ line. not (is_replaced_by_304 answer line)) (is_named name) stored none) (list_any_fewer is_line_of_304 (is_named name) answer other)
 
-pub freshens_sendable : FreshensSendable
+pub freshens_sendable : FreshenedIsSendable
 unfolding freshened_of
 freshens_sendable max_body now h ended bytes rest e r asked times sendable reads early =
     let is = clean max_body h ended bytes r rest reads in
     let answer : List Field = dated_of (stripped r.fields) now in record {
       status = sendable.status;
-      fields = All-append IsWritableField (filter (λ line. not (is_replaced answer line)) e.fields) (filter is_brought answer)
-          (All-filter (λ line. not (is_replaced answer line)) IsWritableField e.fields sendable.fields)
-          (All-filter is_brought IsWritableField answer (answer_fits h r now is early));
+      fields = All-append FieldIsWritable (filter (λ line. not (is_replaced_by_304 answer line)) e.fields) (filter is_line_of_304 answer)
+          (All-filter (λ line. not (is_replaced_by_304 answer line)) FieldIsWritable e.fields sendable.fields)
+          (All-filter is_line_of_304 FieldIsWritable answer (answer_fits h r now is early));
       lengths = kept_without e.fields answer (codes "content-length") sendable.lengths (answer_without h r now is early (codes "content-length") is.lengths refl);
       codings = kept_without e.fields answer (codes "transfer-encoding") sendable.codings (answer_without h r now is early (codes "transfer-encoding") is.codings refl);
       without = sendable.without;
@@ -83,24 +83,24 @@ unfolding is_token_byte
 status_name = refl
 
 module _ (name : List ℕ) (fields : List Field) (e : Stored) (now : ℕ) (shown : Status) where
-  lines_fit : IsToken name → All IsWritableField fields → All IsWritableField (lines_shown name fields e now shown)
+  lines_fit : IsToken name → All FieldIsWritable fields → All FieldIsWritable (fields_as_sent name fields e now shown)
   lines_fit token all =
-      All-append IsWritableField (fields ++ line (codes "Age") (decimal (age_of e.times now)) ∷ []) (line (codes "Cache-Status") (member_text name shown) ∷ [])
-      (All-append IsWritableField fields (line (codes "Age") (decimal (age_of e.times now)) ∷ []) all
-      (All-cons IsWritableField (line (codes "Age") (decimal (age_of e.times now))) []
-      (line_of (codes "Age") (decimal (age_of e.times now)) age_name (omega arith) (decimal_value (age_of e.times now))) (All-nil IsWritableField)))
-      (All-cons IsWritableField (line (codes "Cache-Status") (member_text name shown)) []
-      (line_of (codes "Cache-Status") (member_text name shown) status_name (omega arith) (member_value name shown token)) (All-nil IsWritableField))
+      All-append FieldIsWritable (fields ++ line (codes "Age") (decimal (age_of e.times now)) ∷ []) (line (codes "Cache-Status") (member_text name shown) ∷ [])
+      (All-append FieldIsWritable fields (line (codes "Age") (decimal (age_of e.times now)) ∷ []) all
+      (All-cons FieldIsWritable (line (codes "Age") (decimal (age_of e.times now))) []
+      (line_of (codes "Age") (decimal (age_of e.times now)) age_name (omega arith) (decimal_value (age_of e.times now))) (All-nil FieldIsWritable)))
+      (All-cons FieldIsWritable (line (codes "Cache-Status") (member_text name shown)) []
+      (line_of (codes "Cache-Status") (member_text name shown) status_name (omega arith) (member_value name shown token)) (All-nil FieldIsWritable))
 
-  lines_without : (other : List ℕ) → has fields other ≡ false → is_named other (line (codes "Age") (decimal (age_of e.times now))) ≡ false
-      → is_named other (line (codes "Cache-Status") (member_text name shown)) ≡ false → has (lines_shown name fields e now shown) other ≡ false
+  lines_without : (other : List ℕ) → has_field fields other ≡ false → is_named other (line (codes "Age") (decimal (age_of e.times now))) ≡ false
+      → is_named other (line (codes "Cache-Status") (member_text name shown)) ≡ false → has_field (fields_as_sent name fields e now shown) other ≡ false
   lines_without other none no_age no_status =
       list_any-append (is_named other) (fields ++ line (codes "Age") (decimal (age_of e.times now)) ∷ []) (line (codes "Cache-Status") (member_text name shown) ∷ [])
       ∙ or_from _ _ (list_any-append (is_named other) fields (line (codes "Age") (decimal (age_of e.times now)) ∷ []) ∙ or_from _ _ none (or_from _ _ no_age refl)) (or_from _ _ no_status refl)
 
-pub sends_whole_as_one : SendsWholeAsOne
+pub sends_whole_as_one : WholeIsSentAsOneResponse
 sends_whole_as_one most now name e shown asked sendable token small limits over behind =
-    response_is_read_back (is_head asked) (sent_whole name e now shown asked) most over behind (record {
+    response_is_read_back (is_head asked) (stored_sent_whole name e now shown asked) most over behind (record {
       status = sendable.status;
       fields = lines_fit name e.fields e now shown token sendable.fields;
       lengths = lines_without name e.fields e now shown (codes "content-length") sendable.lengths refl refl;
@@ -116,12 +116,12 @@ sends_whole_as_one most now name e shown asked sendable token small limits over 
     shown_small true = tt
     shown_small false = small
 
-    none_sent : (h : Bool) → is_without_content h e.status ≡ true → content_sent h e.content ≡ []
+    none_sent : (h : Bool) → response_has_no_content h e.status ≡ true → content_unless_head h e.content ≡ []
     none_sent true none = refl
     none_sent false none = sendable.without none
 
-    announced : (h : Bool) → is_without_content h e.status ≡ false
-        → cond ((e.status == 204) || (e.status == 304)) None (Some (length e.content)) ≡ Some (length (content_sent h e.content))
+    announced : (h : Bool) → response_has_no_content h e.status ≡ false
+        → cond ((e.status == 204) || (e.status == 304)) None (Some (length e.content)) ≡ Some (length (content_unless_head h e.content))
     announced true some = absurd cc
     announced false some = by_tests (is_interim e.status) (e.status == 204) (e.status == 304) some
       where
@@ -131,13 +131,13 @@ sends_whole_as_one most now name e shown asked sendable token small limits over 
         by_tests false false true h = absurd cc
         by_tests false false false h = refl
 
-pub sends_a_304_as_one : SendsA304AsOne
+pub sends_a_304_as_one : A304IsSentAsOneResponse
 sends_a_304_as_one most now name e shown asked sendable token limits over behind =
-    response_is_read_back (is_head asked) (sent_as_304 name e now shown asked) most over behind (record {
+    response_is_read_back (is_head asked) (stored_sent_as_304 name e now shown asked) most over behind (record {
       status = (omega arith, omega arith);
-      fields = lines_fit name (not_modified_of e.fields) e now shown token (All-filter carried IsWritableField e.fields sendable.fields);
-      lengths = lines_without name (not_modified_of e.fields) e now shown (codes "content-length") (list_any_fewer carried (is_named (codes "content-length")) e.fields sendable.lengths) refl refl;
-      codings = lines_without name (not_modified_of e.fields) e now shown (codes "transfer-encoding") (list_any_fewer carried (is_named (codes "transfer-encoding")) e.fields sendable.codings) refl refl;
+      fields = lines_fit name (fields_of_304 e.fields) e now shown token (All-filter carried FieldIsWritable e.fields sendable.fields);
+      lengths = lines_without name (fields_of_304 e.fields) e now shown (codes "content-length") (list_any_fewer carried (is_named (codes "content-length")) e.fields sendable.lengths) refl refl;
+      codings = lines_without name (fields_of_304 e.fields) e now shown (codes "transfer-encoding") (list_any_fewer carried (is_named (codes "transfer-encoding")) e.fields sendable.codings) refl refl;
       small = tt;
       without = λ none. refl;
       behind = λ some. absurd (never (is_head asked) some);
@@ -146,8 +146,8 @@ sends_a_304_as_one most now name e shown asked sendable token limits over behind
     }) limits.content
   where
     carried : Field → Bool
-    carried = is_carried (has e.fields (codes "ETag"))
+    carried = is_carried_by_304 (has_field e.fields (codes "ETag"))
 
-    never : (h : Bool) → is_without_content h 304 ≡ false → ⊥
+    never : (h : Bool) → response_has_no_content h 304 ≡ false → ⊥
     never true some = cc
     never false some = cc

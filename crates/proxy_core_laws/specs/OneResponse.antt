@@ -6,56 +6,57 @@ use Rattle.hx_fields.specs.declared.limits.TheConstants.{END_OF_TIME}
 use Rattle.hx_framing.specs.declared.messages.Response.{Response}
 use Rattle.hx_framing.specs.Reading.{Spelled}
 use Rattle.hx_framing.specs.ResponseReading.{Reads}
-use Rattle.hx_framing.specs.WrittenResponse.{SentResponse, response_back}
+use Rattle.hx_framing.specs.WrittenResponse.{SentResponse, response_as_read_back}
 use Rattle.hx_policy.specs.declared.words.Policy.{Policy}
 use Rattle.hx_hop.specs.Answering.{answered_of}
 use Rattle.hx_hop.specs.Moments.{date_text_of}
 use Rattle.hx_storable.specs.declared.rule.StoreRule.{StoreRule}
 use Rattle.hx_status.specs.declared.cause.Cause.{Cause}
 use Rattle.hx_status.specs.Member.{member_text}
-use Rattle.hx_status.specs.Refusals.{status_of, text_of}
-use Rattle.hx_hop_laws.specs.OneResponse.{FitsAReader, sent_on}
+use Rattle.hx_status.specs.Refusals.{refusal_status, refusal_text}
+use Rattle.hx_hop_laws.specs.OneResponse.{ResponseFitsAReader, response_passed_on}
 use Rattle.proxy_core.specs.declared.open.exchange.Exchange.{Exchange}
-use Rattle.proxy_core.specs.Replies.{content_sent, is_head, line, lines_refused, passed_text, refused_text}
-use Rattle.proxy_core.specs.Replies.{status_passed}
+use Rattle.proxy_core.specs.Replies.{content_unless_head, is_head, line, fields_of_refusal, passed_answer_text}
+use Rattle.proxy_core.specs.Replies.{refusal_reply_text}
+use Rattle.proxy_core.specs.Replies.{cache_status_of_passed_answer}
 
 -- an answer with the line of Cache-Status behind its own
-abbrev pub passed_on : Policy → List ℕ → Exchange → Response → ℕ → Bool → Option StoreRule → SentResponse
-passed_on policy name x r now stored rule =
-    sent_on (is_head x.asked) r now
+abbrev pub passed_answer_sent : Policy → List ℕ → Exchange → Response → ℕ → Bool → Option StoreRule → SentResponse
+passed_answer_sent policy name x r now stored rule =
+    response_passed_on (is_head x.asked) r now
     (line (codes "Cache-Status") (member_text name
-    (status_passed policy x r.status (answered_of r now).fields now stored rule)) ∷ []) x.asked.close
+    (cache_status_of_passed_answer policy x r.status (answered_of r now).fields now stored rule)) ∷ []) x.asked.close
 
 -- the proxy's own answer
-abbrev pub shown_by_the_proxy : ℕ → Cause → Bool → Bool → SentResponse
-shown_by_the_proxy now cause close head = record {
-  status = status_of cause;
-  fields = lines_refused (date_text_of now) (text_of cause);
-  shown = Some (length (text_of cause));
+abbrev pub proxys_answer_sent : ℕ → Cause → Bool → Bool → SentResponse
+proxys_answer_sent now cause close head = record {
+  status = refusal_status cause;
+  fields = fields_of_refusal (date_text_of now) (refusal_text cause);
+  shown = Some (length (refusal_text cause));
   close = close;
-  content = content_sent head (text_of cause);
+  content = content_unless_head head (refusal_text cause);
 }
 
 -- ---- the statements
 
 -- What was read of an answer, to a HEAD or not, and is passed on to an open exchange is read by the client as it was
 -- sent, whatever stands behind it, within the limits of a reader. The name is the table's, which is a token.
-abbrev pub PassesOneResponse : Type 0
-PassesOneResponse =
+abbrev pub PassedAnswerIsOneResponse : Type 0
+PassedAnswerIsOneResponse =
     (max_body most now : ℕ) (to_head ended stored : Bool) (bytes rest name : List ℕ) (policy : Policy)
     (rule : Option StoreRule) (x : Exchange) (r : Response)
     → Reads max_body to_head ended bytes (Spelled r rest) → now < END_OF_TIME → IsToken name → most < 2 ^ 64
-    → FitsAReader most (passed_on policy name x r now stored rule)
+    → ResponseFitsAReader most (passed_answer_sent policy name x r now stored rule)
     → (over : Bool) (behind : List ℕ)
-    → Reads most (is_head x.asked) over (passed_text policy name x r now stored rule ++ behind)
-    (Spelled (response_back (is_head x.asked) (passed_on policy name x r now stored rule)) behind)
+    → Reads most (is_head x.asked) over (passed_answer_text policy name x r now stored rule ++ behind)
+    (Spelled (response_as_read_back (is_head x.asked) (passed_answer_sent policy name x r now stored rule)) behind)
 
 -- so is what the proxy answers by itself
-abbrev pub RefusesAsOneResponse : Type 0
-RefusesAsOneResponse =
+abbrev pub ProxysAnswerIsOneResponse : Type 0
+ProxysAnswerIsOneResponse =
     (most now : ℕ) (cause : Cause) (close head : Bool)
-    → now < END_OF_TIME → most < 2 ^ 64 → length (text_of cause) < 2 ^ 64
-    → FitsAReader most (shown_by_the_proxy now cause close head)
+    → now < END_OF_TIME → most < 2 ^ 64 → length (refusal_text cause) < 2 ^ 64
+    → ResponseFitsAReader most (proxys_answer_sent now cause close head)
     → (over : Bool) (behind : List ℕ)
-    → Reads most head over (refused_text (date_text_of now) cause close head ++ behind)
-    (Spelled (response_back head (shown_by_the_proxy now cause close head)) behind)
+    → Reads most head over (refusal_reply_text (date_text_of now) cause close head ++ behind)
+    (Spelled (response_as_read_back head (proxys_answer_sent now cause close head)) behind)

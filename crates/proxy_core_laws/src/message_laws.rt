@@ -1,7 +1,8 @@
 //! Laws on what a core sends where it was handed what was read: each time one message, or none.
-ghost use Rattle.proxy_core_laws.specs.SentMessages.{AsksByFieldValues, HoldsWhatFits, KeepsWhatWasRead, NamesAToken};
-ghost use Rattle.proxy_core_laws.specs.SentMessages.{OneRequestIsAll, OneResponseIsAll, SendsOneMessageEachTime};
-ghost use Rattle.proxy_core_laws.specs.SentMessages.{StoresNoneTooLong};
+ghost use Rattle.proxy_core_laws.specs.SentMessages.{ConditionsOfHistoryAreFieldValues, HeldContentFits};
+ghost use Rattle.proxy_core_laws.specs.SentMessages.{OpenRequestsWereRead, TableNameIsAToken};
+ghost use Rattle.proxy_core_laws.specs.SentMessages.{OneRequestIsNoMore, OneResponseIsNoMore, EachStepSendsOneMessage};
+ghost use Rattle.proxy_core_laws.specs.SentMessages.{StoredContentFits64Bits};
 
 /// What the laws on one message take for granted holds of what was read. The name in a table that was read is a token,
 /// and no content that it lets be stored is too long to be told. At each moment of a good history whose answers were
@@ -9,11 +10,11 @@ ghost use Rattle.proxy_core_laws.specs.SentMessages.{StoresNoneTooLong};
 /// of the next request (RFC 9110, section 5.5), and a content is no longer than the table lets it be. The request of
 /// each open exchange was read, where each that arrived was.
 pub fn what_was_read_can_be_sent()
-    ensures name { NamesAToken }
-    ensures short { StoresNoneTooLong }
-    ensures conditions { AsksByFieldValues }
-    ensures fits { HoldsWhatFits }
-    ensures requests { KeepsWhatWasRead }
+    ensures name { TableNameIsAToken }
+    ensures short { StoredContentFits64Bits }
+    ensures conditions { ConditionsOfHistoryAreFieldValues }
+    ensures fits { HeldContentFits }
+    ensures requests { OpenRequestsWereRead }
 {}
 
 /// So in a good history over a table that was read, of requests and answers that were read, each step sends one message
@@ -21,7 +22,7 @@ pub fn what_was_read_can_be_sent()
 /// it (RFC 9112, sections 6.3, 11.1 and 11.2). That an engine hands its core nothing else is a law of
 /// `proxy_engine_laws`.
 pub fn a_core_sends_one_message_each_time()
-    ensures each { SendsOneMessageEachTime }
-    ensures one_request { OneRequestIsAll }
-    ensures one_response { OneResponseIsAll }
+    ensures each { EachStepSendsOneMessage }
+    ensures one_request { OneRequestIsNoMore }
+    ensures one_response { OneResponseIsNoMore }
 {}

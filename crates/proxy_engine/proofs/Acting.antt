@@ -1,20 +1,20 @@
 -- What a client's stream asks for, done on both sides.
 use Rattle.std.proofs.Common.{◌≡◌, ℕ, List, [], ◌∷◌, ◌++◌, refl, sym, ap, ◌∙◌, subst, Bool, false, Option, Some, Result, Ok, Err, IfOk, IfErr, OnOk, OnErr}
 use Rattle.hx_framing.specs.declared.messages.Request.{Request}
-use Rattle.hx_framing.specs.declared.fault.FrameFault.{FrameFault}
-use Rattle.hx_framing.specs.declared.fault.FrameFault.TheVariants as frame
+use Rattle.hx_framing.specs.declared.frame_fault.FrameFault.{FrameFault}
+use Rattle.hx_framing.specs.declared.frame_fault.FrameFault.TheVariants as frame
 use Rattle.hx_framing.specs.declared.messages.Next.{Next}
 use Rattle.hx_framing.specs.declared.messages.Next.TheVariants as next
 use Rattle.hx_hop.specs.declared.request_view.Asked.{Asked}
 use Rattle.hx_status.specs.declared.cause.Cause.{Cause}
 use Rattle.hx_status.specs.declared.cause.Cause.TheVariants as cause
 use Rattle.proxy_script.specs.declared.effect_list.Effect.{Effect}
-use Rattle.proxy_engine.specs.Admitted.{IsAdmitted}
+use Rattle.proxy_engine.specs.Admitted.{RequestIsAdmittedOrRefused}
 use Rattle.proxy_engine.specs.EngineModel.{EngineModel}
-use Rattle.proxy_engine.specs.Due.{Finish}
-use Rattle.proxy_engine.specs.Acts.{Refuses, Closes, Served}
-use Rattle.proxy_engine.specs.State.{action_at, finish_at}
-use Rattle.proxy_engine.specs.Actions.{IsMessageAction, IsAction, action_by}
+use Rattle.proxy_engine.specs.Due.{LinkResult}
+use Rattle.proxy_engine.specs.Acts.{RequestIsRefused, ConnectionIsClosed, ConnectionIsServed}
+use Rattle.proxy_engine.specs.State.{due_request_at, link_result_at}
+use Rattle.proxy_engine.specs.Actions.{IsActionOfMessage, IsActionForNext, action_of_fault}
 use Rattle.proxy_engine.specs.declared.steps.actions.Action.{Action}
 use Rattle.proxy_engine.specs.declared.steps.actions.Action.TheVariants as action
 use Rattle.proxy_engine.specs.declared.endpoints.ends.Connection.{Connection}
@@ -24,13 +24,13 @@ use Rattle.proxy_engine.specs.declared.endpoints.ends.Link.{Link}
 pub emitted_one : (before now : List Effect) (e : Effect) → now ≡ before ++ e ∷ [] → before ≡ [] → now ≡ e ∷ []
 emitted_one before now e is none = is ∙ ap (λ (b : List Effect). b ++ e ∷ []) none
 
-refuses_same : (s : EngineModel) (now i : ℕ) (a b : Cause) (c d : Bool) (emitted : List Effect) (after : EngineModel) → action.Refuse a c ≡ action.Refuse b d → Refuses s now i a c emitted after → Refuses s now i b d emitted after
+refuses_same : (s : EngineModel) (now i : ℕ) (a b : Cause) (c d : Bool) (emitted : List Effect) (after : EngineModel) → action.Refuse a c ≡ action.Refuse b d → RequestIsRefused s now i a c emitted after → RequestIsRefused s now i b d emitted after
 refuses_same s now i a b c d emitted after e h =
     let why : a ≡ b = cc in
     let head : c ≡ d = cc in
-    subst (λ (x : Bool). Refuses s now i b x emitted after) head (subst (λ (x : Cause). Refuses s now i x c emitted after) why h)
+    subst (λ (x : Bool). RequestIsRefused s now i b x emitted after) head (subst (λ (x : Cause). RequestIsRefused s now i x c emitted after) why h)
 
-refused_frame : (s : EngineModel) (now i : ℕ) (f : FrameFault) (why : Cause) (head : Bool) (emitted : List Effect) (after : EngineModel) → action.Refuse why head ≡ action_by f → Refuses s now i why head emitted after → Served s now i (next.Refused f) emitted after
+refused_frame : (s : EngineModel) (now i : ℕ) (f : FrameFault) (why : Cause) (head : Bool) (emitted : List Effect) (after : EngineModel) → action.Refuse why head ≡ action_of_fault f → RequestIsRefused s now i why head emitted after → ConnectionIsServed s now i (next.Refused f) emitted after
 refused_frame s now i frame.Truncated why head emitted after e h = cc
 refused_frame s now i frame.Head why head emitted after e h = refuses_same s now i why (cause.Frame frame.Head) head false emitted after e h
 refused_frame s now i frame.Version why head emitted after e h = refuses_same s now i why (cause.Frame frame.Version) head false emitted after e h
@@ -42,7 +42,7 @@ refused_frame s now i frame.TooLarge why head emitted after e h = refuses_same s
 refused_frame s now i frame.Expect why head emitted after e h = refuses_same s now i why (cause.Frame frame.Expect) head false emitted after e h
 refused_frame s now i frame.Status why head emitted after e h = refuses_same s now i why (cause.Frame frame.Status) head false emitted after e h
 
-pub refused_served : (s : EngineModel) (now i : ℕ) (a : Next Request) (why : Cause) (head : Bool) (emitted : List Effect) (after : EngineModel) → IsAction a (action.Refuse why head) → Refuses s now i why head emitted after → Served s now i a emitted after
+pub refused_served : (s : EngineModel) (now i : ℕ) (a : Next Request) (why : Cause) (head : Bool) (emitted : List Effect) (after : EngineModel) → IsActionForNext a (action.Refuse why head) → RequestIsRefused s now i why head emitted after → ConnectionIsServed s now i a emitted after
 refused_served s now i next.More why head emitted after w h = absurd w
 refused_served s now i next.NeedsContinue why head emitted after w h = cc
 refused_served s now i (next.Message r) why head emitted after w h =
@@ -50,7 +50,7 @@ refused_served s now i (next.Message r) why head emitted after w h =
 refused_served s now i (next.Refused f) why head emitted after w h = refused_frame s now i f why head emitted after w h
 refused_served s now i next.End why head emitted after w h = cc
 
-closed_frame : (s : EngineModel) (now i : ℕ) (f : FrameFault) (emitted : List Effect) (after : EngineModel) → action.Close ≡ action_by f → Closes s i emitted after → Served s now i (next.Refused f) emitted after
+closed_frame : (s : EngineModel) (now i : ℕ) (f : FrameFault) (emitted : List Effect) (after : EngineModel) → action.Close ≡ action_of_fault f → ConnectionIsClosed s i emitted after → ConnectionIsServed s now i (next.Refused f) emitted after
 closed_frame s now i frame.Truncated emitted after e h = h
 closed_frame s now i frame.Head emitted after e h = cc
 closed_frame s now i frame.Version emitted after e h = cc
@@ -62,14 +62,14 @@ closed_frame s now i frame.TooLarge emitted after e h = cc
 closed_frame s now i frame.Expect emitted after e h = cc
 closed_frame s now i frame.Status emitted after e h = cc
 
-pub closed_served : (s : EngineModel) (now i : ℕ) (a : Next Request) (emitted : List Effect) (after : EngineModel) → IsAction a action.Close → Closes s i emitted after → Served s now i a emitted after
+pub closed_served : (s : EngineModel) (now i : ℕ) (a : Next Request) (emitted : List Effect) (after : EngineModel) → IsActionForNext a action.Close → ConnectionIsClosed s i emitted after → ConnectionIsServed s now i a emitted after
 closed_served s now i next.More emitted after w h = absurd w
 closed_served s now i next.NeedsContinue emitted after w h = cc
 closed_served s now i (next.Message r) emitted after w h = absurd w
 closed_served s now i (next.Refused f) emitted after w h = closed_frame s now i f emitted after w h
 closed_served s now i next.End emitted after w h = h
 
-no_arrival : (f : FrameFault) (asked : Asked) {C : Type 0} → action.Arrive asked ≡ action_by f → C
+no_arrival : (f : FrameFault) (asked : Asked) {C : Type 0} → action.Arrive asked ≡ action_of_fault f → C
 no_arrival frame.Truncated asked e = cc
 no_arrival frame.Head asked e = cc
 no_arrival frame.Version asked e = cc
@@ -82,10 +82,10 @@ no_arrival frame.Expect asked e = cc
 no_arrival frame.Status asked e = cc
 
 -- what arrives is a message that was read
-pub arrival_action : (a : Next Request) (w : Action) (asked : Asked) → w ≡ action.Arrive asked → IsAction a w → (r : Request) × (a ≡ next.Message r) × IsAdmitted r (Ok asked)
+pub arrival_action : (a : Next Request) (w : Action) (asked : Asked) → w ≡ action.Arrive asked → IsActionForNext a w → (r : Request) × (a ≡ next.Message r) × RequestIsAdmittedOrRefused r (Ok asked)
 arrival_action next.More w asked e h = absurd h
 arrival_action next.NeedsContinue w asked e h = cc
-arrival_action (next.Message r) w asked e h = (r, refl, subst (λ (v : Action). IsMessageAction r v) e h)
+arrival_action (next.Message r) w asked e h = (r, refl, subst (λ (v : Action). IsActionOfMessage r v) e h)
 arrival_action (next.Refused f) w asked e h = no_arrival f asked (sym e ∙ h)
 arrival_action next.End w asked e h = cc
 
@@ -93,10 +93,10 @@ some_same : {B : Type 0} {a b : B} → Some a ≡ Some b → a ≡ b
 some_same h = cc
 
 -- what is due is due once
-pub one_action : (o : Option Connection) (a b : Next Request) → action_at o ≡ Some a → action_at o ≡ Some b → b ≡ a
+pub one_action : (o : Option Connection) (a b : Next Request) → due_request_at o ≡ Some a → due_request_at o ≡ Some b → b ≡ a
 one_action o a b here there = some_same (sym there ∙ here)
 
-pub one_finish : (o : Option Link) (f g : Finish) → finish_at o ≡ Some f → finish_at o ≡ Some g → g ≡ f
+pub one_finish : (o : Option Link) (f g : LinkResult) → link_result_at o ≡ Some f → link_result_at o ≡ Some g → g ≡ f
 one_finish o f g here there = some_same (sym there ∙ here)
 
 pub on_ok : {A E : Type 0} (r : Result A E) (P Q : A → Type 0) → ((a : A) → P a → Q a) → IfOk r P → IfOk r Q

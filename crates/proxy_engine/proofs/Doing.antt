@@ -1,26 +1,26 @@
 -- An act is done in one way, and the same steps have one trace.
 use Rattle.std.proofs.Common.{◌≡◌, inl, inr, ℕ, ◌+◌, List, [], ◌∷◌, ◌++◌, bytes_eq, codes, sym, ap, ◌∙◌, subst, Bool, Result, Ok, Err}
-use Rattle.hx_allow.specs.Lines.{Table}
+use Rattle.hx_allow.specs.TableLines.{Table}
 use Rattle.hx_framing.specs.declared.messages.Request.{Request}
-use Rattle.hx_framing.specs.declared.fault.FrameFault.TheVariants as frame
+use Rattle.hx_framing.specs.declared.frame_fault.FrameFault.TheVariants as frame
 use Rattle.hx_framing.specs.declared.messages.Next.{Next}
 use Rattle.hx_framing.specs.declared.messages.Next.TheVariants as next
 use Rattle.hx_hop.specs.declared.request_view.Asked.{Asked}
 use Rattle.hx_hop.specs.Asking.{IsAsked}
 use Rattle.hx_status.specs.declared.cause.Cause.{Cause}
 use Rattle.hx_status.specs.declared.cause.Cause.TheVariants as cause
-use Rattle.hx_target.specs.declared.faults.TargetFault.{TargetFault}
-use Rattle.proxy_core.specs.State.{State as CoreState, Steps, after as core_after}
+use Rattle.hx_target.specs.declared.target_fault.TargetFault.{TargetFault}
+use Rattle.proxy_core.specs.State.{State as CoreState, StepIsAccepted, state_after as core_after}
 use Rattle.proxy_core.specs.declared.outcome.Outcome.{Outcome}
 use Rattle.proxy_core.specs.declared.event.Event.{Event}
 use Rattle.proxy_core.specs.declared.event.Event.TheVariants as events
 use Rattle.proxy_core.specs.Traces.{Item}
 use Rattle.proxy_script.specs.declared.effect_list.Effect.{Effect}
-use Rattle.proxy_engine.specs.Admitted.{Refusal, IsAdmitted}
+use Rattle.proxy_engine.specs.Admitted.{Refusal, RequestIsAdmittedOrRefused}
 use Rattle.proxy_engine.specs.EngineModel.{EngineModel, with_core}
 use Rattle.proxy_engine.specs.Due.{Act, Abandons, Finishes, Wakes, Serves, Gives, Breaks}
-use Rattle.proxy_engine.specs.Acts.{came, after_on, effects_on, next_number, StepsOn, Arrives, Served, Refuses, Closes}
-use Rattle.proxy_engine.specs.Executions.{Step, Took, Worked, Leads, IsEventOf, HasNoEvent, IsEmitted, Adds, ActsInOneWay, HasOneTrace}
+use Rattle.proxy_engine.specs.Acts.{outcome_by_table, model_after_outcome, effects_of_outcome, next_link_number, CoreIsStepped, RequestArrives, ConnectionIsServed, RequestIsRefused, ConnectionIsClosed}
+use Rattle.proxy_engine.specs.Executions.{ExecutionStep, Took, Worked, StepLeads, IsCoreEventOfAct, ActAsksCoreNothing, IsItemOfAct, StepAddsToTrace, ActIsDoneInOneWay, StepsHaveOneTrace}
 
 -- the same effects, and the same model behind them
 abbrev Same : List Effect → List Effect → EngineModel → EngineModel → Type 0
@@ -30,52 +30,52 @@ same_by : (emitted more effects : List Effect) (t u after : EngineModel) → (em
 same_by emitted more effects t u after h k = (h.0 ∙ sym k.0, h.1 ∙ sym k.1)
 
 -- a step of the core gives one outcome, and leaves one core
-outcome_once : (s : CoreState) (event : Event) (o p : Outcome) (t u : CoreState) → Steps s event o t → Steps s event p u → o ≡ p
+outcome_once : (s : CoreState) (event : Event) (o p : Outcome) (t u : CoreState) → StepIsAccepted s event o t → StepIsAccepted s event p u → o ≡ p
 outcome_once s event o p t u h k = h.outcome_is ∙ sym k.outcome_is
 
-core_once : (s : CoreState) (event : Event) (o p : Outcome) (t u : CoreState) → Steps s event o t → Steps s event p u → t ≡ u
+core_once : (s : CoreState) (event : Event) (o p : Outcome) (t u : CoreState) → StepIsAccepted s event o t → StepIsAccepted s event p u → t ≡ u
 core_once s event o p t u h k = h.leaves ∙ (ap (core_after s event) (outcome_once s event o p t u h k) ∙ sym k.leaves)
 
-stepped_once : (s t : EngineModel) (i : ℕ) (to_head : Bool) (event : Event) (before emitted more : List Effect) (v w : EngineModel) → StepsOn s t i to_head event before emitted v → StepsOn s t i to_head event before more w → Same emitted more v w
+stepped_once : (s t : EngineModel) (i : ℕ) (to_head : Bool) (event : Event) (before emitted more : List Effect) (v w : EngineModel) → CoreIsStepped s t i to_head event before emitted v → CoreIsStepped s t i to_head event before more w → Same emitted more v w
 stepped_once s t i to_head event before emitted more v w h k =
     let outcome : h.outcome ≡ k.outcome = outcome_once s.core event h.outcome k.outcome h.core k.core h.steps k.steps in
     let core : h.core ≡ k.core = core_once s.core event h.outcome k.outcome h.core k.core h.steps k.steps in (
-      h.emitted_is ∙ (ap (λ (o : Outcome). before ++ effects_on i (next_number s) (came s.core.table o)) outcome ∙ sym k.emitted_is),
+      h.emitted_is ∙ (ap (λ (o : Outcome). before ++ effects_of_outcome i (next_link_number s) (outcome_by_table s.core.table o)) outcome ∙ sym k.emitted_is),
       h.after_is
-          ∙ (ap (λ (o : Outcome). after_on i to_head (came s.core.table o) (with_core t h.core)) outcome
-          ∙ (ap (λ (c : CoreState). after_on i to_head (came s.core.table k.outcome) (with_core t c)) core ∙ sym k.after_is)),
+          ∙ (ap (λ (o : Outcome). model_after_outcome i to_head (outcome_by_table s.core.table o) (with_core t h.core)) outcome
+          ∙ (ap (λ (c : CoreState). model_after_outcome i to_head (outcome_by_table s.core.table k.outcome) (with_core t c)) core ∙ sym k.after_is)),
     )
 
-refused_once : (s : EngineModel) (now i : ℕ) (why : Cause) (head : Bool) (emitted more : List Effect) (t u : EngineModel) → Refuses s now i why head emitted t → Refuses s now i why head more u → Same emitted more t u
+refused_once : (s : EngineModel) (now i : ℕ) (why : Cause) (head : Bool) (emitted more : List Effect) (t u : EngineModel) → RequestIsRefused s now i why head emitted t → RequestIsRefused s now i why head more u → Same emitted more t u
 refused_once s now i why head emitted more t u h k = (h.emitted_is ∙ sym k.emitted_is, h.after_is ∙ sym k.after_is)
 
-closed_once : (s : EngineModel) (i : ℕ) (emitted more : List Effect) (t u : EngineModel) → Closes s i emitted t → Closes s i more u → Same emitted more t u
+closed_once : (s : EngineModel) (i : ℕ) (emitted more : List Effect) (t u : EngineModel) → ConnectionIsClosed s i emitted t → ConnectionIsClosed s i more u → Same emitted more t u
 closed_once s i emitted more t u h k = (h.0 ∙ sym k.0, h.1 ∙ sym k.1)
 
 -- where a request is asked in one way
 module _ (asked_once : (request : Request) (r s : Result Asked TargetFault) → IsAsked request r → IsAsked request s → r ≡ s) where
-  one_request : (r : Request) (a b : Asked) → IsAdmitted r (Ok a) → IsAdmitted r (Ok b) → a ≡ b
+  one_request : (r : Request) (a b : Asked) → RequestIsAdmittedOrRefused r (Ok a) → RequestIsAdmittedOrRefused r (Ok b) → a ≡ b
   one_request r a b h k = let same : ◌≡◌ {A = Result Asked TargetFault} (Ok a) (Ok b) = asked_once r (Ok a) (Ok b) h k in cc
 
-  not_both : {P : Type 0} (r : Request) (a : Asked) (refusal : Refusal) → IsAdmitted r (Ok a) → IsAdmitted r (Err refusal) → P
+  not_both : {P : Type 0} (r : Request) (a : Asked) (refusal : Refusal) → RequestIsAdmittedOrRefused r (Ok a) → RequestIsAdmittedOrRefused r (Err refusal) → P
   not_both {P} r a refusal h k = let same : ◌≡◌ {A = Result Asked TargetFault} (Ok a) (Err k.0) = asked_once r (Ok a) (Err k.0) h k.1 in absurd (cc)
 
-  one_refusal : (r : Request) (a b : Refusal) → IsAdmitted r (Err a) → IsAdmitted r (Err b) → a ≡ b
+  one_refusal : (r : Request) (a b : Refusal) → RequestIsAdmittedOrRefused r (Err a) → RequestIsAdmittedOrRefused r (Err b) → a ≡ b
   one_refusal r a b h k =
       let same : ◌≡◌ {A = Result Asked TargetFault} (Err h.0) (Err k.0) = asked_once r (Err h.0) (Err k.0) h.1 k.1 in
       let fault : h.0 ≡ k.0 = cc in
       h.2 ∙ (ap (λ (f : TargetFault). record { why = cause.Target f; head = bytes_eq r.method (codes "HEAD") }) fault ∙ sym k.2)
 
-  arrives_once : (s : EngineModel) (now i : ℕ) (r : Request) (a b : Result Asked Refusal) (emitted more : List Effect) (t u : EngineModel) → IsAdmitted r a → IsAdmitted r b →
-      Arrives s now i r a emitted t → Arrives s now i r b more u → Same emitted more t u
+  arrives_once : (s : EngineModel) (now i : ℕ) (r : Request) (a b : Result Asked Refusal) (emitted more : List Effect) (t u : EngineModel) → RequestIsAdmittedOrRefused r a → RequestIsAdmittedOrRefused r b →
+      RequestArrives s now i r a emitted t → RequestArrives s now i r b more u → Same emitted more t u
   arrives_once s now i r (Ok a) (Ok b) emitted more t u p q h k =
-      stepped_once s _ i _ _ [] emitted more t u h.1 (subst (λ (x : Asked). Arrives s now i r (Ok x) more u) (sym (one_request r a b p q)) k).1
+      stepped_once s _ i _ _ [] emitted more t u h.1 (subst (λ (x : Asked). RequestArrives s now i r (Ok x) more u) (sym (one_request r a b p q)) k).1
   arrives_once s now i r (Ok a) (Err b) emitted more t u p q h k = not_both r a b p q
   arrives_once s now i r (Err a) (Ok b) emitted more t u p q h k = not_both r b a q p
   arrives_once s now i r (Err a) (Err b) emitted more t u p q h k =
-      refused_once s now i a.why a.head emitted more t u h (subst (λ (x : Refusal). Refuses s now i x.why x.head more u) (sym (one_refusal r a b p q)) k)
+      refused_once s now i a.why a.head emitted more t u h (subst (λ (x : Refusal). RequestIsRefused s now i x.why x.head more u) (sym (one_refusal r a b p q)) k)
 
-  served_once : (s : EngineModel) (now i : ℕ) (action : Next Request) (emitted more : List Effect) (t u : EngineModel) → Served s now i action emitted t → Served s now i action more u → Same emitted more t u
+  served_once : (s : EngineModel) (now i : ℕ) (action : Next Request) (emitted more : List Effect) (t u : EngineModel) → ConnectionIsServed s now i action emitted t → ConnectionIsServed s now i action more u → Same emitted more t u
   served_once s now i next.More emitted more t u h k = absurd h
   served_once s now i next.NeedsContinue emitted more t u h k = (h.0 ∙ sym k.0, h.1 ∙ sym k.1)
   served_once s now i (next.Message r) emitted more t u h k = arrives_once s now i r h.0 k.0 emitted more t u h.1 k.1 h.2 k.2
@@ -91,19 +91,19 @@ module _ (asked_once : (request : Request) (r s : Result Asked TargetFault) → 
   served_once s now i (next.Refused frame.Status) emitted more t u h k = refused_once s now i _ _ emitted more t u h k
   served_once s now i next.End emitted more t u h k = closed_once s i emitted more t u h k
 
-  pub acts_in_one_way : ActsInOneWay
+  pub acts_in_one_way : ActIsDoneInOneWay
   acts_in_one_way s now (Abandons i l) emitted more t u h k = stepped_once s _ i _ _ _ emitted more t u h k
   acts_in_one_way s now (Finishes j (Gives r)) emitted more t u h k = stepped_once s _ _ _ _ _ emitted more t u h.1 k.1
   acts_in_one_way s now (Finishes j (Breaks kind)) emitted more t u h k = stepped_once s _ _ _ _ _ emitted more t u h k
   acts_in_one_way s now (Wakes i) emitted more t u h k = stepped_once s _ _ _ _ _ emitted more t u h.1 k.1
   acts_in_one_way s now (Serves i action) emitted more t u h k = served_once s now i action emitted more t u h k
 
-  leads_once : (s : EngineModel) (step : Step) (t u : EngineModel) → Leads s step t → Leads s step u → t ≡ u
+  leads_once : (s : EngineModel) (step : ExecutionStep) (t u : EngineModel) → StepLeads s step t → StepLeads s step u → t ≡ u
   leads_once s (Took h) t u l m = l.1 ∙ sym m.1
   leads_once s (Worked now act emitted) t u l m = (acts_in_one_way s now act emitted emitted t u l.1 m.1).1
 
   -- an act asks the core one thing, or nothing
-  event_once : (s : EngineModel) (now : ℕ) (act : Act) (e f : Event) → IsEventOf s now act e → IsEventOf s now act f → e ≡ f
+  event_once : (s : EngineModel) (now : ℕ) (act : Act) (e f : Event) → IsCoreEventOfAct s now act e → IsCoreEventOfAct s now act f → e ≡ f
   event_once s now (Abandons i l) e f h k = h ∙ sym k
   event_once s now (Finishes j (Gives r)) e f h k = h ∙ sym k
   event_once s now (Finishes j (Breaks kind)) e f h k = h ∙ sym k
@@ -114,7 +114,7 @@ module _ (asked_once : (request : Request) (r s : Result Asked TargetFault) → 
   event_once s now (Serves i (next.Refused fault)) e f h k = absurd h
   event_once s now (Serves i next.End) e f h k = absurd h
 
-  event_or_none : {P : Type 0} (s : EngineModel) (now : ℕ) (act : Act) (e : Event) → IsEventOf s now act e → HasNoEvent act → P
+  event_or_none : {P : Type 0} (s : EngineModel) (now : ℕ) (act : Act) (e : Event) → IsCoreEventOfAct s now act e → ActAsksCoreNothing act → P
   event_or_none {P} s now (Abandons i l) e h k = absurd k
   event_or_none {P} s now (Finishes j finish) e h k = absurd k
   event_or_none {P} s now (Wakes i) e h k = absurd k
@@ -124,27 +124,27 @@ module _ (asked_once : (request : Request) (r s : Result Asked TargetFault) → 
   event_or_none {P} s now (Serves i (next.Refused fault)) e h k = absurd h
   event_or_none {P} s now (Serves i next.End) e h k = absurd h
 
-  item_once : (table : Table) (s : EngineModel) (now : ℕ) (act : Act) (i j : Item) (emitted : List Effect) (t : EngineModel) → IsEmitted table s now act i emitted t → IsEmitted table s now act j emitted t → i ≡ j
+  item_once : (table : Table) (s : EngineModel) (now : ℕ) (act : Act) (i j : Item) (emitted : List Effect) (t : EngineModel) → IsItemOfAct table s now act i emitted t → IsItemOfAct table s now act j emitted t → i ≡ j
   item_once table s now act i j emitted t h k =
       let event : i.event ≡ j.event = event_once s now act i.event j.event h.event_is k.event_is in
-      let steps : Steps s.core i.event j.outcome t.core = subst (λ (e : Event). Steps s.core e j.outcome t.core) (sym event) k.steps in
+      let steps : StepIsAccepted s.core i.event j.outcome t.core = subst (λ (e : Event). StepIsAccepted s.core e j.outcome t.core) (sym event) k.steps in
       let outcome : i.outcome ≡ j.outcome = outcome_once s.core i.event i.outcome j.outcome t.core t.core h.steps steps in
       ap (λ (e : Event). record { event = e; outcome = i.outcome }) event ∙ ap (λ (o : Outcome). record { event = j.event; outcome = o }) outcome
 
-  adds_once : (table : Table) (s : EngineModel) (step : Step) (t : EngineModel) (past trace other : List Item) → Adds table s step t past trace → Adds table s step t past other → trace ≡ other
+  adds_once : (table : Table) (s : EngineModel) (step : ExecutionStep) (t : EngineModel) (past trace other : List Item) → StepAddsToTrace table s step t past trace → StepAddsToTrace table s step t past other → trace ≡ other
   adds_once table s (Took h) t past trace other l m = l ∙ sym m
   adds_once table s (Worked now act emitted) t past trace other (inl l) (inl m) = l.1 ∙ (ap (λ (i : Item). i ∷ past) (item_once table s now act l.0 m.0 emitted t l.2 m.2) ∙ sym m.1)
   adds_once table s (Worked now act emitted) t past trace other (inl l) (inr m) = event_or_none s now act l.0.event l.2.event_is m.1
   adds_once table s (Worked now act emitted) t past trace other (inr l) (inl m) = event_or_none s now act m.0.event m.2.event_is l.1
   adds_once table s (Worked now act emitted) t past trace other (inr l) (inr m) = l.0 ∙ sym m.0
 
-  pub has_one_trace : HasOneTrace
+  pub has_one_trace : StepsHaveOneTrace
   has_one_trace table s [] t u trace other h k = (h.0 ∙ sym k.0, h.1 ∙ sym k.1)
   has_one_trace table s (step ∷ steps) t u trace other h k =
       let was = has_one_trace table s steps h.0 k.0 h.1 k.1 h.2 k.2 in
-      let leads : Leads h.0 step u = subst (λ (v : EngineModel). Leads v step u) (sym was.0) k.3 in
+      let leads : StepLeads h.0 step u = subst (λ (v : EngineModel). StepLeads v step u) (sym was.0) k.3 in
       let here : t ≡ u = leads_once h.0 step t u h.3 leads in
-      let adds : Adds table h.0 step t h.1 other =
-      subst (λ (v : EngineModel). Adds table h.0 step v h.1 other) (sym here)
-      (subst (λ (past : List Item). Adds table h.0 step u past other) (sym was.1) (subst (λ (v : EngineModel). Adds table v step u k.1 other) (sym was.0) k.4)) in
+      let adds : StepAddsToTrace table h.0 step t h.1 other =
+      subst (λ (v : EngineModel). StepAddsToTrace table h.0 step v h.1 other) (sym here)
+      (subst (λ (past : List Item). StepAddsToTrace table h.0 step u past other) (sym was.1) (subst (λ (v : EngineModel). StepAddsToTrace table v step u k.1 other) (sym was.0) k.4)) in
       (here, adds_once table h.0 step t h.1 trace other h.4 adds)

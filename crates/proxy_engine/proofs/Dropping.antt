@@ -2,10 +2,10 @@
 use Rattle.proxy_engine.specs.declared.endpoints.activities.Activity.TheVariants.{Free}
 use Rattle.std.proofs.Common.{◌≡◌, ◌⊎◌, inl, inr, ℕ, zero, suc, ◌+◌, ◌-◌, ◌<◌, ◌≤◌, List, [], ◌∷◌, ◌++◌, length, get_or, set, refl, sym, ap, ◌∙◌, subst, arith, Bool, true, false, cond, ◌||◌, Some, is_some, Result, Ok, Err, None}
 use Rattle.hx_framing.specs.declared.messages.Request.{Request}
-use Rattle.hx_framing.specs.declared.fault.FrameFault.TheVariants as frame
+use Rattle.hx_framing.specs.declared.frame_fault.FrameFault.TheVariants as frame
 use Rattle.hx_framing.specs.declared.messages.Next.{Next}
 use Rattle.hx_framing.specs.declared.messages.Next.TheVariants as next
-use Rattle.hx_framing.specs.Progress.{fed, finished}
+use Rattle.hx_framing.specs.Progress.{stream_with_piece, stream_finished}
 use Rattle.hx_hop.specs.declared.request_view.Asked.{Asked}
 use Rattle.hx_status.specs.declared.cause.Cause.{Cause}
 use Rattle.proxy_core.specs.declared.event.Event.{Event}
@@ -13,18 +13,18 @@ use Rattle.proxy_script.specs.declared.effect_list.Effect.{Effect}
 use Rattle.proxy_script.specs.declared.effect_list.Effect.TheVariants as effects
 use Rattle.proxy_engine.specs.Admitted.{Refusal}
 use Rattle.proxy_engine.specs.Happenings.{Accepts, Sends, Hears, Ends, Leaves, Shuts, Fails}
-use Rattle.proxy_engine.specs.EngineModel.{EngineModel, LinkModel, no_link, opened, link_at, heard_by, shut, failed_by, with_core, with_connection}
+use Rattle.proxy_engine.specs.EngineModel.{EngineModel, LinkModel, no_link, new_link_model, link_at, link_after_bytes, link_after_shut, link_after_failure, with_core, with_connection}
 use Rattle.proxy_engine.specs.Due.{Abandons, Finishes, Wakes, Serves, Gives, Breaks}
-use Rattle.proxy_engine.specs.Acts.{Came, Replies, Forwards, Nothing, came, effects_on, next_number, after_on, freed, dropping, StepsOn, Served, Arrives, Refuses, Closes, Queues, doing}
-use Rattle.proxy_engine.specs.Drops.{DropsNone, OnlyFirstDrops, ActsAreShort, ActsEmitDrops, TakesDropNone}
+use Rattle.proxy_engine.specs.Acts.{OutcomeOnConnection, Replies, Forwards, Nothing, outcome_by_table, effects_of_outcome, next_link_number, model_after_outcome, model_after_link_freed, with_dropped, CoreIsStepped, ConnectionIsServed, RequestArrives, RequestIsRefused, ConnectionIsClosed, Queues, with_activity}
+use Rattle.proxy_engine.specs.Drops.{EffectsDropNoLink, OnlyFirstEffectDropsALink, ActHasFewEffects, EachDroppedLinkIsEmitted, HappeningsDropNoLink}
 
 -- ---- how many effects
 
 -- two at most, and none of them drops a link
 abbrev IsPlain : List Effect → Type 0
-IsPlain emitted = (length emitted ≤ 2) × DropsNone emitted
+IsPlain emitted = (length emitted ≤ 2) × EffectsDropNoLink emitted
 
-on_plain : (i n : ℕ) (q : Came) → IsPlain (effects_on i n q)
+on_plain : (i n : ℕ) (q : OutcomeOnConnection) → IsPlain (effects_of_outcome i n q)
 on_plain i n (Replies bytes true) = (omega arith, (refl, (refl, tt)))
 on_plain i n (Replies bytes false) = (omega arith, (refl, tt))
 on_plain i n (Forwards address bytes) = (omega arith, (refl, tt))
@@ -32,9 +32,9 @@ on_plain i n Queues = (omega arith, tt)
 on_plain i n Nothing = (omega arith, tt)
 
 abbrev IsShort : List Effect → Type 0
-IsShort emitted = (length emitted ≤ 3) × OnlyFirstDrops emitted
+IsShort emitted = (length emitted ≤ 3) × OnlyFirstEffectDropsALink emitted
 
-first_drops : (emitted : List Effect) → DropsNone emitted → OnlyFirstDrops emitted
+first_drops : (emitted : List Effect) → EffectsDropNoLink emitted → OnlyFirstEffectDropsALink emitted
 first_drops [] h = tt
 first_drops (e ∷ emitted) h = h.1
 
@@ -44,23 +44,23 @@ short_of emitted said e h = subst IsShort (sym e) (let few = h.0 in omega (arith
 short_behind : (emitted said : List Effect) (l : ℕ) → emitted ≡ effects.Drop l ∷ said → IsPlain said → IsShort emitted
 short_behind emitted said l e h = subst IsShort (sym e) (let few = h.0 in omega (arith, few), h.1)
 
-stepped_short : (s t : EngineModel) (i l : ℕ) (to_head : Bool) (event : Event) (emitted : List Effect) (after : EngineModel) → StepsOn s t i to_head event (effects.Drop l ∷ []) emitted after → IsShort emitted
-stepped_short s t i l to_head event emitted after h = short_behind emitted _ l h.emitted_is (on_plain i (next_number s) (came s.core.table h.outcome))
+stepped_short : (s t : EngineModel) (i l : ℕ) (to_head : Bool) (event : Event) (emitted : List Effect) (after : EngineModel) → CoreIsStepped s t i to_head event (effects.Drop l ∷ []) emitted after → IsShort emitted
+stepped_short s t i l to_head event emitted after h = short_behind emitted _ l h.emitted_is (on_plain i (next_link_number s) (outcome_by_table s.core.table h.outcome))
 
-plain_short : (s t : EngineModel) (i : ℕ) (to_head : Bool) (event : Event) (emitted : List Effect) (after : EngineModel) → StepsOn s t i to_head event [] emitted after → IsShort emitted
-plain_short s t i to_head event emitted after h = short_of emitted _ h.emitted_is (on_plain i (next_number s) (came s.core.table h.outcome))
+plain_short : (s t : EngineModel) (i : ℕ) (to_head : Bool) (event : Event) (emitted : List Effect) (after : EngineModel) → CoreIsStepped s t i to_head event [] emitted after → IsShort emitted
+plain_short s t i to_head event emitted after h = short_of emitted _ h.emitted_is (on_plain i (next_link_number s) (outcome_by_table s.core.table h.outcome))
 
-refused_short : (s : EngineModel) (now i : ℕ) (why : Cause) (head : Bool) (emitted : List Effect) (after : EngineModel) → Refuses s now i why head emitted after → IsShort emitted
+refused_short : (s : EngineModel) (now i : ℕ) (why : Cause) (head : Bool) (emitted : List Effect) (after : EngineModel) → RequestIsRefused s now i why head emitted after → IsShort emitted
 refused_short s now i why head emitted after h = short_of emitted _ h.emitted_is (omega arith, (refl, (refl, tt)))
 
-closed_short : (s : EngineModel) (i : ℕ) (emitted : List Effect) (after : EngineModel) → Closes s i emitted after → IsShort emitted
+closed_short : (s : EngineModel) (i : ℕ) (emitted : List Effect) (after : EngineModel) → ConnectionIsClosed s i emitted after → IsShort emitted
 closed_short s i emitted after h = short_of emitted _ h.0 (omega arith, (refl, tt))
 
-arrived_short : (s : EngineModel) (now i : ℕ) (r : Request) (judged : Result Asked Refusal) (emitted : List Effect) (after : EngineModel) → Arrives s now i r judged emitted after → IsShort emitted
-arrived_short s now i r (Ok asked) emitted after h = short_of emitted _ h.1.emitted_is (on_plain i (next_number s) (came s.core.table h.1.outcome))
+arrived_short : (s : EngineModel) (now i : ℕ) (r : Request) (judged : Result Asked Refusal) (emitted : List Effect) (after : EngineModel) → RequestArrives s now i r judged emitted after → IsShort emitted
+arrived_short s now i r (Ok asked) emitted after h = short_of emitted _ h.1.emitted_is (on_plain i (next_link_number s) (outcome_by_table s.core.table h.1.outcome))
 arrived_short s now i r (Err refusal) emitted after h = refused_short s now i _ _ emitted after h
 
-served_short : (s : EngineModel) (now i : ℕ) (w : Next Request) (emitted : List Effect) (after : EngineModel) → Served s now i w emitted after → IsShort emitted
+served_short : (s : EngineModel) (now i : ℕ) (w : Next Request) (emitted : List Effect) (after : EngineModel) → ConnectionIsServed s now i w emitted after → IsShort emitted
 served_short s now i next.More emitted after h = absurd h
 served_short s now i next.NeedsContinue emitted after h = short_of emitted _ h.0 (omega arith, (refl, tt))
 served_short s now i (next.Message r) emitted after h = arrived_short s now i r h.0 emitted after h.2
@@ -76,7 +76,7 @@ served_short s now i (next.Refused frame.Expect) emitted after h = refused_short
 served_short s now i (next.Refused frame.Status) emitted after h = refused_short s now i _ _ emitted after h
 served_short s now i next.End emitted after h = closed_short s i emitted after h
 
-pub acts_are_short : ActsAreShort
+pub acts_are_short : ActHasFewEffects
 acts_are_short s now (Abandons i (Some l)) emitted after h = stepped_short s _ i _ _ _ emitted after h
 acts_are_short s now (Abandons i None) emitted after h = plain_short s _ i _ _ emitted after h
 acts_are_short s now (Finishes j (Gives r)) emitted after h = stepped_short s _ _ _ _ _ emitted after h.1
@@ -106,9 +106,9 @@ dropped_push [] y (suc j) e h = let below = h.0 in absurd (omega (arith, below))
 dropped_push (k ∷ ks) y zero e h = (omega arith, h.1)
 dropped_push (k ∷ ks) y (suc j) e h = let d = dropped_push ks y j e (let below = h.0 in omega (arith, below), h.1) in (let below = d.0 in omega (arith, below), d.1)
 
-dropped_on : (i : ℕ) (to_head : Bool) (q : Came) (s : EngineModel) (j : ℕ) → IsDropped (after_on i to_head q s).links j → IsDropped s.links j
+dropped_on : (i : ℕ) (to_head : Bool) (q : OutcomeOnConnection) (s : EngineModel) (j : ℕ) → IsDropped (model_after_outcome i to_head q s).links j → IsDropped s.links j
 dropped_on i to_head (Replies bytes close) s j h = h
-dropped_on i to_head (Forwards address bytes) s j h = dropped_push s.links (opened s.core.table.max_body to_head i) j refl h
+dropped_on i to_head (Forwards address bytes) s j h = dropped_push s.links (new_link_model s.core.table.max_body to_head i) j refl h
 dropped_on i to_head Queues s j h = h
 dropped_on i to_head Nothing s j h = h
 
@@ -118,24 +118,24 @@ dropped_equal s t j e h = subst (λ (u : EngineModel). IsDropped u.links j) e h
 abbrev IsEmitted : EngineModel → List Effect → ℕ → Type 0
 IsEmitted s emitted j = IsDropped s.links j ⊎ ((rest : List Effect) × (emitted ≡ effects.Drop (s.first + j) ∷ rest))
 
-stepped_emitted : (s : EngineModel) (k c i : ℕ) (to_head : Bool) (event : Event) (emitted : List Effect) (after : EngineModel) (j : ℕ) → StepsOn s (freed s k c) i to_head event (effects.Drop (s.first + k) ∷ []) emitted after →
+stepped_emitted : (s : EngineModel) (k c i : ℕ) (to_head : Bool) (event : Event) (emitted : List Effect) (after : EngineModel) (j : ℕ) → CoreIsStepped s (model_after_link_freed s k c) i to_head event (effects.Drop (s.first + k) ∷ []) emitted after →
     IsDropped after.links j → IsEmitted s emitted j
 stepped_emitted s k c i to_head event emitted after j h d =
-    by_place (dropped_set s.links k (dropping (link_at s k)) j (dropped_on i to_head (came s.core.table h.outcome) (with_core (freed s k c) h.core) j (dropped_equal after _ j h.after_is d)))
+    by_place (dropped_set s.links k (with_dropped (link_at s k)) j (dropped_on i to_head (outcome_by_table s.core.table h.outcome) (with_core (model_after_link_freed s k c) h.core) j (dropped_equal after _ j h.after_is d)))
   where
     by_place : (j ≡ k) ⊎ IsDropped s.links j → IsEmitted s emitted j
-    by_place (inl e) = inr (_, h.emitted_is ∙ ap (λ n. effects.Drop (s.first + n) ∷ effects_on i (next_number s) (came s.core.table h.outcome)) (sym e))
+    by_place (inl e) = inr (_, h.emitted_is ∙ ap (λ n. effects.Drop (s.first + n) ∷ effects_of_outcome i (next_link_number s) (outcome_by_table s.core.table h.outcome)) (sym e))
     by_place (inr before) = inl before
 
-plain_emitted : (s : EngineModel) (i : ℕ) (to_head : Bool) (event : Event) (emitted : List Effect) (after : EngineModel) (j : ℕ) → StepsOn s (with_connection s i (doing Free)) i to_head event [] emitted after → IsDropped after.links j → IsDropped s.links j
+plain_emitted : (s : EngineModel) (i : ℕ) (to_head : Bool) (event : Event) (emitted : List Effect) (after : EngineModel) (j : ℕ) → CoreIsStepped s (with_connection s i (with_activity Free)) i to_head event [] emitted after → IsDropped after.links j → IsDropped s.links j
 plain_emitted s i to_head event emitted after j h d =
-    dropped_on i to_head (came s.core.table h.outcome) (with_core (with_connection s i (doing Free)) h.core) j (dropped_equal after _ j h.after_is d)
+    dropped_on i to_head (outcome_by_table s.core.table h.outcome) (with_core (with_connection s i (with_activity Free)) h.core) j (dropped_equal after _ j h.after_is d)
 
-arrived_emitted : (s : EngineModel) (now i : ℕ) (r : Request) (judged : Result Asked Refusal) (emitted : List Effect) (after : EngineModel) (j : ℕ) → Arrives s now i r judged emitted after → IsDropped after.links j → IsDropped s.links j
-arrived_emitted s now i r (Ok asked) emitted after j h d = dropped_on i _ (came s.core.table h.1.outcome) _ j (dropped_equal after _ j h.1.after_is d)
+arrived_emitted : (s : EngineModel) (now i : ℕ) (r : Request) (judged : Result Asked Refusal) (emitted : List Effect) (after : EngineModel) (j : ℕ) → RequestArrives s now i r judged emitted after → IsDropped after.links j → IsDropped s.links j
+arrived_emitted s now i r (Ok asked) emitted after j h d = dropped_on i _ (outcome_by_table s.core.table h.1.outcome) _ j (dropped_equal after _ j h.1.after_is d)
 arrived_emitted s now i r (Err refusal) emitted after j h d = dropped_equal after _ j h.after_is d
 
-served_emitted : (s : EngineModel) (now i : ℕ) (w : Next Request) (emitted : List Effect) (after : EngineModel) (j : ℕ) → Served s now i w emitted after → IsDropped after.links j → IsDropped s.links j
+served_emitted : (s : EngineModel) (now i : ℕ) (w : Next Request) (emitted : List Effect) (after : EngineModel) (j : ℕ) → ConnectionIsServed s now i w emitted after → IsDropped after.links j → IsDropped s.links j
 served_emitted s now i next.More emitted after j h d = absurd h
 served_emitted s now i next.NeedsContinue emitted after j h d = dropped_equal after _ j h.1 d
 served_emitted s now i (next.Message r) emitted after j h d = arrived_emitted s now i r h.0 emitted after j h.2 d
@@ -151,7 +151,7 @@ served_emitted s now i (next.Refused frame.Expect) emitted after j h d = dropped
 served_emitted s now i (next.Refused frame.Status) emitted after j h d = dropped_equal after _ j h.after_is d
 served_emitted s now i next.End emitted after j h d = dropped_equal after _ j h.1 d
 
-pub acts_emit_drops : ActsEmitDrops
+pub acts_emit_drops : EachDroppedLinkIsEmitted
 acts_emit_drops s now (Abandons i (Some l)) emitted after j h below d = stepped_emitted s l i i _ _ emitted after j h (below, d)
 acts_emit_drops s now (Abandons i None) emitted after j h below d = inl (plain_emitted s i _ _ emitted after j h (below, d))
 acts_emit_drops s now (Finishes k (Gives r)) emitted after j h below d = stepped_emitted s k (link_at s k).connection (link_at s k).connection _ _ emitted after j h.1 (below, d)
@@ -172,17 +172,17 @@ same_by : (b : Bool) (k l : LinkModel) → l.dropped ≡ k.dropped → (cond b k
 same_by true k l e = refl
 same_by false k l e = e
 
-pub takes_drop_none : TakesDropNone
+pub takes_drop_none : HappeningsDropNoLink
 takes_drop_none s (Accepts n) j = refl
 takes_drop_none s (Sends n bytes) j = refl
 takes_drop_none s (Ends n) j = refl
 takes_drop_none s (Leaves n) j = refl
 takes_drop_none s (Hears l bytes) j =
     let k = link_at s (l - s.first) in
-    same_set s.links (l - s.first) (heard_by bytes k) j (same_by (k.dropped || (is_some k.failed || k.progress.ended)) k (record k { progress = fed k.progress bytes }) refl)
+    same_set s.links (l - s.first) (link_after_bytes bytes k) j (same_by (k.dropped || (is_some k.failed || k.progress.ended)) k (record k { progress = stream_with_piece k.progress bytes }) refl)
 takes_drop_none s (Shuts l) j =
     let k = link_at s (l - s.first) in
-    same_set s.links (l - s.first) (shut k) j (same_by (k.dropped || is_some k.failed) k (record k { progress = finished k.progress }) refl)
+    same_set s.links (l - s.first) (link_after_shut k) j (same_by (k.dropped || is_some k.failed) k (record k { progress = stream_finished k.progress }) refl)
 takes_drop_none s (Fails l kind) j =
     let k = link_at s (l - s.first) in
-    same_set s.links (l - s.first) (failed_by kind k) j (same_by (k.dropped || is_some k.failed) k (record k { failed = Some kind }) refl)
+    same_set s.links (l - s.first) (link_after_failure kind k) j (same_by (k.dropped || is_some k.failed) k (record k { failed = Some kind }) refl)

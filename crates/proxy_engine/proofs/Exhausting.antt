@@ -4,13 +4,13 @@ use Rattle.std.specs.Ordering.{nat_cmp}
 use Rattle.std.specs.BTreeMap.{BTreeMap, get}
 use Rattle.std.proofs.lemmas.Bool.{cases_lt, leb-false}
 use Rattle.proxy_engine.specs.EngineModel.{EngineModel, no_connection, no_link}
-use Rattle.proxy_engine.specs.Due.{Abandons, Finishes, Wakes, Serves, Finish, Gives, Breaks, IsFirst, IsDueFirst, Lost, FinishDue, next_ready}
-use Rattle.proxy_engine.specs.Acts.{MayForward, next_number}
-use Rattle.proxy_engine.specs.State.{State, Represents, LinkRepresents}
-use Rattle.proxy_engine.specs.Exhausted.{HasThere, is_unknown, link_unknown, StopsAt, ReportsExhausted, HidesNoWake, HidesNoAnswer}
-use Rattle.proxy_engine.specs.Actions.{EndFault}
-use Rattle.proxy_engine.specs.ReadyList.{listed, AllBelow}
-use Rattle.proxy_engine.specs.Marked.{NoneBelow, may_finish}
+use Rattle.proxy_engine.specs.Due.{Abandons, Finishes, Wakes, Serves, LinkResult, Gives, Breaks, IsFirstAtWhich, IsDueFirst, IsLostConnection, IsDueOnLink, first_ready_id}
+use Rattle.proxy_engine.specs.Acts.{ActMayForward, next_link_number}
+use Rattle.proxy_engine.specs.State.{State, EngineRepresents, LinkRepresents}
+use Rattle.proxy_engine.specs.Exhausted.{IsKeptWithFlag, lookahead_is_unknown, link_unknown, LookStoppedForMemory, ReportsLinkNumbersExhausted, MemoryHidesNoExhaustedWake, MemoryHidesNoExhaustedAnswer}
+use Rattle.proxy_engine.specs.Actions.{IsFaultOfFinishing}
+use Rattle.proxy_engine.specs.ReadyList.{entries_below, PlacesAreBelow}
+use Rattle.proxy_engine.specs.Marked.{NoneHasFlagBelow, link_may_be_due}
 use Rattle.proxy_engine.specs.declared.endpoints.lookahead.Lookahead.{Lookahead}
 use Rattle.proxy_engine.specs.declared.endpoints.lookahead.Lookahead.TheVariants.{Unknown, Quiet, Due}
 use Rattle.proxy_engine.specs.declared.endpoints.ends.Link.{Link}
@@ -36,76 +36,76 @@ err_at a b h = ap (λ e. Err e) same
     same = cc
 
 -- where a number is left, no more is to be said
-pub number_left : (e new : State) (s : EngineModel) → Represents e s → e.first + length e.links < 2 ^ 64 → ReportsExhausted s new
+pub number_left : (e new : State) (s : EngineModel) → EngineRepresents e s → e.first + length e.links < 2 ^ 64 → ReportsLinkNumbersExhausted s new
 number_left e new s h left act due may seen =
     let same = both_length LinkRepresents e.links s.links h.links in
     let first_is : e.first ≡ s.first = h.first in
     omega (arith, left, same)
 
 -- the client with an exchange that is gone comes first, for which no link is needed
-pub lost_first : (e : State) (s : EngineModel) (i : ℕ) (l : Option ℕ) → IsFirst Lost no_connection s.connections (Some (i, l)) → ReportsExhausted s e
-lost_first e s i l first act due may seen = absurd (subst MayForward (some_same (due_first_once s (Some act) (Some (Abandons i l)) due first)) may)
+pub lost_first : (e : State) (s : EngineModel) (i : ℕ) (l : Option ℕ) → IsFirstAtWhich IsLostConnection no_connection s.connections (Some (i, l)) → ReportsLinkNumbersExhausted s e
+lost_first e s i l first act due may seen = absurd (subst ActMayForward (some_same (due_first_once s (Some act) (Some (Abandons i l)) due first)) may)
 
 -- a request that arrives is judged first
-pub served_unseen : (e : State) (s : EngineModel) → IsFirst Lost no_connection s.connections None → IsFirst FinishDue no_link s.links None → next_ready s.core ≡ None → ReportsExhausted s e
+pub served_unseen : (e : State) (s : EngineModel) → IsFirstAtWhich IsLostConnection no_connection s.connections None → IsFirstAtWhich IsDueOnLink no_link s.links None → first_ready_id s.core ≡ None → ReportsLinkNumbersExhausted s e
 served_unseen e s lost finish_due ready (Abandons i l) due may seen = absurd may
 served_unseen e s lost finish_due ready (Finishes j f) due may seen = absurd (none_some (finish_due_same s None (Some (j, f)) finish_due due.1))
 served_unseen e s lost finish_due ready (Wakes i) due may seen = absurd (none_some (sym ready ∙ due.2))
 served_unseen e s lost finish_due ready (Serves i action) due may seen = absurd seen
 
 -- the look stopped at a link of which nothing is known, at the one on which the first answer stands or before it
-pub look_stopped : (e : State) (s : EngineModel) → StopsAt e.links → Represents e s → ReportsExhausted s e
+pub look_stopped : (e : State) (s : EngineModel) → LookStoppedForMemory e.links → EngineRepresents e s → ReportsLinkNumbersExhausted s e
 look_stopped e s stops h (Abandons i l) due may seen = absurd may
 look_stopped e s stops h (Finishes j f) due may seen = by_place (cases_lt j stops.place)
   where
-    by_place : (j < stops.place) ⊎ (stops.place ≤ j) → next_number s < 2 ^ 64
+    by_place : (j < stops.place) ⊎ (stops.place ≤ j) → next_link_number s < 2 ^ 64
     by_place (inl less) = absurd (none_some (finish_due_once (get_or s.links j no_link) None (Some f) (stops.before s.links h.links j less) due.1.1))
     by_place (inr no_less) = absurd (seen stops.place no_less stops.unknown)
 look_stopped e s stops h (Wakes i) due may seen = absurd (seen stops.place stops.unknown)
 look_stopped e s stops h (Serves i action) due may seen = absurd seen
 
 -- the exchange wasn't finished, because memory ran out
-end_memory : (e new : State) (s : EngineModel) (j : ℕ) (f : Finish) → Represents e s → EndFault (nat_le (2 ^ 64) (e.first + length e.links)) f OutOfMemory → IsDueFirst s (Some (Finishes j f)) → ReportsExhausted s new
+end_memory : (e new : State) (s : EngineModel) (j : ℕ) (f : LinkResult) → EngineRepresents e s → IsFaultOfFinishing (nat_le (2 ^ 64) (e.first + length e.links)) f OutOfMemory → IsDueFirst s (Some (Finishes j f)) → ReportsLinkNumbersExhausted s new
 end_memory e new s j (Gives r) h fault first =
     let few = leb-false (2 ^ 64) (e.first + length e.links) fault in
     number_left e new s h (omega (arith, few))
-end_memory e new s j (Breaks kind) h fault first = λ act due may seen. absurd (subst MayForward (some_same (due_first_once s (Some act) (Some (Finishes j (Breaks kind))) due first)) may)
+end_memory e new s j (Breaks kind) h fault first = λ act due may seen. absurd (subst ActMayForward (some_same (due_first_once s (Some act) (Some (Finishes j (Breaks kind))) due first)) may)
 
-pub end_found : {A : Type 0} (e new : State) (s : EngineModel) (j : ℕ) (f : Finish) (fault : EngineFault) → Represents e s → EndFault (nat_le (2 ^ 64) (e.first + length e.links)) f fault
-    → ◌≡◌ {A = Result A EngineFault} (Err fault) (Err OutOfMemory) → IsDueFirst s (Some (Finishes j f)) → ReportsExhausted s new
-end_found e new s j f fault h emitted memory first = end_memory e new s j f h (subst (λ (g : EngineFault). EndFault (nat_le (2 ^ 64) (e.first + length e.links)) f g) same emitted) first
+pub end_found : {A : Type 0} (e new : State) (s : EngineModel) (j : ℕ) (f : LinkResult) (fault : EngineFault) → EngineRepresents e s → IsFaultOfFinishing (nat_le (2 ^ 64) (e.first + length e.links)) f fault
+    → ◌≡◌ {A = Result A EngineFault} (Err fault) (Err OutOfMemory) → IsDueFirst s (Some (Finishes j f)) → ReportsLinkNumbersExhausted s new
+end_found e new s j f fault h emitted memory first = end_memory e new s j f h (subst (λ (g : EngineFault). IsFaultOfFinishing (nat_le (2 ^ 64) (e.first + length e.links)) f g) same emitted) first
   where
     same : fault ≡ OutOfMemory
     same = cc
 
 -- what a search over the map of open links tells where it stopped
-pub stops_at : (m : BTreeMap ℕ Link) (n : ℕ) (places : List ℕ) → AllBelow n places
-    → (place : ℕ) × HasThere link_unknown (get nat_cmp m place) × NoneBelow may_finish m place × Contains places place → StopsAt (listed m n)
+pub stops_at : (m : BTreeMap ℕ Link) (n : ℕ) (places : List ℕ) → PlacesAreBelow n places
+    → (place : ℕ) × IsKeptWithFlag link_unknown (get nat_cmp m place) × NoneHasFlagBelow link_may_be_due m place × Contains places place → LookStoppedForMemory (entries_below m n)
 stops_at m n places below h =
     let within : h.0 < n = below h.0 h.3 in record {
       place = h.0;
-      unknown = subst (HasThere link_unknown) (sym (listed_at m n h.0 None within)) h.1;
-      before = before_none LinkRepresents FinishDue may_finish no_link m n no_finish_due no_finish_due_over h.0 within h.2;
+      unknown = subst (IsKeptWithFlag link_unknown) (sym (listed_at m n h.0 None within)) h.1;
+      before = before_none LinkRepresents IsDueOnLink link_may_be_due no_link m n no_finish_due no_finish_due_over h.0 within h.2;
     }
 
 -- ---- what isn't so
 
-unknown_is : {M : Type 0} (ahead : Lookahead M) → is_unknown ahead ≡ true → ahead ≡ Unknown
+unknown_is : {M : Type 0} (ahead : Lookahead M) → lookahead_is_unknown ahead ≡ true → ahead ≡ Unknown
 unknown_is Unknown is = refl
 unknown_is Quiet is = absurd cc
 unknown_is (Due a) is = absurd cc
 
 -- where each link that is kept is known, none is unknown
-known_there : (o : Option Link) → ((link : Link) → o ≡ Some link → link.reader.ahead ≢ Unknown) → HasThere link_unknown o → ⊥
+known_there : (o : Option Link) → ((link : Link) → o ≡ Some link → link.reader.ahead ≢ Unknown) → IsKeptWithFlag link_unknown o → ⊥
 known_there None known has = has
 known_there (Some link) known has = known link refl (unknown_is link.reader.ahead has)
 
-pub hides_no_wake : HidesNoWake
+pub hides_no_wake : MemoryHidesNoExhaustedWake
 hides_no_wake s e i due known exhausted has_trace =
     let left = has_trace (Wakes i) due tt (λ k has. known_there (get_or e.links k None) (known k) has) in
     omega (arith, exhausted, left)
 
-pub hides_no_answer : HidesNoAnswer
+pub hides_no_answer : MemoryHidesNoExhaustedAnswer
 hides_no_answer s e j response due known exhausted has_trace =
     let left = has_trace (Finishes j (Gives response)) due tt (λ k upto has. known_there (get_or e.links k None) (λ link is. known k link upto is) has) in
     omega (arith, exhausted, left)

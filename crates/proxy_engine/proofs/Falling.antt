@@ -5,10 +5,10 @@ use Rattle.std.proofs.lemmas.Bool.{cases_lt, cases_order}
 use Rattle.std.proofs.lemmas.List.{get_or-take, length-take-le}
 use Rattle.std.proofs.lemmas.List.Edits.{length-insert, get_or-insert_below, get_or-insert_at, get_or-insert_above, get_or-remove_below, get_or-remove_above, length-remove}
 use Rattle.std.proofs.lemmas.List.Sorted.{IsPermutation-insert, IsPermutation-sym, Contains-permutation}
-use Rattle.proxy_engine.specs.ReadyList.{Falls, IsBehind, IsLeast}
+use Rattle.proxy_engine.specs.ReadyList.{PlacesDescend, PlaceBelongsBehind, PlaceIsLeast}
 
-pub falls_none : (xs : List ℕ) → xs ≡ [] → Falls xs
-falls_none xs e = subst Falls (sym e) record { falls = λ i j l m. absurd (omega (arith, m)) }
+pub falls_none : (xs : List ℕ) → xs ≡ [] → PlacesDescend xs
+falls_none xs e = subst PlacesDescend (sym e) record { falls = λ i j l m. absurd (omega (arith, m)) }
 
 -- within the list the stand-in doesn't matter
 at_any : (xs : List ℕ) (i d : ℕ) → i < length xs → get_or xs i 0 ≡ get_or xs i d
@@ -18,8 +18,8 @@ at_any (x ∷ xs) (suc i) d l = at_any xs i d (omega (arith, l))
 
 -- a place that isn't there, behind the greater ones
 pub record IsNew (xs : List ℕ) (at p : ℕ) : Type 0 where
-  pub falls : Falls xs
-  pub behind : IsBehind xs p at
+  pub falls : PlacesDescend xs
+  pub behind : PlaceBelongsBehind xs p at
 
 module _ (xs : List ℕ) (at p : ℕ) (h : IsNew xs at p) where
   abbrev ys : List ℕ
@@ -68,7 +68,7 @@ module _ (xs : List ℕ) (at p : ℕ) (h : IsNew xs at p) where
         | inr behind ↦ omega (arith, same, less_behind c.0 behind c.1)
       ]
 
-  pub falls_insert : Falls (insert xs at p)
+  pub falls_insert : PlacesDescend (insert xs at p)
   falls_insert = record { falls = λ i j l within. falls_by i j l within (cases_order i at) (cases_order j at) }
 
 pub insert_there : (xs : List ℕ) (at p : ℕ) → Contains (insert xs at p) p
@@ -90,7 +90,7 @@ with_room (Ok b) xs more after ok is = is
 with_room (Err e) xs more after ok is = absurd (cc)
 
 -- one place alone is taken away
-module _ (xs : List ℕ) (at p : ℕ) (falls : Falls xs) (within : at < length xs) (here : get_or xs at 0 ≡ p) where
+module _ (xs : List ℕ) (at p : ℕ) (falls : PlacesDescend xs) (within : at < length xs) (here : get_or xs at 0 ≡ p) where
   abbrev rest : List ℕ
   rest = remove xs at
 
@@ -107,7 +107,7 @@ module _ (xs : List ℕ) (at p : ℕ) (falls : Falls xs) (within : at < length x
   falls_left i j l m (inr a) (inl b) = absurd (omega (arith, l, a, b))
   falls_left i j l m (inr a) (inr b) = omega (arith, get_or-remove_above xs at 0 i a within, get_or-remove_above xs at 0 j b within, falls.falls (i + 1) (j + 1) (omega (arith, l)) (omega (arith, m, fewer)))
 
-  pub falls_remove : Falls (remove xs at)
+  pub falls_remove : PlacesDescend (remove xs at)
   falls_remove = record { falls = λ i j l m. falls_left i j l m (cases_lt i at) (cases_lt j at) }
 
   apart : (i : ℕ) → i < length xs → i ≢ at → get_or xs i 0 ≢ p
@@ -132,11 +132,11 @@ module _ (xs : List ℕ) (at p : ℕ) (falls : Falls xs) (within : at < length x
       ((λ e. apart old.0 inside old.2 (at_any xs old.0 q inside ∙ (there ∙ e))), (old.0, inside, there))
 
 -- the least place is dropped
-module _ (xs : List ℕ) (falls : Falls xs) where
+module _ (xs : List ℕ) (falls : PlacesDescend xs) where
   short : 0 < length xs → length (take (length xs - 1) xs) ≡ length xs - 1
   short l = length-take-le (length xs - 1) xs (omega arith)
 
-  pub falls_take : Falls (take (length xs - 1) xs)
+  pub falls_take : PlacesDescend (take (length xs - 1) xs)
   falls_take = record {
     falls = λ i j l m.
         let count = length-take-le (length xs - 1) xs (omega arith) in
@@ -144,7 +144,7 @@ module _ (xs : List ℕ) (falls : Falls xs) where
         omega (arith, get_or-take (length xs - 1) xs i 0 (omega (arith, l, before)), get_or-take (length xs - 1) xs j 0 before, falls.falls i j l (omega (arith, before)));
   }
 
-  pub drop_others : (p q : ℕ) → IsLeast xs p → q ≢ p → Contains xs q → Contains (take (length xs - 1) xs) q
+  pub drop_others : (p q : ℕ) → PlaceIsLeast xs p → q ≢ p → Contains xs q → Contains (take (length xs - 1) xs) q
   drop_others p q first other c =
       let count = short first.some in
       elim (cases_lt c.0 (length xs - 1)) [
@@ -155,7 +155,7 @@ module _ (xs : List ℕ) (falls : Falls xs) where
       at_end : (k : ℕ) → k < length xs → length xs - 1 ≤ k → k ≡ length xs - 1
       at_end k l m = omega arith
 
-  pub drop_only : (p q : ℕ) → IsLeast xs p → Contains (take (length xs - 1) xs) q → (q ≢ p) × Contains xs q
+  pub drop_only : (p q : ℕ) → PlaceIsLeast xs p → Contains (take (length xs - 1) xs) q → (q ≢ p) × Contains xs q
   drop_only p q first c =
       let count = short first.some in
       let before : c.0 < length xs - 1 = omega (arith, count, c.1) in

@@ -3,7 +3,7 @@ use Rattle.std.proofs.Common.{◌≡◌, ℕ, ◌||◌, List, refl, sym, ap, ◌
 use Rattle.std.proofs.Math.Nat.{le_refl}
 use Rattle.hx_framing.specs.declared.messages.Request.{Request}
 use Rattle.hx_framing.specs.declared.messages.Response.{Response}
-use Rattle.hx_framing.specs.Progress.{Progress, fed, finished}
+use Rattle.hx_framing.specs.Progress.{Progress, stream_with_piece, stream_finished}
 use Rattle.hx_framing.specs.RequestState.{State as RequestState, RepresentsStream as RequestRepresentsStream, weight}
 use Rattle.hx_framing.specs.RequestStream.{Answers as RequestAnswers}
 use Rattle.hx_framing.specs.ResponseState.{State as ResponseState, RepresentsStream as ResponseRepresentsStream}
@@ -14,10 +14,10 @@ use Rattle.proxy_engine.specs.declared.endpoints.lookahead.Lookahead.{Lookahead}
 use Rattle.proxy_engine.specs.declared.endpoints.peeked.Peeked.{Peeked}
 use Rattle.proxy_engine.specs.declared.endpoints.ends.Connection.{Connection}
 use Rattle.proxy_engine.specs.declared.endpoints.ends.Link.{Link}
-use Rattle.proxy_engine.specs.Lookahead.{asked_again}
-use Rattle.proxy_engine.specs.EngineModel.{ConnectionModel, LinkModel, sent, ended, heard_by, shut}
-use Rattle.proxy_engine.specs.State.{ConnHolds, LinkHolds}
-use Rattle.proxy_engine.specs.Held.{GrowsConnection, GrowsLink}
+use Rattle.proxy_engine.specs.Lookahead.{lookahead_after_input}
+use Rattle.proxy_engine.specs.EngineModel.{ConnectionModel, LinkModel, connection_after_bytes, connection_after_end, link_after_bytes, link_after_shut}
+use Rattle.proxy_engine.specs.State.{ConnectionHolds, LinkHolds}
+use Rattle.proxy_engine.specs.Held.{ConnectionOnlyGainsRoom, LinkOnlyGainsRoom}
 use Rattle.proxy_engine.proofs.Peeking.{kept_ahead, fed_ahead, finished_ahead, request_spare_represents, spare_represents}
 
 peeked_is : {S M : Type 0} (w : Peeked S M) (r : S) (l : Lookahead M) → w.inner ≡ r → w.ahead ≡ l → w ≡ record { inner = r; ahead = l }
@@ -25,7 +25,7 @@ peeked_is {S} {M} w r l same again = ap {B = Peeked S M} (λ (s : S). record { i
 
 -- ---- room
 
-pub connection_grows : (x : Connection) (r : RequestState) → r ≡ record x.reader.inner { spare = r.spare } → GrowsConnection x (record x { reader = record { inner = r; ahead = x.reader.ahead } })
+pub connection_grows : (x : Connection) (r : RequestState) → r ≡ record x.reader.inner { spare = r.spare } → ConnectionOnlyGainsRoom x (record x { reader = record { inner = r; ahead = x.reader.ahead } })
 connection_grows x r same =
     let as_much : weight r ≡ weight x.reader.inner = ap weight same in
     record {
@@ -45,7 +45,7 @@ connection_grows x r same =
       ahead = refl;
     }
 
-pub link_grows : (x : Link) (r : ResponseState) → r ≡ record x.reader.inner { spare = r.spare } → GrowsLink x (record x { reader = record { inner = r; ahead = x.reader.ahead } })
+pub link_grows : (x : Link) (r : ResponseState) → r ≡ record x.reader.inner { spare = r.spare } → LinkOnlyGainsRoom x (record x { reader = record { inner = r; ahead = x.reader.ahead } })
 link_grows x r same = record {
   alike = record {
     represents = λ k h. record {
@@ -64,15 +64,15 @@ link_grows x r same = record {
 
 -- ---- bytes
 
-connection_read : (x : Connection) (c : ConnectionModel) → x.gone ≡ false → x.ended ≡ false → ConnHolds x c → c.gone || (c.closed || c.progress.ended) ≡ false
+connection_read : (x : Connection) (c : ConnectionModel) → x.gone ≡ false → x.ended ≡ false → ConnectionHolds x c → c.gone || (c.closed || c.progress.ended) ≡ false
 connection_read x c here still h =
     ap (λ (b : Bool). b || (c.closed || c.progress.ended)) (sym h.gone ∙ here) ∙ (ap (λ (b : Bool). b || c.progress.ended) h.still ∙ (sym h.ended ∙ still))
 
-pub connection_fed : (x : Connection) (w : Peeked RequestState Request) (r : RequestState) (bytes : List ℕ) → x.gone ≡ false → x.ended ≡ false → w.inner ≡ r → w.ahead ≡ asked_again x.reader.ahead
-    → ((p : Progress Request) → RequestRepresentsStream x.reader.inner p → p.ended ≡ false → RequestRepresentsStream r (fed p bytes)) → (c : ConnectionModel) → ConnHolds x c → ConnHolds (record x { reader = w }) (sent bytes c)
+pub connection_fed : (x : Connection) (w : Peeked RequestState Request) (r : RequestState) (bytes : List ℕ) → x.gone ≡ false → x.ended ≡ false → w.inner ≡ r → w.ahead ≡ lookahead_after_input x.reader.ahead
+    → ((p : Progress Request) → RequestRepresentsStream x.reader.inner p → p.ended ≡ false → RequestRepresentsStream r (stream_with_piece p bytes)) → (c : ConnectionModel) → ConnectionHolds x c → ConnectionHolds (record x { reader = w }) (connection_after_bytes bytes c)
 connection_fed x w r bytes here still same again feed c h =
-    subst (λ (b : Bool). ConnHolds (record x { reader = w }) (cond b c (record c { progress = fed c.progress bytes }))) (sym (connection_read x c here still h))
-    (subst (λ (v : Peeked RequestState Request). ConnHolds (record x { reader = v }) (record c { progress = fed c.progress bytes })) (sym (peeked_is w r (asked_again x.reader.ahead) same again))
+    subst (λ (b : Bool). ConnectionHolds (record x { reader = w }) (cond b c (record c { progress = stream_with_piece c.progress bytes }))) (sym (connection_read x c here still h))
+    (subst (λ (v : Peeked RequestState Request). ConnectionHolds (record x { reader = v }) (record c { progress = stream_with_piece c.progress bytes })) (sym (peeked_is w r (lookahead_after_input x.reader.ahead) same again))
     (record {
       reader = fed_ahead RequestRepresentsStream RequestAnswers x.reader.inner r x.reader.ahead c.progress bytes feed (λ q a. request_due_fed q a bytes) (sym h.ended ∙ still) h.reader;
       ended = h.ended;
@@ -86,11 +86,11 @@ link_read : (x : Link) (k : LinkModel) → is_some x.failed ≡ false → x.ende
 link_read x k here still h =
     ap (λ (b : Bool). b || (is_some k.failed || k.progress.ended)) h.still ∙ (ap (λ (b : Bool). b || k.progress.ended) (ap is_some (sym h.failed) ∙ here) ∙ (sym h.ended ∙ still))
 
-pub link_fed : (x : Link) (w : Peeked ResponseState Response) (r : ResponseState) (bytes : List ℕ) → is_some x.failed ≡ false → x.ended ≡ false → w.inner ≡ r → w.ahead ≡ asked_again x.reader.ahead
-    → ((p : Progress Response) → ResponseRepresentsStream x.reader.inner p → p.ended ≡ false → ResponseRepresentsStream r (fed p bytes)) → (k : LinkModel) → LinkHolds x k → LinkHolds (record x { reader = w }) (heard_by bytes k)
+pub link_fed : (x : Link) (w : Peeked ResponseState Response) (r : ResponseState) (bytes : List ℕ) → is_some x.failed ≡ false → x.ended ≡ false → w.inner ≡ r → w.ahead ≡ lookahead_after_input x.reader.ahead
+    → ((p : Progress Response) → ResponseRepresentsStream x.reader.inner p → p.ended ≡ false → ResponseRepresentsStream r (stream_with_piece p bytes)) → (k : LinkModel) → LinkHolds x k → LinkHolds (record x { reader = w }) (link_after_bytes bytes k)
 link_fed x w r bytes here still same again feed k h =
-    subst (λ (b : Bool). LinkHolds (record x { reader = w }) (cond b k (record k { progress = fed k.progress bytes }))) (sym (link_read x k here still h))
-    (subst (λ (v : Peeked ResponseState Response). LinkHolds (record x { reader = v }) (record k { progress = fed k.progress bytes })) (sym (peeked_is w r (asked_again x.reader.ahead) same again))
+    subst (λ (b : Bool). LinkHolds (record x { reader = w }) (cond b k (record k { progress = stream_with_piece k.progress bytes }))) (sym (link_read x k here still h))
+    (subst (λ (v : Peeked ResponseState Response). LinkHolds (record x { reader = v }) (record k { progress = stream_with_piece k.progress bytes })) (sym (peeked_is w r (lookahead_after_input x.reader.ahead) same again))
     (record {
       reader = fed_ahead ResponseRepresentsStream ResponseAnswers x.reader.inner r x.reader.ahead k.progress bytes feed (λ q a. response_due_fed q a bytes) (sym h.ended ∙ still) h.reader;
       ended = h.ended;
@@ -101,12 +101,12 @@ link_fed x w r bytes here still same again feed k h =
 
 -- ---- the end
 
-pub connection_finished : (x : Connection) (w : Peeked RequestState Request) (r : RequestState) → x.gone ≡ false → w.inner ≡ r → w.ahead ≡ asked_again x.reader.ahead
-    → ((p : Progress Request) → RequestRepresentsStream x.reader.inner p → RequestRepresentsStream r (finished p)) → (c : ConnectionModel) → ConnHolds x c → ConnHolds (record x { reader = w; ended = true }) (ended c)
+pub connection_finished : (x : Connection) (w : Peeked RequestState Request) (r : RequestState) → x.gone ≡ false → w.inner ≡ r → w.ahead ≡ lookahead_after_input x.reader.ahead
+    → ((p : Progress Request) → RequestRepresentsStream x.reader.inner p → RequestRepresentsStream r (stream_finished p)) → (c : ConnectionModel) → ConnectionHolds x c → ConnectionHolds (record x { reader = w; ended = true }) (connection_after_end c)
 connection_finished x w r here same again finish c h =
     let open_now : c.gone || c.closed ≡ false = ap (λ (b : Bool). b || c.closed) (sym h.gone ∙ here) ∙ h.still in
-    subst (λ (b : Bool). ConnHolds (record x { reader = w; ended = true }) (cond b c (record c { progress = finished c.progress }))) (sym open_now)
-    (subst (λ (v : Peeked RequestState Request). ConnHolds (record x { reader = v; ended = true }) (record c { progress = finished c.progress })) (sym (peeked_is w r (asked_again x.reader.ahead) same again))
+    subst (λ (b : Bool). ConnectionHolds (record x { reader = w; ended = true }) (cond b c (record c { progress = stream_finished c.progress }))) (sym open_now)
+    (subst (λ (v : Peeked RequestState Request). ConnectionHolds (record x { reader = v; ended = true }) (record c { progress = stream_finished c.progress })) (sym (peeked_is w r (lookahead_after_input x.reader.ahead) same again))
     (record {
       reader = finished_ahead RequestRepresentsStream RequestAnswers x.reader.inner r x.reader.ahead c.progress finish request_due_finished h.reader;
       ended = refl;
@@ -116,12 +116,12 @@ connection_finished x w r here same again finish c h =
       used = h.used;
     }))
 
-pub link_finished : (x : Link) (w : Peeked ResponseState Response) (r : ResponseState) → is_some x.failed ≡ false → w.inner ≡ r → w.ahead ≡ asked_again x.reader.ahead
-    → ((p : Progress Response) → ResponseRepresentsStream x.reader.inner p → ResponseRepresentsStream r (finished p)) → (k : LinkModel) → LinkHolds x k → LinkHolds (record x { reader = w; ended = true }) (shut k)
+pub link_finished : (x : Link) (w : Peeked ResponseState Response) (r : ResponseState) → is_some x.failed ≡ false → w.inner ≡ r → w.ahead ≡ lookahead_after_input x.reader.ahead
+    → ((p : Progress Response) → ResponseRepresentsStream x.reader.inner p → ResponseRepresentsStream r (stream_finished p)) → (k : LinkModel) → LinkHolds x k → LinkHolds (record x { reader = w; ended = true }) (link_after_shut k)
 link_finished x w r here same again finish k h =
     let open_now : k.dropped || is_some k.failed ≡ false = ap (λ (b : Bool). b || is_some k.failed) h.still ∙ (ap is_some (sym h.failed) ∙ here) in
-    subst (λ (b : Bool). LinkHolds (record x { reader = w; ended = true }) (cond b k (record k { progress = finished k.progress }))) (sym open_now)
-    (subst (λ (v : Peeked ResponseState Response). LinkHolds (record x { reader = v; ended = true }) (record k { progress = finished k.progress })) (sym (peeked_is w r (asked_again x.reader.ahead) same again))
+    subst (λ (b : Bool). LinkHolds (record x { reader = w; ended = true }) (cond b k (record k { progress = stream_finished k.progress }))) (sym open_now)
+    (subst (λ (v : Peeked ResponseState Response). LinkHolds (record x { reader = v; ended = true }) (record k { progress = stream_finished k.progress })) (sym (peeked_is w r (lookahead_after_input x.reader.ahead) same again))
     (record {
       reader = finished_ahead ResponseRepresentsStream ResponseAnswers x.reader.inner r x.reader.ahead k.progress finish response_due_finished h.reader;
       ended = refl;

@@ -6,24 +6,24 @@ use Rattle.hx_framing.specs.declared.messages.Request.{Request}
 use Rattle.hx_framing.specs.declared.messages.Response.{Response}
 use Rattle.hx_framing.specs.declared.messages.Next.{Next}
 use Rattle.hx_framing.specs.declared.messages.Next.TheVariants as next
-use Rattle.hx_framing.specs.Progress.{Progress, next_of}
-use Rattle.hx_framing.specs.Reading.{Reading, Incomplete, Continue, Over, Spelled, Faulty}
+use Rattle.hx_framing.specs.Progress.{Progress, next_of_reading}
+use Rattle.hx_framing.specs.Reading.{StreamReading, Incomplete, Continue, Over, Spelled, Faulty}
 use Rattle.hx_framing.specs.RequestReading.{Reads as ReadsRequest}
 use Rattle.hx_framing.specs.ResponseReading.{Reads}
-use Rattle.hx_framing.specs.ResponseStream.{Answers, AnswersBy}
+use Rattle.hx_framing.specs.ResponseStream.{Answers, AnswersAfterGiven}
 use Rattle.hx_status.specs.declared.cause.FailKind.{FailKind}
 use Rattle.proxy_core.specs.declared.event.Event.{Event}
 use Rattle.proxy_core.specs.declared.event.Event.TheVariants as events
-use Rattle.proxy_core.specs.ReadAnswers.{IsRead, IsReadEvent}
+use Rattle.proxy_core.specs.ReadAnswers.{WasReadFromAStream, EventIsReadFromAStream}
 use Rattle.proxy_core.specs.Traces.{Item}
 use Rattle.proxy_engine.specs.EngineModel.{EngineModel, ConnectionModel, LinkModel, connection_at, link_at}
-use Rattle.proxy_engine.specs.Due.{Act, Abandons, Finishes, Wakes, Serves, Gives, Breaks, IsDueFirst, FinishBy, ActionBy, finish_of, is_busy, action_of}
-use Rattle.proxy_engine.specs.Executions.{Took, Worked, IsEventOf}
-use Rattle.proxy_engine.specs.FinalAnswers.{ActsAreSpelled, AnswersAreFinal, AnswersAreRead, HasFinalStatus, SpellsAnswer, SpellsRequest}
+use Rattle.proxy_engine.specs.Due.{Act, Abandons, Finishes, Wakes, Serves, Gives, Breaks, IsDueFirst, LinkResultUnlessDropped, ConnectionActionUnlessBusy, link_result_of, takes_no_request, due_request_action}
+use Rattle.proxy_engine.specs.Executions.{Took, Worked, IsCoreEventOfAct}
+use Rattle.proxy_engine.specs.FinalAnswers.{EachActIsSpelled, EachAnswerIsFinal, EachAnswerWasRead, EventHasFinalStatus, LinkSpellsAnswer, ConnectionSpellsRequest}
 
 -- ---- what an act is about is what a stream spells
 
-next_spelled : {M : Type 0} (m : M) (reading : Reading M) → next.Message m ≡ next_of reading → (rest : List ℕ) × (reading ≡ Spelled m rest)
+next_spelled : {M : Type 0} (m : M) (reading : StreamReading M) → next.Message m ≡ next_of_reading reading → (rest : List ℕ) × (reading ≡ Spelled m rest)
 next_spelled m Incomplete e = absurd cc
 next_spelled m Continue e = absurd cc
 next_spelled m Over e = absurd cc
@@ -33,13 +33,13 @@ next_spelled m (Spelled n rest) e = (rest, cc)
 abbrev IsAnswer : Progress Response → Response → Type 0
 IsAnswer p r = (p.given ≡ []) × ((rest : List ℕ) × Reads p.max_body p.to_head p.ended p.stream (Spelled r rest))
 
-answered : (p : Progress Response) (r : Response) (given : List Response) → p.given ≡ given → AnswersBy p given (next.Message r) → IsAnswer p r
+answered : (p : Progress Response) (r : Response) (given : List Response) → p.given ≡ given → AnswersAfterGiven p given (next.Message r) → IsAnswer p r
 answered p r [] none h =
     let is = next_spelled r h.0 h.2 in
-    (none, (is.0, subst (λ (reading : Reading Response). Reads p.max_body p.to_head p.ended p.stream reading) is.1 h.1))
+    (none, (is.0, subst (λ (reading : StreamReading Response). Reads p.max_body p.to_head p.ended p.stream reading) is.1 h.1))
 answered p r (g ∷ more) some h = absurd cc
 
-finished : (p : Progress Response) (r : Response) (a : Next Response) (kind : Option FailKind) → Answers p a → Some (Gives r) ≡ finish_of a kind → IsAnswer p r
+finished : (p : Progress Response) (r : Response) (a : Next Response) (kind : Option FailKind) → Answers p a → Some (Gives r) ≡ link_result_of a kind → IsAnswer p r
 finished p r next.More None h e = absurd cc
 finished p r next.More (Some k) h e = absurd cc
 finished p r next.NeedsContinue kind h e = absurd cc
@@ -50,20 +50,20 @@ finished p r (next.Message m) kind h e = subst (λ (q : Response). IsAnswer p q)
     same : r ≡ m
     same = cc
 
-finish_due : (k : LinkModel) (r : Response) (dropped : Bool) → k.dropped ≡ dropped → FinishBy dropped k (Some (Gives r)) → SpellsAnswer k r
+finish_due : (k : LinkModel) (r : Response) (dropped : Bool) → k.dropped ≡ dropped → LinkResultUnlessDropped dropped k (Some (Gives r)) → LinkSpellsAnswer k r
 finish_due k r true is h = absurd cc
 finish_due k r false is h =
     let answer = finished k.progress r h.0 k.failed h.1 h.2 in
     record { still = is; none_given = answer.0; rest = answer.1.0; reads = answer.1.1 }
 
-action_is : (r : Request) (a : Next Request) → Some (next.Message r) ≡ action_of a → next.Message r ≡ a
+action_is : (r : Request) (a : Next Request) → Some (next.Message r) ≡ due_request_action a → next.Message r ≡ a
 action_is r next.More e = absurd cc
 action_is r next.NeedsContinue e = absurd cc
 action_is r (next.Message m) e = cc
 action_is r (next.Refused f) e = absurd cc
 action_is r next.End e = absurd cc
 
-wanted : (c : ConnectionModel) (r : Request) (busy : Bool) → is_busy c.gone c.closed c.activity ≡ busy → ActionBy busy c (Some (next.Message r)) → SpellsRequest c r
+wanted : (c : ConnectionModel) (r : Request) (busy : Bool) → takes_no_request c.gone c.closed c.activity ≡ busy → ConnectionActionUnlessBusy busy c (Some (next.Message r)) → ConnectionSpellsRequest c r
 wanted c r true is h = absurd cc
 wanted c r false is h =
     let answer = h.1 in
@@ -73,30 +73,30 @@ wanted c r false is h =
       behind = answer.rest;
       given = answer.spells;
       rest = read.0;
-      reads = subst (λ (reading : Reading Request). ReadsRequest c.progress.max_body c.progress.ended c.progress.continue_sent answer.rest reading) read.1 answer.reads;
+      reads = subst (λ (reading : StreamReading Request). ReadsRequest c.progress.max_body c.progress.ended c.progress.continue_sent answer.rest reading) read.1 answer.reads;
     }
 
-pub acts_are_spelled : ActsAreSpelled
+pub acts_are_spelled : EachActIsSpelled
 acts_are_spelled s (Abandons i l) due = tt
 acts_are_spelled s (Finishes j (Gives r)) due = finish_due (link_at s j) r (link_at s j).dropped refl due.1.1
 acts_are_spelled s (Finishes j (Breaks kind)) due = tt
 acts_are_spelled s (Wakes i) due = tt
 acts_are_spelled s (Serves i (next.Message r)) due =
-    wanted (connection_at s i) r (is_busy (connection_at s i).gone (connection_at s i).closed (connection_at s i).activity) refl due.3.1
+    wanted (connection_at s i) r (takes_no_request (connection_at s i).gone (connection_at s i).closed (connection_at s i).activity) refl due.3.1
 acts_are_spelled s (Serves i next.More) due = tt
 acts_are_spelled s (Serves i next.NeedsContinue) due = tt
 acts_are_spelled s (Serves i (next.Refused fault)) due = tt
 acts_are_spelled s (Serves i next.End) due = tt
 
-read_of : (k : LinkModel) (r : Response) → SpellsAnswer k r → IsRead r
+read_of : (k : LinkModel) (r : Response) → LinkSpellsAnswer k r → WasReadFromAStream r
 read_of k r is = record { max_body = k.progress.max_body; to_head = k.progress.to_head; ended = k.progress.ended; bytes = k.progress.stream; rest = is.rest; reads = is.reads }
 
-event_read : (s : EngineModel) (now : ℕ) (act : Act) (event : Event) → IsDueFirst s (Some act) → IsEventOf s now act event → IsReadEvent event
-event_read s now (Abandons i l) event due is = subst IsReadEvent (sym is) tt
-event_read s now (Finishes j (Gives r)) event due is = subst IsReadEvent (sym is) (read_of (link_at s j) r (acts_are_spelled s (Finishes j (Gives r)) due))
-event_read s now (Finishes j (Breaks kind)) event due is = subst IsReadEvent (sym is) tt
-event_read s now (Wakes i) event due is = subst IsReadEvent (sym is) tt
-event_read s now (Serves i (next.Message r)) event due is = subst IsReadEvent (sym is.2) tt
+event_read : (s : EngineModel) (now : ℕ) (act : Act) (event : Event) → IsDueFirst s (Some act) → IsCoreEventOfAct s now act event → EventIsReadFromAStream event
+event_read s now (Abandons i l) event due is = subst EventIsReadFromAStream (sym is) tt
+event_read s now (Finishes j (Gives r)) event due is = subst EventIsReadFromAStream (sym is) (read_of (link_at s j) r (acts_are_spelled s (Finishes j (Gives r)) due))
+event_read s now (Finishes j (Breaks kind)) event due is = subst EventIsReadFromAStream (sym is) tt
+event_read s now (Wakes i) event due is = subst EventIsReadFromAStream (sym is) tt
+event_read s now (Serves i (next.Message r)) event due is = subst EventIsReadFromAStream (sym is.2) tt
 event_read s now (Serves i next.More) event due is = absurd is
 event_read s now (Serves i next.NeedsContinue) event due is = absurd is
 event_read s now (Serves i (next.Refused fault)) event due is = absurd is
@@ -105,9 +105,9 @@ event_read s now (Serves i next.End) event due is = absurd is
 -- ---- so was each that a life tells of
 
 abbrev AreRead : List Item → Type 0
-AreRead = AllByRecursion (λ item. IsReadEvent item.event)
+AreRead = AllByRecursion (λ item. EventIsReadFromAStream item.event)
 
-pub answers_are_read : AnswersAreRead
+pub answers_are_read : EachAnswerWasRead
 answers_are_read table begin last [] trace h = subst AreRead (sym h.1) tt
 answers_are_read table begin last (Took happening ∷ steps) trace (before, past, has_trace, leads, adds) =
     subst AreRead (sym adds) (answers_are_read table begin before steps past has_trace)
@@ -124,16 +124,16 @@ ReadsFinal =
     Reads max_body to_head ended bytes (Spelled response rest) → (200 ≤ response.status) × (response.status ≤ 599)
 
 module _ (read : ReadsFinal) where
-  final : (event : Event) → IsReadEvent event → HasFinalStatus event
+  final : (event : Event) → EventIsReadFromAStream event → EventHasFinalStatus event
   final (events.Answer now id r) is = read is.max_body is.to_head is.ended is.bytes r is.rest is.reads
   final (events.Arrive now id asked) is = tt
   final (events.Fail now id kind) is = tt
   final (events.Wake now id) is = tt
   final (events.Abandon id) is = tt
 
-  all_final : (trace : List Item) → AreRead trace → AllByRecursion (λ item. HasFinalStatus item.event) trace
+  all_final : (trace : List Item) → AreRead trace → AllByRecursion (λ item. EventHasFinalStatus item.event) trace
   all_final [] h = tt
   all_final (item ∷ past) h = (final item.event h.0, all_final past h.1)
 
-  pub answers_are_final : AnswersAreFinal
+  pub answers_are_final : EachAnswerIsFinal
   answers_are_final table begin last steps trace h = all_final trace (answers_are_read table begin last steps trace h)

@@ -12,7 +12,7 @@ use Rattle.std.proofs.lemmas.List.{ext_get_or, get_or-set_same, get_or-set_other
 use Rattle.std.proofs.lemmas.List.FromFn.{length-map-range_with_len, get_or-map-range_with_len, map-range_with_len_more}
 use Rattle.std.proofs.Math.ListN.{length-set}
 use borrow.Follows.Closed.{read_of}
-use Rattle.proxy_engine.specs.ReadyList.{listed}
+use Rattle.proxy_engine.specs.ReadyList.{entries_below}
 
 -- a query finds its place and no other
 pub here_at : (p k : ℕ) → k ≡ p → is_at (nat_cmp p) k ≡ true
@@ -26,31 +26,31 @@ elsewhere p k other = elim (cases_order p k) [
 ]
 
 module _ {A : Type 0} where
-  pub listed_length : (m : BTreeMap ℕ A) (n : ℕ) → length (listed m n) ≡ n
+  pub listed_length : (m : BTreeMap ℕ A) (n : ℕ) → length (entries_below m n) ≡ n
   listed_length m n = length-map-range_with_len (get nat_cmp m) 0 n
 
-  pub listed_at : (m : BTreeMap ℕ A) (n i : ℕ) (d : Option A) → i < n → get_or (listed m n) i d ≡ get nat_cmp m i
+  pub listed_at : (m : BTreeMap ℕ A) (n i : ℕ) (d : Option A) → i < n → get_or (entries_below m n) i d ≡ get nat_cmp m i
   listed_at m n i d l = get_or-map-range_with_len (get nat_cmp m) 0 n i i d l (omega arith)
 
   -- the same is at each of these places
-  pub listed_same : (m k : BTreeMap ℕ A) (n : ℕ) → ((q : ℕ) → q < n → get nat_cmp k q ≡ get nat_cmp m q) → listed k n ≡ listed m n
+  pub listed_same : (m k : BTreeMap ℕ A) (n : ℕ) → ((q : ℕ) → q < n → get nat_cmp k q ≡ get nat_cmp m q) → entries_below k n ≡ entries_below m n
   listed_same m k n same =
-      ext_get_or None (listed k n) (listed m n) (listed_length k n ∙ sym (listed_length m n)) (λ q l.
+      ext_get_or None (entries_below k n) (entries_below m n) (listed_length k n ∙ sym (listed_length m n)) (λ q l.
       let within : q < n = omega (arith, l, listed_length k n) in
       listed_at k n q None within ∙ (same q within ∙ sym (listed_at m n q None within)))
 
   -- a map that has o at i
-  pub listed_set : (m k : BTreeMap ℕ A) (n i : ℕ) (o : Option A) → get nat_cmp k i ≡ o → ((q : ℕ) → q ≢ i → get nat_cmp k q ≡ get nat_cmp m q) → listed k n ≡ set (listed m n) i o
+  pub listed_set : (m k : BTreeMap ℕ A) (n i : ℕ) (o : Option A) → get nat_cmp k i ≡ o → ((q : ℕ) → q ≢ i → get nat_cmp k q ≡ get nat_cmp m q) → entries_below k n ≡ set (entries_below m n) i o
   listed_set m k n i o here others =
-      ext_get_or None (listed k n) (set (listed m n) i o) (listed_length k n ∙ (sym (listed_length m n) ∙ sym (length-set (listed m n) i o))) (λ q l.
+      ext_get_or None (entries_below k n) (set (entries_below m n) i o) (listed_length k n ∙ (sym (listed_length m n) ∙ sym (length-set (entries_below m n) i o))) (λ q l.
       let within : q < n = omega (arith, l, listed_length k n) in
       listed_at k n q None within ∙ elim (cases_eq q i) [
-        | inl is ↦ ap (get nat_cmp k) is ∙ (here ∙ (sym (get_or-set_same (listed m n) i o None (omega (arith, listed_length m n, within, is))) ∙ sym (ap (λ (j : ℕ). get_or (set (listed m n) i o) j None) is)))
-        | inr other ↦ others q other ∙ (sym (listed_at m n q None within) ∙ sym (get_or-set_other (listed m n) i q o None other))
+        | inl is ↦ ap (get nat_cmp k) is ∙ (here ∙ (sym (get_or-set_same (entries_below m n) i o None (omega (arith, listed_length m n, within, is))) ∙ sym (ap (λ (j : ℕ). get_or (set (entries_below m n) i o) j None) is)))
+        | inr other ↦ others q other ∙ (sym (listed_at m n q None within) ∙ sym (get_or-set_other (entries_below m n) i q o None other))
       ])
 
   -- one place more
-  pub listed_more : (m : BTreeMap ℕ A) (n : ℕ) → listed m (n + 1) ≡ listed m n ++ get nat_cmp m n ∷ []
+  pub listed_more : (m : BTreeMap ℕ A) (n : ℕ) → entries_below m (n + 1) ≡ entries_below m n ++ get nat_cmp m n ∷ []
   listed_more m n = map-range_with_len_more (get nat_cmp m) 0 n n (omega arith)
 
   -- where nothing is, nothing is taken away
@@ -66,7 +66,7 @@ module _ {A : Type 0} where
   inside (x ∷ xs) (suc i) e = let rest = inside xs i e in omega (arith, rest)
 
   -- what is seen at a place is what the map has there
-  pub seen_at : (m : BTreeMap ℕ A) (n i : ℕ) (xs : List (Option A)) → listed m n ≡ xs → i < length xs → (i < n) × (get nat_cmp m i ≡ get_or xs i None)
+  pub seen_at : (m : BTreeMap ℕ A) (n i : ℕ) (xs : List (Option A)) → entries_below m n ≡ xs → i < length xs → (i < n) × (get nat_cmp m i ≡ get_or xs i None)
   seen_at m n i xs e l =
       let within : i < n = omega (arith, l, ap length e, listed_length m n) in
       (within, sym (listed_at m n i None within) ∙ ap (λ (ys : List (Option A)). get_or ys i None) e)

@@ -1,65 +1,65 @@
 -- The core's steps are a good run, whatever an engine lives through.
 use Rattle.std.proofs.Common.{◌≡◌, ◌⊎◌, inl, inr, ℕ, List, [], ◌∷◌, ◌++◌, refl, sym, ap, ◌∙◌, subst, Bool, Result, Ok, Err}
-use Rattle.hx_allow.specs.Lines.{Table}
+use Rattle.hx_allow.specs.TableLines.{Table}
 use Rattle.hx_framing.specs.declared.messages.Request.{Request}
-use Rattle.hx_framing.specs.declared.fault.FrameFault.TheVariants as frame
+use Rattle.hx_framing.specs.declared.frame_fault.FrameFault.TheVariants as frame
 use Rattle.hx_framing.specs.declared.messages.Next.{Next}
 use Rattle.hx_framing.specs.declared.messages.Next.TheVariants as next
 use Rattle.hx_hop.specs.declared.request_view.Asked.{Asked}
 use Rattle.hx_status.specs.declared.cause.Cause.{Cause}
-use Rattle.proxy_core.specs.Driving.{HasRun}
-use Rattle.proxy_core.specs.State.{State as CoreState, Steps}
+use Rattle.proxy_core.specs.Driving.{CoreWentThrough}
+use Rattle.proxy_core.specs.State.{State as CoreState, StepIsAccepted}
 use Rattle.proxy_core.specs.declared.event.Event.{Event}
-use Rattle.proxy_core.specs.Traces.{Item, begun as core_begun}
+use Rattle.proxy_core.specs.Traces.{Item, initial_state as core_begun}
 use Rattle.proxy_core.proofs.Driven.{promises_of_a_driven_core}
 use Rattle.proxy_script.specs.declared.effect_list.Effect.{Effect}
-use Rattle.proxy_engine.specs.Admitted.{Refusal, IsAdmitted}
-use Rattle.proxy_engine.specs.Happenings.{Said, Accepts as Accepted, Sends, Hears, Ends, Leaves, Shuts, Fails}
-use Rattle.proxy_engine.specs.EngineModel.{EngineModel, heard, with_core}
+use Rattle.proxy_engine.specs.Admitted.{Refusal, RequestIsAdmittedOrRefused}
+use Rattle.proxy_engine.specs.Happenings.{PlainHappening, Accepts as Accepted, Sends, Hears, Ends, Leaves, Shuts, Fails}
+use Rattle.proxy_engine.specs.EngineModel.{EngineModel, model_after_happening, with_core}
 use Rattle.proxy_engine.specs.Due.{Act, Abandons, Finishes, Wakes, Serves, Gives, Breaks}
-use Rattle.proxy_engine.specs.Acts.{Came, Replies, Forwards, Nothing, came, after_on, effects_on, next_number, StepsOn, Does, Arrives, Served, Refuses as IsRefused, Closes as IsClosed, Queues}
-use Rattle.proxy_engine.specs.State.{begun}
-use Rattle.proxy_engine.specs.Executions.{Step, Took, Worked, Leads, Executes, place_of, drops_of, IsEventOf, HasNoEvent, IsEmitted, IsOwn, Continues, Refuses, Closes, HasTrace, ExecutionsAreRuns}
+use Rattle.proxy_engine.specs.Acts.{OutcomeOnConnection, Replies, Forwards, Nothing, outcome_by_table, model_after_outcome, effects_of_outcome, next_link_number, CoreIsStepped, ActIsDone, RequestArrives, ConnectionIsServed, RequestIsRefused as IsRefused, ConnectionIsClosed as IsClosed, Queues}
+use Rattle.proxy_engine.specs.State.{new_engine_model}
+use Rattle.proxy_engine.specs.Executions.{ExecutionStep, Took, Worked, StepLeads, StepsLead, connection_place_of_act, drop_effects_of_act, IsCoreEventOfAct, ActAsksCoreNothing, IsItemOfAct, IsEffectsWithoutCoreStep, Continues, Refuses, Closes, StepsHaveTrace, ExecutionsAreRuns}
 
 module _ (table : Table) where
   -- an act is one step of the core, or none
   abbrev Goes : EngineModel → ℕ → Act → List Effect → EngineModel → Type 0
   Goes s now act emitted after =
-      ((item : Item) × IsEmitted table s now act item emitted after) ⊎ ((after.core ≡ s.core) × HasNoEvent act × IsOwn now (place_of s act) emitted)
+      ((item : Item) × IsItemOfAct table s now act item emitted after) ⊎ ((after.core ≡ s.core) × ActAsksCoreNothing act × IsEffectsWithoutCoreStep now (connection_place_of_act s act) emitted)
 
-  core_after : (i : ℕ) (to_head : Bool) (q : Came) (s : EngineModel) → (after_on i to_head q s).core ≡ s.core
+  core_after : (i : ℕ) (to_head : Bool) (q : OutcomeOnConnection) (s : EngineModel) → (model_after_outcome i to_head q s).core ≡ s.core
   core_after i to_head (Replies bytes close) s = refl
   core_after i to_head (Forwards address bytes) s = refl
   core_after i to_head Queues s = refl
   core_after i to_head Nothing s = refl
 
-  pub step_emitted : (now : ℕ) (act : Act) (s t : EngineModel) (to_head : Bool) (event : Event) (emitted : List Effect) (after : EngineModel) → s.core.table ≡ table → IsEventOf s now act event
-      → StepsOn s t (place_of s act) to_head event (drops_of s act) emitted after → (item : Item) × IsEmitted table s now act item emitted after
+  pub step_emitted : (now : ℕ) (act : Act) (s t : EngineModel) (to_head : Bool) (event : Event) (emitted : List Effect) (after : EngineModel) → s.core.table ≡ table → IsCoreEventOfAct s now act event
+      → CoreIsStepped s t (connection_place_of_act s act) to_head event (drop_effects_of_act s act) emitted after → (item : Item) × IsItemOfAct table s now act item emitted after
   step_emitted now act s t to_head event emitted after config is h =
       let item : Item = record { event = event; outcome = h.outcome } in
-      let core : after.core ≡ h.core = ap (λ (u : EngineModel). u.core) h.after_is ∙ core_after (place_of s act) to_head (came s.core.table h.outcome) (with_core t h.core) in
-      let is_emitted : IsEmitted table s now act item emitted after = record {
+      let core : after.core ≡ h.core = ap (λ (u : EngineModel). u.core) h.after_is ∙ core_after (connection_place_of_act s act) to_head (outcome_by_table s.core.table h.outcome) (with_core t h.core) in
+      let is_emitted : IsItemOfAct table s now act item emitted after = record {
         event_is = is;
-        steps = subst (λ (u : CoreState). Steps s.core event h.outcome u) (sym core) h.steps;
-        emitted_is = h.emitted_is ∙ ap (λ (c : Table). drops_of s act ++ effects_on (place_of s act) (next_number s) (came c h.outcome)) config;
+        steps = subst (λ (u : CoreState). StepIsAccepted s.core event h.outcome u) (sym core) h.steps;
+        emitted_is = h.emitted_is ∙ ap (λ (c : Table). drop_effects_of_act s act ++ effects_of_outcome (connection_place_of_act s act) (next_link_number s) (outcome_by_table c h.outcome)) config;
       } in
       (item, is_emitted)
 
-  stepped : (now : ℕ) (act : Act) (s t : EngineModel) (to_head : Bool) (event : Event) (emitted : List Effect) (after : EngineModel) → s.core.table ≡ table → IsEventOf s now act event
-      → StepsOn s t (place_of s act) to_head event (drops_of s act) emitted after → Goes s now act emitted after
+  stepped : (now : ℕ) (act : Act) (s t : EngineModel) (to_head : Bool) (event : Event) (emitted : List Effect) (after : EngineModel) → s.core.table ≡ table → IsCoreEventOfAct s now act event
+      → CoreIsStepped s t (connection_place_of_act s act) to_head event (drop_effects_of_act s act) emitted after → Goes s now act emitted after
   stepped now act s t to_head event emitted after config is h = inl (step_emitted now act s t to_head event emitted after config is h)
 
-  refused : (now : ℕ) (s : EngineModel) (i : ℕ) (action : Next Request) (why : Cause) (head : Bool) (emitted : List Effect) (after : EngineModel) → HasNoEvent (Serves i action) → IsRefused s now i why head emitted after → Goes s now (Serves i action) emitted after
+  refused : (now : ℕ) (s : EngineModel) (i : ℕ) (action : Next Request) (why : Cause) (head : Bool) (emitted : List Effect) (after : EngineModel) → ActAsksCoreNothing (Serves i action) → IsRefused s now i why head emitted after → Goes s now (Serves i action) emitted after
   refused now s i action why head emitted after none h = inr (ap (λ (u : EngineModel). u.core) h.after_is, none, Refuses why head h.emitted_is)
 
-  shut : (now : ℕ) (s : EngineModel) (i : ℕ) (action : Next Request) (emitted : List Effect) (after : EngineModel) → HasNoEvent (Serves i action) → IsClosed s i emitted after → Goes s now (Serves i action) emitted after
+  shut : (now : ℕ) (s : EngineModel) (i : ℕ) (action : Next Request) (emitted : List Effect) (after : EngineModel) → ActAsksCoreNothing (Serves i action) → IsClosed s i emitted after → Goes s now (Serves i action) emitted after
   shut now s i action emitted after none h = inr (ap (λ (u : EngineModel). u.core) h.1, none, Closes h.0)
 
-  arrives : (now : ℕ) (s : EngineModel) (i : ℕ) (r : Request) (judged : Result Asked Refusal) (emitted : List Effect) (after : EngineModel) → s.core.table ≡ table → IsAdmitted r judged → Arrives s now i r judged emitted after → Goes s now (Serves i (next.Message r)) emitted after
+  arrives : (now : ℕ) (s : EngineModel) (i : ℕ) (r : Request) (judged : Result Asked Refusal) (emitted : List Effect) (after : EngineModel) → s.core.table ≡ table → RequestIsAdmittedOrRefused r judged → RequestArrives s now i r judged emitted after → Goes s now (Serves i (next.Message r)) emitted after
   arrives now s i r (Ok asked) emitted after config a h = stepped now (Serves i (next.Message r)) s _ _ _ emitted after config (asked, a, refl) h.1
   arrives now s i r (Err refusal) emitted after config a h = refused now s i (next.Message r) _ _ emitted after (refusal, a) h
 
-  serves : (now : ℕ) (s : EngineModel) (i : ℕ) (action : Next Request) (emitted : List Effect) (after : EngineModel) → s.core.table ≡ table → Served s now i action emitted after → Goes s now (Serves i action) emitted after
+  serves : (now : ℕ) (s : EngineModel) (i : ℕ) (action : Next Request) (emitted : List Effect) (after : EngineModel) → s.core.table ≡ table → ConnectionIsServed s now i action emitted after → Goes s now (Serves i action) emitted after
   serves now s i next.More emitted after config h = absurd h
   serves now s i next.NeedsContinue emitted after config h = inr (ap (λ (u : EngineModel). u.core) h.1, tt, Continues h.0)
   serves now s i (next.Message r) emitted after config h = arrives now s i r h.0 emitted after config h.1 h.2
@@ -75,14 +75,14 @@ module _ (table : Table) where
   serves now s i (next.Refused frame.Status) emitted after config h = refused now s i (next.Refused frame.Status) _ _ emitted after tt h
   serves now s i next.End emitted after config h = shut now s i next.End emitted after tt h
 
-  acts : (now : ℕ) (act : Act) (s : EngineModel) (emitted : List Effect) (after : EngineModel) → s.core.table ≡ table → Does s now act emitted after → Goes s now act emitted after
+  acts : (now : ℕ) (act : Act) (s : EngineModel) (emitted : List Effect) (after : EngineModel) → s.core.table ≡ table → ActIsDone s now act emitted after → Goes s now act emitted after
   acts now (Abandons i l) s emitted after config h = stepped now (Abandons i l) s _ _ _ emitted after config refl h
   acts now (Finishes j (Gives r)) s emitted after config h = stepped now (Finishes j (Gives r)) s _ _ _ emitted after config refl h.1
   acts now (Finishes j (Breaks kind)) s emitted after config h = stepped now (Finishes j (Breaks kind)) s _ _ _ emitted after config refl h
   acts now (Wakes i) s emitted after config h = stepped now (Wakes i) s _ _ _ emitted after config refl h.1
   acts now (Serves i action) s emitted after config h = serves now s i action emitted after config h
 
-heard_core : (s : EngineModel) (h : Said) → (heard s h).core ≡ s.core
+heard_core : (s : EngineModel) (h : PlainHappening) → (model_after_happening s h).core ≡ s.core
 heard_core s (Accepted n) = refl
 heard_core s (Sends n bytes) = refl
 heard_core s (Hears l bytes) = refl
@@ -93,13 +93,13 @@ heard_core s (Fails l kind) = refl
 
 module _ (table : Table) (limit first : ℕ) (begin : EngineModel) where
   -- the core's steps so far, as they were told
-  pub record Runs (steps : List Step) (t : EngineModel) : Type 0 where
+  pub record Runs (steps : List ExecutionStep) (t : EngineModel) : Type 0 where
     pub trace : List Item
-    pub has_run : HasRun table limit first trace t.core
+    pub has_run : CoreWentThrough table limit first trace t.core
     pub config : t.core.table ≡ table
-    pub has_trace : HasTrace table begin steps t trace
+    pub has_trace : StepsHaveTrace table begin steps t trace
 
-  worked : (steps : List Step) (now : ℕ) (act : Act) (emitted : List Effect) (s t : EngineModel) → Leads s (Worked now act emitted) t → (run : Runs steps s) → Goes table s now act emitted t → Runs (Worked now act emitted ∷ steps) t
+  worked : (steps : List ExecutionStep) (now : ℕ) (act : Act) (emitted : List Effect) (s t : EngineModel) → StepLeads s (Worked now act emitted) t → (run : Runs steps s) → Goes table s now act emitted t → Runs (Worked now act emitted ∷ steps) t
   worked steps now act emitted s t leads run (inl h) = record {
     trace = h.0 ∷ run.trace;
     has_run = (s.core, run.has_run, h.1.steps);
@@ -108,23 +108,23 @@ module _ (table : Table) (limit first : ℕ) (begin : EngineModel) where
   }
   worked steps now act emitted s t leads run (inr h) = record {
     trace = run.trace;
-    has_run = subst (λ (u : CoreState). HasRun table limit first run.trace u) (sym h.0) run.has_run;
+    has_run = subst (λ (u : CoreState). CoreWentThrough table limit first run.trace u) (sym h.0) run.has_run;
     config = ap (λ (u : CoreState). u.table) h.0 ∙ run.config;
     has_trace = (s, run.trace, run.has_trace, leads, inr (refl, h.1, h.2));
   }
 
-  step_on : (steps : List Step) (step : Step) (s t : EngineModel) → Leads s step t → Runs steps s → Runs (step ∷ steps) t
+  step_on : (steps : List ExecutionStep) (step : ExecutionStep) (s t : EngineModel) → StepLeads s step t → Runs steps s → Runs (step ∷ steps) t
   step_on steps (Took h) s t l run =
       let same : t.core ≡ s.core = ap (λ (u : EngineModel). u.core) l.1 ∙ heard_core s h in
       record {
         trace = run.trace;
-        has_run = subst (λ (u : CoreState). HasRun table limit first run.trace u) (sym same) run.has_run;
+        has_run = subst (λ (u : CoreState). CoreWentThrough table limit first run.trace u) (sym same) run.has_run;
         config = ap (λ (u : CoreState). u.table) same ∙ run.config;
         has_trace = (s, run.trace, run.has_trace, l, refl);
       }
   step_on steps (Worked now act emitted) s t l run = worked steps now act emitted s t l run (acts table now act s emitted t run.config l.1)
 
-  pub executes : begin.core ≡ core_begun table limit first → (steps : List Step) (t : EngineModel) → Executes begin steps t → Runs steps t
+  pub executes : begin.core ≡ core_begun table limit first → (steps : List ExecutionStep) (t : EngineModel) → StepsLead begin steps t → Runs steps t
   executes e [] t h =
       let core : t.core ≡ core_begun table limit first = ap (λ (u : EngineModel). u.core) h ∙ e in
       record { trace = []; has_run = core; config = ap (λ (u : CoreState). u.table) core; has_trace = (h, refl) }
@@ -132,5 +132,5 @@ module _ (table : Table) (limit first : ℕ) (begin : EngineModel) where
 
 pub executions_are_runs : ExecutionsAreRuns
 executions_are_runs table limit first link steps t h =
-    let run = executes table limit first (begun (core_begun table limit first) link) refl steps t h in
+    let run = executes table limit first (new_engine_model (core_begun table limit first) link) refl steps t h in
     record { trace = run.trace; keeps = promises_of_a_driven_core table limit first run.trace t.core run.has_run; has_trace = run.has_trace }

@@ -6,23 +6,23 @@ use Rattle.proxy_core.specs.declared.event.Event.{Event}
 use Rattle.proxy_core.specs.Traces.{Item}
 use Rattle.proxy_engine.specs.EngineModel.{EngineModel}
 use Rattle.proxy_engine.specs.Due.{Act, Abandons, Finishes, Wakes, Serves, Gives, Breaks, IsDueFirst}
-use Rattle.proxy_engine.specs.Acts.{Does}
-use Rattle.proxy_engine.specs.Executions.{Took, Worked, Adds, IsEventOf, ActsInOneWay, HasOneTrace}
-use Rattle.proxy_engine.specs.OneRun.{moment_of, acts_in, NoOtherEffects, NoOtherAct, NoOtherMoment, NothingUntaken, NoMoreItems, NothingUndone}
+use Rattle.proxy_engine.specs.Acts.{ActIsDone}
+use Rattle.proxy_engine.specs.Executions.{Took, Worked, StepAddsToTrace, IsCoreEventOfAct, ActIsDoneInOneWay, StepsHaveOneTrace}
+use Rattle.proxy_engine.specs.OneRun.{moment_of_event, count_of_acts, RunHasNoOtherEffects, RunHasNoOtherAct, RunHasNoOtherMoment, RunHasNoUntakenHappening, RunHasNoMoreItems, RunHasNoItemWithoutStep}
 use Rattle.proxy_engine.proofs.Once.{due_first_once}
 
 some_act : {a b : Act} → Some a ≡ Some b → a ≡ b
 some_act h = cc
 
-pub no_other_effects : HasOneTrace → ActsInOneWay → NoOtherEffects
+pub no_other_effects : StepsHaveOneTrace → ActIsDoneInOneWay → RunHasNoOtherEffects
 no_other_effects once one_way table limit first now begin last other past act emitted more run differ second =
     let a = run.has_trace in
     let b = second.has_trace in
     let same : a.0 ≡ b.0 = (once table begin past a.0 b.0 a.1 b.1 a.2 b.2).0 in
-    let does = subst (λ (s : EngineModel). Does s now act emitted last) same a.3.1 in
+    let does = subst (λ (s : EngineModel). ActIsDone s now act emitted last) same a.3.1 in
     differ (one_way b.0 now act emitted more last other does b.3.1).0
 
-pub no_other_act : HasOneTrace → NoOtherAct
+pub no_other_act : StepsHaveOneTrace → RunHasNoOtherAct
 no_other_act once table limit first now then begin last other past act instead emitted more run differ second =
     let a = run.has_trace in
     let b = second.has_trace in
@@ -30,31 +30,31 @@ no_other_act once table limit first now then begin last other past act instead e
     let due = subst (λ (s : EngineModel). IsDueFirst s (Some act)) same a.3.0 in
     differ (some_act (due_first_once b.0 (Some act) (Some instead) due b.3.0))
 
-at_its_moment : (s : EngineModel) (now then : ℕ) (act : Act) (event : Event) → IsEventOf s now act event → moment_of event ≡ Some then → now ≡ then
-at_its_moment s now then (Abandons i l) event is at = let never : None ≡ Some then = sym (ap moment_of is) ∙ at in absurd (cc)
-at_its_moment s now then (Finishes j (Gives r)) event is at = same_Some now then (sym (ap moment_of is) ∙ at)
-at_its_moment s now then (Finishes j (Breaks kind)) event is at = same_Some now then (sym (ap moment_of is) ∙ at)
-at_its_moment s now then (Wakes i) event is at = same_Some now then (sym (ap moment_of is) ∙ at)
+at_its_moment : (s : EngineModel) (now then : ℕ) (act : Act) (event : Event) → IsCoreEventOfAct s now act event → moment_of_event event ≡ Some then → now ≡ then
+at_its_moment s now then (Abandons i l) event is at = let never : None ≡ Some then = sym (ap moment_of_event is) ∙ at in absurd (cc)
+at_its_moment s now then (Finishes j (Gives r)) event is at = same_Some now then (sym (ap moment_of_event is) ∙ at)
+at_its_moment s now then (Finishes j (Breaks kind)) event is at = same_Some now then (sym (ap moment_of_event is) ∙ at)
+at_its_moment s now then (Wakes i) event is at = same_Some now then (sym (ap moment_of_event is) ∙ at)
 at_its_moment s now then (Serves i next.More) event is at = absurd is
-at_its_moment s now then (Serves i (next.Message r)) event is at = same_Some now then (sym (ap moment_of is.2) ∙ at)
+at_its_moment s now then (Serves i (next.Message r)) event is at = same_Some now then (sym (ap moment_of_event is.2) ∙ at)
 at_its_moment s now then (Serves i next.NeedsContinue) event is at = absurd is
 at_its_moment s now then (Serves i (next.Refused fault)) event is at = absurd is
 at_its_moment s now then (Serves i next.End) event is at = absurd is
 
-pub no_other_moment : NoOtherMoment
+pub no_other_moment : RunHasNoOtherMoment
 no_other_moment table s after now then act item emitted h at differ = differ (at_its_moment s now then act item.event h.event_is at)
 
-pub nothing_untaken : NothingUntaken
+pub nothing_untaken : RunHasNoUntakenHappening
 nothing_untaken table limit first begin last past happening run never = never run.has_trace.0 run.has_trace.3.0
 
-pub no_more_items : NoMoreItems
+pub no_more_items : RunHasNoMoreItems
 no_more_items table begin last [] trace h = subst (λ (z : List Item). length z ≤ 0) (sym h.1) (omega arith)
-no_more_items table begin last (Took happening ∷ past) trace h = subst (λ (z : List Item). length z ≤ acts_in past) (sym h.4) (no_more_items table begin h.0 past h.1 h.2)
+no_more_items table begin last (Took happening ∷ past) trace h = subst (λ (z : List Item). length z ≤ count_of_acts past) (sym h.4) (no_more_items table begin h.0 past h.1 h.2)
 no_more_items table begin last (Worked now act emitted ∷ past) trace h = by_step (no_more_items table begin h.0 past h.1 h.2) h.4
   where
-    by_step : length h.1 ≤ acts_in past → Adds table h.0 (Worked now act emitted) last h.1 trace → length trace ≤ acts_in past + 1
-    by_step few (inl (item, is, done)) = subst (λ (z : List Item). length z ≤ acts_in past + 1) (sym is) (omega (arith, few))
-    by_step few (inr (is, none, own)) = subst (λ (z : List Item). length z ≤ acts_in past + 1) (sym is) (omega (arith, few))
+    by_step : length h.1 ≤ count_of_acts past → StepAddsToTrace table h.0 (Worked now act emitted) last h.1 trace → length trace ≤ count_of_acts past + 1
+    by_step few (inl (item, is, done)) = subst (λ (z : List Item). length z ≤ count_of_acts past + 1) (sym is) (omega (arith, few))
+    by_step few (inr (is, none, own)) = subst (λ (z : List Item). length z ≤ count_of_acts past + 1) (sym is) (omega (arith, few))
 
-pub nothing_undone : NothingUndone
+pub nothing_undone : RunHasNoItemWithoutStep
 nothing_undone table begin last item past h = let never : item ∷ past ≡ [] = h.1 in absurd (cc)

@@ -6,33 +6,33 @@ use Rattle.std.proofs.lemmas.List.{get_or-set_same, get_or-set_other, get_or-map
 use Rattle.std.proofs.Math.ListN.{get_or-append, length-map, length-set}
 use Rattle.std.proofs.Math.Seq.{get_or-append_seam}
 use Rattle.hx_fields.specs.declared.limits.TheConstants.{END_OF_TIME}
-use Rattle.proxy_core.specs.Moments.{too_late}
-use Rattle.proxy_core.specs.Outcomes.{find_exchange, or_fault, not_forwarded, not_ready, fault_of, fault_by}
+use Rattle.proxy_core.specs.Moments.{moment_too_late_fault}
+use Rattle.proxy_core.specs.Outcomes.{find_exchange, or_fault, fault_if_not_forwarded, fault_if_not_released, fault_at_exchange, step_fault}
 use Rattle.proxy_core.specs.Leading.{is_forwarded, is_released, waits_for}
-use Rattle.proxy_core.specs.Waiting.{IsReady}
+use Rattle.proxy_core.specs.Waiting.{ExchangeMayBeWoken}
 use Rattle.proxy_core.specs.declared.open.stage.Stage.{Stage}
 use Rattle.proxy_core.specs.declared.open.stage.Stage.TheVariants as stages
 use Rattle.std.specs.Prelude.{filter, option_map}
 use Rattle.hx_framing.specs.declared.messages.Response.{Response}
 use Rattle.hx_status.specs.declared.cause.FailKind.{FailKind}
 use Rattle.hx_allow.specs.Matching.{verdict_of}
-use Rattle.proxy_core.specs.declared.fault.CoreFault.{CoreFault}
-use Rattle.proxy_core.specs.declared.fault.CoreFault.TheVariants.{MomentTooLate, OutOfMemory, NotForwarded, NotReady}
+use Rattle.proxy_core.specs.declared.core_fault.CoreFault.{CoreFault}
+use Rattle.proxy_core.specs.declared.core_fault.CoreFault.TheVariants.{MomentTooLate, OutOfMemory, NotForwarded, NotReady}
 use Rattle.hx_hop.specs.declared.request_view.Asked.{Asked}
-use Rattle.hx_allow.specs.Lines.{Table}
+use Rattle.hx_allow.specs.TableLines.{Table}
 use Rattle.hx_store.specs.Stored.{Stored}
 use Rattle.hx_target.specs.declared.keys.Key.{Key}
 use Rattle.hx_target.specs.Keys.{same_key}
 use Rattle.proxy_engine.proofs.Ending.{Remains, Renews, renewed}
-use Rattle.proxy_core.specs.State.{closed, release, opened, queued, line_of, open_after, overtake, left_open}
+use Rattle.proxy_core.specs.State.{exchanges_after_close, released_exchange, forwarded_exchange, waiting_exchange, line_of_verdict, open_exchanges_after, overtaken_exchange, exchanges_after_end}
 use Rattle.proxy_core.specs.declared.outcome.Outcome.{Outcome}
 use Rattle.proxy_core.specs.declared.event.Event.{Event}
 use Rattle.proxy_core.specs.declared.event.Event.TheVariants.{Arrive, Answer, Fail, Wake}
 use Rattle.proxy_core.specs.declared.outcome.Outcome.TheVariants.{Reply, Forward, Waits, Ended}
 use Rattle.proxy_core.specs.declared.open.exchange.Exchange.{Exchange}
-use Rattle.proxy_engine.specs.Activities.{link_of, has_exchange, forwarded_in}
-use Rattle.proxy_engine.specs.Pairing.{Paired, forwarded_at, activity_at, at, activity_of, owner_of, activities_of, owners_of, activities_after, owners_after}
-use Rattle.proxy_engine.specs.State.{NoneLost, gone_at, is_free}
+use Rattle.proxy_engine.specs.Activities.{link_place_of_activity, has_exchange, forwarded_or_waiting}
+use Rattle.proxy_engine.specs.Pairing.{ConnectionsAndLinksArePaired, forwarded_or_waiting_at, activity_at, owner_at, activity_of, owner_of, activities_of, owners_of, activities_after, owners_after}
+use Rattle.proxy_engine.specs.State.{NoConnectionIsLost, is_gone_at, connection_is_free_at}
 use Rattle.proxy_engine.proofs.ActivityCases.{open_from, forwarded_from, waiting_by}
 use Rattle.proxy_engine.proofs.Keeping.{inside}
 use Rattle.proxy_engine.proofs.Changes.{free_there, free_activity}
@@ -46,7 +46,7 @@ some_same : {B : Type 0} {a b : B} → Some a ≡ Some b → a ≡ b
 some_same h = cc
 
 -- beyond the list nothing stands
-beyond : (xs : List (Option ℕ)) (i : ℕ) → length xs ≤ i → at xs i ≡ None
+beyond : (xs : List (Option ℕ)) (i : ℕ) → length xs ≤ i → owner_at xs i ≡ None
 beyond [] i l = refl
 beyond (x ∷ xs) zero l = absurd (omega (arith, l))
 beyond (x ∷ xs) (suc i) l = beyond xs i (omega (arith, l))
@@ -57,19 +57,19 @@ beyond_all (a ∷ activities) zero l = absurd (omega (arith, l))
 beyond_all (a ∷ activities) (suc i) l = beyond_all activities i (omega (arith, l))
 
 -- what stands, stands within
-pub within : (xs : List (Option ℕ)) (i j : ℕ) → at xs i ≡ Some j → i < length xs
+pub within : (xs : List (Option ℕ)) (i j : ℕ) → owner_at xs i ≡ Some j → i < length xs
 within xs i j e = by_order (cases_lt i (length xs))
   where
     by_order : (i < length xs) ⊎ (length xs ≤ i) → i < length xs
     by_order (inl l) = l
     by_order (inr l) = let none = beyond xs i l in cc
 
-pub has_place : (activities : List Activity) (i j : ℕ) → link_of (activity_at activities i) ≡ Some j → i < length activities
+pub has_place : (activities : List Activity) (i j : ℕ) → link_place_of_activity (activity_at activities i) ≡ Some j → i < length activities
 has_place activities i j e = by_order (cases_lt i (length activities))
   where
     by_order : (i < length activities) ⊎ (length activities ≤ i) → i < length activities
     by_order (inl l) = l
-    by_order (inr l) = let none : link_of (activity_at activities i) ≡ None = ap link_of (beyond_all activities i l) in cc
+    by_order (inr l) = let none : link_place_of_activity (activity_at activities i) ≡ None = ap link_place_of_activity (beyond_all activities i l) in cc
 
 same_or_not : (i j : ℕ) → (i ≡ j) ⊎ (i ≢ j)
 same_or_not i j = by_order (cases_lt i j) (cases_lt j i)
@@ -87,11 +87,11 @@ at_more (a ∷ activities) zero = refl
 at_more (a ∷ activities) (suc i) = at_more activities i
 
 -- a connection more
-pub paired_more : (activities : List Activity) (owners : List (Option ℕ)) (xs : List Exchange) → Paired activities owners xs → Paired (activities ++ Free ∷ []) owners xs
+pub paired_more : (activities : List Activity) (owners : List (Option ℕ)) (xs : List Exchange) → ConnectionsAndLinksArePaired activities owners xs → ConnectionsAndLinksArePaired (activities ++ Free ∷ []) owners xs
 paired_more activities owners xs h = record {
-  owned = λ i j e. h.owned i j (sym (ap link_of (at_more activities i)) ∙ e);
-  linked = λ i j e. ap link_of (at_more activities i) ∙ h.linked i j e;
-  opened = λ i. h.opened i ∙ sym (ap forwarded_in (at_more activities i));
+  owned = λ i j e. h.owned i j (sym (ap link_place_of_activity (at_more activities i)) ∙ e);
+  linked = λ i j e. ap link_place_of_activity (at_more activities i) ∙ h.linked i j e;
+  opened = λ i. h.opened i ∙ sym (ap forwarded_or_waiting (at_more activities i));
   numbered = h.numbered;
 }
 
@@ -156,37 +156,37 @@ released_by true l x id o p w h = open_by (x.id == id)
 released_by false l x id o p w h = out_by (x.id == id) x o p h
 
 -- one that is released has waited
-out_released : (l id : ℕ) (xs : List Exchange) → forwarded_at id (map (release l) xs) ≡ forwarded_at id xs
+out_released : (l id : ℕ) (xs : List Exchange) → forwarded_or_waiting_at id (map (released_exchange l) xs) ≡ forwarded_or_waiting_at id xs
 out_released l id [] = refl
-out_released l id (x ∷ xs) = released_by (waits_for l x.stage) l x id (find_exchange id (map (release l) xs)) (find_exchange id xs) refl (out_released l id xs)
+out_released l id (x ∷ xs) = released_by (waits_for l x.stage) l x id (find_exchange id (map (released_exchange l) xs)) (find_exchange id xs) refl (out_released l id xs)
 
-forwarded_closed : (id : ℕ) (xs : List Exchange) → forwarded_at id (closed id xs) ≡ None
+forwarded_closed : (id : ℕ) (xs : List Exchange) → forwarded_or_waiting_at id (exchanges_after_close id xs) ≡ None
 forwarded_closed id xs = out_released id id (but id xs) ∙ ap out (find_closed id xs)
 
-forwarded_kept : (id other : ℕ) (xs : List Exchange) → other ≢ id → forwarded_at other (closed id xs) ≡ forwarded_at other xs
+forwarded_kept : (id other : ℕ) (xs : List Exchange) → other ≢ id → forwarded_or_waiting_at other (exchanges_after_close id xs) ≡ forwarded_or_waiting_at other xs
 forwarded_kept id other xs n = out_released id other (but id xs) ∙ ap out (find_kept id other xs n)
 
 -- a new one is open, and the others are as before
-forwarded_pushed : (id : ℕ) (xs : List Exchange) (x : Exchange) → x.id ≡ id → find_exchange id xs ≡ None → forwarded_at id (xs ++ x ∷ []) ≡ Some (is_forwarded x.stage)
+forwarded_pushed : (id : ℕ) (xs : List Exchange) (x : Exchange) → x.id ≡ id → find_exchange id xs ≡ None → forwarded_or_waiting_at id (xs ++ x ∷ []) ≡ Some (is_forwarded x.stage)
 forwarded_pushed id [] x e n = ap (λ (b : Bool). out (cond b (Some x) None)) (eq-eqb x.id id e)
 forwarded_pushed id (y ∷ xs) x e n = pushed_by (y.id == id) n (λ m. forwarded_pushed id xs x e m)
   where
-    pushed_by : (b : Bool) → cond b (Some y) (find_exchange id xs) ≡ None → (find_exchange id xs ≡ None → forwarded_at id (xs ++ x ∷ []) ≡ Some (is_forwarded x.stage))
+    pushed_by : (b : Bool) → cond b (Some y) (find_exchange id xs) ≡ None → (find_exchange id xs ≡ None → forwarded_or_waiting_at id (xs ++ x ∷ []) ≡ Some (is_forwarded x.stage))
         → out (cond b (Some y) (find_exchange id (xs ++ x ∷ []))) ≡ Some (is_forwarded x.stage)
     pushed_by true n rest = absurd (cc)
     pushed_by false n rest = rest n
 
-forwarded_before : (id : ℕ) (xs : List Exchange) (x : Exchange) → x.id ≢ id → forwarded_at id (xs ++ x ∷ []) ≡ forwarded_at id xs
+forwarded_before : (id : ℕ) (xs : List Exchange) (x : Exchange) → x.id ≢ id → forwarded_or_waiting_at id (xs ++ x ∷ []) ≡ forwarded_or_waiting_at id xs
 forwarded_before id [] x n = ap (λ (b : Bool). out (cond b (Some x) None)) (other_number x.id id n)
 forwarded_before id (y ∷ xs) x n = out_by (y.id == id) y (find_exchange id (xs ++ x ∷ [])) (find_exchange id xs) (forwarded_before id xs x n)
 
 -- links and connections that read the same
-pub paired_same : (ds ds1 : List Activity) (os os1 : List (Option ℕ)) (xs : List Exchange) → ds1 ≡ ds → os1 ≡ os → Paired ds os xs → Paired ds1 os1 xs
-paired_same ds ds1 os os1 xs d o w = subst (λ (ds : List Activity). Paired ds os1 xs) (sym d) (subst (λ (os : List (Option ℕ)). Paired ds os xs) (sym o) w)
+pub paired_same : (ds ds1 : List Activity) (os os1 : List (Option ℕ)) (xs : List Exchange) → ds1 ≡ ds → os1 ≡ os → ConnectionsAndLinksArePaired ds os xs → ConnectionsAndLinksArePaired ds1 os1 xs
+paired_same ds ds1 os os1 xs d o w = subst (λ (ds : List Activity). ConnectionsAndLinksArePaired ds os1 xs) (sym d) (subst (λ (os : List (Option ℕ)). ConnectionsAndLinksArePaired ds os xs) (sym o) w)
 
 -- ---- an exchange ends
 
-pub paired_freed : (activities : List Activity) (owners : List (Option ℕ)) (xs : List Exchange) (i j : ℕ) → link_of (activity_at activities i) ≡ Some j → Paired activities owners xs → Paired (set activities i Free) (set owners j None) (closed (i + 1) xs)
+pub paired_freed : (activities : List Activity) (owners : List (Option ℕ)) (xs : List Exchange) (i j : ℕ) → link_place_of_activity (activity_at activities i) ≡ Some j → ConnectionsAndLinksArePaired activities owners xs → ConnectionsAndLinksArePaired (set activities i Free) (set owners j None) (exchanges_after_close (i + 1) xs)
 paired_freed activities owners xs i j here h = record {
   owned = λ k l e. owned_by k l e (same_or_not k i);
   linked = λ k l e. linked_by k l e (same_or_not l j);
@@ -194,37 +194,37 @@ paired_freed activities owners xs i j here h = record {
   numbered = forwarded_kept (i + 1) 0 xs (λ q. absurd (omega (arith, q))) ∙ h.numbered;
 }
   where
-    there : at owners j ≡ Some i
+    there : owner_at owners j ≡ Some i
     there = h.owned i j here
 
-    owned_by : (k l : ℕ) → link_of (activity_at (set activities i Free) k) ≡ Some l → (k ≡ i) ⊎ (k ≢ i) → at (set owners j None) l ≡ Some k
+    owned_by : (k l : ℕ) → link_place_of_activity (activity_at (set activities i Free) k) ≡ Some l → (k ≡ i) ⊎ (k ≢ i) → owner_at (set owners j None) l ≡ Some k
     owned_by k l e (inl same) =
         let free : activity_at (set activities i Free) i ≡ Free = get_or-set_same activities i Free Free (has_place activities i j here) in
-        let none_there : link_of (activity_at (set activities i Free) k) ≡ None = ap link_of (ap (activity_at (set activities i Free)) same ∙ free) in
+        let none_there : link_place_of_activity (activity_at (set activities i Free) k) ≡ None = ap link_place_of_activity (ap (activity_at (set activities i Free)) same ∙ free) in
         cc
     owned_by k l e (inr other) =
-        let was : link_of (activity_at activities k) ≡ Some l = sym (ap link_of (get_or-set_other activities i k Free Free other)) ∙ e in
-        let owner : at owners l ≡ Some k = h.owned k l was in
-        let apart : l ≢ j = λ q. other (some_same (sym owner ∙ (ap (at owners) q ∙ there))) in
+        let was : link_place_of_activity (activity_at activities k) ≡ Some l = sym (ap link_place_of_activity (get_or-set_other activities i k Free Free other)) ∙ e in
+        let owner : owner_at owners l ≡ Some k = h.owned k l was in
+        let apart : l ≢ j = λ q. other (some_same (sym owner ∙ (ap (owner_at owners) q ∙ there))) in
         get_or-set_other owners j l None None apart ∙ owner
 
-    linked_by : (k l : ℕ) → at (set owners j None) l ≡ Some k → (l ≡ j) ⊎ (l ≢ j) → link_of (activity_at (set activities i Free) k) ≡ Some l
+    linked_by : (k l : ℕ) → owner_at (set owners j None) l ≡ Some k → (l ≡ j) ⊎ (l ≢ j) → link_place_of_activity (activity_at (set activities i Free) k) ≡ Some l
     linked_by k l e (inl same) =
-        let none : at (set owners j None) j ≡ None = get_or-set_same owners j None None (within owners j i there) in
-        let none_there : at (set owners j None) l ≡ None = ap (at (set owners j None)) same ∙ none in
+        let none : owner_at (set owners j None) j ≡ None = get_or-set_same owners j None None (within owners j i there) in
+        let none_there : owner_at (set owners j None) l ≡ None = ap (owner_at (set owners j None)) same ∙ none in
         cc
     linked_by k l e (inr other) =
-        let was : at owners l ≡ Some k = sym (get_or-set_other owners j l None None other) ∙ e in
-        let link : link_of (activity_at activities k) ≡ Some l = h.linked k l was in
-        let apart : k ≢ i = λ q. other (some_same (sym link ∙ (ap (λ n. link_of (activity_at activities n)) q ∙ here))) in
-        ap link_of (get_or-set_other activities i k Free Free apart) ∙ link
+        let was : owner_at owners l ≡ Some k = sym (get_or-set_other owners j l None None other) ∙ e in
+        let link : link_place_of_activity (activity_at activities k) ≡ Some l = h.linked k l was in
+        let apart : k ≢ i = λ q. other (some_same (sym link ∙ (ap (λ n. link_place_of_activity (activity_at activities n)) q ∙ here))) in
+        ap link_place_of_activity (get_or-set_other activities i k Free Free apart) ∙ link
 
-    opened_by : (k : ℕ) → (k ≡ i) ⊎ (k ≢ i) → forwarded_at (k + 1) (closed (i + 1) xs) ≡ forwarded_in (activity_at (set activities i Free) k)
+    opened_by : (k : ℕ) → (k ≡ i) ⊎ (k ≢ i) → forwarded_or_waiting_at (k + 1) (exchanges_after_close (i + 1) xs) ≡ forwarded_or_waiting (activity_at (set activities i Free) k)
     opened_by k (inl same) =
-        subst (λ n. forwarded_at (n + 1) (closed (i + 1) xs) ≡ forwarded_in (activity_at (set activities i Free) n)) (sym same)
-        (forwarded_closed (i + 1) xs ∙ sym (ap forwarded_in (get_or-set_same activities i Free Free (has_place activities i j here))))
+        subst (λ n. forwarded_or_waiting_at (n + 1) (exchanges_after_close (i + 1) xs) ≡ forwarded_or_waiting (activity_at (set activities i Free) n)) (sym same)
+        (forwarded_closed (i + 1) xs ∙ sym (ap forwarded_or_waiting (get_or-set_same activities i Free Free (has_place activities i j here))))
     opened_by k (inr other) =
-        forwarded_kept (i + 1) (k + 1) xs (λ q. other (omega (arith, q))) ∙ (h.opened k ∙ sym (ap forwarded_in (get_or-set_other activities i k Free Free other)))
+        forwarded_kept (i + 1) (k + 1) xs (λ q. other (omega (arith, q))) ∙ (h.opened k ∙ sym (ap forwarded_or_waiting (get_or-set_other activities i k Free Free other)))
 
 -- ---- what names no link changes none
 
@@ -237,31 +237,31 @@ waits_inside activities i e = by_order (cases_lt i (length activities))
         let no : Free ≡ Waiting = sym (beyond_all activities i l) ∙ e in
         absurd (cc)
 
-module _ (activities : List Activity) (owners : List (Option ℕ)) (i : ℕ) (a : Activity) (inside : i < length activities) (was : link_of (activity_at activities i) ≡ None) (now : link_of a ≡ None) where
-  quiet_owned : ((k l : ℕ) → link_of (activity_at activities k) ≡ Some l → at owners l ≡ Some k) → (k l : ℕ) → link_of (activity_at (set activities i a) k) ≡ Some l → at owners l ≡ Some k
+module _ (activities : List Activity) (owners : List (Option ℕ)) (i : ℕ) (a : Activity) (inside : i < length activities) (was : link_place_of_activity (activity_at activities i) ≡ None) (now : link_place_of_activity a ≡ None) where
+  quiet_owned : ((k l : ℕ) → link_place_of_activity (activity_at activities k) ≡ Some l → owner_at owners l ≡ Some k) → (k l : ℕ) → link_place_of_activity (activity_at (set activities i a) k) ≡ Some l → owner_at owners l ≡ Some k
   quiet_owned owned k l e = by_place (same_or_not k i)
     where
-      by_place : (k ≡ i) ⊎ (k ≢ i) → at owners l ≡ Some k
+      by_place : (k ≡ i) ⊎ (k ≢ i) → owner_at owners l ≡ Some k
       by_place (inl same) =
-          let none : link_of (activity_at (set activities i a) k) ≡ None = ap (λ n. link_of (activity_at (set activities i a) n)) same ∙ (ap link_of (get_or-set_same activities i a Free inside) ∙ now) in
+          let none : link_place_of_activity (activity_at (set activities i a) k) ≡ None = ap (λ n. link_place_of_activity (activity_at (set activities i a) n)) same ∙ (ap link_place_of_activity (get_or-set_same activities i a Free inside) ∙ now) in
           cc
-      by_place (inr other) = owned k l (sym (ap link_of (get_or-set_other activities i k a Free other)) ∙ e)
+      by_place (inr other) = owned k l (sym (ap link_place_of_activity (get_or-set_other activities i k a Free other)) ∙ e)
 
-  quiet_linked : ((k l : ℕ) → at owners l ≡ Some k → link_of (activity_at activities k) ≡ Some l) → (k l : ℕ) → at owners l ≡ Some k → link_of (activity_at (set activities i a) k) ≡ Some l
+  quiet_linked : ((k l : ℕ) → owner_at owners l ≡ Some k → link_place_of_activity (activity_at activities k) ≡ Some l) → (k l : ℕ) → owner_at owners l ≡ Some k → link_place_of_activity (activity_at (set activities i a) k) ≡ Some l
   quiet_linked linked k l e = by_place (same_or_not k i)
     where
-      by_place : (k ≡ i) ⊎ (k ≢ i) → link_of (activity_at (set activities i a) k) ≡ Some l
+      by_place : (k ≡ i) ⊎ (k ≢ i) → link_place_of_activity (activity_at (set activities i a) k) ≡ Some l
       by_place (inl same) =
-          let link : link_of (activity_at activities k) ≡ Some l = linked k l e in
-          let none : link_of (activity_at activities k) ≡ None = ap (λ n. link_of (activity_at activities n)) same ∙ was in
+          let link : link_place_of_activity (activity_at activities k) ≡ Some l = linked k l e in
+          let none : link_place_of_activity (activity_at activities k) ≡ None = ap (λ n. link_place_of_activity (activity_at activities n)) same ∙ was in
           cc
-      by_place (inr other) = ap link_of (get_or-set_other activities i k a Free other) ∙ linked k l e
+      by_place (inr other) = ap link_place_of_activity (get_or-set_other activities i k a Free other) ∙ linked k l e
 
 -- the exchange of a request that waited ends
-pub paired_unqueued : (activities : List Activity) (owners : List (Option ℕ)) (xs : List Exchange) (i : ℕ) → activity_at activities i ≡ Waiting → Paired activities owners xs → Paired (set activities i Free) owners (closed (i + 1) xs)
+pub paired_unqueued : (activities : List Activity) (owners : List (Option ℕ)) (xs : List Exchange) (i : ℕ) → activity_at activities i ≡ Waiting → ConnectionsAndLinksArePaired activities owners xs → ConnectionsAndLinksArePaired (set activities i Free) owners (exchanges_after_close (i + 1) xs)
 paired_unqueued activities owners xs i here h =
     let inside = waits_inside activities i here in
-    let was : link_of (activity_at activities i) ≡ None = ap link_of here in
+    let was : link_place_of_activity (activity_at activities i) ≡ None = ap link_place_of_activity here in
     record {
       owned = quiet_owned activities owners i Free inside was refl h.owned;
       linked = quiet_linked activities owners i Free inside was refl h.linked;
@@ -269,12 +269,12 @@ paired_unqueued activities owners xs i here h =
       numbered = forwarded_kept (i + 1) 0 xs (λ q. absurd (omega (arith, q))) ∙ h.numbered;
     }
   where
-    opened_by : (k : ℕ) → (k ≡ i) ⊎ (k ≢ i) → forwarded_at (k + 1) (closed (i + 1) xs) ≡ forwarded_in (activity_at (set activities i Free) k)
+    opened_by : (k : ℕ) → (k ≡ i) ⊎ (k ≢ i) → forwarded_or_waiting_at (k + 1) (exchanges_after_close (i + 1) xs) ≡ forwarded_or_waiting (activity_at (set activities i Free) k)
     opened_by k (inl same) =
-        subst (λ n. forwarded_at (n + 1) (closed (i + 1) xs) ≡ forwarded_in (activity_at (set activities i Free) n)) (sym same)
-        (forwarded_closed (i + 1) xs ∙ sym (ap forwarded_in (get_or-set_same activities i Free Free (waits_inside activities i here))))
+        subst (λ n. forwarded_or_waiting_at (n + 1) (exchanges_after_close (i + 1) xs) ≡ forwarded_or_waiting (activity_at (set activities i Free) n)) (sym same)
+        (forwarded_closed (i + 1) xs ∙ sym (ap forwarded_or_waiting (get_or-set_same activities i Free Free (waits_inside activities i here))))
     opened_by k (inr other) =
-        forwarded_kept (i + 1) (k + 1) xs (λ q. other (omega (arith, q))) ∙ (h.opened k ∙ sym (ap forwarded_in (get_or-set_other activities i k Free Free other)))
+        forwarded_kept (i + 1) (k + 1) xs (λ q. other (omega (arith, q))) ∙ (h.opened k ∙ sym (ap forwarded_or_waiting (get_or-set_other activities i k Free Free other)))
 
 -- ---- others are overtaken
 
@@ -287,16 +287,16 @@ overtaken_by true x id o p h = open_by (x.id == id)
     open_by false = h
 overtaken_by false x id o p h = out_by (x.id == id) x o p h
 
-find_overtaken : (key : Key) (id : ℕ) (xs : List Exchange) → forwarded_at id (map (overtake key) xs) ≡ forwarded_at id xs
+find_overtaken : (key : Key) (id : ℕ) (xs : List Exchange) → forwarded_or_waiting_at id (map (overtaken_exchange key) xs) ≡ forwarded_or_waiting_at id xs
 find_overtaken key id [] = refl
-find_overtaken key id (x ∷ xs) = overtaken_by (same_key x.asked.target.key key) x id (find_exchange id (map (overtake key) xs)) (find_exchange id xs) (find_overtaken key id xs)
+find_overtaken key id (x ∷ xs) = overtaken_by (same_key x.asked.target.key key) x id (find_exchange id (map (overtaken_exchange key) xs)) (find_exchange id xs) (find_overtaken key id xs)
 
 -- what is marked stays open
-find_left : (key : Option Key) (id other : ℕ) (xs : List Exchange) → forwarded_at other (left_open key id xs) ≡ forwarded_at other (closed id xs)
+find_left : (key : Option Key) (id other : ℕ) (xs : List Exchange) → forwarded_or_waiting_at other (exchanges_after_end key id xs) ≡ forwarded_or_waiting_at other (exchanges_after_close id xs)
 find_left None id other xs = refl
-find_left (Some key) id other xs = find_overtaken key other (closed id xs)
+find_left (Some key) id other xs = find_overtaken key other (exchanges_after_close id xs)
 
-pub paired_left : (activities : List Activity) (owners : List (Option ℕ)) (xs : List Exchange) (key : Option Key) (id : ℕ) → Paired activities owners (closed id xs) → Paired activities owners (left_open key id xs)
+pub paired_left : (activities : List Activity) (owners : List (Option ℕ)) (xs : List Exchange) (key : Option Key) (id : ℕ) → ConnectionsAndLinksArePaired activities owners (exchanges_after_close id xs) → ConnectionsAndLinksArePaired activities owners (exchanges_after_end key id xs)
 paired_left activities owners xs key id h = record {
   owned = h.owned;
   linked = h.linked;
@@ -306,8 +306,8 @@ paired_left activities owners xs key id h = record {
 
 -- ---- one opens
 
-pub paired_opened : (activities : List Activity) (owners : List (Option ℕ)) (xs : List Exchange) (x : Exchange) (i : ℕ) → i < length activities → activity_at activities i ≡ Free → x.id ≡ i + 1 → is_forwarded x.stage ≡ true → Paired activities owners xs
-    → Paired (set activities i (Forwarded (length owners))) (owners ++ Some i ∷ []) (xs ++ x ∷ [])
+pub paired_opened : (activities : List Activity) (owners : List (Option ℕ)) (xs : List Exchange) (x : Exchange) (i : ℕ) → i < length activities → activity_at activities i ≡ Free → x.id ≡ i + 1 → is_forwarded x.stage ≡ true → ConnectionsAndLinksArePaired activities owners xs
+    → ConnectionsAndLinksArePaired (set activities i (Forwarded (length owners))) (owners ++ Some i ∷ []) (xs ++ x ∷ [])
 paired_opened activities owners xs x i here free id staged h = record {
   owned = λ k l e. owned_by k l e (same_or_not k i);
   linked = λ k l e. linked_by k l e (cases_lt l (length owners));
@@ -318,63 +318,63 @@ paired_opened activities owners xs x i here free id staged h = record {
     next : activity_at (set activities i (Forwarded (length owners))) i ≡ Forwarded (length owners)
     next = get_or-set_same activities i (Forwarded (length owners)) Free here
 
-    owned_by : (k l : ℕ) → link_of (activity_at (set activities i (Forwarded (length owners))) k) ≡ Some l → (k ≡ i) ⊎ (k ≢ i) → at (owners ++ Some i ∷ []) l ≡ Some k
+    owned_by : (k l : ℕ) → link_place_of_activity (activity_at (set activities i (Forwarded (length owners))) k) ≡ Some l → (k ≡ i) ⊎ (k ≢ i) → owner_at (owners ++ Some i ∷ []) l ≡ Some k
     owned_by k l e (inl same) =
-        let place : length owners ≡ l = some_same (sym (ap link_of next) ∙ (ap (λ n. link_of (activity_at (set activities i (Forwarded (length owners))) n)) (sym same) ∙ e)) in
-        ap (at (owners ++ Some i ∷ [])) (sym place) ∙ (get_or-append_seam owners (Some i) [] None ∙ ap Some (sym same))
+        let place : length owners ≡ l = some_same (sym (ap link_place_of_activity next) ∙ (ap (λ n. link_place_of_activity (activity_at (set activities i (Forwarded (length owners))) n)) (sym same) ∙ e)) in
+        ap (owner_at (owners ++ Some i ∷ [])) (sym place) ∙ (get_or-append_seam owners (Some i) [] None ∙ ap Some (sym same))
     owned_by k l e (inr other) =
-        let owner : at owners l ≡ Some k = h.owned k l (sym (ap link_of (get_or-set_other activities i k (Forwarded (length owners)) Free other)) ∙ e) in
+        let owner : owner_at owners l ≡ Some k = h.owned k l (sym (ap link_place_of_activity (get_or-set_other activities i k (Forwarded (length owners)) Free other)) ∙ e) in
         get_or-append owners (Some i ∷ []) None l (within owners l k owner) ∙ owner
 
-    linked_by : (k l : ℕ) → at (owners ++ Some i ∷ []) l ≡ Some k → (l < length owners) ⊎ (length owners ≤ l) → link_of (activity_at (set activities i (Forwarded (length owners))) k) ≡ Some l
+    linked_by : (k l : ℕ) → owner_at (owners ++ Some i ∷ []) l ≡ Some k → (l < length owners) ⊎ (length owners ≤ l) → link_place_of_activity (activity_at (set activities i (Forwarded (length owners))) k) ≡ Some l
     linked_by k l e (inl before) =
-        let link : link_of (activity_at activities k) ≡ Some l = h.linked k l (sym (get_or-append owners (Some i ∷ []) None l before) ∙ e) in
-        let apart : k ≢ i = λ q. let none : link_of (activity_at activities k) ≡ None = ap link_of (ap (activity_at activities) q ∙ free) in cc in
-        ap link_of (get_or-set_other activities i k (Forwarded (length owners)) Free apart) ∙ link
+        let link : link_place_of_activity (activity_at activities k) ≡ Some l = h.linked k l (sym (get_or-append owners (Some i ∷ []) None l before) ∙ e) in
+        let apart : k ≢ i = λ q. let none : link_place_of_activity (activity_at activities k) ≡ None = ap link_place_of_activity (ap (activity_at activities) q ∙ free) in cc in
+        ap link_place_of_activity (get_or-set_other activities i k (Forwarded (length owners)) Free apart) ∙ link
     linked_by k l e (inr behind) =
         let last : l < length (owners ++ Some i ∷ []) = within (owners ++ Some i ∷ []) l k e in
         let place : l ≡ length owners = omega (arith, last, behind, length_push owners (Some i)) in
-        let same : i ≡ k = some_same (sym (get_or-append_seam owners (Some i) [] None) ∙ (ap (at (owners ++ Some i ∷ [])) (sym place) ∙ e)) in
-        ap link_of (ap (activity_at (set activities i (Forwarded (length owners)))) (sym same) ∙ next) ∙ ap Some (sym place)
+        let same : i ≡ k = some_same (sym (get_or-append_seam owners (Some i) [] None) ∙ (ap (owner_at (owners ++ Some i ∷ [])) (sym place) ∙ e)) in
+        ap link_place_of_activity (ap (activity_at (set activities i (Forwarded (length owners)))) (sym same) ∙ next) ∙ ap Some (sym place)
 
     unfound : find_exchange (i + 1) xs ≡ None
-    unfound = none_out (find_exchange (i + 1) xs) (h.opened i ∙ ap forwarded_in free)
+    unfound = none_out (find_exchange (i + 1) xs) (h.opened i ∙ ap forwarded_or_waiting free)
 
-    opened_by : (k : ℕ) → (k ≡ i) ⊎ (k ≢ i) → forwarded_at (k + 1) (xs ++ x ∷ []) ≡ forwarded_in (activity_at (set activities i (Forwarded (length owners))) k)
+    opened_by : (k : ℕ) → (k ≡ i) ⊎ (k ≢ i) → forwarded_or_waiting_at (k + 1) (xs ++ x ∷ []) ≡ forwarded_or_waiting (activity_at (set activities i (Forwarded (length owners))) k)
     opened_by k (inl same) =
-        subst (λ n. forwarded_at (n + 1) (xs ++ x ∷ []) ≡ forwarded_in (activity_at (set activities i (Forwarded (length owners))) n)) (sym same)
-        (forwarded_pushed (i + 1) xs x id unfound ∙ (ap (λ (b : Bool). Some b) staged ∙ sym (ap forwarded_in next)))
+        subst (λ n. forwarded_or_waiting_at (n + 1) (xs ++ x ∷ []) ≡ forwarded_or_waiting (activity_at (set activities i (Forwarded (length owners))) n)) (sym same)
+        (forwarded_pushed (i + 1) xs x id unfound ∙ (ap (λ (b : Bool). Some b) staged ∙ sym (ap forwarded_or_waiting next)))
     opened_by k (inr other) =
-        forwarded_before (k + 1) xs x (λ q. other (omega (arith, q, id))) ∙ (h.opened k ∙ sym (ap forwarded_in (get_or-set_other activities i k (Forwarded (length owners)) Free other)))
+        forwarded_before (k + 1) xs x (λ q. other (omega (arith, q, id))) ∙ (h.opened k ∙ sym (ap forwarded_or_waiting (get_or-set_other activities i k (Forwarded (length owners)) Free other)))
 
 -- one waits
-pub paired_queued : (activities : List Activity) (owners : List (Option ℕ)) (xs : List Exchange) (x : Exchange) (i : ℕ) → i < length activities → activity_at activities i ≡ Free → x.id ≡ i + 1 → is_forwarded x.stage ≡ false → Paired activities owners xs
-    → Paired (set activities i Waiting) owners (xs ++ x ∷ [])
+pub paired_queued : (activities : List Activity) (owners : List (Option ℕ)) (xs : List Exchange) (x : Exchange) (i : ℕ) → i < length activities → activity_at activities i ≡ Free → x.id ≡ i + 1 → is_forwarded x.stage ≡ false → ConnectionsAndLinksArePaired activities owners xs
+    → ConnectionsAndLinksArePaired (set activities i Waiting) owners (xs ++ x ∷ [])
 paired_queued activities owners xs x i here free id staged h =
     record {
-      owned = quiet_owned activities owners i Waiting here (ap link_of free) refl h.owned;
-      linked = quiet_linked activities owners i Waiting here (ap link_of free) refl h.linked;
+      owned = quiet_owned activities owners i Waiting here (ap link_place_of_activity free) refl h.owned;
+      linked = quiet_linked activities owners i Waiting here (ap link_place_of_activity free) refl h.linked;
       opened = λ k. opened_by k (same_or_not k i);
       numbered = forwarded_before 0 xs x (λ q. absurd (omega (arith, q, id))) ∙ h.numbered;
     }
   where
     unfound : find_exchange (i + 1) xs ≡ None
-    unfound = none_out (find_exchange (i + 1) xs) (h.opened i ∙ ap forwarded_in free)
+    unfound = none_out (find_exchange (i + 1) xs) (h.opened i ∙ ap forwarded_or_waiting free)
 
-    opened_by : (k : ℕ) → (k ≡ i) ⊎ (k ≢ i) → forwarded_at (k + 1) (xs ++ x ∷ []) ≡ forwarded_in (activity_at (set activities i Waiting) k)
+    opened_by : (k : ℕ) → (k ≡ i) ⊎ (k ≢ i) → forwarded_or_waiting_at (k + 1) (xs ++ x ∷ []) ≡ forwarded_or_waiting (activity_at (set activities i Waiting) k)
     opened_by k (inl same) =
-        subst (λ n. forwarded_at (n + 1) (xs ++ x ∷ []) ≡ forwarded_in (activity_at (set activities i Waiting) n)) (sym same)
-        (forwarded_pushed (i + 1) xs x id unfound ∙ (ap (λ (b : Bool). Some b) staged ∙ sym (ap forwarded_in (get_or-set_same activities i Waiting Free here))))
+        subst (λ n. forwarded_or_waiting_at (n + 1) (xs ++ x ∷ []) ≡ forwarded_or_waiting (activity_at (set activities i Waiting) n)) (sym same)
+        (forwarded_pushed (i + 1) xs x id unfound ∙ (ap (λ (b : Bool). Some b) staged ∙ sym (ap forwarded_or_waiting (get_or-set_same activities i Waiting Free here))))
     opened_by k (inr other) =
-        forwarded_before (k + 1) xs x (λ q. other (omega (arith, q, id))) ∙ (h.opened k ∙ sym (ap forwarded_in (get_or-set_other activities i k Waiting Free other)))
+        forwarded_before (k + 1) xs x (λ q. other (omega (arith, q, id))) ∙ (h.opened k ∙ sym (ap forwarded_or_waiting (get_or-set_other activities i k Waiting Free other)))
 
 -- ---- one goes forward once more, or when it is woken
 
-renewed_here : (id : ℕ) (g : Exchange → Exchange) → Renews g → (xs : List Exchange) → is_some (find_exchange id xs) ≡ true → forwarded_at id (map (renewed id g) xs) ≡ Some true
+renewed_here : (id : ℕ) (g : Exchange → Exchange) → Renews g → (xs : List Exchange) → is_some (find_exchange id xs) ≡ true → forwarded_or_waiting_at id (map (renewed id g) xs) ≡ Some true
 renewed_here id g r [] h = absurd (cc)
 renewed_here id g r (x ∷ xs) h = by_id (x.id == id) refl h (λ m. renewed_here id g r xs m)
   where
-    by_id : (b : Bool) → (x.id == id) ≡ b → is_some (cond b (Some x) (find_exchange id xs)) ≡ true → (is_some (find_exchange id xs) ≡ true → forwarded_at id (map (renewed id g) xs) ≡ Some true)
+    by_id : (b : Bool) → (x.id == id) ≡ b → is_some (cond b (Some x) (find_exchange id xs)) ≡ true → (is_some (find_exchange id xs) ≡ true → forwarded_or_waiting_at id (map (renewed id g) xs) ≡ Some true)
         → out (cond ((cond b (g x) x).id == id) (Some (cond b (g x) x)) (find_exchange id (map (renewed id g) xs))) ≡ Some true
     by_id true e h rest = ap (λ (b : Bool). out (cond b (Some (g x)) (find_exchange id (map (renewed id g) xs)))) (ap (λ n. n == id) (r.id x) ∙ e) ∙ ap (λ (b : Bool). Some b) (r.stage x)
     by_id false e h rest = ap (λ (b : Bool). out (cond b (Some x) (find_exchange id (map (renewed id g) xs)))) e ∙ rest h
@@ -386,14 +386,14 @@ renewed_by true id other g r x o p e n h =
     ap (λ (c : Bool). out (cond c (Some (g x)) o)) (ap (λ m. m == other) (r.id x) ∙ off) ∙ (h ∙ sym (ap (λ (c : Bool). out (cond c (Some x) p)) off))
 renewed_by false id other g r x o p e n h = out_by (x.id == other) x o p h
 
-renewed_other : (id other : ℕ) (g : Exchange → Exchange) → Renews g → (xs : List Exchange) → other ≢ id → forwarded_at other (map (renewed id g) xs) ≡ forwarded_at other xs
+renewed_other : (id other : ℕ) (g : Exchange → Exchange) → Renews g → (xs : List Exchange) → other ≢ id → forwarded_or_waiting_at other (map (renewed id g) xs) ≡ forwarded_or_waiting_at other xs
 renewed_other id other g r [] n = refl
 renewed_other id other g r (x ∷ xs) n =
     renewed_by (x.id == id) id other g r x (find_exchange other (map (renewed id g) xs)) (find_exchange other xs) refl n (renewed_other id other g r xs n)
 
 -- where its exchange ended, it has one more, with a link
-renewed_paired : (less : List Activity) (owners : List (Option ℕ)) (xs : List Exchange) (i : ℕ) (g : Exchange → Exchange) → Renews g → i < length less → activity_at less i ≡ Free → is_some (find_exchange (i + 1) xs) ≡ true → Paired less owners (closed (i + 1) xs)
-    → Paired (set less i (Forwarded (length owners))) (owners ++ Some i ∷ []) (map (renewed (i + 1) g) xs)
+renewed_paired : (less : List Activity) (owners : List (Option ℕ)) (xs : List Exchange) (i : ℕ) (g : Exchange → Exchange) → Renews g → i < length less → activity_at less i ≡ Free → is_some (find_exchange (i + 1) xs) ≡ true → ConnectionsAndLinksArePaired less owners (exchanges_after_close (i + 1) xs)
+    → ConnectionsAndLinksArePaired (set less i (Forwarded (length owners))) (owners ++ Some i ∷ []) (map (renewed (i + 1) g) xs)
 renewed_paired less owners xs i g r inside free there h = record {
   owned = opens.owned;
   linked = opens.linked;
@@ -407,47 +407,47 @@ renewed_paired less owners xs i g r inside free there h = record {
     x : Exchange
     x = record found.0 { id = i + 1; stage = stages.Forwarded }
 
-    opens : Paired (set less i (Forwarded (length owners))) (owners ++ Some i ∷ []) (closed (i + 1) xs ++ x ∷ [])
-    opens = paired_opened less owners (closed (i + 1) xs) x i inside free refl refl h
+    opens : ConnectionsAndLinksArePaired (set less i (Forwarded (length owners))) (owners ++ Some i ∷ []) (exchanges_after_close (i + 1) xs ++ x ∷ [])
+    opens = paired_opened less owners (exchanges_after_close (i + 1) xs) x i inside free refl refl h
 
-    unfound : find_exchange (i + 1) (closed (i + 1) xs) ≡ None
-    unfound = none_out (find_exchange (i + 1) (closed (i + 1) xs)) (forwarded_closed (i + 1) xs)
+    unfound : find_exchange (i + 1) (exchanges_after_close (i + 1) xs) ≡ None
+    unfound = none_out (find_exchange (i + 1) (exchanges_after_close (i + 1) xs)) (forwarded_closed (i + 1) xs)
 
-    open_still : (k : ℕ) → (k ≡ i) ⊎ (k ≢ i) → forwarded_at (k + 1) (map (renewed (i + 1) g) xs) ≡ forwarded_at (k + 1) (closed (i + 1) xs ++ x ∷ [])
+    open_still : (k : ℕ) → (k ≡ i) ⊎ (k ≢ i) → forwarded_or_waiting_at (k + 1) (map (renewed (i + 1) g) xs) ≡ forwarded_or_waiting_at (k + 1) (exchanges_after_close (i + 1) xs ++ x ∷ [])
     open_still k (inl same) =
-        subst (λ n. forwarded_at (n + 1) (map (renewed (i + 1) g) xs) ≡ forwarded_at (n + 1) (closed (i + 1) xs ++ x ∷ [])) (sym same)
-        (renewed_here (i + 1) g r xs there ∙ sym (forwarded_pushed (i + 1) (closed (i + 1) xs) x refl unfound))
+        subst (λ n. forwarded_or_waiting_at (n + 1) (map (renewed (i + 1) g) xs) ≡ forwarded_or_waiting_at (n + 1) (exchanges_after_close (i + 1) xs ++ x ∷ [])) (sym same)
+        (renewed_here (i + 1) g r xs there ∙ sym (forwarded_pushed (i + 1) (exchanges_after_close (i + 1) xs) x refl unfound))
     open_still k (inr other) =
         renewed_other (i + 1) (k + 1) g r xs (λ q. other (omega (arith, q)))
-        ∙ (sym (forwarded_kept (i + 1) (k + 1) xs (λ q. other (omega (arith, q)))) ∙ sym (forwarded_before (k + 1) (closed (i + 1) xs) x (λ q. other (omega (arith, q)))))
+        ∙ (sym (forwarded_kept (i + 1) (k + 1) xs (λ q. other (omega (arith, q)))) ∙ sym (forwarded_before (k + 1) (exchanges_after_close (i + 1) xs) x (λ q. other (omega (arith, q)))))
 
 -- the exchange of a connection that lost its link has a new one
-pub paired_again : (activities : List Activity) (owners : List (Option ℕ)) (xs : List Exchange) (i j : ℕ) (g : Exchange → Exchange) → Renews g → link_of (activity_at activities i) ≡ Some j → is_some (find_exchange (i + 1) xs) ≡ true → Paired activities owners xs
-    → Paired (set (set activities i Free) i (Forwarded (length (set owners j None)))) (set owners j None ++ Some i ∷ []) (map (renewed (i + 1) g) xs)
+pub paired_again : (activities : List Activity) (owners : List (Option ℕ)) (xs : List Exchange) (i j : ℕ) (g : Exchange → Exchange) → Renews g → link_place_of_activity (activity_at activities i) ≡ Some j → is_some (find_exchange (i + 1) xs) ≡ true → ConnectionsAndLinksArePaired activities owners xs
+    → ConnectionsAndLinksArePaired (set (set activities i Free) i (Forwarded (length (set owners j None)))) (set owners j None ++ Some i ∷ []) (map (renewed (i + 1) g) xs)
 paired_again activities owners xs i j g r here there h =
     renewed_paired (set activities i Free) (set owners j None) xs i g r (subst (λ n. i < n) (sym (length-set activities i Free)) (has_place activities i j here))
     (get_or-set_same activities i Free Free (has_place activities i j here)) there (paired_freed activities owners xs i j here h)
 
 -- that of one that waited has its first
-pub paired_awake : (activities : List Activity) (owners : List (Option ℕ)) (xs : List Exchange) (i : ℕ) (g : Exchange → Exchange) → Renews g → activity_at activities i ≡ Waiting → is_some (find_exchange (i + 1) xs) ≡ true → Paired activities owners xs
-    → Paired (set (set activities i Free) i (Forwarded (length owners))) (owners ++ Some i ∷ []) (map (renewed (i + 1) g) xs)
+pub paired_awake : (activities : List Activity) (owners : List (Option ℕ)) (xs : List Exchange) (i : ℕ) (g : Exchange → Exchange) → Renews g → activity_at activities i ≡ Waiting → is_some (find_exchange (i + 1) xs) ≡ true → ConnectionsAndLinksArePaired activities owners xs
+    → ConnectionsAndLinksArePaired (set (set activities i Free) i (Forwarded (length owners))) (owners ++ Some i ∷ []) (map (renewed (i + 1) g) xs)
 paired_awake activities owners xs i g r here there h =
     renewed_paired (set activities i Free) owners xs i g r (subst (λ n. i < n) (sym (length-set activities i Free)) (waits_inside activities i here))
     (get_or-set_same activities i Free Free (waits_inside activities i here)) there (paired_unqueued activities owners xs i here h)
 
 -- a request has arrived: it goes forward, or not
 pub paired_arrived : (table : Table) (cs cs1 cs2 : List (Option Connection)) (ks ks2 : List (Option Link)) (held : List Stored) (xs : List Exchange) (now i : ℕ) (asked : Asked) (o : Outcome) → i < length cs → activities_of cs1 ≡ activities_of cs → activity_at (activities_of cs) i ≡ Free
-    → activities_of cs2 ≡ activities_after i (length ks) o (activities_of cs1) → owners_of ks2 ≡ owners_after i o (owners_of ks) → Paired (activities_of cs) (owners_of ks) xs → Paired (activities_of cs2) (owners_of ks2) (open_after table held xs (Arrive now (i + 1) asked) o)
+    → activities_of cs2 ≡ activities_after i (length ks) o (activities_of cs1) → owners_of ks2 ≡ owners_after i o (owners_of ks) → ConnectionsAndLinksArePaired (activities_of cs) (owners_of ks) xs → ConnectionsAndLinksArePaired (activities_of cs2) (owners_of ks2) (open_exchanges_after table held xs (Arrive now (i + 1) asked) o)
 paired_arrived table cs cs1 cs2 ks ks2 held xs now i asked (Reply r) inside same free links owners h = paired_same _ _ _ _ xs (links ∙ same) owners h
 paired_arrived table cs cs1 cs2 ks ks2 held xs now i asked (Forward line bytes) inside same free links owners h =
     let size : length (owners_of ks) ≡ length ks = length-map ks owner_of in
     let pairing : length (activities_of cs) ≡ length cs = length-map cs activity_of in
-    let ys = xs ++ opened table held now (i + 1) asked line ∷ [] in
-    let opens = paired_opened (activities_of cs) (owners_of ks) xs (opened table held now (i + 1) asked line) i (omega (arith, inside, pairing)) free refl refl h in
+    let ys = xs ++ forwarded_exchange table held now (i + 1) asked line ∷ [] in
+    let opens = paired_opened (activities_of cs) (owners_of ks) xs (forwarded_exchange table held now (i + 1) asked line) i (omega (arith, inside, pairing)) free refl refl h in
     paired_same _ _ _ _ ys (links ∙ (ap (λ (ds : List Activity). set ds i (Forwarded (length ks))) same ∙ ap (λ n. set (activities_of cs) i (Forwarded n)) (sym size))) owners opens
 paired_arrived table cs cs1 cs2 ks ks2 held xs now i asked (Waits leader) inside same free links owners h =
     let pairing : length (activities_of cs) ≡ length cs = length-map cs activity_of in
-    let x = queued table held now (i + 1) asked (line_of (verdict_of table.lines asked.method asked.target)) leader in
+    let x = waiting_exchange table held now (i + 1) asked (line_of_verdict (verdict_of table.lines asked.method asked.target)) leader in
     paired_same _ _ _ _ (xs ++ x ∷ []) (links ∙ ap (λ (ds : List Activity). set ds i Waiting) same) owners
     (paired_queued (activities_of cs) (owners_of ks) xs x i (omega (arith, inside, pairing)) free refl refl h)
 paired_arrived table cs cs1 cs2 ks ks2 held xs now i asked Ended inside same free links owners h = paired_same _ _ _ _ xs (links ∙ same) owners h
@@ -455,33 +455,33 @@ paired_arrived table cs cs1 cs2 ks ks2 held xs now i asked Ended inside same fre
 -- ---- on both sides
 
 -- what is read of the part at a place
-pub mapped_at : {A : Type 0} (f : A → Option ℕ) (xs : List A) (i : ℕ) (d : A) → i < length xs → at (map f xs) i ≡ f (get_or xs i d)
+pub mapped_at : {A : Type 0} (f : A → Option ℕ) (xs : List A) (i : ℕ) (d : A) → i < length xs → owner_at (map f xs) i ≡ f (get_or xs i d)
 mapped_at f xs i d l = get_or-map f xs i d None l
 
 pub doing_at : (cs : List (Option Connection)) (i : ℕ) → i < length cs → activity_at (activities_of cs) i ≡ activity_of (get_or cs i None)
 doing_at cs i l = get_or-map activity_of cs i None Free l
 
 -- a link that is open belongs to a connection that has it
-pub owned_link : (cs : List (Option Connection)) (ks : List (Option Link)) (xs : List Exchange) (j : ℕ) (x : Link) → get_or ks j None ≡ Some x → Paired (activities_of cs) (owners_of ks) xs → link_of (activity_at (activities_of cs) x.connection) ≡ Some j
+pub owned_link : (cs : List (Option Connection)) (ks : List (Option Link)) (xs : List Exchange) (j : ℕ) (x : Link) → get_or ks j None ≡ Some x → ConnectionsAndLinksArePaired (activities_of cs) (owners_of ks) xs → link_place_of_activity (activity_at (activities_of cs) x.connection) ≡ Some j
 owned_link cs ks xs j x e w = w.linked x.connection j (mapped_at owner_of ks j None (inside ks j (ap is_some e)) ∙ ap owner_of e)
 
 -- the place of a connection that has a link, and that of its link
-pub within_connections : (cs : List (Option Connection)) (i j : ℕ) → link_of (activity_at (activities_of cs) i) ≡ Some j → i < length cs
+pub within_connections : (cs : List (Option Connection)) (i j : ℕ) → link_place_of_activity (activity_at (activities_of cs) i) ≡ Some j → i < length cs
 within_connections cs i j h = subst (λ n. i < n) (length-map cs activity_of) (has_place (activities_of cs) i j h)
 
-pub within_links : (cs : List (Option Connection)) (ks : List (Option Link)) (xs : List Exchange) (i j : ℕ) → link_of (activity_at (activities_of cs) i) ≡ Some j → Paired (activities_of cs) (owners_of ks) xs → j < length ks
+pub within_links : (cs : List (Option Connection)) (ks : List (Option Link)) (xs : List Exchange) (i j : ℕ) → link_place_of_activity (activity_at (activities_of cs) i) ≡ Some j → ConnectionsAndLinksArePaired (activities_of cs) (owners_of ks) xs → j < length ks
 within_links cs ks xs i j h w = subst (λ n. j < n) (length-map ks owner_of) (within (owners_of ks) j i (w.owned i j h))
 
 -- its exchange is open, and its request at the origin
-pub is_out : (cs : List (Option Connection)) (ks : List (Option Link)) (xs : List Exchange) (i j : ℕ) → link_of (activity_at (activities_of cs) i) ≡ Some j → Paired (activities_of cs) (owners_of ks) xs → forwarded_at (i + 1) xs ≡ Some true
+pub is_out : (cs : List (Option Connection)) (ks : List (Option Link)) (xs : List Exchange) (i j : ℕ) → link_place_of_activity (activity_at (activities_of cs) i) ≡ Some j → ConnectionsAndLinksArePaired (activities_of cs) (owners_of ks) xs → forwarded_or_waiting_at (i + 1) xs ≡ Some true
 is_out cs ks xs i j h w = w.opened i ∙ forwarded_from (activity_at (activities_of cs) i) j h
 
-pub is_open : (cs : List (Option Connection)) (ks : List (Option Link)) (xs : List Exchange) (i j : ℕ) → link_of (activity_at (activities_of cs) i) ≡ Some j → Paired (activities_of cs) (owners_of ks) xs → is_some (find_exchange (i + 1) xs) ≡ true
+pub is_open : (cs : List (Option Connection)) (ks : List (Option Link)) (xs : List Exchange) (i j : ℕ) → link_place_of_activity (activity_at (activities_of cs) i) ≡ Some j → ConnectionsAndLinksArePaired (activities_of cs) (owners_of ks) xs → is_some (find_exchange (i + 1) xs) ≡ true
 is_open cs ks xs i j h w = some_out (find_exchange (i + 1) xs) true (is_out cs ks xs i j h w)
 
 -- that of a request that waits is open
-pub is_waiting : (cs : List (Option Connection)) (ks : List (Option Link)) (xs : List Exchange) (i : ℕ) → activity_at (activities_of cs) i ≡ Waiting → Paired (activities_of cs) (owners_of ks) xs → is_some (find_exchange (i + 1) xs) ≡ true
-is_waiting cs ks xs i h w = some_out (find_exchange (i + 1) xs) false (w.opened i ∙ ap forwarded_in h)
+pub is_waiting : (cs : List (Option Connection)) (ks : List (Option Link)) (xs : List Exchange) (i : ℕ) → activity_at (activities_of cs) i ≡ Waiting → ConnectionsAndLinksArePaired (activities_of cs) (owners_of ks) xs → is_some (find_exchange (i + 1) xs) ≡ true
+is_waiting cs ks xs i h w = some_out (find_exchange (i + 1) xs) false (w.opened i ∙ ap forwarded_or_waiting h)
 
 pub within_waiting : (cs : List (Option Connection)) (i : ℕ) → activity_at (activities_of cs) i ≡ Waiting → i < length cs
 within_waiting cs i h = subst (λ n. i < n) (length-map cs activity_of) (waits_inside (activities_of cs) i h)
@@ -492,48 +492,48 @@ released_out (stages.Waiting m) h = refl
 released_out stages.Released h = refl
 
 -- one that may be woken waits
-pub ready_waits : (activities : List Activity) (owners : List (Option ℕ)) (xs : List Exchange) (i : ℕ) → IsReady (i + 1) xs → Paired activities owners xs → activity_at activities i ≡ Waiting
+pub ready_waits : (activities : List Activity) (owners : List (Option ℕ)) (xs : List Exchange) (i : ℕ) → ExchangeMayBeWoken (i + 1) xs → ConnectionsAndLinksArePaired activities owners xs → activity_at activities i ≡ Waiting
 ready_waits activities owners xs i r w =
     waiting_by (activity_at activities i) (sym (w.opened i) ∙ (ap out r.is_open ∙ ap (λ (b : Bool). Some b) (released_out r.x.stage r.stage)))
 
 -- and has the number of a connection
-pub ready_numbered : (activities : List Activity) (owners : List (Option ℕ)) (xs : List Exchange) (id : ℕ) → IsReady id xs → Paired activities owners xs → 0 < id
+pub ready_numbered : (activities : List Activity) (owners : List (Option ℕ)) (xs : List Exchange) (id : ℕ) → ExchangeMayBeWoken id xs → ConnectionsAndLinksArePaired activities owners xs → 0 < id
 ready_numbered activities owners xs zero r w =
     let none : None ≡ Some r.x = sym (none_out (find_exchange 0 xs) w.numbered) ∙ r.is_open in
     absurd (cc)
 ready_numbered activities owners xs (suc i) r w = omega arith
 
 -- that of a free connection isn't
-pub not_open : (cs : List (Option Connection)) (ks : List (Option Link)) (xs : List Exchange) (i : ℕ) → is_free (get_or cs i None) ≡ true → Paired (activities_of cs) (owners_of ks) xs → (activity_at (activities_of cs) i ≡ Free) × (is_some (find_exchange (i + 1) xs) ≡ false)
+pub not_open : (cs : List (Option Connection)) (ks : List (Option Link)) (xs : List Exchange) (i : ℕ) → connection_is_free_at (get_or cs i None) ≡ true → ConnectionsAndLinksArePaired (activities_of cs) (owners_of ks) xs → (activity_at (activities_of cs) i ≡ Free) × (is_some (find_exchange (i + 1) xs) ≡ false)
 not_open cs ks xs i free w =
     let idle : activity_at (activities_of cs) i ≡ Free = doing_at cs i (inside cs i (free_there (get_or cs i None) free)) ∙ free_activity (get_or cs i None) free in
-    (idle, ap is_some (none_out (find_exchange (i + 1) xs) (w.opened i ∙ ap forwarded_in idle)))
+    (idle, ap is_some (none_out (find_exchange (i + 1) xs) (w.opened i ∙ ap forwarded_or_waiting idle)))
 
 -- what has a link is open
-linked_there : (o : Option Connection) (j : ℕ) → link_of (activity_of o) ≡ Some j → (c : Connection) × (o ≡ Some c) × (link_of c.activity ≡ Some j)
+linked_there : (o : Option Connection) (j : ℕ) → link_place_of_activity (activity_of o) ≡ Some j → (c : Connection) × (o ≡ Some c) × (link_place_of_activity c.activity ≡ Some j)
 linked_there None j e = absurd (cc)
 linked_there (Some c) j e = (c, refl, e)
 
-pub linked_at : (cs : List (Option Connection)) (i j : ℕ) → link_of (activity_at (activities_of cs) i) ≡ Some j → (c : Connection) × (get_or cs i None ≡ Some c) × (link_of c.activity ≡ Some j)
-linked_at cs i j e = linked_there (get_or cs i None) j (sym (ap link_of (doing_at cs i (within_connections cs i j e))) ∙ e)
+pub linked_at : (cs : List (Option Connection)) (i j : ℕ) → link_place_of_activity (activity_at (activities_of cs) i) ≡ Some j → (c : Connection) × (get_or cs i None ≡ Some c) × (link_place_of_activity c.activity ≡ Some j)
+linked_at cs i j e = linked_there (get_or cs i None) j (sym (ap link_place_of_activity (doing_at cs i (within_connections cs i j e))) ∙ e)
 
 owned_there : (o : Option Link) (i : ℕ) → owner_of o ≡ Some i → is_some o ≡ true
 owned_there None i e = absurd (cc)
 owned_there (Some k) i e = refl
 
 -- the link of a connection is open
-pub link_there : (cs : List (Option Connection)) (ks : List (Option Link)) (xs : List Exchange) (i j : ℕ) → link_of (activity_at (activities_of cs) i) ≡ Some j → Paired (activities_of cs) (owners_of ks) xs → is_some (get_or ks j None) ≡ true
+pub link_there : (cs : List (Option Connection)) (ks : List (Option Link)) (xs : List Exchange) (i j : ℕ) → link_place_of_activity (activity_at (activities_of cs) i) ≡ Some j → ConnectionsAndLinksArePaired (activities_of cs) (owners_of ks) xs → is_some (get_or ks j None) ≡ true
 link_there cs ks xs i j e w = owned_there (get_or ks j None) i (sym (mapped_at owner_of ks j None (within_links cs ks xs i j e w)) ∙ w.owned i j e)
 
-here_by : (gone : Bool) (a : Activity) (j : ℕ) → link_of a ≡ Some j → gone && has_exchange a ≡ false → gone ≡ false
+here_by : (gone : Bool) (a : Activity) (j : ℕ) → link_place_of_activity a ≡ Some j → gone && has_exchange a ≡ false → gone ≡ false
 here_by true a j l e = sym (open_from a j l) ∙ e
 here_by false a j l e = refl
 
 -- where none is lost, a connection that has a link isn't gone
-pub still_here : (cs : List (Option Connection)) (i j : ℕ) → NoneLost cs → link_of (activity_at (activities_of cs) i) ≡ Some j → gone_at (get_or cs i None) ≡ Some false
+pub still_here : (cs : List (Option Connection)) (i j : ℕ) → NoConnectionIsLost cs → link_place_of_activity (activity_at (activities_of cs) i) ≡ Some j → is_gone_at (get_or cs i None) ≡ Some false
 still_here cs i j none e =
     let c = linked_at cs i j e in
-    ap gone_at c.1 ∙ ap (λ (b : Bool). Some b) (here_by c.0.gone c.0.activity j c.2 (none i c.0 c.1))
+    ap is_gone_at c.1 ∙ ap (λ (b : Bool). Some b) (here_by c.0.gone c.0.activity j c.2 (none i c.0 c.1))
 
 waiting_there : (o : Option Connection) → activity_of o ≡ Waiting → (c : Connection) × (o ≡ Some c) × (has_exchange c.activity ≡ true)
 waiting_there None e = absurd (cc)
@@ -544,27 +544,27 @@ here_with true held o e = sym o ∙ e
 here_with false held o e = refl
 
 -- nor is one whose request waits
-pub waits_here : (cs : List (Option Connection)) (i : ℕ) → NoneLost cs → activity_at (activities_of cs) i ≡ Waiting → gone_at (get_or cs i None) ≡ Some false
+pub waits_here : (cs : List (Option Connection)) (i : ℕ) → NoConnectionIsLost cs → activity_at (activities_of cs) i ≡ Waiting → is_gone_at (get_or cs i None) ≡ Some false
 waits_here cs i none e =
     let c = waiting_there (get_or cs i None) (sym (doing_at cs i (within_waiting cs i e)) ∙ e) in
-    ap gone_at c.1 ∙ ap (λ (b : Bool). Some b) (here_with c.0.gone (has_exchange c.0.activity) c.2 (none i c.0 c.1))
+    ap is_gone_at c.1 ∙ ap (λ (b : Bool). Some b) (here_with c.0.gone (has_exchange c.0.activity) c.2 (none i c.0 c.1))
 
 -- an exchange has ended, on all sides
-pub paired_ended : (cs cs1 : List (Option Connection)) (ks ks1 : List (Option Link)) (xs xs1 : List Exchange) (i j : ℕ) → link_of (activity_at (activities_of cs) i) ≡ Some j → activities_of cs1 ≡ set (activities_of cs) i Free → owners_of ks1 ≡ set (owners_of ks) j None → (key : Option Key) → xs1 ≡ left_open key (i + 1) xs
-    → Paired (activities_of cs) (owners_of ks) xs → Paired (activities_of cs1) (owners_of ks1) xs1
+pub paired_ended : (cs cs1 : List (Option Connection)) (ks ks1 : List (Option Link)) (xs xs1 : List Exchange) (i j : ℕ) → link_place_of_activity (activity_at (activities_of cs) i) ≡ Some j → activities_of cs1 ≡ set (activities_of cs) i Free → owners_of ks1 ≡ set (owners_of ks) j None → (key : Option Key) → xs1 ≡ exchanges_after_end key (i + 1) xs
+    → ConnectionsAndLinksArePaired (activities_of cs) (owners_of ks) xs → ConnectionsAndLinksArePaired (activities_of cs1) (owners_of ks1) xs1
 paired_ended cs cs1 ks ks1 xs xs1 i j h links owners key exchanges w =
-    subst (λ (ds : List Activity). Paired ds (owners_of ks1) xs1) (sym links)
-    (subst (λ (os : List (Option ℕ)). Paired (set (activities_of cs) i Free) os xs1) (sym owners)
-    (subst (λ (es : List Exchange). Paired (set (activities_of cs) i Free) (set (owners_of ks) j None) es) (sym exchanges) (paired_left (set (activities_of cs) i Free) (set (owners_of ks) j None) xs key (i + 1) (paired_freed (activities_of cs) (owners_of ks) xs i j h w))))
+    subst (λ (ds : List Activity). ConnectionsAndLinksArePaired ds (owners_of ks1) xs1) (sym links)
+    (subst (λ (os : List (Option ℕ)). ConnectionsAndLinksArePaired (set (activities_of cs) i Free) os xs1) (sym owners)
+    (subst (λ (es : List Exchange). ConnectionsAndLinksArePaired (set (activities_of cs) i Free) (set (owners_of ks) j None) es) (sym exchanges) (paired_left (set (activities_of cs) i Free) (set (owners_of ks) j None) xs key (i + 1) (paired_freed (activities_of cs) (owners_of ks) xs i j h w))))
 
 -- an exchange was finished, or goes forward once more
-pub paired_finished : (cs cs1 cs2 : List (Option Connection)) (ks ks1 ks2 : List (Option Link)) (xs ys : List Exchange) (i j : ℕ) (o : Outcome) → link_of (activity_at (activities_of cs) i) ≡ Some j → activities_of cs1 ≡ set (activities_of cs) i Free → owners_of ks1 ≡ set (owners_of ks) j None
-    → activities_of cs2 ≡ activities_after i (length ks1) o (activities_of cs1) → owners_of ks2 ≡ owners_after i o (owners_of ks1) → is_some (find_exchange (i + 1) xs) ≡ true → Remains o (i + 1) xs ys → Paired (activities_of cs) (owners_of ks) xs → Paired (activities_of cs2) (owners_of ks2) ys
+pub paired_finished : (cs cs1 cs2 : List (Option Connection)) (ks ks1 ks2 : List (Option Link)) (xs ys : List Exchange) (i j : ℕ) (o : Outcome) → link_place_of_activity (activity_at (activities_of cs) i) ≡ Some j → activities_of cs1 ≡ set (activities_of cs) i Free → owners_of ks1 ≡ set (owners_of ks) j None
+    → activities_of cs2 ≡ activities_after i (length ks1) o (activities_of cs1) → owners_of ks2 ≡ owners_after i o (owners_of ks1) → is_some (find_exchange (i + 1) xs) ≡ true → Remains o (i + 1) xs ys → ConnectionsAndLinksArePaired (activities_of cs) (owners_of ks) xs → ConnectionsAndLinksArePaired (activities_of cs2) (owners_of ks2) ys
 paired_finished cs cs1 cs2 ks ks1 ks2 xs ys i j (Reply r) here links owners links2 owners2 there left h = paired_ended cs cs2 ks ks2 xs ys i j here (links2 ∙ links) (owners2 ∙ owners) left.0 left.1 h
 paired_finished cs cs1 cs2 ks ks1 ks2 xs ys i j (Forward line bytes) here links owners links2 owners2 there left h =
     let free = set (owners_of ks) j None in
     let size : length ks1 ≡ length free = sym (length-map ks1 owner_of) ∙ ap length owners in
-    subst (λ (es : List Exchange). Paired (activities_of cs2) (owners_of ks2) es) (sym left.2)
+    subst (λ (es : List Exchange). ConnectionsAndLinksArePaired (activities_of cs2) (owners_of ks2) es) (sym left.2)
     (paired_same _ _ _ _ (map (renewed (i + 1) left.0) xs)
     (links2 ∙ (ap (λ (ds : List Activity). set ds i (Forwarded (length ks1))) links ∙ ap (λ n. set (set (activities_of cs) i Free) i (Forwarded n)) size))
     (owners2 ∙ ap (λ (os : List (Option ℕ)). os ++ Some i ∷ []) owners) (paired_again (activities_of cs) (owners_of ks) xs i j left.0 left.1 here there h))
@@ -572,76 +572,76 @@ paired_finished cs cs1 cs2 ks ks1 ks2 xs ys i j (Waits leader) here links owners
 paired_finished cs cs1 cs2 ks ks1 ks2 xs ys i j Ended here links owners links2 owners2 there left h = paired_ended cs cs2 ks ks2 xs ys i j here (links2 ∙ links) (owners2 ∙ owners) left.0 left.1 h
 
 -- the exchange of a request that waited has ended, on all sides
-pub paired_waited : (cs cs1 : List (Option Connection)) (os : List (Option ℕ)) (xs xs1 : List Exchange) (i : ℕ) → activity_at (activities_of cs) i ≡ Waiting → activities_of cs1 ≡ set (activities_of cs) i Free → (key : Option Key) → xs1 ≡ left_open key (i + 1) xs
-    → Paired (activities_of cs) os xs → Paired (activities_of cs1) os xs1
+pub paired_waited : (cs cs1 : List (Option Connection)) (os : List (Option ℕ)) (xs xs1 : List Exchange) (i : ℕ) → activity_at (activities_of cs) i ≡ Waiting → activities_of cs1 ≡ set (activities_of cs) i Free → (key : Option Key) → xs1 ≡ exchanges_after_end key (i + 1) xs
+    → ConnectionsAndLinksArePaired (activities_of cs) os xs → ConnectionsAndLinksArePaired (activities_of cs1) os xs1
 paired_waited cs cs1 os xs xs1 i h links key exchanges w =
-    subst (λ (ds : List Activity). Paired ds os xs1) (sym links)
-    (subst (λ (es : List Exchange). Paired (set (activities_of cs) i Free) os es) (sym exchanges) (paired_left (set (activities_of cs) i Free) os xs key (i + 1) (paired_unqueued (activities_of cs) os xs i h w)))
+    subst (λ (ds : List Activity). ConnectionsAndLinksArePaired ds os xs1) (sym links)
+    (subst (λ (es : List Exchange). ConnectionsAndLinksArePaired (set (activities_of cs) i Free) os es) (sym exchanges) (paired_left (set (activities_of cs) i Free) os xs key (i + 1) (paired_unqueued (activities_of cs) os xs i h w)))
 
 -- a request that waited was answered, or goes forward
 pub paired_woken : (cs cs1 cs2 : List (Option Connection)) (ks ks2 : List (Option Link)) (xs ys : List Exchange) (i : ℕ) (o : Outcome) → activity_at (activities_of cs) i ≡ Waiting → activities_of cs1 ≡ set (activities_of cs) i Free
-    → activities_of cs2 ≡ activities_after i (length ks) o (activities_of cs1) → owners_of ks2 ≡ owners_after i o (owners_of ks) → is_some (find_exchange (i + 1) xs) ≡ true → Remains o (i + 1) xs ys → Paired (activities_of cs) (owners_of ks) xs → Paired (activities_of cs2) (owners_of ks2) ys
+    → activities_of cs2 ≡ activities_after i (length ks) o (activities_of cs1) → owners_of ks2 ≡ owners_after i o (owners_of ks) → is_some (find_exchange (i + 1) xs) ≡ true → Remains o (i + 1) xs ys → ConnectionsAndLinksArePaired (activities_of cs) (owners_of ks) xs → ConnectionsAndLinksArePaired (activities_of cs2) (owners_of ks2) ys
 paired_woken cs cs1 cs2 ks ks2 xs ys i (Reply r) here links links2 owners2 there left h =
-    subst (λ (os : List (Option ℕ)). Paired (activities_of cs2) os ys) (sym owners2) (paired_waited cs cs2 (owners_of ks) xs ys i here (links2 ∙ links) left.0 left.1 h)
+    subst (λ (os : List (Option ℕ)). ConnectionsAndLinksArePaired (activities_of cs2) os ys) (sym owners2) (paired_waited cs cs2 (owners_of ks) xs ys i here (links2 ∙ links) left.0 left.1 h)
 paired_woken cs cs1 cs2 ks ks2 xs ys i (Forward line bytes) here links links2 owners2 there left h =
     let size : length ks ≡ length (owners_of ks) = sym (length-map ks owner_of) in
-    subst (λ (es : List Exchange). Paired (activities_of cs2) (owners_of ks2) es) (sym left.2)
+    subst (λ (es : List Exchange). ConnectionsAndLinksArePaired (activities_of cs2) (owners_of ks2) es) (sym left.2)
     (paired_same _ _ _ _ (map (renewed (i + 1) left.0) xs)
     (links2 ∙ (ap (λ (ds : List Activity). set ds i (Forwarded (length ks))) links ∙ ap (λ n. set (set (activities_of cs) i Free) i (Forwarded n)) size))
     owners2 (paired_awake (activities_of cs) (owners_of ks) xs i left.0 left.1 here there h))
 paired_woken cs cs1 cs2 ks ks2 xs ys i (Waits leader) here links links2 owners2 there left h = absurd left
 paired_woken cs cs1 cs2 ks ks2 xs ys i Ended here links links2 owners2 there left h =
-    subst (λ (os : List (Option ℕ)). Paired (activities_of cs2) os ys) (sym owners2) (paired_waited cs cs2 (owners_of ks) xs ys i here (links2 ∙ links) left.0 left.1 h)
+    subst (λ (os : List (Option ℕ)). ConnectionsAndLinksArePaired (activities_of cs2) os ys) (sym owners2) (paired_waited cs cs2 (owners_of ks) xs ys i here (links2 ∙ links) left.0 left.1 h)
 
 -- a connection was accepted, or wasn't
-pub paired_accepted : {E : Type 0} (r : Result (Unit {0}) E) (cs cs1 : List (Option Connection)) (os : List (Option ℕ)) (xs : List Exchange) → OnOk r (activities_of cs1 ≡ activities_of cs ++ Free ∷ []) → OnErr r (cs1 ≡ cs) → Paired (activities_of cs) os xs → Paired (activities_of cs1) os xs
-paired_accepted (Ok u) cs cs1 os xs more same w = subst (λ (ds : List Activity). Paired ds os xs) (sym more) (paired_more (activities_of cs) os xs w)
-paired_accepted (Err e) cs cs1 os xs more same w = subst (λ (ds : List (Option Connection)). Paired (activities_of ds) os xs) (sym same) w
+pub paired_accepted : {E : Type 0} (r : Result (Unit {0}) E) (cs cs1 : List (Option Connection)) (os : List (Option ℕ)) (xs : List Exchange) → OnOk r (activities_of cs1 ≡ activities_of cs ++ Free ∷ []) → OnErr r (cs1 ≡ cs) → ConnectionsAndLinksArePaired (activities_of cs) os xs → ConnectionsAndLinksArePaired (activities_of cs1) os xs
+paired_accepted (Ok u) cs cs1 os xs more same w = subst (λ (ds : List Activity). ConnectionsAndLinksArePaired ds os xs) (sym more) (paired_more (activities_of cs) os xs w)
+paired_accepted (Err e) cs cs1 os xs more same w = subst (λ (ds : List (Option Connection)). ConnectionsAndLinksArePaired (activities_of ds) os xs) (sym same) w
 
-early_by : (now : ℕ) → now < END_OF_TIME → too_late now ≡ None
+early_by : (now : ℕ) → now < END_OF_TIME → moment_too_late_fault now ≡ None
 early_by now l = ap (λ (b : Bool). cond b None (Some MomentTooLate)) (lt-ltb now END_OF_TIME l)
 
 -- an arrival at a free id, in time, is refused only where memory runs out
 pub arrival_refused : (xs : List Exchange) (now id : ℕ) (asked : Asked) (fault : CoreFault) → is_some (find_exchange id xs) ≡ false → now < END_OF_TIME
-    → (fault_by xs (Arrive now id asked) ≡ Some fault) ⊎ ((fault_by xs (Arrive now id asked) ≡ None) × (fault ≡ OutOfMemory)) → fault ≡ OutOfMemory
+    → (step_fault xs (Arrive now id asked) ≡ Some fault) ⊎ ((step_fault xs (Arrive now id asked) ≡ None) × (fault ≡ OutOfMemory)) → fault ≡ OutOfMemory
 arrival_refused xs now id asked fault free early (inl represents) = refused_by (find_exchange id xs) free represents
   where
-    refused_by : (o : Option Exchange) → is_some o ≡ false → fault_of o (Arrive now id asked) ≡ Some fault → fault ≡ OutOfMemory
+    refused_by : (o : Option Exchange) → is_some o ≡ false → fault_at_exchange o (Arrive now id asked) ≡ Some fault → fault ≡ OutOfMemory
     refused_by (Some x) f h = cc
     refused_by None f h = let none = early_by now early in cc
 arrival_refused xs now id asked fault free early (inr memory) = memory.1
 
-not_out : (s : Stage) → is_forwarded s ≡ true → not_forwarded s ≡ None
+not_out : (s : Stage) → is_forwarded s ≡ true → fault_if_not_forwarded s ≡ None
 not_out s h = ap (λ (b : Bool). cond b None (Some NotForwarded)) h
 
 -- what stands on a link of an open exchange is refused only where memory runs out
-module _ (xs : List Exchange) (now id : ℕ) (fault : CoreFault) (out_now : forwarded_at id xs ≡ Some true) (early : now < END_OF_TIME) where
+module _ (xs : List Exchange) (now id : ℕ) (fault : CoreFault) (out_now : forwarded_or_waiting_at id xs ≡ Some true) (early : now < END_OF_TIME) where
   -- so is any event that asks of its exchange to be at the origin
-  out_refused : (e : Event) → ((x : Exchange) → fault_of (Some x) e ≡ or_fault (too_late now) (not_forwarded x.stage))
-      → (fault_of (find_exchange id xs) e ≡ Some fault) ⊎ ((fault_of (find_exchange id xs) e ≡ None) × (fault ≡ OutOfMemory)) → fault ≡ OutOfMemory
+  out_refused : (e : Event) → ((x : Exchange) → fault_at_exchange (Some x) e ≡ or_fault (moment_too_late_fault now) (fault_if_not_forwarded x.stage))
+      → (fault_at_exchange (find_exchange id xs) e ≡ Some fault) ⊎ ((fault_at_exchange (find_exchange id xs) e ≡ None) × (fault ≡ OutOfMemory)) → fault ≡ OutOfMemory
   out_refused e asks (inl represents) = refused_by (find_exchange id xs) out_now represents
     where
-      refused_by : (o : Option Exchange) → out o ≡ Some true → fault_of o e ≡ Some fault → fault ≡ OutOfMemory
+      refused_by : (o : Option Exchange) → out o ≡ Some true → fault_at_exchange o e ≡ Some fault → fault ≡ OutOfMemory
       refused_by None h f = absurd (cc)
       refused_by (Some x) h f =
           let staged : is_forwarded x.stage ≡ true = cc in
-          let none : fault_of (Some x) e ≡ None = asks x ∙ (ap (λ (a : Option CoreFault). or_fault a (not_forwarded x.stage)) (early_by now early) ∙ not_out x.stage staged) in
+          let none : fault_at_exchange (Some x) e ≡ None = asks x ∙ (ap (λ (a : Option CoreFault). or_fault a (fault_if_not_forwarded x.stage)) (early_by now early) ∙ not_out x.stage staged) in
           let no : None ≡ Some fault = sym none ∙ f in
           absurd (cc)
   out_refused e asks (inr memory) = memory.1
 
-  pub answer_refused : (r : Response) → (fault_by xs (Answer now id r) ≡ Some fault) ⊎ ((fault_by xs (Answer now id r) ≡ None) × (fault ≡ OutOfMemory)) → fault ≡ OutOfMemory
+  pub answer_refused : (r : Response) → (step_fault xs (Answer now id r) ≡ Some fault) ⊎ ((step_fault xs (Answer now id r) ≡ None) × (fault ≡ OutOfMemory)) → fault ≡ OutOfMemory
   answer_refused r h = out_refused (Answer now id r) (λ x. refl) h
 
-  pub failure_refused : (kind : FailKind) → (fault_by xs (Fail now id kind) ≡ Some fault) ⊎ ((fault_by xs (Fail now id kind) ≡ None) × (fault ≡ OutOfMemory)) → fault ≡ OutOfMemory
+  pub failure_refused : (kind : FailKind) → (step_fault xs (Fail now id kind) ≡ Some fault) ⊎ ((step_fault xs (Fail now id kind) ≡ None) × (fault ≡ OutOfMemory)) → fault ≡ OutOfMemory
   failure_refused kind h = out_refused (Fail now id kind) (λ x. refl) h
 
 -- and a wake of one that may be woken
-pub wake_refused : (xs : List Exchange) (now id : ℕ) (fault : CoreFault) → IsReady id xs → now < END_OF_TIME → (fault_by xs (Wake now id) ≡ Some fault) ⊎ ((fault_by xs (Wake now id) ≡ None) × (fault ≡ OutOfMemory)) → fault ≡ OutOfMemory
+pub wake_refused : (xs : List Exchange) (now id : ℕ) (fault : CoreFault) → ExchangeMayBeWoken id xs → now < END_OF_TIME → (step_fault xs (Wake now id) ≡ Some fault) ⊎ ((step_fault xs (Wake now id) ≡ None) × (fault ≡ OutOfMemory)) → fault ≡ OutOfMemory
 wake_refused xs now id fault r early (inl represents) =
-    let none : fault_by xs (Wake now id) ≡ None =
-    ap (λ (w : Option Exchange). fault_of w (Wake now id)) r.is_open
-    ∙ (ap (λ (a : Option CoreFault). or_fault a (not_ready r.x.stage)) (early_by now early) ∙ ap (λ (b : Bool). cond b None (Some NotReady)) r.stage) in
+    let none : step_fault xs (Wake now id) ≡ None =
+    ap (λ (w : Option Exchange). fault_at_exchange w (Wake now id)) r.is_open
+    ∙ (ap (λ (a : Option CoreFault). or_fault a (fault_if_not_released r.x.stage)) (early_by now early) ∙ ap (λ (b : Bool). cond b None (Some NotReady)) r.stage) in
     let no : None ≡ Some fault = sym none ∙ represents in
     absurd (cc)
 wake_refused xs now id fault r early (inr memory) = memory.1

@@ -6,25 +6,25 @@ use Rattle.hx_framing.specs.declared.messages.Next.{Next}
 use Rattle.hx_framing.specs.declared.messages.Next.TheVariants as next
 use Rattle.proxy_engine.specs.declared.endpoints.lookahead.Lookahead.{Lookahead}
 use Rattle.proxy_engine.specs.declared.endpoints.lookahead.Lookahead.TheVariants.{Unknown, Quiet, Due}
-use Rattle.proxy_engine.specs.Lookahead.{Shows, is_due}
+use Rattle.proxy_engine.specs.Lookahead.{LookaheadShows, lookahead_is_due}
 use Rattle.hx_framing.specs.RequestState.{RepresentsStream as RequestRepresentsStream}
 use Rattle.hx_framing.specs.RequestStream.{Answers as RequestAnswers}
 use Rattle.hx_framing.specs.ResponseState.{RepresentsStream as ResponseRepresentsStream}
 use Rattle.hx_framing.specs.ResponseStream.{Answers as ResponseAnswers}
 use Rattle.proxy_engine.proofs.Peeking.{answers_shown}
 use Rattle.proxy_engine.specs.EngineModel.{LinkModel, ConnectionModel}
-use Rattle.proxy_engine.specs.Due.{FinishDue, FinishBy, Wanted, ActionBy, finish_of, action_of, is_busy}
-use Rattle.proxy_engine.specs.State.{LinkRepresents, ConnectionRepresents, finish_seen, finish_at, action_seen, action_at, gone_at}
-use Rattle.proxy_engine.specs.Activities.{link_of, has_exchange}
+use Rattle.proxy_engine.specs.Due.{IsDueOnLink, LinkResultUnlessDropped, IsDueOnConnection, ConnectionActionUnlessBusy, link_result_of, due_request_action, takes_no_request}
+use Rattle.proxy_engine.specs.State.{LinkRepresents, ConnectionRepresents, link_result_seen, link_result_at, due_request_seen, due_request_at, is_gone_at}
+use Rattle.proxy_engine.specs.Activities.{link_place_of_activity, has_exchange}
 use Rattle.proxy_engine.specs.Pairing.{activity_of}
-use Rattle.proxy_engine.specs.Marked.{lost_at}
+use Rattle.proxy_engine.specs.Marked.{lost_connection_at}
 use Rattle.proxy_engine.specs.declared.endpoints.activities.Activity.{Activity}
 use Rattle.proxy_engine.specs.declared.endpoints.ends.Connection.{Connection}
 use Rattle.proxy_engine.specs.declared.endpoints.ends.Link.{Link}
 use Rattle.hx_status.specs.declared.cause.FailKind.{FailKind}
 
 -- whether something is shown
-pub finish_variant : (l : Lookahead Response) (k : Option FailKind) → is_due l || is_some k ≡ is_some (finish_seen l k)
+pub finish_variant : (l : Lookahead Response) (k : Option FailKind) → lookahead_is_due l || is_some k ≡ is_some (link_result_seen l k)
 finish_variant Unknown None = refl
 finish_variant Unknown (Some k) = refl
 finish_variant Quiet None = refl
@@ -36,7 +36,7 @@ finish_variant (Due (next.Refused f)) k = refl
 finish_variant (Due next.End) k = refl
 finish_variant (Due (next.Message m)) k = refl
 
-pub action_variant : (l : Lookahead Request) → is_due l ≡ is_some (action_seen l)
+pub action_variant : (l : Lookahead Request) → lookahead_is_due l ≡ is_some (due_request_seen l)
 action_variant Unknown = refl
 action_variant Quiet = refl
 action_variant (Due next.More) = refl
@@ -45,53 +45,53 @@ action_variant (Due (next.Refused f)) = refl
 action_variant (Due next.End) = refl
 action_variant (Due (next.Message m)) = refl
 
-pub finish_by : (l : Lookahead Response) (k : Option FailKind) (a : Next Response) → Shows l a → finish_seen l k ≡ finish_of a k
+pub finish_by : (l : Lookahead Response) (k : Option FailKind) (a : Next Response) → LookaheadShows l a → link_result_seen l k ≡ link_result_of a k
 finish_by Unknown k a s = absurd s
-finish_by Quiet k a s = ap (λ (a : Next Response). finish_of a k) (sym s)
-finish_by (Due b) k a s = ap (λ (a : Next Response). finish_of a k) (sym s)
+finish_by Quiet k a s = ap (λ (a : Next Response). link_result_of a k) (sym s)
+finish_by (Due b) k a s = ap (λ (a : Next Response). link_result_of a k) (sym s)
 
-pub action_by : (l : Lookahead Request) (a : Next Request) → Shows l a → action_seen l ≡ action_of a
-action_by Unknown a s = absurd s
-action_by Quiet a s = ap (λ (a : Next Request). action_of a) (sym s)
-action_by (Due b) a s = ap (λ (a : Next Request). action_of a) (sym s)
+pub action_of_fault : (l : Lookahead Request) (a : Next Request) → LookaheadShows l a → due_request_seen l ≡ due_request_action a
+action_of_fault Unknown a s = absurd s
+action_of_fault Quiet a s = ap (λ (a : Next Request). due_request_action a) (sym s)
+action_of_fault (Due b) a s = ap (λ (a : Next Request). due_request_action a) (sym s)
 
 -- a link that was looked at
-pub finish_due : (k : Link) (s : LinkModel) (a : Next Response) → LinkRepresents (Some k) s → Shows k.reader.ahead a → FinishDue s (finish_at (Some k))
+pub finish_due : (k : Link) (s : LinkModel) (a : Next Response) → LinkRepresents (Some k) s → LookaheadShows k.reader.ahead a → IsDueOnLink s (link_result_at (Some k))
 finish_due k s a h shows =
-    subst (λ (b : Bool). FinishBy b s (finish_at (Some k))) (sym h.still) (
+    subst (λ (b : Bool). LinkResultUnlessDropped b s (link_result_at (Some k))) (sym h.still) (
       a,
       answers_shown ResponseRepresentsStream ResponseAnswers k.reader s.progress a h.reader shows,
-      finish_by k.reader.ahead k.failed a shows ∙ ap (finish_of a) h.failed,
+      finish_by k.reader.ahead k.failed a shows ∙ ap (link_result_of a) h.failed,
     )
 
-busy_same : (c : Connection) (s : ConnectionModel) → ConnectionRepresents (Some c) s → is_busy c.gone false c.activity ≡ is_busy s.gone s.closed s.activity
-busy_same c s h = ap (λ (b : Bool). is_busy b false c.activity) h.gone ∙ (ap (λ (b : Bool). is_busy s.gone b c.activity) (sym h.still) ∙ ap (λ (a : Activity). is_busy s.gone s.closed a) h.activity)
+busy_same : (c : Connection) (s : ConnectionModel) → ConnectionRepresents (Some c) s → takes_no_request c.gone false c.activity ≡ takes_no_request s.gone s.closed s.activity
+busy_same c s h = ap (λ (b : Bool). takes_no_request b false c.activity) h.gone ∙ (ap (λ (b : Bool). takes_no_request s.gone b c.activity) (sym h.still) ∙ ap (λ (a : Activity). takes_no_request s.gone s.closed a) h.activity)
 
-pub wanted : (c : Connection) (s : ConnectionModel) (a : Next Request) → is_busy c.gone false c.activity ≡ false → ConnectionRepresents (Some c) s → Shows c.reader.ahead a → Wanted s (action_at (Some c))
+pub wanted : (c : Connection) (s : ConnectionModel) (a : Next Request) → takes_no_request c.gone false c.activity ≡ false → ConnectionRepresents (Some c) s → LookaheadShows c.reader.ahead a → IsDueOnConnection s (due_request_at (Some c))
 wanted c s a idle h shows =
-    subst (λ (b : Bool). ActionBy b s (action_at (Some c))) (sym idle ∙ busy_same c s h) (
+    subst (λ (b : Bool). ConnectionActionUnlessBusy b s (due_request_at (Some c))) (sym idle ∙ busy_same c s h) (
       a,
       answers_shown RequestRepresentsStream RequestAnswers c.reader s.progress a h.reader shows,
-      ap (λ (b : Bool). cond b None (action_seen c.reader.ahead)) idle ∙ action_by c.reader.ahead a shows,
+      ap (λ (b : Bool). cond b None (due_request_seen c.reader.ahead)) idle ∙ action_of_fault c.reader.ahead a shows,
     )
 
-pub wanted_busy : (c : Connection) (s : ConnectionModel) → is_busy c.gone false c.activity ≡ true → ConnectionRepresents (Some c) s → Wanted s (action_at (Some c))
+pub wanted_busy : (c : Connection) (s : ConnectionModel) → takes_no_request c.gone false c.activity ≡ true → ConnectionRepresents (Some c) s → IsDueOnConnection s (due_request_at (Some c))
 wanted_busy c s busy h =
-    subst (λ (b : Bool). ActionBy b s (action_at (Some c))) (sym busy ∙ busy_same c s h) (ap (λ (b : Bool). cond b None (action_seen c.reader.ahead)) busy)
+    subst (λ (b : Bool). ConnectionActionUnlessBusy b s (due_request_at (Some c))) (sym busy ∙ busy_same c s h) (ap (λ (b : Bool). cond b None (due_request_seen c.reader.ahead)) busy)
 
 -- it isn't gone, and no exchange is open
-pub idle : (gone : Bool) (a : Activity) → gone ≡ false → has_exchange a ≡ false → is_busy gone false a ≡ false
-idle gone a here none = ap (λ (b : Bool). is_busy b false a) here ∙ none
+pub idle : (gone : Bool) (a : Activity) → gone ≡ false → has_exchange a ≡ false → takes_no_request gone false a ≡ false
+idle gone a here none = ap (λ (b : Bool). takes_no_request b false a) here ∙ none
 
 pub none_from : {A : Type 0} (o : Option A) → false ≡ is_some o → o ≡ None
 none_from None h = refl
 none_from (Some a) h = cc
 
 -- a connection that is gone with an open exchange, or not
-pub lost : (c : Option Connection) (s : ConnectionModel) (l : Option ℕ) → ConnectionRepresents c s → lost_at c ≡ Some l → Some l ≡ cond (s.gone && has_exchange s.activity) (Some (link_of s.activity)) None
+pub lost : (c : Option Connection) (s : ConnectionModel) (l : Option ℕ) → ConnectionRepresents c s → lost_connection_at c ≡ Some l → Some l ≡ cond (s.gone && has_exchange s.activity) (Some (link_place_of_activity s.activity)) None
 lost None s l h e = absurd (cc)
 lost (Some c) s l h e =
-    sym e ∙ (ap (λ (b : Bool). cond (b && has_exchange c.activity) (Some (link_of c.activity)) None) h.gone ∙ ap (λ (a : Activity). cond (s.gone && has_exchange a) (Some (link_of a)) None) h.activity)
+    sym e ∙ (ap (λ (b : Bool). cond (b && has_exchange c.activity) (Some (link_place_of_activity c.activity)) None) h.gone ∙ ap (λ (a : Activity). cond (s.gone && has_exchange a) (Some (link_place_of_activity a)) None) h.activity)
 
 pub lost_by : (gone held : Bool) (link l : Option ℕ) → cond (gone && held) (Some link) None ≡ Some l → (gone ≡ true) × (held ≡ true) × (link ≡ l)
 lost_by true true link l e = let same : link ≡ l = cc in (refl, refl, same)
@@ -99,8 +99,8 @@ lost_by true false link l e = absurd (cc)
 lost_by false held link l e = absurd (cc)
 
 -- it is gone, has an open exchange, and that link, if any
-pub lost_link : (o : Option Connection) (l : Option ℕ) → lost_at o ≡ Some l → (gone_at o ≡ Some true) × (has_exchange (activity_of o) ≡ true) × (link_of (activity_of o) ≡ l)
+pub lost_link : (o : Option Connection) (l : Option ℕ) → lost_connection_at o ≡ Some l → (is_gone_at o ≡ Some true) × (has_exchange (activity_of o) ≡ true) × (link_place_of_activity (activity_of o) ≡ l)
 lost_link None l e = absurd (cc)
 lost_link (Some c) l e =
-    let all = lost_by c.gone (has_exchange c.activity) (link_of c.activity) l e in
+    let all = lost_by c.gone (has_exchange c.activity) (link_place_of_activity c.activity) l e in
     (ap (λ (b : Bool). Some b) all.0, all.1, all.2)

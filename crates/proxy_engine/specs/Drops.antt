@@ -1,44 +1,47 @@
 -- Which links an act drops, and how many effects it has.
 --
--- drop_of: the link that an effect drops     OnlyFirstDrops: an act drops one link at most, before all else
--- ActsAreShort, ActsEmitDrops, TakesDropNone: the laws
+-- link_dropped_by_effect: the link that an effect drops
+-- OnlyFirstEffectDropsALink: an act drops one link at most, before all else
+-- ActHasFewEffects, EachDroppedLinkIsEmitted, HappeningsDropNoLink: the laws
 use Rattle.std.specs.Prelude.{◌≡◌, ◌⊎◌, ℕ, ◌+◌, ◌<◌, ◌≤◌, List, [], ◌∷◌, length, true, Option, None, Some}
 use Rattle.std.specs.List.{AllByRecursion}
 use Rattle.proxy_script.specs.declared.effect_list.Effect.{Effect}
 use Rattle.proxy_script.specs.declared.effect_list.Effect.TheVariants as effects
-use Rattle.proxy_engine.specs.Numbers.{link_number}
-use Rattle.proxy_engine.specs.Happenings.{Said}
-use Rattle.proxy_engine.specs.EngineModel.{EngineModel, link_at, heard}
+use Rattle.proxy_engine.specs.ConnectionNumbers.{link_number}
+use Rattle.proxy_engine.specs.Happenings.{PlainHappening}
+use Rattle.proxy_engine.specs.EngineModel.{EngineModel, link_at, model_after_happening}
 use Rattle.proxy_engine.specs.Due.{Act}
-use Rattle.proxy_engine.specs.Acts.{Does}
+use Rattle.proxy_engine.specs.Acts.{ActIsDone}
 
-abbrev pub drop_of : Effect → Option ℕ
-drop_of (effects.Client n bytes) = None
-drop_of (effects.Forward l address bytes) = None
-drop_of (effects.Close n) = None
-drop_of (effects.Drop l) = Some l
+abbrev pub link_dropped_by_effect : Effect → Option ℕ
+link_dropped_by_effect (effects.Client n bytes) = None
+link_dropped_by_effect (effects.Forward l address bytes) = None
+link_dropped_by_effect (effects.Close n) = None
+link_dropped_by_effect (effects.Drop l) = Some l
 
-abbrev pub DropsNone : List Effect → Type 0
-DropsNone emitted = AllByRecursion (λ (e : Effect). drop_of e ≡ None) emitted
+abbrev pub EffectsDropNoLink : List Effect → Type 0
+EffectsDropNoLink emitted = AllByRecursion (λ (e : Effect). link_dropped_by_effect e ≡ None) emitted
 
 -- what follows the first effect drops no link
-abbrev pub OnlyFirstDrops : List Effect → Type 0
-OnlyFirstDrops [] = Unit {0}
-OnlyFirstDrops (e ∷ emitted) = DropsNone emitted
+abbrev pub OnlyFirstEffectDropsALink : List Effect → Type 0
+OnlyFirstEffectDropsALink [] = Unit {0}
+OnlyFirstEffectDropsALink (e ∷ emitted) = EffectsDropNoLink emitted
 
-abbrev pub ActsAreShort : Type 0
-ActsAreShort =
-    (s : EngineModel) (now : ℕ) (act : Act) (emitted : List Effect) (after : EngineModel) → Does s now act emitted after
-    → (length emitted ≤ 3) × OnlyFirstDrops emitted
+abbrev pub ActHasFewEffects : Type 0
+ActHasFewEffects =
+    (s : EngineModel) (now : ℕ) (act : Act) (emitted : List Effect) (after : EngineModel)
+    → ActIsDone s now act emitted after
+    → (length emitted ≤ 3) × OnlyFirstEffectDropsALink emitted
 
 -- a link that is dropped behind an act was dropped before it, or the act tells that
-abbrev pub ActsEmitDrops : Type 0
-ActsEmitDrops =
+abbrev pub EachDroppedLinkIsEmitted : Type 0
+EachDroppedLinkIsEmitted =
     (s : EngineModel) (now : ℕ) (act : Act) (emitted : List Effect) (after : EngineModel) (j : ℕ)
-    → Does s now act emitted after → j < length after.links → (link_at after j).dropped ≡ true →
+    → ActIsDone s now act emitted after → j < length after.links → (link_at after j).dropped ≡ true →
     ((j < length s.links) × ((link_at s j).dropped ≡ true))
     ⊎ ((rest : List Effect) × (emitted ≡ effects.Drop (link_number s.first j) ∷ rest))
 
 -- what happens drops no link
-abbrev pub TakesDropNone : Type 0
-TakesDropNone = (s : EngineModel) (h : Said) (j : ℕ) → (link_at (heard s h) j).dropped ≡ (link_at s j).dropped
+abbrev pub HappeningsDropNoLink : Type 0
+HappeningsDropNoLink = (s : EngineModel) (h : PlainHappening) (j : ℕ) → (link_at (model_after_happening s h) j).dropped
+    ≡ (link_at s j).dropped

@@ -1,17 +1,19 @@
 -- What an engine has lived through: whole streams, the messages of them that were used, and the marks. No reader
 -- and no memory stand in it.
 --
--- EngineModel: connections, links and the core      heard: what a happening adds      fault_of: why one isn't taken
--- keeps: whether anything of a happening is kept
+-- EngineModel: connections, links and the core
+-- model_after_happening: what a happening adds
+-- happening_fault: why one isn't taken
+-- happening_is_kept: whether anything of a happening is kept
 use Rattle.std.specs.Prelude.{ℕ, ◌+◌, ◌-◌, List, [], ◌∷◌, ◌++◌, length, Bool, true, false, ◌&&◌, ◌||◌, ◌==◌, not}
 use Rattle.std.specs.Prelude.{nat_lt, nat_le, Option, None, Some, is_some, if◌then◌else◌, slice_set, slice_index_or}
 use Rattle.hx_framing.specs.declared.messages.Request.{Request}
 use Rattle.hx_framing.specs.declared.messages.Response.{Response}
-use Rattle.hx_framing.specs.Progress.{Progress, start, fed, finished}
+use Rattle.hx_framing.specs.Progress.{Progress, no_stream, stream_with_piece, stream_finished}
 use Rattle.hx_status.specs.declared.cause.FailKind.{FailKind}
 use Rattle.proxy_core.specs.State.{State as CoreState}
-use Rattle.proxy_engine.specs.Numbers.{connection_number, connection_place, link_place}
-use Rattle.proxy_engine.specs.Happenings.{Said, Accepts, Sends, Hears, Ends, Leaves, Shuts, Fails}
+use Rattle.proxy_engine.specs.ConnectionNumbers.{connection_number, connection_place, link_place}
+use Rattle.proxy_engine.specs.Happenings.{PlainHappening, Accepts, Sends, Hears, Ends, Leaves, Shuts, Fails}
 use Rattle.proxy_engine.specs.declared.endpoints.activities.Activity.{Activity}
 use Rattle.proxy_engine.specs.declared.endpoints.activities.Activity.TheVariants.{Free}
 use Rattle.proxy_engine.specs.declared.work.EngineFault.{EngineFault}
@@ -36,18 +38,30 @@ pub record EngineModel : Type 0 where
   pub core : CoreState
   pub first : ℕ
 
-abbrev pub accepted : ℕ → ConnectionModel
-accepted max_body = record { progress = start max_body false; gone = false; closed = false; activity = Free }
+abbrev pub new_connection_model : ℕ → ConnectionModel
+new_connection_model max_body = record {
+  progress = no_stream max_body false;
+  gone = false;
+  closed = false;
+  activity
+      = Free;
+}
 
-abbrev pub opened : ℕ → Bool → ℕ → LinkModel
-opened max_body to_head i = record { progress = start max_body to_head; failed = None; dropped = false; connection = i }
+abbrev pub new_link_model : ℕ → Bool → ℕ → LinkModel
+new_link_model max_body to_head i = record {
+  progress = no_stream max_body to_head;
+  failed = None;
+  dropped
+      = false;
+  connection = i;
+}
 
 -- stand-ins beyond the lists
 abbrev pub no_connection : ConnectionModel
-no_connection = record { progress = start 0 false; gone = true; closed = true; activity = Free }
+no_connection = record { progress = no_stream 0 false; gone = true; closed = true; activity = Free }
 
 abbrev pub no_link : LinkModel
-no_link = record { progress = start 0 false; failed = None; dropped = true; connection = 0 }
+no_link = record { progress = no_stream 0 false; failed = None; dropped = true; connection = 0 }
 
 abbrev pub connection_at : EngineModel → ℕ → ConnectionModel
 connection_at s i = slice_index_or s.connections i no_connection
@@ -64,35 +78,37 @@ abbrev pub link_fault : ℕ → ℕ → ℕ → Option EngineFault
 link_fault first count l = if nat_le first l && nat_lt (link_place first l) count then None else Some WrongNumber
 
 -- why a happening isn't taken
-abbrev pub fault_of : EngineModel → Said → Option EngineFault
-fault_of s (Accepts n) = if n == connection_number (length s.connections) then None else Some WrongNumber
-fault_of s (Sends n bytes) = connection_fault (length s.connections) n
-fault_of s (Ends n) = connection_fault (length s.connections) n
-fault_of s (Leaves n) = connection_fault (length s.connections) n
-fault_of s (Hears l bytes) = link_fault s.first (length s.links) l
-fault_of s (Shuts l) = link_fault s.first (length s.links) l
-fault_of s (Fails l kind) = link_fault s.first (length s.links) l
+abbrev pub happening_fault : EngineModel → PlainHappening → Option EngineFault
+happening_fault s (Accepts n) = if n == connection_number (length s.connections) then None else Some WrongNumber
+happening_fault s (Sends n bytes) = connection_fault (length s.connections) n
+happening_fault s (Ends n) = connection_fault (length s.connections) n
+happening_fault s (Leaves n) = connection_fault (length s.connections) n
+happening_fault s (Hears l bytes) = link_fault s.first (length s.links) l
+happening_fault s (Shuts l) = link_fault s.first (length s.links) l
+happening_fault s (Fails l kind) = link_fault s.first (length s.links) l
 
 -- what comes for a connection that is closed, gone or ended changes nothing
-abbrev pub sent : List ℕ → ConnectionModel → ConnectionModel
-sent bytes c = if c.gone || (c.closed || c.progress.ended) then c else record c { progress = fed c.progress bytes }
+abbrev pub connection_after_bytes : List ℕ → ConnectionModel → ConnectionModel
+connection_after_bytes bytes c = if c.gone || (c.closed || c.progress.ended) then c
+    else record c { progress = stream_with_piece c.progress bytes }
 
-abbrev pub ended : ConnectionModel → ConnectionModel
-ended c = if c.gone || c.closed then c else record c { progress = finished c.progress }
+abbrev pub connection_after_end : ConnectionModel → ConnectionModel
+connection_after_end c = if c.gone || c.closed then c else record c { progress = stream_finished c.progress }
 
-abbrev pub left : ConnectionModel → ConnectionModel
-left c = if c.closed then c else record c { gone = true }
+abbrev pub connection_after_disconnect : ConnectionModel → ConnectionModel
+connection_after_disconnect c = if c.closed then c else record c { gone = true }
 
 -- nor does what comes for a link that is dropped, failed or shut
-abbrev pub heard_by : List ℕ → LinkModel → LinkModel
-heard_by bytes k =
-    if k.dropped || (is_some k.failed || k.progress.ended) then k else record k { progress = fed k.progress bytes }
+abbrev pub link_after_bytes : List ℕ → LinkModel → LinkModel
+link_after_bytes bytes k =
+    if k.dropped || (is_some k.failed || k.progress.ended) then k
+    else record k { progress = stream_with_piece k.progress bytes }
 
-abbrev pub shut : LinkModel → LinkModel
-shut k = if k.dropped || is_some k.failed then k else record k { progress = finished k.progress }
+abbrev pub link_after_shut : LinkModel → LinkModel
+link_after_shut k = if k.dropped || is_some k.failed then k else record k { progress = stream_finished k.progress }
 
-abbrev pub failed_by : FailKind → LinkModel → LinkModel
-failed_by kind k = if k.dropped || is_some k.failed then k else record k { failed = Some kind }
+abbrev pub link_after_failure : FailKind → LinkModel → LinkModel
+link_after_failure kind k = if k.dropped || is_some k.failed then k else record k { failed = Some kind }
 
 -- bytes are kept of a connection that isn't closed, gone or ended, and of a link that isn't dropped, failed or shut
 abbrev pub keeps_bytes : ConnectionModel → Bool
@@ -102,14 +118,14 @@ abbrev pub keeps_answer : LinkModel → Bool
 keeps_answer k = not (k.dropped || (is_some k.failed || k.progress.ended))
 
 -- a connection is kept, and bytes where they are; marks take no memory
-abbrev pub keeps : EngineModel → Said → Bool
-keeps s (Accepts n) = true
-keeps s (Sends n bytes) = keeps_bytes (connection_at s (connection_place n))
-keeps s (Hears l bytes) = keeps_answer (link_at s (link_place s.first l))
-keeps s (Ends n) = false
-keeps s (Leaves n) = false
-keeps s (Shuts l) = false
-keeps s (Fails l kind) = false
+abbrev pub happening_is_kept : EngineModel → PlainHappening → Bool
+happening_is_kept s (Accepts n) = true
+happening_is_kept s (Sends n bytes) = keeps_bytes (connection_at s (connection_place n))
+happening_is_kept s (Hears l bytes) = keeps_answer (link_at s (link_place s.first l))
+happening_is_kept s (Ends n) = false
+happening_is_kept s (Leaves n) = false
+happening_is_kept s (Shuts l) = false
+happening_is_kept s (Fails l kind) = false
 
 abbrev pub with_connection : EngineModel → ℕ → (ConnectionModel → ConnectionModel) → EngineModel
 with_connection s i f =
@@ -132,17 +148,17 @@ with_link s j f =
 abbrev pub with_core : EngineModel → CoreState → EngineModel
 with_core s core = record { connections = s.connections; links = s.links; core = core; first = s.first }
 
-abbrev pub heard : EngineModel → Said → EngineModel
-heard s (Accepts n) =
+abbrev pub model_after_happening : EngineModel → PlainHappening → EngineModel
+model_after_happening s (Accepts n) =
     record {
-      connections = s.connections ++ accepted s.core.table.max_body ∷ [];
+      connections = s.connections ++ new_connection_model s.core.table.max_body ∷ [];
       links = s.links;
       core = s.core;
       first = s.first;
     }
-heard s (Sends n bytes) = with_connection s (connection_place n) (sent bytes)
-heard s (Ends n) = with_connection s (connection_place n) ended
-heard s (Leaves n) = with_connection s (connection_place n) left
-heard s (Hears l bytes) = with_link s (link_place s.first l) (heard_by bytes)
-heard s (Shuts l) = with_link s (link_place s.first l) shut
-heard s (Fails l kind) = with_link s (link_place s.first l) (failed_by kind)
+model_after_happening s (Sends n bytes) = with_connection s (connection_place n) (connection_after_bytes bytes)
+model_after_happening s (Ends n) = with_connection s (connection_place n) connection_after_end
+model_after_happening s (Leaves n) = with_connection s (connection_place n) connection_after_disconnect
+model_after_happening s (Hears l bytes) = with_link s (link_place s.first l) (link_after_bytes bytes)
+model_after_happening s (Shuts l) = with_link s (link_place s.first l) link_after_shut
+model_after_happening s (Fails l kind) = with_link s (link_place s.first l) (link_after_failure kind)

@@ -1,67 +1,70 @@
 -- Out of memory never hides that no link number is left.
 --
--- is_unknown, HasThere: nothing is known of an end            StopsAt: a look over the links has found no memory
--- IsSeen: it is known what is due, and whether it needs a link
--- ReportsExhausted: out of memory is told only where a number is left
--- HidesNoWake, HidesNoAnswer: what isn't so
+-- lookahead_is_unknown, IsKeptWithFlag: nothing is known of an end
+-- LookStoppedForMemory: a look over the links has found no memory
+-- ActIsSeenByLooks: it is known what is due, and whether it needs a link
+-- ReportsLinkNumbersExhausted: out of memory is told only where a number is left
+-- MemoryHidesNoExhaustedWake, MemoryHidesNoExhaustedAnswer: what isn't so
 use Rattle.std.specs.Prelude.{◌≡◌, ◌≢◌, ℕ, ◌<◌, ◌≤◌, ◌^◌, List, Bool, true, false, Option, None, Some, slice_index_or}
 use Rattle.proxy_engine.specs.EngineModel.{EngineModel, LinkModel, no_link}
 use Rattle.hx_framing.specs.declared.messages.Response.{Response}
-use Rattle.proxy_engine.specs.Due.{Act, Abandons, Finishes, Wakes, Serves, Gives, IsDueFirst, FinishDue}
-use Rattle.proxy_engine.specs.Acts.{MayForward, next_number}
-use Rattle.proxy_engine.specs.State.{State, Both, LinkRepresents}
+use Rattle.proxy_engine.specs.Due.{Act, Abandons, Finishes, Wakes, Serves, Gives, IsDueFirst, IsDueOnLink}
+use Rattle.proxy_engine.specs.Acts.{ActMayForward, next_link_number}
+use Rattle.proxy_engine.specs.State.{State, RelatesLists, LinkRepresents}
 use Rattle.proxy_engine.specs.declared.endpoints.lookahead.Lookahead.{Lookahead}
 use Rattle.proxy_engine.specs.declared.endpoints.lookahead.Lookahead.TheVariants.{Unknown, Quiet, Due}
 use Rattle.proxy_engine.specs.declared.endpoints.ends.Connection.{Connection}
 use Rattle.proxy_engine.specs.declared.endpoints.ends.Link.{Link}
 
 -- its reader wasn't asked since bytes came, or found no memory to answer
-abbrev pub is_unknown : {M : Type 0} → Lookahead M → Bool
-is_unknown Unknown = true
-is_unknown Quiet = false
-is_unknown (Due a) = false
+abbrev pub lookahead_is_unknown : {M : Type 0} → Lookahead M → Bool
+lookahead_is_unknown Unknown = true
+lookahead_is_unknown Quiet = false
+lookahead_is_unknown (Due a) = false
 
 -- something is kept at the place, and it has the flag
-abbrev pub HasThere : {A : Type 0} → (A → Bool) → Option A → Type 0
-HasThere flag None = ⊥
-HasThere flag (Some x) = flag x ≡ true
+abbrev pub IsKeptWithFlag : {A : Type 0} → (A → Bool) → Option A → Type 0
+IsKeptWithFlag flag None = ⊥
+IsKeptWithFlag flag (Some x) = flag x ≡ true
 
 abbrev pub connection_unknown : Connection → Bool
-connection_unknown c = is_unknown c.reader.ahead
+connection_unknown c = lookahead_is_unknown c.reader.ahead
 
 abbrev pub link_unknown : Link → Bool
-link_unknown k = is_unknown k.reader.ahead
+link_unknown k = lookahead_is_unknown k.reader.ahead
 
 -- the look at this place found no memory, and nothing is due before it, whatever the links stand for
-pub record StopsAt (ks : List (Option Link)) : Type 0 where
+pub record LookStoppedForMemory (ks : List (Option Link)) : Type 0 where
   pub place : ℕ
-  pub unknown : HasThere link_unknown (slice_index_or ks place None)
-  pub before : (ys : List LinkModel) → Both LinkRepresents ks ys → (j : ℕ) → j < place
-      → FinishDue (slice_index_or ys j no_link) None
+  pub unknown : IsKeptWithFlag link_unknown (slice_index_or ks place None)
+  pub before : (ys : List LinkModel) → RelatesLists LinkRepresents ks ys → (j : ℕ) → j < place
+      → IsDueOnLink (slice_index_or ys j no_link) None
 
 -- The looks at the links tell what is due, and that it may need a link: of an answer those up to its own, of a wake all
 -- of them. An arriving request is judged first, and that takes memory.
-abbrev pub IsSeen : State → Act → Type 0
-IsSeen e (Abandons i l) = Unit {0}
-IsSeen e (Finishes j finish) = (k : ℕ) → k ≤ j → HasThere link_unknown (slice_index_or e.links k None) → ⊥
-IsSeen e (Wakes i) = (k : ℕ) → HasThere link_unknown (slice_index_or e.links k None) → ⊥
-IsSeen e (Serves i action) = ⊥
+abbrev pub ActIsSeenByLooks : State → Act → Type 0
+ActIsSeenByLooks e (Abandons i l) = Unit {0}
+ActIsSeenByLooks e (Finishes j finish) = (k : ℕ) → k ≤ j → IsKeptWithFlag link_unknown (slice_index_or e.links k None)
+    → ⊥
+ActIsSeenByLooks e (Wakes i) = (k : ℕ) → IsKeptWithFlag link_unknown (slice_index_or e.links k None) → ⊥
+ActIsSeenByLooks e (Serves i action) = ⊥
 
 -- where the act that is due is seen, and may need a link, a number for it is left
-abbrev pub ReportsExhausted : EngineModel → State → Type 0
-ReportsExhausted s e = (act : Act) → IsDueFirst s (Some act) → MayForward act → IsSeen e act → next_number s < 2 ^ 64
+abbrev pub ReportsLinkNumbersExhausted : EngineModel → State → Type 0
+ReportsLinkNumbersExhausted s e = (act : Act) → IsDueFirst s (Some act) → ActMayForward act
+    → ActIsSeenByLooks e act → next_link_number s < 2 ^ 64
 
 -- ---- the statements
 
 -- a request is to be woken, all links are known, and no number is left for one more: memory isn't what is wanting
-abbrev pub HidesNoWake : Type 0
-HidesNoWake = (s : EngineModel) (e : State) (i : ℕ) → IsDueFirst s (Some (Wakes i))
+abbrev pub MemoryHidesNoExhaustedWake : Type 0
+MemoryHidesNoExhaustedWake = (s : EngineModel) (e : State) (i : ℕ) → IsDueFirst s (Some (Wakes i))
     → ((k : ℕ) (link : Link) → slice_index_or e.links k None ≡ Some link → link.reader.ahead ≢ Unknown)
-    → 2 ^ 64 ≤ next_number s → ReportsExhausted s e → ⊥
+    → 2 ^ 64 ≤ next_link_number s → ReportsLinkNumbersExhausted s e → ⊥
 
 -- nor where an answer is due, and the links up to its own are known
-abbrev pub HidesNoAnswer : Type 0
-HidesNoAnswer =
+abbrev pub MemoryHidesNoExhaustedAnswer : Type 0
+MemoryHidesNoExhaustedAnswer =
     (s : EngineModel) (e : State) (j : ℕ) (response : Response) → IsDueFirst s (Some (Finishes j (Gives response)))
     → ((k : ℕ) (link : Link) → k ≤ j → slice_index_or e.links k None ≡ Some link → link.reader.ahead ≢ Unknown)
-    → 2 ^ 64 ≤ next_number s → ReportsExhausted s e → ⊥
+    → 2 ^ 64 ≤ next_link_number s → ReportsLinkNumbersExhausted s e → ⊥

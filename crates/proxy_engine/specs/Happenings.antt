@@ -1,13 +1,23 @@
 -- What happens to a proxy, and which of it takes memory.
 use Rattle.std.specs.Prelude.{Bool, true, false}
-pub use Rattle.proxy_script.specs.Happenings.{Said, Accepts, Sends, Hears, Ends, Leaves, Shuts, Fails, said}
+pub use Rattle.proxy_script.specs.Happenings.{
+  PlainHappening,
+  Accepts,
+  Sends,
+  Hears,
+  Ends,
+  Leaves,
+  Shuts,
+  Fails,
+  plain_happening,
+}
 
 -- a connection or bytes are kept
-abbrev pub takes_memory : Said → Bool
-takes_memory (Accepts n) = true
-takes_memory (Sends n bytes) = true
-takes_memory (Hears l bytes) = true
-takes_memory (Ends n) = false
-takes_memory (Leaves n) = false
-takes_memory (Shuts l) = false
-takes_memory (Fails l kind) = false
+abbrev pub happening_takes_memory : PlainHappening → Bool
+happening_takes_memory (Accepts n) = true
+happening_takes_memory (Sends n bytes) = true
+happening_takes_memory (Hears l bytes) = true
+happening_takes_memory (Ends n) = false
+happening_takes_memory (Leaves n) = false
+happening_takes_memory (Shuts l) = false
+happening_takes_memory (Fails l kind) = false

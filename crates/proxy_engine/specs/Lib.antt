@@ -1,4 +1,4 @@
-pub mod Numbers
+pub mod ConnectionNumbers
 pub mod Lookahead
 pub mod Peeked
 pub mod Happenings

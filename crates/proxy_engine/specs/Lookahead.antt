@@ -6,53 +6,53 @@ use Rattle.proxy_engine.specs.declared.endpoints.lookahead.Lookahead.{Lookahead}
 use Rattle.proxy_engine.specs.declared.endpoints.lookahead.Lookahead.TheVariants.{Unknown, Quiet, Due}
 
 -- the next answer is this
-abbrev pub Shows : {M : Type 0} → Lookahead M → Next M → Type 0
-Shows Unknown a = ⊥
-Shows Quiet a = a ≡ next.More
-Shows (Due b) a = a ≡ b
+abbrev pub LookaheadShows : {M : Type 0} → Lookahead M → Next M → Type 0
+LookaheadShows Unknown a = ⊥
+LookaheadShows Quiet a = a ≡ next.More
+LookaheadShows (Due b) a = a ≡ b
 
 -- what an answer tells
-abbrev pub ahead_by : {M : Type 0} → Next M → Lookahead M
-ahead_by next.More = Quiet
-ahead_by next.NeedsContinue = Due next.NeedsContinue
-ahead_by (next.Message m) = Due (next.Message m)
-ahead_by (next.Refused f) = Due (next.Refused f)
-ahead_by next.End = Due next.End
+abbrev pub lookahead_of_next : {M : Type 0} → Next M → Lookahead M
+lookahead_of_next next.More = Quiet
+lookahead_of_next next.NeedsContinue = Due next.NeedsContinue
+lookahead_of_next (next.Message m) = Due (next.Message m)
+lookahead_of_next (next.Refused f) = Due (next.Refused f)
+lookahead_of_next next.End = Due next.End
 
 -- more has come, or the end: what is due stays due
-abbrev pub asked_again : {M : Type 0} → Lookahead M → Lookahead M
-asked_again Unknown = Unknown
-asked_again Quiet = Unknown
-asked_again (Due a) = Due a
+abbrev pub lookahead_after_input : {M : Type 0} → Lookahead M → Lookahead M
+lookahead_after_input Unknown = Unknown
+lookahead_after_input Quiet = Unknown
+lookahead_after_input (Due a) = Due a
 
-abbrev pub is_due : {M : Type 0} → Lookahead M → Bool
-is_due Unknown = false
-is_due Quiet = false
-is_due (Due next.More) = false
-is_due (Due next.NeedsContinue) = true
-is_due (Due (next.Message m)) = true
-is_due (Due (next.Refused f)) = true
-is_due (Due next.End) = true
+abbrev pub lookahead_is_due : {M : Type 0} → Lookahead M → Bool
+lookahead_is_due Unknown = false
+lookahead_is_due Quiet = false
+lookahead_is_due (Due next.More) = false
+lookahead_is_due (Due next.NeedsContinue) = true
+lookahead_is_due (Due (next.Message m)) = true
+lookahead_is_due (Due (next.Refused f)) = true
+lookahead_is_due (Due next.End) = true
 
 -- something may be due: it wasn't looked at, or the look has found something
-abbrev pub may_show : {M : Type 0} → Lookahead M → Bool
-may_show Unknown = true
-may_show Quiet = false
-may_show (Due a) = is_due (Due a)
+abbrev pub lookahead_may_be_due : {M : Type 0} → Lookahead M → Bool
+lookahead_may_be_due Unknown = true
+lookahead_may_be_due Quiet = false
+lookahead_may_be_due (Due a) = lookahead_is_due (Due a)
 
 -- 1 where something may stand there, since the reader wasn't asked or has answered: counted among the acts still to
 -- come
-abbrev pub unsettled : {M : Type 0} → Lookahead M → ℕ
-unsettled Unknown = 1
-unsettled Quiet = 0
-unsettled (Due a) = 1
+abbrev pub one_if_maybe_due : {M : Type 0} → Lookahead M → ℕ
+one_if_maybe_due Unknown = 1
+one_if_maybe_due Quiet = 0
+one_if_maybe_due (Due a) = 1
 
 -- a message or a continue that is known counts as one that is still to come
-abbrev pub known : {M : Type 0} → Lookahead M → ℕ
-known Unknown = 0
-known Quiet = 0
-known (Due next.More) = 0
-known (Due next.NeedsContinue) = 1
-known (Due (next.Message m)) = 1
-known (Due (next.Refused f)) = 0
-known (Due next.End) = 0
+abbrev pub one_if_message_or_continue : {M : Type 0} → Lookahead M → ℕ
+one_if_message_or_continue Unknown = 0
+one_if_message_or_continue Quiet = 0
+one_if_message_or_continue (Due next.More) = 0
+one_if_message_or_continue (Due next.NeedsContinue) = 1
+one_if_message_or_continue (Due (next.Message m)) = 1
+one_if_message_or_continue (Due (next.Refused f)) = 0
+one_if_message_or_continue (Due next.End) = 0

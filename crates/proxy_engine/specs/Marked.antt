@@ -1,18 +1,20 @@
 -- What is kept of the proxy's ends, and at which of them something may be due.
 --
 -- EndList: what contracts see of the connections and links
--- may_be_lost, may_want, may_finish: something may be due there
--- LooksLikeConnection, LooksLikeLink, AtEach: what a look leaves
--- NoneBelow, NoneAtAll: nothing may be due          lost_at, FinishThere, WantsThere: something is
+-- may_be_lost, connection_may_be_due, link_may_be_due: something may be due there
+-- ConnectionAfterLook, LinkAfterLook, RelatesAtEachPlace: what a look leaves
+-- NoneHasFlagBelow, NoneHasFlag: nothing may be due
+-- lost_connection_at, LinkIsDueAsLookShows, ConnectionIsDueAsLookShows: something is
 use Rattle.std.specs.Prelude.{◌≡◌, ℕ, ◌<◌, ◌≤◌, List, Bool, true, false, ◌&&◌, ◌||◌, not, Option, None, Some, is_some}
 use Rattle.std.specs.Prelude.{if◌then◌else◌}
 use Rattle.std.specs.Ordering.{nat_cmp}
 use Rattle.std.specs.BTreeMap.{BTreeMap, get}
-use Rattle.proxy_engine.specs.Activities.{link_of, has_exchange}
-use Rattle.proxy_engine.specs.Lookahead.{may_show}
+use Rattle.proxy_engine.specs.Activities.{link_place_of_activity, has_exchange}
+use Rattle.proxy_engine.specs.Lookahead.{lookahead_may_be_due}
 use Rattle.proxy_engine.specs.EngineModel.{ConnectionModel, LinkModel}
-use Rattle.proxy_engine.specs.Due.{is_busy, FinishDue, Wanted}
-use Rattle.proxy_engine.specs.State.{ConnectionRepresents, LinkRepresents, finish_at, action_at, connection_load}
+use Rattle.proxy_engine.specs.Due.{takes_no_request, IsDueOnLink, IsDueOnConnection}
+use Rattle.proxy_engine.specs.State.{ConnectionRepresents, LinkRepresents, link_result_at, due_request_at}
+use Rattle.proxy_engine.specs.State.{connection_load}
 use Rattle.proxy_engine.specs.State.{link_load}
 use Rattle.proxy_engine.specs.declared.endpoints.ends.Connection.{Connection}
 use Rattle.proxy_engine.specs.declared.endpoints.ends.Link.{Link}
@@ -28,56 +30,57 @@ abbrev pub may_be_lost : Connection → Bool
 may_be_lost c = c.gone && has_exchange c.activity
 
 -- no look has found that its stream asks for nothing
-abbrev pub may_want : Connection → Bool
-may_want c = not (is_busy c.gone false c.activity) && may_show c.reader.ahead
+abbrev pub connection_may_be_due : Connection → Bool
+connection_may_be_due c = not (takes_no_request c.gone false c.activity) && lookahead_may_be_due c.reader.ahead
 
 -- it has failed, or no look has found that no answer stands on it
-abbrev pub may_finish : Link → Bool
-may_finish k = may_show k.reader.ahead || is_some k.failed
+abbrev pub link_may_be_due : Link → Bool
+link_may_be_due k = lookahead_may_be_due k.reader.ahead || is_some k.failed
 
 -- after a look: it represents the same models, and no more is to come
-pub record LooksLikeConnection (old new : Connection) : Type 0 where
+pub record ConnectionAfterLook (old new : Connection) : Type 0 where
   pub represents : (s : ConnectionModel) → ConnectionRepresents (Some old) s → ConnectionRepresents (Some new) s
   pub gone : new.gone ≡ old.gone
   pub activity : new.activity ≡ old.activity
   pub load : connection_load (Some new) ≤ connection_load (Some old)
 
-pub record LooksLikeLink (old new : Link) : Type 0 where
+pub record LinkAfterLook (old new : Link) : Type 0 where
   pub represents : (s : LinkModel) → LinkRepresents (Some old) s → LinkRepresents (Some new) s
   pub connection : new.connection ≡ old.connection
   pub load : link_load (Some new) ≤ link_load (Some old)
 
 -- both have nothing, or R holds of what they have
-abbrev pub Alike : {A : Type 0} → (A → A → Type 0) → Option A → Option A → Type 0
-Alike R None None = Unit {0}
-Alike R None (Some y) = ⊥
-Alike R (Some x) None = ⊥
-Alike R (Some x) (Some y) = R x y
+abbrev pub RelatesOptions : {A : Type 0} → (A → A → Type 0) → Option A → Option A → Type 0
+RelatesOptions R None None = Unit {0}
+RelatesOptions R None (Some y) = ⊥
+RelatesOptions R (Some x) None = ⊥
+RelatesOptions R (Some x) (Some y) = R x y
 
 -- at each place
-abbrev pub AtEach : {A : Type 0} → (A → A → Type 0) → BTreeMap ℕ A → BTreeMap ℕ A → Type 0
-AtEach R old new = (i : ℕ) → Alike R (get nat_cmp old i) (get nat_cmp new i)
+abbrev pub RelatesAtEachPlace : {A : Type 0} → (A → A → Type 0) → BTreeMap ℕ A → BTreeMap ℕ A → Type 0
+RelatesAtEachPlace R old new = (i : ℕ) → RelatesOptions R (get nat_cmp old i) (get nat_cmp new i)
 
 -- nothing that is open below that place has the flag
-abbrev pub NoneBelow : {A : Type 0} → (A → Bool) → BTreeMap ℕ A → ℕ → Type 0
-NoneBelow {A} flag open_ends n = (j : ℕ) (x : A) → j < n → get nat_cmp open_ends j ≡ Some x → flag x ≡ false
+abbrev pub NoneHasFlagBelow : {A : Type 0} → (A → Bool) → BTreeMap ℕ A → ℕ → Type 0
+NoneHasFlagBelow {A} flag open_ends n = (j : ℕ) (x : A) → j < n → get nat_cmp open_ends j ≡ Some x → flag x ≡ false
 
 -- nothing that is open has it
-abbrev pub NoneAtAll : {A : Type 0} → (A → Bool) → BTreeMap ℕ A → Type 0
-NoneAtAll {A} flag open_ends = (j : ℕ) (x : A) → get nat_cmp open_ends j ≡ Some x → flag x ≡ false
+abbrev pub NoneHasFlag : {A : Type 0} → (A → Bool) → BTreeMap ℕ A → Type 0
+NoneHasFlag {A} flag open_ends = (j : ℕ) (x : A) → get nat_cmp open_ends j ≡ Some x → flag x ≡ false
 
 -- the connection is gone with an open exchange: its link, if its request went forward
-abbrev pub lost_at : Option Connection → Option (Option ℕ)
-lost_at None = None
-lost_at (Some c) = if may_be_lost c then Some (link_of c.activity) else None
+abbrev pub lost_connection_at : Option Connection → Option (Option ℕ)
+lost_connection_at None = None
+lost_connection_at (Some c) = if may_be_lost c then Some (link_place_of_activity c.activity) else None
 
 -- a look has found something, and that is what is due there
-abbrev pub ShownThere : {A B C : Type 0} → (Option A → B → Type 0) → (B → Option C → Type 0) → (Option A → Option C)
+abbrev pub IsDueAsLookShows : {A B C : Type 0} → (Option A → B → Type 0) → (B → Option C → Type 0) →
+    (Option A → Option C)
     → Option A → Type 0
-ShownThere {A} {B} R P seen o = (is_some (seen o) ≡ true) × ((s : B) → R o s → P s (seen o))
+IsDueAsLookShows {A} {B} R P seen o = (is_some (seen o) ≡ true) × ((s : B) → R o s → P s (seen o))
 
-abbrev pub FinishThere : Option Link → Type 0
-FinishThere k = ShownThere LinkRepresents FinishDue finish_at k
+abbrev pub LinkIsDueAsLookShows : Option Link → Type 0
+LinkIsDueAsLookShows k = IsDueAsLookShows LinkRepresents IsDueOnLink link_result_at k
 
-abbrev pub WantsThere : Option Connection → Type 0
-WantsThere c = ShownThere ConnectionRepresents Wanted action_at c
+abbrev pub ConnectionIsDueAsLookShows : Option Connection → Type 0
+ConnectionIsDueAsLookShows c = IsDueAsLookShows ConnectionRepresents IsDueOnConnection due_request_at c

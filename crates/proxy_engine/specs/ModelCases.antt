@@ -2,32 +2,33 @@
 use Rattle.std.specs.Prelude.{false, [], codes, None}
 use Rattle.hx_framing.specs.declared.messages.Request.{Request}
 use Rattle.hx_framing.specs.declared.messages.Response.{Response}
-use Rattle.proxy_core.specs.Traces.{begun as core_begun}
+use Rattle.proxy_core.specs.Traces.{initial_state as core_begun}
 use Rattle.proxy_core.specs.Cases.{table}
 use Rattle.proxy_engine.specs.Happenings.{Accepts, Sends}
-use Rattle.proxy_engine.specs.EngineModel.{EngineModel, heard, with_link}
-use Rattle.proxy_engine.specs.Acts.{dropping, with_opened}
-use Rattle.proxy_engine.specs.State.{begun}
+use Rattle.proxy_engine.specs.EngineModel.{EngineModel, model_after_happening, with_link}
+use Rattle.proxy_engine.specs.Acts.{with_dropped, with_opened_link}
+use Rattle.proxy_engine.specs.State.{new_engine_model}
 
 -- nothing has happened; links begin at 5
-abbrev pub fresh : EngineModel
-fresh = begun (core_begun table 2 1) 5
+abbrev pub empty_model : EngineModel
+empty_model = new_engine_model (core_begun table 2 1) 5
 
 -- one connection is open
-abbrev pub one : EngineModel
-one = heard fresh (Accepts 1)
+abbrev pub model_with_connection : EngineModel
+model_with_connection = model_after_happening empty_model (Accepts 1)
 
 -- which sent two bytes, one at a time
-abbrev pub sent_twice : EngineModel
-sent_twice = heard (heard one (Sends 1 (codes "a"))) (Sends 1 (codes "b"))
+abbrev pub model_after_two_sends : EngineModel
+model_after_two_sends = model_after_happening (model_after_happening model_with_connection (Sends 1 (codes "a")))
+    (Sends 1 (codes "b"))
 
 -- a link was opened for it
-abbrev pub one_link : EngineModel
-one_link = with_opened one 0 false
+abbrev pub model_with_link : EngineModel
+model_with_link = with_opened_link model_with_connection 0 false
 
 -- and dropped
-abbrev pub dropped : EngineModel
-dropped = with_link one_link 0 dropping
+abbrev pub model_with_dropped_link : EngineModel
+model_with_dropped_link = with_link model_with_link 0 with_dropped
 
 abbrev pub answer_200 : Response
 answer_200 = record { status = 200; fields = []; content = []; announced = None }

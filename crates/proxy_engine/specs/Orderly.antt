@@ -1,64 +1,67 @@
 -- What each model of an engine keeps to, and which ends its effects name.
 --
--- IsOrderly: connections, links and open exchanges belong together, and a closed connection has no open exchange
--- NamesOpen: no effect names a connection that is closed or gone, or a link that was dropped
--- Stays: what is closed, gone or dropped stays so
--- BeginsOrderly, TakesInOrder, ActsInOrder, TakesStay, ActsStay: the laws
+-- ModelIsOrderly: connections, links and open exchanges belong together, and a closed connection has no open exchange
+-- EffectsNameOpenEnds: no effect names a connection that is closed or gone, or a link that was dropped
+-- EndedStaysEnded: what is closed, gone or dropped stays so
+-- NewModelIsOrderly, HappeningKeepsOrder, ActKeepsOrder, HappeningKeepsEnded, ActKeepsEnded: the laws
 use Rattle.std.specs.Prelude.{◌≡◌, ℕ, ◌+◌, List, [], ◌∷◌, map, true, false, Option, None, Some, if◌then◌else◌, ◌<◌, ◌≤◌}
 use Rattle.std.specs.Prelude.{length}
 use Rattle.proxy_core.specs.State.{State as CoreState}
 use Rattle.proxy_script.specs.declared.effect_list.Effect.{Effect}
 use Rattle.proxy_script.specs.declared.effect_list.Effect.TheVariants as effects
-use Rattle.proxy_engine.specs.Numbers.{connection_number, link_number}
-use Rattle.proxy_engine.specs.Happenings.{Said}
+use Rattle.proxy_engine.specs.ConnectionNumbers.{connection_number, link_number}
+use Rattle.proxy_engine.specs.Happenings.{PlainHappening}
 use Rattle.proxy_engine.specs.declared.endpoints.activities.Activity.{Activity}
 use Rattle.proxy_engine.specs.declared.endpoints.activities.Activity.TheVariants.{Free}
-use Rattle.proxy_engine.specs.EngineModel.{EngineModel, ConnectionModel, LinkModel, connection_at, link_at, heard}
+use Rattle.proxy_engine.specs.EngineModel.{EngineModel, ConnectionModel, LinkModel, connection_at, link_at}
+use Rattle.proxy_engine.specs.EngineModel.{model_after_happening}
 use Rattle.proxy_engine.specs.Due.{Act, IsDueFirst}
-use Rattle.proxy_engine.specs.Acts.{Does, next_number}
-use Rattle.proxy_engine.specs.State.{begun}
-use Rattle.proxy_engine.specs.Pairing.{Paired}
+use Rattle.proxy_engine.specs.Acts.{ActIsDone, next_link_number}
+use Rattle.proxy_engine.specs.State.{new_engine_model}
+use Rattle.proxy_engine.specs.Pairing.{ConnectionsAndLinksArePaired}
 
 -- what a connection does
-abbrev pub model_activity : ConnectionModel → Activity
-model_activity c = c.activity
+abbrev pub activity_of_model : ConnectionModel → Activity
+activity_of_model c = c.activity
 
 -- the connection whose request went forward on a link that isn't dropped
-abbrev pub model_owner : LinkModel → Option ℕ
-model_owner k = if k.dropped then None else Some k.connection
+abbrev pub owner_of_model : LinkModel → Option ℕ
+owner_of_model k = if k.dropped then None else Some k.connection
 
-pub record IsOrderly (s : EngineModel) : Type 0 where
-  pub paired : Paired (map model_activity s.connections) (map model_owner s.links) s.core.exchanges
+pub record ModelIsOrderly (s : EngineModel) : Type 0 where
+  pub paired : ConnectionsAndLinksArePaired (map activity_of_model s.connections)
+      (map owner_of_model s.links) s.core.exchanges
   pub free : (i : ℕ) → (connection_at s i).closed ≡ true → (connection_at s i).activity ≡ Free
 
 -- the connection of this number is neither closed nor gone
-pub record IsOpen (s : EngineModel) (n : ℕ) : Type 0 where
+pub record ConnectionIsOpen (s : EngineModel) (n : ℕ) : Type 0 where
   pub place : ℕ
   pub number : n ≡ connection_number place
   pub closed : (connection_at s place).closed ≡ false
   pub gone : (connection_at s place).gone ≡ false
 
 -- the connection of this number is closed
-abbrev pub IsClosed : EngineModel → ℕ → Type 0
-IsClosed s n = (i : ℕ) × (n ≡ connection_number i) × ((connection_at s i).closed ≡ true)
+abbrev pub ConnectionHasClosed : EngineModel → ℕ → Type 0
+ConnectionHasClosed s n = (i : ℕ) × (n ≡ connection_number i) × ((connection_at s i).closed ≡ true)
 
 -- the link of this number was open, and is dropped
-pub record Drops (s after : EngineModel) (l : ℕ) : Type 0 where
+pub record LinkIsDropped (s after : EngineModel) (l : ℕ) : Type 0 where
   pub place : ℕ
   pub number : l ≡ link_number s.first place
   pub still : (link_at s place).dropped ≡ false
   pub dropped : (link_at after place).dropped ≡ true
 
 -- the effects name connections that are open, a close is the last of them, a link is dropped once
-abbrev pub NamesOpen : EngineModel → EngineModel → List Effect → Type 0
-NamesOpen s after [] = Unit {0}
-NamesOpen s after (effects.Client n bytes ∷ rest) = IsOpen s n × NamesOpen s after rest
-NamesOpen s after (effects.Close n ∷ rest) = IsOpen s n × IsClosed after n × (rest ≡ [])
-NamesOpen s after (effects.Forward l address bytes ∷ rest) = (l ≡ next_number s) × NamesOpen s after rest
-NamesOpen s after (effects.Drop l ∷ rest) = Drops s after l × NamesOpen s after rest
+abbrev pub EffectsNameOpenEnds : EngineModel → EngineModel → List Effect → Type 0
+EffectsNameOpenEnds s after [] = Unit {0}
+EffectsNameOpenEnds s after (effects.Client n bytes ∷ rest) = ConnectionIsOpen s n × EffectsNameOpenEnds s after rest
+EffectsNameOpenEnds s after (effects.Close n ∷ rest) = ConnectionIsOpen s n × ConnectionHasClosed after n × (rest ≡ [])
+EffectsNameOpenEnds s after (effects.Forward l address bytes ∷ rest) = (l ≡ next_link_number s)
+    × EffectsNameOpenEnds s after rest
+EffectsNameOpenEnds s after (effects.Drop l ∷ rest) = LinkIsDropped s after l × EffectsNameOpenEnds s after rest
 
 -- what is closed, gone or dropped is so in a later model
-pub record Stays (s after : EngineModel) : Type 0 where
+pub record EndedStaysEnded (s after : EngineModel) : Type 0 where
   pub closed : (i : ℕ) → i < length s.connections → (connection_at s i).closed ≡ true → (connection_at after i).closed
       ≡ true
   pub gone : (i : ℕ) → i < length s.connections → (connection_at s i).gone ≡ true → (connection_at after i).gone ≡ true
@@ -67,21 +70,24 @@ pub record Stays (s after : EngineModel) : Type 0 where
   pub links : length s.links ≤ length after.links
   pub first : after.first ≡ s.first
 
-abbrev pub BeginsOrderly : Type 0
-BeginsOrderly = (core : CoreState) (first : ℕ) → core.exchanges ≡ [] → IsOrderly (begun core first)
+abbrev pub NewModelIsOrderly : Type 0
+NewModelIsOrderly = (core : CoreState) (first : ℕ) → core.exchanges ≡ [] → ModelIsOrderly (new_engine_model core first)
 
-abbrev pub TakesInOrder : Type 0
-TakesInOrder = (s : EngineModel) (h : Said) → IsOrderly s → IsOrderly (heard s h)
+abbrev pub HappeningKeepsOrder : Type 0
+HappeningKeepsOrder = (s : EngineModel) (h : PlainHappening) → ModelIsOrderly s → ModelIsOrderly
+    (model_after_happening s h)
 
-abbrev pub ActsInOrder : Type 0
-ActsInOrder =
-    (s : EngineModel) (now : ℕ) (act : Act) (emitted : List Effect) (after : EngineModel) → IsOrderly s
-    → IsDueFirst s (Some act) → Does s now act emitted after → IsOrderly after × NamesOpen s after emitted
+abbrev pub ActKeepsOrder : Type 0
+ActKeepsOrder =
+    (s : EngineModel) (now : ℕ) (act : Act) (emitted : List Effect) (after : EngineModel) → ModelIsOrderly s
+    → IsDueFirst s (Some act) → ActIsDone s now act emitted after → ModelIsOrderly after
+    × EffectsNameOpenEnds s after emitted
 
-abbrev pub TakesStay : Type 0
-TakesStay = (s : EngineModel) (h : Said) → Stays s (heard s h)
+abbrev pub HappeningKeepsEnded : Type 0
+HappeningKeepsEnded = (s : EngineModel) (h : PlainHappening) → EndedStaysEnded s (model_after_happening s h)
 
-abbrev pub ActsStay : Type 0
-ActsStay =
-    (s : EngineModel) (now : ℕ) (act : Act) (emitted : List Effect) (after : EngineModel) → Does s now act emitted after
-    → Stays s after
+abbrev pub ActKeepsEnded : Type 0
+ActKeepsEnded =
+    (s : EngineModel) (now : ℕ) (act : Act) (emitted : List Effect) (after : EngineModel)
+    → ActIsDone s now act emitted after
+    → EndedStaysEnded s after

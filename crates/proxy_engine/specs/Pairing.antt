@@ -1,8 +1,9 @@
 -- Which connection's request went forward on which link, and which exchanges of the core are open: the three agree.
 --
 -- activities_after, owners_after: what an outcome of the core adds
--- forwarded_at: whether an exchange is open, and its request at the origin
--- Paired: connections, links and open exchanges belong together     IsPaired: those of an engine do
+-- forwarded_or_waiting_at: whether an exchange is open, and its request at the origin
+-- ConnectionsAndLinksArePaired: connections, links and open exchanges belong together
+-- IsPaired: those of an engine do
 use Rattle.std.specs.Prelude.{◌≡◌, ℕ, ◌+◌, Bool, List, [], ◌∷◌, ◌++◌, map, Option, None, Some, slice_set}
 use Rattle.std.specs.Prelude.{slice_index_or}
 use Rattle.std.specs.Option.{option_map}
@@ -11,8 +12,8 @@ use Rattle.proxy_core.specs.Outcomes.{find_exchange}
 use Rattle.proxy_core.specs.declared.open.exchange.Exchange.{Exchange}
 use Rattle.proxy_core.specs.declared.outcome.Outcome.{Outcome}
 use Rattle.proxy_core.specs.declared.outcome.Outcome.TheVariants.{Reply, Forward, Waits, Ended}
-use Rattle.proxy_engine.specs.Numbers.{connection_number}
-use Rattle.proxy_engine.specs.Activities.{link_of, forwarded_in}
+use Rattle.proxy_engine.specs.ConnectionNumbers.{connection_number}
+use Rattle.proxy_engine.specs.Activities.{link_place_of_activity, forwarded_or_waiting}
 use Rattle.proxy_engine.specs.State.{State}
 use Rattle.proxy_engine.specs.declared.endpoints.activities.Activity.{Activity}
 use Rattle.proxy_engine.specs.declared.endpoints.activities.Activity.TheVariants.{Free, Forwarded, Waiting}
@@ -48,21 +49,23 @@ abbrev pub activity_at : List Activity → ℕ → Activity
 activity_at activities i = slice_index_or activities i Free
 
 -- what stands at a place, or nothing beyond the list
-abbrev pub at : List (Option ℕ) → ℕ → Option ℕ
-at xs i = slice_index_or xs i None
+abbrev pub owner_at : List (Option ℕ) → ℕ → Option ℕ
+owner_at xs i = slice_index_or xs i None
 
 -- the exchange of an id is open, and its request is at the origin or waits
-abbrev pub forwarded_at : ℕ → List Exchange → Option Bool
-forwarded_at id exchanges = option_map (λ (x : Exchange). is_forwarded x.stage) (find_exchange id exchanges)
+abbrev pub forwarded_or_waiting_at : ℕ → List Exchange → Option Bool
+forwarded_or_waiting_at id exchanges = option_map (λ (x : Exchange). is_forwarded x.stage) (find_exchange id exchanges)
 
 -- An open link and its connection name each other; the exchange of a connection's number is open exactly where the
 -- connection has one, and its request is at the origin exactly where that has a link; and no exchange has a number that
 -- no connection has.
-pub record Paired (activities : List Activity) (owners : List (Option ℕ)) (exchanges : List Exchange) : Type 0 where
-  pub owned : (i j : ℕ) → link_of (activity_at activities i) ≡ Some j → at owners j ≡ Some i
-  pub linked : (i j : ℕ) → at owners j ≡ Some i → link_of (activity_at activities i) ≡ Some j
-  pub opened : (i : ℕ) → forwarded_at (connection_number i) exchanges ≡ forwarded_in (activity_at activities i)
-  pub numbered : forwarded_at 0 exchanges ≡ None
+pub record ConnectionsAndLinksArePaired (activities : List Activity) (owners : List (Option ℕ))
+    (exchanges : List Exchange) : Type 0 where
+  pub owned : (i j : ℕ) → link_place_of_activity (activity_at activities i) ≡ Some j → owner_at owners j ≡ Some i
+  pub linked : (i j : ℕ) → owner_at owners j ≡ Some i → link_place_of_activity (activity_at activities i) ≡ Some j
+  pub opened : (i : ℕ) → forwarded_or_waiting_at (connection_number i) exchanges ≡ forwarded_or_waiting
+      (activity_at activities i)
+  pub numbered : forwarded_or_waiting_at 0 exchanges ≡ None
 
 abbrev pub activities_of : List (Option Connection) → List Activity
 activities_of connections = map activity_of connections
@@ -71,4 +74,4 @@ abbrev pub owners_of : List (Option Link) → List (Option ℕ)
 owners_of links = map owner_of links
 
 abbrev pub IsPaired : State → Type 0
-IsPaired e = Paired (activities_of e.connections) (owners_of e.links) e.core.exchanges
+IsPaired e = ConnectionsAndLinksArePaired (activities_of e.connections) (owners_of e.links) e.core.exchanges

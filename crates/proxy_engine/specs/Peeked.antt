@@ -8,7 +8,7 @@ use Rattle.hx_framing.specs.declared.messages.Next.{Next}
 use Rattle.hx_framing.specs.declared.messages.Next.TheVariants as next
 use Rattle.hx_framing.specs.declared.messages.Request.{Request}
 use Rattle.hx_framing.specs.declared.messages.Response.{Response}
-use Rattle.hx_framing.specs.Progress.{Progress, moved, IsDue}
+use Rattle.hx_framing.specs.Progress.{Progress, stream_after_answer, AnswerIsDue}
 use Rattle.hx_framing.specs.RequestState.{State as RequestState, RepresentsStream as RequestRepresentsStream, weight}
 use Rattle.hx_framing.specs.RequestStream.{Answers as RequestAnswers}
 use Rattle.hx_framing.specs.ResponseState.{State as ResponseState, RepresentsStream as ResponseRepresentsStream}
@@ -16,30 +16,32 @@ use Rattle.hx_framing.specs.ResponseStream.{Answers as ResponseAnswers}
 use Rattle.proxy_engine.specs.declared.endpoints.lookahead.Lookahead.{Lookahead}
 use Rattle.proxy_engine.specs.declared.endpoints.lookahead.Lookahead.TheVariants.{Unknown, Quiet, Due}
 use Rattle.proxy_engine.specs.declared.endpoints.peeked.Peeked.{Peeked}
-use Rattle.proxy_engine.specs.Lookahead.{known}
+use Rattle.proxy_engine.specs.Lookahead.{one_if_message_or_continue}
 
 -- an answer that is known and isn't `More` was taken from the reader already
-abbrev pub RepresentsBy : {S M : Type 0} → (S → Progress M → Type 0) → (Progress M → Next M → Type 0) → S → Lookahead M
+abbrev pub RepresentsWithLookahead : {S M : Type 0} → (S → Progress M → Type 0) → (Progress M → Next M → Type 0) → S
+    → Lookahead M
     → Progress M → Type 0
-RepresentsBy RepresentsStream Answers s Unknown p = RepresentsStream s p
-RepresentsBy RepresentsStream Answers s Quiet p = RepresentsStream s p × Answers p next.More
-RepresentsBy RepresentsStream Answers s (Due a) p = RepresentsStream s (moved p a) × Answers p a × IsDue a
+RepresentsWithLookahead RepresentsStream Answers s Unknown p = RepresentsStream s p
+RepresentsWithLookahead RepresentsStream Answers s Quiet p = RepresentsStream s p × Answers p next.More
+RepresentsWithLookahead RepresentsStream Answers s (Due a) p = RepresentsStream s (stream_after_answer p a)
+    × Answers p a × AnswerIsDue a
 
-abbrev pub Represents : {S M : Type 0} → (S → Progress M → Type 0) → (Progress M → Next M → Type 0) → Peeked S M
+abbrev pub PeekedRepresents : {S M : Type 0} → (S → Progress M → Type 0) → (Progress M → Next M → Type 0) → Peeked S M
     → Progress M → Type 0
-Represents RepresentsStream Answers w p = RepresentsBy RepresentsStream Answers w.inner w.ahead p
+PeekedRepresents RepresentsStream Answers w p = RepresentsWithLookahead RepresentsStream Answers w.inner w.ahead p
 
 -- a bound on the continues and messages that are still to come
-abbrev pub load : {S M : Type 0} → (S → ℕ) → Peeked S M → ℕ
-load weight w = weight w.inner + known w.ahead
+abbrev pub peeked_load : {S M : Type 0} → (S → ℕ) → Peeked S M → ℕ
+peeked_load weight w = weight w.inner + one_if_message_or_continue w.ahead
 
 -- ---- of a connection's requests, and of a link's answer
 
 abbrev pub RequestRepresents : Peeked RequestState Request → Progress Request → Type 0
-RequestRepresents w p = Represents RequestRepresentsStream RequestAnswers w p
+RequestRepresents w p = PeekedRepresents RequestRepresentsStream RequestAnswers w p
 
 abbrev pub ResponseRepresents : Peeked ResponseState Response → Progress Response → Type 0
-ResponseRepresents w p = Represents ResponseRepresentsStream ResponseAnswers w p
+ResponseRepresents w p = PeekedRepresents ResponseRepresentsStream ResponseAnswers w p
 
 abbrev pub request_load : Peeked RequestState Request → ℕ
-request_load w = load weight w
+request_load w = peeked_load weight w

@@ -1,8 +1,9 @@
 -- Places at which something may be due, and what is open at the places of a list.
 --
--- listed: what a map has at each place          Kept: what contracts see of marked places
--- Falls: their order                            IsBehind, IsLeast: where one belongs, and the least
--- IsMarked: what has a flag is at one of them, something is at each, and there is room for more
+-- entries_below: what a map has at each place          ReadyPlaces: what contracts see of marked places
+-- PlacesDescend: their order
+-- PlaceBelongsBehind, PlaceIsLeast: where one belongs, and the least
+-- FlaggedPlacesAreMarked: what has a flag is at one of them, something is at each, and there is room for more
 use Rattle.std.specs.Prelude.{◌≡◌, ℕ, ◌-◌, ◌<◌, ◌≤◌, List, map, length, Contains, Bool, true, Option, Some, is_some}
 use Rattle.std.specs.Prelude.{slice_index_or}
 use Rattle.std.specs.List.{range_with_len}
@@ -10,38 +11,39 @@ use Rattle.std.specs.Ordering.{nat_cmp}
 use Rattle.std.specs.BTreeMap.{BTreeMap, get}
 
 -- what a map has at each place below a count, in order
-abbrev pub listed : {A : Type 0} → BTreeMap ℕ A → ℕ → List (Option A)
-listed open_ends count = map (get nat_cmp open_ends) (range_with_len 0 count)
+abbrev pub entries_below : {A : Type 0} → BTreeMap ℕ A → ℕ → List (Option A)
+entries_below open_ends count = map (get nat_cmp open_ends) (range_with_len 0 count)
 
 -- the places, and for how many there is room
-pub record Kept : Type 0 where
+pub record ReadyPlaces : Type 0 where
   pub places : List ℕ
   pub room : ℕ
 
 -- each is less than those before it
-pub record Falls (places : List ℕ) : Type 0 where
+pub record PlacesDescend (places : List ℕ) : Type 0 where
   pub falls : (i j : ℕ) → i < j → j < length places → slice_index_or places j 0 < slice_index_or places i 0
 
 -- each is less than the count
-abbrev pub AllBelow : ℕ → List ℕ → Type 0
-AllBelow count places = (i : ℕ) → Contains places i → i < count
+abbrev pub PlacesAreBelow : ℕ → List ℕ → Type 0
+PlacesAreBelow count places = (i : ℕ) → Contains places i → i < count
 
 -- a place that isn't there belongs behind so many: those are greater, the others less
-pub record IsBehind (places : List ℕ) (place count : ℕ) : Type 0 where
+pub record PlaceBelongsBehind (places : List ℕ) (place count : ℕ) : Type 0 where
   pub within : count ≤ length places
   pub greater : (k : ℕ) → k < count → place < slice_index_or places k 0
   pub less : count < length places → slice_index_or places count 0 < place
 
 -- it stands at the end, and none is less
-pub record IsLeast (places : List ℕ) (place : ℕ) : Type 0 where
+pub record PlaceIsLeast (places : List ℕ) (place : ℕ) : Type 0 where
   pub some : 0 < length places
   pub last : (d : ℕ) → slice_index_or places (length places - 1) d ≡ place
   pub least : (other : ℕ) → Contains places other → place ≤ other
 
 -- What is open and has the flag is at one of the places, something is open at each of them, and there is room for as
 -- many as are open.
-pub record IsMarked {A : Type 0} (flag : A → Bool) (open_ends : BTreeMap ℕ A) (kept : Kept) : Type 0 where
+pub record FlaggedPlacesAreMarked {A : Type 0} (flag : A → Bool) (open_ends : BTreeMap ℕ A)
+    (kept : ReadyPlaces) : Type 0 where
   pub marked : (i : ℕ) (x : A) → get nat_cmp open_ends i ≡ Some x → flag x ≡ true → Contains kept.places i
   pub filled : (i : ℕ) → Contains kept.places i → is_some (get nat_cmp open_ends i) ≡ true
   pub room : length open_ends.entries ≤ kept.room
-  pub falls : Falls kept.places
+  pub falls : PlacesDescend kept.places

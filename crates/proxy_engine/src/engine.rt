@@ -1,10 +1,12 @@
 //! The engine: connections of clients, links to origins, and the core between them.
 ghost use Rattle.std.specs.Prelude.{◌≡◌, ◌≢◌, ◌<◌, ◌≤◌, ◌-◌, nat_lt, [], IfOk, IfErr, OnOk, OnErr, Some, Err, true};
-ghost use Rattle.proxy_engine.specs.EngineModel.{EngineModel, connection_at, keeps};
-ghost use Rattle.proxy_engine.specs.Happenings.{said, takes_memory};
-ghost use Rattle.proxy_engine.specs.Reading.{ends_read, failed_links, open_count, next_connection, IsBetween};
-ghost use Rattle.proxy_engine.specs.Room.{Finds, HasRoom};
-ghost use Rattle.proxy_engine.specs.State.{State, Represents, Takes, TakeFault, begun};
+ghost use Rattle.proxy_engine.specs.EngineModel.{EngineModel, connection_at, happening_is_kept};
+ghost use Rattle.proxy_engine.specs.Happenings.{plain_happening, happening_takes_memory};
+ghost use Rattle.proxy_engine.specs.Reading.{readable_ends_of, failed_links, open_connection_count};
+ghost use Rattle.proxy_engine.specs.Reading.{next_connection_number, IsBetweenRequests};
+ghost use Rattle.proxy_engine.specs.Room.{HappeningFindsMemory, NextHappeningFindsMemory};
+ghost use Rattle.proxy_engine.specs.State.{State, EngineRepresents, EngineTakesHappening, IsFaultOfTaking};
+ghost use Rattle.proxy_engine.specs.State.{new_engine_model};
 
 use crate::endpoints::connections::Connections;
 use crate::endpoints::links::Links;
@@ -36,7 +38,7 @@ impl<S: Shelf + Drop> Drop for Engine<S> {
 }
 
 impl<S: Shelf> Model for Engine<S> {
-    ghost use Rattle.proxy_engine.specs.State.{State, state};
+    ghost use Rattle.proxy_engine.specs.State.{State, engine_state};
     ghost use Rattle.proxy_engine.specs.Pairing.{IsPaired};
 
     ghost Value = { State };
@@ -49,7 +51,8 @@ impl<S: Shelf> Model for Engine<S> {
       room = e.ends.connections.has_room;
     } };
 
-    ghost invariant = { λ e. IsPaired (state e.ends.connections.items e.ends.links.items e.core e.ends.first_link) };
+    ghost invariant = { λ e. IsPaired
+        (engine_state e.ends.connections.items e.ends.links.items e.core e.ends.first_link) };
 }
 
 impl<S: Shelf> Engine<S> {
@@ -57,7 +60,7 @@ impl<S: Shelf> Engine<S> {
     /// stored responses begin at `first_serial`, 1 or more, numbers of links at `first_link`.
     pub fn new(alloc: Global, config: Config, shelf: S, first_serial: u64, first_link: u64) -> Self
         requires { S.entries shelf ≡ [] }
-        ensures { Represents result (begun
+        ensures { EngineRepresents result (new_engine_model
             (record {
               table = config;
               limit = S.limit shelf;
@@ -79,14 +82,17 @@ impl<S: Shelf> Engine<S> {
 
     /// Takes what happened. An `Err` changes nothing, and says out of memory only where no other refusal stands.
     pub fn take(&mut self, alloc: Global, happening: Happening<'_>) -> Result<(), EngineFault>
-        ensures ok { OnOk result ((s : EngineModel) → Represents self.old s → Takes s (said happening.entry) self.new) }
-        ensures fault { IfErr result (λ fault. (s : EngineModel) → Represents self.old s
-            → TakeFault s (said happening.entry) fault) }
+        ensures ok { OnOk result ((s : EngineModel) → EngineRepresents self.old s → EngineTakesHappening s
+            (plain_happening happening.entry) self.new) }
+        ensures fault { IfErr result (λ fault. (s : EngineModel) → EngineRepresents self.old s
+            → IsFaultOfTaking s (plain_happening happening.entry) fault) }
         // Only connections and bytes take memory, and bytes only of an end that is still read.
-        ensures memory { result ≡ Err EngineFault.OutOfMemory → takes_memory (said happening.entry) ≡ true }
-        ensures kept { result ≡ Err EngineFault.OutOfMemory → (s : EngineModel) → Represents self.old s
-            → keeps s (said happening.entry) ≡ true }
-        ensures reserved { Finds self.old (said happening.entry) → result ≢ Err EngineFault.OutOfMemory }
+        ensures memory { result ≡ Err EngineFault.OutOfMemory → happening_takes_memory
+            (plain_happening happening.entry) ≡ true }
+        ensures kept { result ≡ Err EngineFault.OutOfMemory → (s : EngineModel) → EngineRepresents self.old s
+            → happening_is_kept s (plain_happening happening.entry) ≡ true }
+        ensures reserved { HappeningFindsMemory self.old (plain_happening happening.entry)
+            → result ≢ Err EngineFault.OutOfMemory }
         ensures unchanged { OnErr result (self.new ≡ self.old) }
     {
         match happening {
@@ -94,7 +100,11 @@ impl<S: Shelf> Engine<S> {
                 let max_body = self.core.config().max_body();
                 takes::accept(&mut self.ends.connections, alloc, max_body, n)
             }
-            Happening::Client(n, bytes) => takes::take_client_bytes(&mut self.ends.connections, n, bytes),
+            Happening::Client(n, bytes) => takes::take_client_bytes(
+                &mut self.ends.connections,
+                n,
+                bytes,
+            ),
             Happening::Link(l, bytes) => takes::take_link_bytes(
                 &mut self.ends.links,
                 self.ends.first_link,
@@ -116,8 +126,8 @@ impl<S: Shelf> Engine<S> {
     /// Makes room, so that the next `take` of that end finds its memory: of an accept for the listener, of at most
     /// 4,096 bytes for another end. An `Err` changes nothing.
     pub fn reserve(&mut self, alloc: Global, end: End) -> Result<(), AllocError>
-        ensures ok { OnOk result (HasRoom self.new end) }
-        ensures represents { (s : EngineModel) → Represents self.old s → Represents self.new s }
+        ensures ok { OnOk result (NextHappeningFindsMemory self.new end) }
+        ensures represents { (s : EngineModel) → EngineRepresents self.old s → EngineRepresents self.new s }
         ensures err { OnErr result (self.new ≡ self.old) }
     {
         match end {
@@ -137,21 +147,21 @@ impl<S: Shelf> Engine<S> {
 
     /// The number of the next connection, if one is left.
     pub fn next_connection(&self) -> Option<u64>
-        ensures { (s : EngineModel) → Represents self.now s → result ≡ next_connection s }
+        ensures { (s : EngineModel) → EngineRepresents self.now s → result ≡ next_connection_number s }
     {
         self.ends.connections.next_number()
     }
 
     /// How many connections are open: neither closed nor gone.
     pub fn open_connections(&self) -> usize
-        ensures { (s : EngineModel) → Represents self.now s → result ≡ open_count s }
+        ensures { (s : EngineModel) → EngineRepresents self.now s → result ≡ open_connection_count s }
     {
         self.ends.connections.open_count()
     }
 
     /// Whether fewer connections than this are open. They aren't counted one by one unless as many may be.
     pub fn has_fewer_connections(&self, most: usize) -> bool
-        ensures { (s : EngineModel) → Represents self.now s → result ≡ nat_lt (open_count s) most }
+        ensures { (s : EngineModel) → EngineRepresents self.now s → result ≡ nat_lt (open_connection_count s) most }
     {
         self.ends.connections.are_fewer_open(most)
     }
@@ -160,7 +170,8 @@ impl<S: Shelf> Engine<S> {
     /// byte that it has sent belongs to a request that was used. So nothing is lost where it is taken as gone, and its
     /// stream goes on under another number.
     pub fn is_between_requests(&self, n: u64) -> bool
-        ensures { (s : EngineModel) → Represents self.now s → result ≡ true → IsBetween (connection_at s (n - 1)) }
+        ensures { (s : EngineModel) → EngineRepresents self.now s → result ≡ true → IsBetweenRequests
+            (connection_at s (n - 1)) }
     {
         self.ends.connections.is_between(connection_place(n))
     }
@@ -168,7 +179,8 @@ impl<S: Shelf> Engine<S> {
     /// The ends from which bytes may come: each link that isn't dropped, failed or shut, then each open client without
     /// an exchange whose input hasn't ended. Its only error is out of memory.
     pub fn readable_ends(&self, alloc: Global) -> Result<Vec<End>, AllocError>
-        ensures { IfOk result (λ ends. (s : EngineModel) → Represents self.now s → ends.items ≡ ends_read s) }
+        ensures { IfOk result (λ ends. (s : EngineModel) → EngineRepresents self.now s → ends.items
+            ≡ readable_ends_of s) }
     {
         let mut ends = Vec::new(alloc);
         self.ends
@@ -180,7 +192,7 @@ impl<S: Shelf> Engine<S> {
 
     /// The links that have failed and aren't dropped. Its only error is out of memory.
     pub fn failed_links(&self, alloc: Global) -> Result<Vec<End>, AllocError>
-        ensures { IfOk result (λ ends. (s : EngineModel) → Represents self.now s → ends.items ≡ failed_links s) }
+        ensures { IfOk result (λ ends. (s : EngineModel) → EngineRepresents self.now s → ends.items ≡ failed_links s) }
     {
         let mut ends = Vec::new(alloc);
         self.ends

@@ -2,11 +2,12 @@
 ghost use Rattle.std.specs.Prelude.{◌≡◌, Option};
 ghost use Rattle.proxy_engine.specs.EngineModel.{EngineModel};
 ghost use Rattle.proxy_engine.specs.Due.{Act, IsDueFirst};
-ghost use Rattle.proxy_engine.specs.Drops.{ActsAreShort, ActsEmitDrops, TakesDropNone};
-ghost use Rattle.proxy_engine.specs.Executions.{ActsInOneWay, HasOneTrace, ExecutionsAreRuns};
-ghost use Rattle.proxy_engine.specs.FinalAnswers.{ActsAreSpelled, AnswersAreFinal, AnswersAreRead};
-ghost use Rattle.proxy_engine.specs.Exhausted.{HidesNoAnswer, HidesNoWake};
-ghost use Rattle.proxy_engine.specs.Orderly.{BeginsOrderly, TakesInOrder, ActsInOrder, TakesStay, ActsStay};
+ghost use Rattle.proxy_engine.specs.Drops.{ActHasFewEffects, EachDroppedLinkIsEmitted, HappeningsDropNoLink};
+ghost use Rattle.proxy_engine.specs.Executions.{ActIsDoneInOneWay, StepsHaveOneTrace, ExecutionsAreRuns};
+ghost use Rattle.proxy_engine.specs.FinalAnswers.{EachActIsSpelled, EachAnswerIsFinal, EachAnswerWasRead};
+ghost use Rattle.proxy_engine.specs.Exhausted.{MemoryHidesNoExhaustedAnswer, MemoryHidesNoExhaustedWake};
+ghost use Rattle.proxy_engine.specs.Orderly.{NewModelIsOrderly, HappeningKeepsOrder, ActKeepsOrder};
+ghost use Rattle.proxy_engine.specs.Orderly.{HappeningKeepsEnded, ActKeepsEnded};
 
 pub(crate) mod model_cases;
 pub(crate) mod run_laws;
@@ -15,45 +16,45 @@ use hx_framing::laws::response_laws::what_is_read_is_final;
 use hx_hop::a_request_is_asked_in_one_way;
 
 /// One act is due first, or none is: so `work` has no choice.
-pub fn due_once()
+pub fn one_act_is_due_first()
     ensures { (s : EngineModel) → (a b : Option Act) → IsDueFirst s a → IsDueFirst s b → a ≡ b }
 {}
 
 /// No effect names a connection behind its close, or one that is gone; a link that ends is dropped once. It holds of
 /// each model that an engine lives through, from one whose core has no open exchange on.
 pub fn effects_name_open_ends()
-    ensures first { BeginsOrderly }
-    ensures takes { TakesInOrder }
-    ensures acts { ActsInOrder }
+    ensures first { NewModelIsOrderly }
+    ensures takes { HappeningKeepsOrder }
+    ensures acts { ActKeepsOrder }
 {}
 
 /// What is closed, gone or dropped stays so, whatever happens and is done.
 pub fn what_ends_stays_ended()
-    ensures takes { TakesStay }
-    ensures acts { ActsStay }
+    ensures takes { HappeningKeepsEnded }
+    ensures acts { ActKeepsEnded }
 {}
 
 /// An act has three effects at most: it drops one link at most, and does so first.
 pub fn an_act_has_three_effects_at_most()
-    ensures { ActsAreShort }
+    ensures { ActHasFewEffects }
 {}
 
 /// A link that is dropped was dropped by an act that told it; what happens drops none.
 pub fn each_drop_is_emitted()
-    ensures acts { ActsEmitDrops }
-    ensures takes { TakesDropNone }
+    ensures acts { EachDroppedLinkIsEmitted }
+    ensures takes { HappeningsDropNoLink }
 {}
 
 /// An act that is done has one model behind it, and its effects.
 pub fn an_act_is_done_in_one_way()
-    ensures { ActsInOneWay }
+    ensures { ActIsDoneInOneWay }
 {
     a_request_is_asked_in_one_way();
 }
 
 /// What an engine lives through has one trace: each act asks the core about one event, or about none.
-pub fn a_life_has_one_trace()
-    ensures { HasOneTrace }
+pub fn an_execution_has_one_trace()
+    ensures { StepsHaveOneTrace }
 {
     a_request_is_asked_in_one_way();
 }
@@ -71,17 +72,18 @@ pub fn executions_are_runs()
 /// that of its own connection behind those that were served. So whatever an engine lives through, each answer in its
 /// trace is one that a stream spells as a response, and has a final status, from 200 to 599.
 pub fn answers_are_final()
-    ensures spelled { ActsAreSpelled }
-    ensures read { AnswersAreRead }
-    ensures status { AnswersAreFinal }
+    ensures spelled { EachActIsSpelled }
+    ensures read { EachAnswerWasRead }
+    ensures status { EachAnswerIsFinal }
 {
     what_is_read_is_final();
 }
 
 /// Where a waiting request or an answer is the first that is due, the links that come before it are known, and no
-/// number is left for one more link, `work` doesn't say that memory is wanting: `ReportsExhausted`, which it ensures
+/// number is left for one more link, `work` doesn't say that memory is wanting: `ReportsLinkNumbersExhausted`, which
+/// it ensures
 /// then, is false of such a state.
 pub fn memory_hides_no_lack_of_numbers()
-    ensures wakes { HidesNoWake }
-    ensures answers { HidesNoAnswer }
+    ensures wakes { MemoryHidesNoExhaustedWake }
+    ensures answers { MemoryHidesNoExhaustedAnswer }
 {}

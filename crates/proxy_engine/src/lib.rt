@@ -8,7 +8,7 @@
 mod endpoints;
 mod engine;
 mod laws;
-mod reading;
+mod readable_ends;
 mod steps;
 mod takes;
 mod work;
@@ -18,14 +18,14 @@ pub use crate::endpoints::peeked::Peeked;
 pub use crate::endpoints::readers::Reader;
 pub use crate::engine::Engine;
 pub use crate::laws::model_cases::{
-    what_acts_emit, what_happenings_add, what_is_due_by_its_words, what_steps_emitted,
-    which_happenings_are_taken,
+    worked_due_acts, worked_effects_of_acts, worked_effects_of_steps, worked_faults_of_happenings,
+    worked_happenings,
 };
 pub use crate::laws::run_laws::a_run_refuses_what_was_not_done;
 pub use crate::laws::{
-    a_life_has_one_trace, an_act_has_three_effects_at_most, an_act_is_done_in_one_way,
-    answers_are_final, due_once, each_drop_is_emitted, effects_name_open_ends, executions_are_runs,
-    memory_hides_no_lack_of_numbers, what_ends_stays_ended,
+    an_act_has_three_effects_at_most, an_act_is_done_in_one_way, an_execution_has_one_trace,
+    answers_are_final, each_drop_is_emitted, effects_name_open_ends, executions_are_runs,
+    memory_hides_no_lack_of_numbers, one_act_is_due_first, what_ends_stays_ended,
 };
 pub use crate::work::{End, EngineFault, Work};
 pub use proxy_script::Happening;

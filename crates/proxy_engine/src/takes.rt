@@ -3,14 +3,16 @@ ghost use Rattle.std.specs.Prelude.{◌≡◌, ◌≢◌, ℕ, ◌+◌, ◌-◌,
 ghost use Rattle.std.specs.Prelude.{vec_len, vec_capacity, List, length, true, false, is_some, IsOk, IfOk, IfErr, OnOk};
 ghost use Rattle.std.specs.Prelude.{OnErr, Option, Some, None, Err, MatchOption, slice_index_or};
 ghost use Rattle.proxy_core.specs.State.{State as CoreState};
-ghost use Rattle.proxy_engine.specs.Numbers.{connection_number, connection_place, link_place};
+ghost use Rattle.proxy_engine.specs.ConnectionNumbers.{connection_number, connection_place, link_place};
 ghost use Rattle.proxy_engine.specs.Happenings.{Accepts, Sends, Hears, Ends, Leaves, Shuts, Fails};
-ghost use Rattle.proxy_engine.specs.EngineModel.{EngineModel, ConnectionModel, LinkModel, sent, ended, left, heard_by};
-ghost use Rattle.proxy_engine.specs.EngineModel.{shut, failed_by, keeps};
+ghost use Rattle.proxy_engine.specs.EngineModel.{EngineModel, ConnectionModel, LinkModel, connection_after_bytes};
+ghost use Rattle.proxy_engine.specs.EngineModel.{connection_after_end, connection_after_disconnect, link_after_bytes};
+ghost use Rattle.proxy_engine.specs.EngineModel.{link_after_shut, link_after_failure, happening_is_kept};
 ghost use Rattle.proxy_engine.specs.Activities.{has_exchange};
 ghost use Rattle.proxy_engine.specs.Pairing.{owner_of, activities_of, owners_of};
-ghost use Rattle.proxy_engine.specs.Room.{IsRoomy, IsRoomyLink};
-ghost use Rattle.proxy_engine.specs.State.{Represents, ConnectionRepresents, LinkRepresents, state, Takes, TakeFault};
+ghost use Rattle.proxy_engine.specs.Room.{ConnectionHasSpare, LinkHasSpare};
+ghost use Rattle.proxy_engine.specs.State.{EngineRepresents, ConnectionRepresents, LinkRepresents, engine_state};
+ghost use Rattle.proxy_engine.specs.State.{EngineTakesHappening, IsFaultOfTaking};
 
 use crate::endpoints::activities::Activity;
 use crate::endpoints::connections::Connections;
@@ -52,7 +54,7 @@ fn find_link(links: &Links, first: u64, l: u64) -> Option<u64>
 
 fn feed_connection(connection: &mut Connection, bytes: &[u8]) -> Result<(), AllocError>
     ensures represents { OnOk result ((s : ConnectionModel) → ConnectionRepresents (Some connection.old) s
-        → ConnectionRepresents (Some connection.new) (sent bytes.now s)) }
+        → ConnectionRepresents (Some connection.new) (connection_after_bytes bytes.now s)) }
     ensures err { OnErr result (connection.new ≡ connection.old) }
     ensures kept { OnErr result (connection.old.gone || connection.old.ended ≡ false) }
     ensures reserved { length bytes.now ≤ connection.old.reader.inner.spare → IsOk result }
@@ -68,7 +70,7 @@ fn feed_connection(connection: &mut Connection, bytes: &[u8]) -> Result<(), Allo
 
 fn feed_link(link: &mut Link, bytes: &[u8]) -> Result<(), AllocError>
     ensures represents { OnOk result ((s : LinkModel) → LinkRepresents (Some link.old) s
-        → LinkRepresents (Some link.new) (heard_by bytes.now s)) }
+        → LinkRepresents (Some link.new) (link_after_bytes bytes.now s)) }
     ensures err { OnErr result (link.new ≡ link.old) }
     ensures kept { OnErr result (is_some link.old.failed || link.old.ended ≡ false) }
     ensures reserved { length bytes.now ≤ link.old.reader.inner.spare → IsOk result }
@@ -84,7 +86,7 @@ fn feed_link(link: &mut Link, bytes: &[u8]) -> Result<(), AllocError>
 
 fn end(connection: &mut Connection)
     ensures represents { (s : ConnectionModel) → ConnectionRepresents (Some connection.old) s
-        → ConnectionRepresents (Some connection.new) (ended s) }
+        → ConnectionRepresents (Some connection.new) (connection_after_end s) }
     ensures activity { connection.new.activity ≡ connection.old.activity }
 {
     if !connection.gone {
@@ -97,14 +99,16 @@ fn end(connection: &mut Connection)
 /// A client with an open exchange goes away.
 fn disconnect(connection: &mut Connection)
     ensures represents { has_exchange connection.old.activity ≡ true → (s : ConnectionModel)
-        → ConnectionRepresents (Some connection.old) s → ConnectionRepresents (Some connection.new) (left s) }
+        → ConnectionRepresents (Some connection.old) s → ConnectionRepresents (Some connection.new)
+        (connection_after_disconnect s) }
     ensures activity { connection.new.activity ≡ connection.old.activity }
 {
     connection.gone = true;
 }
 
 fn close_link(link: &mut Link)
-    ensures represents { (s : LinkModel) → LinkRepresents (Some link.old) s → LinkRepresents (Some link.new) (shut s) }
+    ensures represents { (s : LinkModel) → LinkRepresents (Some link.old) s → LinkRepresents (Some link.new)
+        (link_after_shut s) }
     ensures connection { link.new.connection ≡ link.old.connection }
 {
     if link.failed.is_none() {
@@ -116,7 +120,7 @@ fn close_link(link: &mut Link)
 
 fn fail_link(link: &mut Link, kind: FailKind)
     ensures represents { (s : LinkModel) → LinkRepresents (Some link.old) s
-        → LinkRepresents (Some link.new) (failed_by kind s) }
+        → LinkRepresents (Some link.new) (link_after_failure kind s) }
     ensures connection { link.new.connection ≡ link.old.connection }
 {
     if link.failed.is_none() {
@@ -138,10 +142,11 @@ pub(crate) fn accept(
     n: u64,
 ) -> Result<(), EngineFault>
     ensures ok { OnOk result ((s : EngineModel) → (links : List (Option Link)) → (core : CoreState) → (first : ℕ)
-        → core.table.max_body ≡ max_body → Represents (state connections.old.items links core first) s
-        → Takes s (Accepts n) (state connections.new.items links core first)) }
+        → core.table.max_body ≡ max_body → EngineRepresents (engine_state connections.old.items links core first) s
+        → EngineTakesHappening s (Accepts n) (engine_state connections.new.items links core first)) }
     ensures fault { IfErr result (λ e. (s : EngineModel) → (links : List (Option Link)) → (core : CoreState)
-        → (first : ℕ) → Represents (state connections.old.items links core first) s → TakeFault s (Accepts n) e) }
+        → (first : ℕ) → EngineRepresents (engine_state connections.old.items links core first) s → IsFaultOfTaking s
+        (Accepts n) e) }
     ensures activities { OnOk result
         (activities_of connections.new.items ≡ activities_of connections.old.items ++ Activity.Free ∷ []) }
     ensures reserved { connections.old.has_room ≡ true → result ≢ Err EngineFault.OutOfMemory }
@@ -163,17 +168,22 @@ pub(crate) fn accept(
     }
 }
 
-pub(crate) fn take_client_bytes(connections: &mut Connections, n: u64, bytes: &[u8]) -> Result<(), EngineFault>
+pub(crate) fn take_client_bytes(
+    connections: &mut Connections,
+    n: u64,
+    bytes: &[u8],
+) -> Result<(), EngineFault>
     ensures ok { OnOk result ((s : EngineModel) → (links : List (Option Link)) → (core : CoreState) → (first : ℕ)
-        → Represents (state connections.old.items links core first) s
-        → Takes s (Sends n bytes.now) (state connections.new.items links core first)) }
+        → EngineRepresents (engine_state connections.old.items links core first) s
+        → EngineTakesHappening s (Sends n bytes.now) (engine_state connections.new.items links core first)) }
     ensures fault { IfErr result (λ e. (s : EngineModel) → (links : List (Option Link)) → (core : CoreState)
-        → (first : ℕ) → Represents (state connections.old.items links core first) s
-        → TakeFault s (Sends n bytes.now) e) }
+        → (first : ℕ) → EngineRepresents (engine_state connections.old.items links core first) s
+        → IsFaultOfTaking s (Sends n bytes.now) e) }
     ensures kept { result ≡ Err EngineFault.OutOfMemory → (s : EngineModel) → (links : List (Option Link))
-        → (core : CoreState) → (first : ℕ) → Represents (state connections.old.items links core first) s
-        → keeps s (Sends n bytes.now) ≡ true }
-    ensures reserved { IsRoomy (slice_index_or connections.old.items (connection_place n) None) (length bytes.now)
+        → (core : CoreState) → (first : ℕ) → EngineRepresents (engine_state connections.old.items links core first) s
+        → happening_is_kept s (Sends n bytes.now) ≡ true }
+    ensures reserved { ConnectionHasSpare (slice_index_or connections.old.items (connection_place n) None)
+        (length bytes.now)
         → result ≢ Err EngineFault.OutOfMemory }
     ensures activities { activities_of connections.new.items ≡ activities_of connections.old.items }
     ensures err { OnErr result (connections.new ≡ connections.old) }
@@ -192,10 +202,11 @@ pub(crate) fn take_client_bytes(connections: &mut Connections, n: u64, bytes: &[
 
 pub(crate) fn finish_client(connections: &mut Connections, n: u64) -> Result<(), EngineFault>
     ensures ok { OnOk result ((s : EngineModel) → (links : List (Option Link)) → (core : CoreState) → (first : ℕ)
-        → Represents (state connections.old.items links core first) s
-        → Takes s (Ends n) (state connections.new.items links core first)) }
+        → EngineRepresents (engine_state connections.old.items links core first) s
+        → EngineTakesHappening s (Ends n) (engine_state connections.new.items links core first)) }
     ensures fault { IfErr result (λ e. (s : EngineModel) → (links : List (Option Link)) → (core : CoreState)
-        → (first : ℕ) → Represents (state connections.old.items links core first) s → TakeFault s (Ends n) e) }
+        → (first : ℕ) → EngineRepresents (engine_state connections.old.items links core first) s → IsFaultOfTaking s
+        (Ends n) e) }
     ensures memory { IfErr result (λ e. e ≡ EngineFault.NotAccepted) }
     ensures activities { activities_of connections.new.items ≡ activities_of connections.old.items }
     ensures err { OnErr result (connections.new ≡ connections.old) }
@@ -211,10 +222,11 @@ pub(crate) fn finish_client(connections: &mut Connections, n: u64) -> Result<(),
 
 pub(crate) fn disconnect_client(connections: &mut Connections, n: u64) -> Result<(), EngineFault>
     ensures ok { OnOk result ((s : EngineModel) → (links : List (Option Link)) → (core : CoreState) → (first : ℕ)
-        → Represents (state connections.old.items links core first) s
-        → Takes s (Leaves n) (state connections.new.items links core first)) }
+        → EngineRepresents (engine_state connections.old.items links core first) s
+        → EngineTakesHappening s (Leaves n) (engine_state connections.new.items links core first)) }
     ensures fault { IfErr result (λ e. (s : EngineModel) → (links : List (Option Link)) → (core : CoreState)
-        → (first : ℕ) → Represents (state connections.old.items links core first) s → TakeFault s (Leaves n) e) }
+        → (first : ℕ) → EngineRepresents (engine_state connections.old.items links core first) s → IsFaultOfTaking s
+        (Leaves n) e) }
     ensures memory { IfErr result (λ e. e ≡ EngineFault.NotAccepted) }
     ensures activities { activities_of connections.new.items ≡ activities_of connections.old.items }
     ensures err { OnErr result (connections.new ≡ connections.old) }
@@ -230,16 +242,23 @@ pub(crate) fn disconnect_client(connections: &mut Connections, n: u64) -> Result
     Ok(())
 }
 
-pub(crate) fn take_link_bytes(links: &mut Links, first: u64, l: u64, bytes: &[u8]) -> Result<(), EngineFault>
+pub(crate) fn take_link_bytes(
+    links: &mut Links,
+    first: u64,
+    l: u64,
+    bytes: &[u8],
+) -> Result<(), EngineFault>
     ensures ok { OnOk result ((s : EngineModel) → (connections : List (Option Connection)) → (core : CoreState)
-        → Represents (state connections links.old.items core first) s
-        → Takes s (Hears l bytes.now) (state connections links.new.items core first)) }
+        → EngineRepresents (engine_state connections links.old.items core first) s
+        → EngineTakesHappening s (Hears l bytes.now) (engine_state connections links.new.items core first)) }
     ensures fault { IfErr result (λ e. (s : EngineModel) → (connections : List (Option Connection)) → (core : CoreState)
-        → Represents (state connections links.old.items core first) s → TakeFault s (Hears l bytes.now) e) }
+        → EngineRepresents (engine_state connections links.old.items core first) s → IsFaultOfTaking s
+        (Hears l bytes.now) e) }
     ensures kept { result ≡ Err EngineFault.OutOfMemory → (s : EngineModel) → (connections : List (Option Connection))
-        → (core : CoreState) → Represents (state connections links.old.items core first) s → keeps s (Hears l bytes.now)
+        → (core : CoreState) → EngineRepresents (engine_state connections links.old.items core first) s
+        → happening_is_kept s (Hears l bytes.now)
         ≡ true }
-    ensures reserved { IsRoomyLink (slice_index_or links.old.items (link_place first l) None) (length bytes.now)
+    ensures reserved { LinkHasSpare (slice_index_or links.old.items (link_place first l) None) (length bytes.now)
         → result ≢ Err EngineFault.OutOfMemory }
     ensures owners { owners_of links.new.items ≡ owners_of links.old.items }
     ensures err { OnErr result (links.new.items ≡ links.old.items) }
@@ -258,10 +277,10 @@ pub(crate) fn take_link_bytes(links: &mut Links, first: u64, l: u64, bytes: &[u8
 
 pub(crate) fn shut_link(links: &mut Links, first: u64, l: u64) -> Result<(), EngineFault>
     ensures ok { OnOk result ((s : EngineModel) → (connections : List (Option Connection)) → (core : CoreState)
-        → Represents (state connections links.old.items core first) s
-        → Takes s (Shuts l) (state connections links.new.items core first)) }
+        → EngineRepresents (engine_state connections links.old.items core first) s
+        → EngineTakesHappening s (Shuts l) (engine_state connections links.new.items core first)) }
     ensures fault { IfErr result (λ e. (s : EngineModel) → (connections : List (Option Connection)) → (core : CoreState)
-        → Represents (state connections links.old.items core first) s → TakeFault s (Shuts l) e) }
+        → EngineRepresents (engine_state connections links.old.items core first) s → IsFaultOfTaking s (Shuts l) e) }
     ensures memory { IfErr result (λ e. e ≡ EngineFault.WrongNumber) }
     ensures owners { owners_of links.new.items ≡ owners_of links.old.items }
     ensures err { OnErr result (links.new.items ≡ links.old.items) }
@@ -282,10 +301,11 @@ pub(crate) fn break_link(
     kind: FailKind,
 ) -> Result<(), EngineFault>
     ensures ok { OnOk result ((s : EngineModel) → (connections : List (Option Connection)) → (core : CoreState)
-        → Represents (state connections links.old.items core first) s
-        → Takes s (Fails l kind) (state connections links.new.items core first)) }
+        → EngineRepresents (engine_state connections links.old.items core first) s
+        → EngineTakesHappening s (Fails l kind) (engine_state connections links.new.items core first)) }
     ensures fault { IfErr result (λ e. (s : EngineModel) → (connections : List (Option Connection)) → (core : CoreState)
-        → Represents (state connections links.old.items core first) s → TakeFault s (Fails l kind) e) }
+        → EngineRepresents (engine_state connections links.old.items core first) s → IsFaultOfTaking s
+        (Fails l kind) e) }
     ensures memory { IfErr result (λ e. e ≡ EngineFault.WrongNumber) }
     ensures owners { owners_of links.new.items ≡ owners_of links.old.items }
     ensures err { OnErr result (links.new.items ≡ links.old.items) }

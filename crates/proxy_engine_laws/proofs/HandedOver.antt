@@ -1,30 +1,30 @@
 -- What a core is handed was read.
 use Rattle.std.proofs.Common.{◌≡◌, inl, inr, ℕ, [], ◌∷◌, sym, subst}
 use Rattle.std.specs.Prelude.{Some, Result, Ok, Err, codes}
-use Rattle.hx_fields.specs.Lines.{values_of}
+use Rattle.hx_fields.specs.FieldLines.{values_of}
 use Rattle.hx_framing.specs.declared.messages.Request.{Request}
 use Rattle.hx_framing.specs.declared.messages.Response.{Response}
 use Rattle.hx_framing.specs.declared.messages.Next.TheVariants as next
-use Rattle.hx_target.specs.declared.faults.TargetFault.{TargetFault}
+use Rattle.hx_target.specs.declared.target_fault.TargetFault.{TargetFault}
 use Rattle.hx_target.specs.declared.targets.Target.{Target}
-use Rattle.hx_target.specs.Judgement.{Judged}
+use Rattle.hx_target.specs.Judgement.{TargetIsJudged}
 use Rattle.hx_hop.specs.declared.request_view.Asked.{Asked}
-use Rattle.hx_hop.specs.Asking.{asked_by, asked_of}
+use Rattle.hx_hop.specs.Asking.{asked_with_judged_target, asked_with_target}
 use Rattle.proxy_core.specs.declared.event.Event.{Event}
-use Rattle.proxy_core.specs.ReadAnswers.{IsRead}
-use Rattle.proxy_core_laws.specs.SentMessages.{AreHandedWhatWasRead, IsHandedWhatWasRead, IsReadRequest}
+use Rattle.proxy_core.specs.ReadAnswers.{WasReadFromAStream}
+use Rattle.proxy_core_laws.specs.SentMessages.{EventsWereRead, EventWasRead, RequestWasRead}
 use Rattle.proxy_engine.specs.EngineModel.{EngineModel, ConnectionModel, LinkModel, connection_at, link_at}
 use Rattle.proxy_engine.specs.Due.{Act, Abandons, Finishes, Wakes, Serves, Gives, Breaks, IsDueFirst}
-use Rattle.proxy_engine.specs.FinalAnswers.{SpellsAnswer, SpellsRequest}
-use Rattle.proxy_engine.specs.Executions.{Took, Worked, IsEventOf}
+use Rattle.proxy_engine.specs.FinalAnswers.{LinkSpellsAnswer, ConnectionSpellsRequest}
+use Rattle.proxy_engine.specs.Executions.{Took, Worked, IsCoreEventOfAct}
 use Rattle.proxy_engine.proofs.FinalAnswers.{acts_are_spelled}
-use Rattle.proxy_engine_laws.specs.OneMessageEach.{HandsWhatWasRead}
+use Rattle.proxy_engine_laws.specs.OneMessageEach.{CoreIsHandedWhatWasRead}
 
-read_answer : (k : LinkModel) (r : Response) → SpellsAnswer k r → IsRead r
+read_answer : (k : LinkModel) (r : Response) → LinkSpellsAnswer k r → WasReadFromAStream r
 read_answer k r is = record { max_body = k.progress.max_body; to_head = k.progress.to_head; ended = k.progress.ended; bytes = k.progress.stream; rest = is.rest; reads = is.reads }
 
-pub read_request : (c : ConnectionModel) (r : Request) (asked : Asked) (judged : Result Target TargetFault) → SpellsRequest c r → Judged r.target (values_of r.fields (codes "Host")) judged → Ok asked ≡ asked_by r judged
-    → IsReadRequest asked
+pub read_request : (c : ConnectionModel) (r : Request) (asked : Asked) (judged : Result Target TargetFault) → ConnectionSpellsRequest c r → TargetIsJudged r.target (values_of r.fields (codes "Host")) judged → Ok asked ≡ asked_with_judged_target r judged
+    → RequestWasRead asked
 read_request c r asked (Ok target) is named same = record {
   max_body = c.progress.max_body;
   ended = c.progress.ended;
@@ -38,27 +38,27 @@ read_request c r asked (Ok target) is named same = record {
   asked_is = one;
 }
   where
-    one : asked ≡ asked_of r target
+    one : asked ≡ asked_with_target r target
     one = cc
 read_request c r asked (Err fault) is named same = absurd cc
 
-pub event_read : (s : EngineModel) (now : ℕ) (act : Act) (event : Event) → IsDueFirst s (Some act) → IsEventOf s now act event → IsHandedWhatWasRead event
-event_read s now (Abandons i l) event due is = subst IsHandedWhatWasRead (sym is) tt
-event_read s now (Finishes j (Gives r)) event due is = subst IsHandedWhatWasRead (sym is) (read_answer (link_at s j) r (acts_are_spelled s (Finishes j (Gives r)) due))
-event_read s now (Finishes j (Breaks kind)) event due is = subst IsHandedWhatWasRead (sym is) tt
-event_read s now (Wakes i) event due is = subst IsHandedWhatWasRead (sym is) tt
+pub event_read : (s : EngineModel) (now : ℕ) (act : Act) (event : Event) → IsDueFirst s (Some act) → IsCoreEventOfAct s now act event → EventWasRead event
+event_read s now (Abandons i l) event due is = subst EventWasRead (sym is) tt
+event_read s now (Finishes j (Gives r)) event due is = subst EventWasRead (sym is) (read_answer (link_at s j) r (acts_are_spelled s (Finishes j (Gives r)) due))
+event_read s now (Finishes j (Breaks kind)) event due is = subst EventWasRead (sym is) tt
+event_read s now (Wakes i) event due is = subst EventWasRead (sym is) tt
 event_read s now (Serves i (next.Message r)) event due (asked, (judged, named, same), is) =
-    subst IsHandedWhatWasRead (sym is) (read_request (connection_at s i) r asked judged (acts_are_spelled s (Serves i (next.Message r)) due) named same)
+    subst EventWasRead (sym is) (read_request (connection_at s i) r asked judged (acts_are_spelled s (Serves i (next.Message r)) due) named same)
 event_read s now (Serves i next.More) event due is = absurd is
 event_read s now (Serves i next.NeedsContinue) event due is = absurd is
 event_read s now (Serves i (next.Refused fault)) event due is = absurd is
 event_read s now (Serves i next.End) event due is = absurd is
 
-pub hands_what_was_read : HandsWhatWasRead
-hands_what_was_read table begin last [] trace h = subst AreHandedWhatWasRead (sym h.1) tt
+pub hands_what_was_read : CoreIsHandedWhatWasRead
+hands_what_was_read table begin last [] trace h = subst EventsWereRead (sym h.1) tt
 hands_what_was_read table begin last (Took happening ∷ steps) trace (before, past, has_trace, leads, adds) =
-    subst AreHandedWhatWasRead (sym adds) (hands_what_was_read table begin before steps past has_trace)
+    subst EventsWereRead (sym adds) (hands_what_was_read table begin before steps past has_trace)
 hands_what_was_read table begin last (Worked now act emitted ∷ steps) trace (before, past, has_trace, leads, inl (item, is, one)) =
-    subst AreHandedWhatWasRead (sym is) (event_read before now act item.event leads.0 one.event_is, hands_what_was_read table begin before steps past has_trace)
+    subst EventsWereRead (sym is) (event_read before now act item.event leads.0 one.event_is, hands_what_was_read table begin before steps past has_trace)
 hands_what_was_read table begin last (Worked now act emitted ∷ steps) trace (before, past, has_trace, leads, inr (same, none, own)) =
-    subst AreHandedWhatWasRead (sym same) (hands_what_was_read table begin before steps past has_trace)
+    subst EventsWereRead (sym same) (hands_what_was_read table begin before steps past has_trace)

@@ -2,13 +2,13 @@
 //! is empty. Nothing here runs.
 #![tactic(auto)]
 
-ghost use Rattle.proxy_engine_laws.specs.OneMessageEach.{AnswersOneResponseEach, ForwardsOneRequestEach};
-ghost use Rattle.proxy_engine_laws.specs.OneMessageEach.{GetsOneResponseEach, HandsWhatWasRead};
+ghost use Rattle.proxy_engine_laws.specs.OneMessageEach.{EachReplyIsOneResponse, EachForwardIsOneRequest};
+ghost use Rattle.proxy_engine_laws.specs.OneMessageEach.{ClientsGetOneResponseEach, CoreIsHandedWhatWasRead};
 
 /// Whatever an engine lives through, each request that its core is handed is one that a client's stream spells, asked
 /// for the target that it names, and each answer is one that an origin's stream spells.
 pub fn a_core_is_handed_what_was_read()
-    ensures { HandsWhatWasRead }
+    ensures { CoreIsHandedWhatWasRead }
 {}
 
 /// Whatever an engine whose table was read lives through, each request that goes forward, at its arrival, when it is
@@ -17,13 +17,13 @@ pub fn a_core_is_handed_what_was_read()
 /// leaves what stands behind it (RFC 9112, sections 6.3 and 11.2). This is the law against request smuggling, of what
 /// is really sent.
 pub fn what_goes_forward_is_one_request()
-    ensures { ForwardsOneRequestEach }
+    ensures { EachForwardIsOneRequest }
 {}
 
 /// So is what a client gets: an answer that is passed on, a stored response, and the proxy's own answer is one
 /// response, beside the 25 bytes of a continue (RFC 9112, sections 6.3 and 11.1). This is the law against response
 /// splitting, of what is really sent.
 pub fn what_a_client_gets_is_one_response()
-    ensures each_act { AnswersOneResponseEach }
-    ensures all { GetsOneResponseEach }
+    ensures each_act { EachReplyIsOneResponse }
+    ensures all { ClientsGetOneResponseEach }
 {}

@@ -7,11 +7,11 @@ use Rattle.hx_framing.specs.declared.messages.Next.{Next}
 use Rattle.hx_framing.specs.Progress.{Progress}
 use Rattle.hx_framing.specs.RequestState.{State, RepresentsStream}
 use Rattle.hx_framing.specs.RequestStream.{Answers}
-use Rattle.proxy_log.specs.Asked.{IsKept}
-use Rattle.proxy_log.specs.Hearing.{AskFor, after, HasRead, HasReadOn, HasReadSome, is_last, is_refusal}
+use Rattle.proxy_log.specs.Asked.{QuestionIsKept}
+use Rattle.proxy_log.specs.Hearing.{QuestionsAreOfRequests, continue_sent_after, StreamIsReadSoFar, StreamIsReadOn, SomeRequestsWereRead, is_last_whole, is_refused_answer}
 use Rattle.proxy_log.specs.declared.asked.Question.{Question}
 
-pub AskFor-append : (rs : List Request) (qs : List Question) (rs' : List Request) (qs' : List Question) → AskFor rs qs → AskFor rs' qs' → AskFor (rs ++ rs') (qs ++ qs')
+pub AskFor-append : (rs : List Request) (qs : List Question) (rs' : List Request) (qs' : List Question) → QuestionsAreOfRequests rs qs → QuestionsAreOfRequests rs' qs' → QuestionsAreOfRequests (rs ++ rs') (qs ++ qs')
 AskFor-append [] [] rs' qs' a b = b
 AskFor-append [] (q ∷ qs) rs' qs' a b = absurd a
 AskFor-append (r ∷ rs) [] rs' qs' a b = absurd a
@@ -20,7 +20,7 @@ AskFor-append (r ∷ rs) (q ∷ qs) rs' qs' a b = (a.0, AskFor-append rs qs rs' 
 -- nothing was given
 pub none_read : (p : Progress Request) (continue_sent : Bool) (reader : State) (before questions : List Question) (begun_before begun : Option Question)
     → RepresentsStream reader (record p { continue_sent = continue_sent }) → questions ≡ before → ((p.continue_sent ≡ true → IsSome begun_before) → continue_sent ≡ true → IsSome begun)
-    → HasRead p [] continue_sent reader before questions begun_before begun
+    → StreamIsReadSoFar p [] continue_sent reader before questions begun_before begun
 none_read p continue_sent reader before questions begun_before begun represents same begins = record {
   represents = subst (λ (given : List Request). RepresentsStream reader (record p { given = given; continue_sent = continue_sent })) (sym (append-nil p.given)) represents;
   asked = [];
@@ -31,7 +31,7 @@ none_read p continue_sent reader before questions begun_before begun represents 
 
 -- one after the other
 pub read_further : (p : Progress Request) (rs rs' : List Request) (continue_sent continue_sent' : Bool) (r1 r2 : State) (q0 q1 q2 : List Question) (b0 b1 b2 : Option Question)
-    → HasRead p rs continue_sent r1 q0 q1 b0 b1 → HasRead (after p rs continue_sent) rs' continue_sent' r2 q1 q2 b1 b2 → HasRead p (rs ++ rs') continue_sent' r2 q0 q2 b0 b2
+    → StreamIsReadSoFar p rs continue_sent r1 q0 q1 b0 b1 → StreamIsReadSoFar (continue_sent_after p rs continue_sent) rs' continue_sent' r2 q1 q2 b1 b2 → StreamIsReadSoFar p (rs ++ rs') continue_sent' r2 q0 q2 b0 b2
 read_further p rs rs' continue_sent continue_sent' r1 r2 q0 q1 q2 b0 b1 b2 first second = record {
   represents = subst (λ (given : List Request). RepresentsStream r2 (record p { given = given; continue_sent = continue_sent' })) (append_assoc p.given rs rs') second.represents;
   asked = first.asked ++ second.asked;
@@ -47,7 +47,7 @@ or_is_some (Some x) q b is = subst (λ (o : Option Question). IsSome o) (sym is)
 pub stays_some : (a : Option Question) (q : Question) (b : Option Question) → b ≡ option_or a (Some q) → IsSome a → IsSome b
 stays_some a q b is was = or_is_some a q b is
 
-pub at_first : (p : Progress Request) (reader : State) (questions : List Question) (begun : Option Question) → RepresentsStream reader p → HasReadSome p reader questions questions begun begun
+pub at_first : (p : Progress Request) (reader : State) (questions : List Question) (begun : Option Question) → RepresentsStream reader p → SomeRequestsWereRead p reader questions questions begun begun
 at_first p reader questions begun represents = record {
   requests = [];
   continue_sent = p.continue_sent;
@@ -56,7 +56,7 @@ at_first p reader questions begun represents = record {
 
 -- a request and what it asks for
 pub message_read : (p : Progress Request) (m : Request) (reader : State) (before questions : List Question) (begun_before begun : Option Question)
-    → RepresentsStream reader (record p { given = p.given ++ m ∷ []; continue_sent = false }) → IsKept m before questions → HasReadSome p reader before questions begun_before begun
+    → RepresentsStream reader (record p { given = p.given ++ m ∷ []; continue_sent = false }) → QuestionIsKept m before questions → SomeRequestsWereRead p reader before questions begun_before begun
 message_read p m reader before questions begun_before begun represents kept = record {
   requests = m ∷ [];
   continue_sent = false;
@@ -71,7 +71,7 @@ message_read p m reader before questions begun_before begun represents kept = re
 
 -- a continue, and what begins there
 pub continue_read : (p : Progress Request) (q : Question) (reader : State) (before questions : List Question) (begun_before begun : Option Question)
-    → RepresentsStream reader (record p { continue_sent = true }) → questions ≡ before → begun ≡ option_or begun_before (Some q) → HasReadSome p reader before questions begun_before begun
+    → RepresentsStream reader (record p { continue_sent = true }) → questions ≡ before → begun ≡ option_or begun_before (Some q) → SomeRequestsWereRead p reader before questions begun_before begun
 continue_read p q reader before questions begun_before begun represents same is = record {
   requests = [];
   continue_sent = true;
@@ -80,8 +80,8 @@ continue_read p q reader before questions begun_before begun represents same is 
 
 -- nothing further
 pub last_read : (p : Progress Request) (answer : Next Request) (reader : State) (before questions : List Question) (begun_before begun : Option Question) (over : Bool)
-    → RepresentsStream reader p → Answers p answer → is_last answer ≡ true → questions ≡ before → (IsSome begun_before → IsSome begun)
-    → over ≡ is_refusal answer → (is_refusal answer ≡ true → IsSome begun) → HasReadOn p reader before questions begun_before begun over
+    → RepresentsStream reader p → Answers p answer → is_last_whole answer ≡ true → questions ≡ before → (IsSome begun_before → IsSome begun)
+    → over ≡ is_refused_answer answer → (is_refused_answer answer ≡ true → IsSome begun) → StreamIsReadOn p reader before questions begun_before begun over
 last_read p answer reader before questions begun_before begun over represents answers last same begins is_over refused = record {
   requests = [];
   continue_sent = p.continue_sent;
@@ -94,9 +94,9 @@ last_read p answer reader before questions begun_before begun over represents an
 }
 
 pub then_one : (p : Progress Request) (r1 r2 : State) (q0 q1 q2 : List Question) (b0 b1 b2 : Option Question)
-    → HasReadSome p r1 q0 q1 b0 b1 → ((p' : Progress Request) → RepresentsStream r1 p' → HasReadSome p' r2 q1 q2 b1 b2) → HasReadSome p r2 q0 q2 b0 b2
+    → SomeRequestsWereRead p r1 q0 q1 b0 b1 → ((p' : Progress Request) → RepresentsStream r1 p' → SomeRequestsWereRead p' r2 q1 q2 b1 b2) → SomeRequestsWereRead p r2 q0 q2 b0 b2
 then_one p r1 r2 q0 q1 q2 b0 b1 b2 first next =
-    let second : HasReadSome (after p first.requests first.continue_sent) r2 q1 q2 b1 b2 = next (after p first.requests first.continue_sent) first.read.represents in
+    let second : SomeRequestsWereRead (continue_sent_after p first.requests first.continue_sent) r2 q1 q2 b1 b2 = next (continue_sent_after p first.requests first.continue_sent) first.read.represents in
     record {
       requests = first.requests ++ second.requests;
       continue_sent = second.continue_sent;
@@ -104,9 +104,9 @@ then_one p r1 r2 q0 q1 q2 b0 b1 b2 first next =
     }
 
 pub then_last : (p : Progress Request) (r1 r2 : State) (q0 q1 q2 : List Question) (b0 b1 b2 : Option Question) (over : Bool)
-    → HasReadSome p r1 q0 q1 b0 b1 → ((p' : Progress Request) → RepresentsStream r1 p' → HasReadOn p' r2 q1 q2 b1 b2 over) → HasReadOn p r2 q0 q2 b0 b2 over
+    → SomeRequestsWereRead p r1 q0 q1 b0 b1 → ((p' : Progress Request) → RepresentsStream r1 p' → StreamIsReadOn p' r2 q1 q2 b1 b2 over) → StreamIsReadOn p r2 q0 q2 b0 b2 over
 then_last p r1 r2 q0 q1 q2 b0 b1 b2 over first next =
-    let second : HasReadOn (after p first.requests first.continue_sent) r2 q1 q2 b1 b2 over = next (after p first.requests first.continue_sent) first.read.represents in
+    let second : StreamIsReadOn (continue_sent_after p first.requests first.continue_sent) r2 q1 q2 b1 b2 over = next (continue_sent_after p first.requests first.continue_sent) first.read.represents in
     record {
       requests = first.requests ++ second.requests;
       continue_sent = second.continue_sent;

@@ -6,8 +6,8 @@ use Rattle.std.proofs.lemmas.List.Folds.{list_all-append}
 use Rattle.std.specs.List.{list_all}
 use Rattle.std.specs.Char.{is_ascii_digit}
 use Rattle.hx_framing.proofs.WrittenFields.{decimal_back}
-use Rattle.proxy_log.specs.Line.{is_shown, hex_digit, shown_byte, shown_text, word_text, line_text}
-use Rattle.proxy_log.specs.OneLine.{IsOneLine, IsGiven, is_byte, is_visible, is_word}
+use Rattle.proxy_log.specs.Line.{stands_for_itself, hex_digit, logged_byte, logged_text, logged_word, log_line_text}
+use Rattle.proxy_log.specs.OneLine.{TextIsOneLine, LineIsInRange, is_byte, is_visible, is_log_word}
 use Rattle.proxy_log.specs.Seconds.{seconds_text, three_digits}
 use Rattle.proxy_log.specs.declared.line.Line.{Line}
 
@@ -27,10 +27,10 @@ all_weaker p q weaker (x ∷ xs) all =
 hex_is_word : (d : ℕ) → d < 16 → (is_visible (hex_digit d) && not (hex_digit d == 32)) ≡ true
 hex_is_word d below = grind (arith, common_steps)
 
-shown_is_visible : (blanks : Bool) (b : ℕ) → is_shown blanks b ≡ true → is_visible b ≡ true
+shown_is_visible : (blanks : Bool) (b : ℕ) → stands_for_itself blanks b ≡ true → is_visible b ≡ true
 shown_is_visible blanks b is = grind (arith, common_steps)
 
-shown_is_word : (b : ℕ) → is_shown false b ≡ true → (is_visible b && not (b == 32)) ≡ true
+shown_is_word : (b : ℕ) → stands_for_itself false b ≡ true → (is_visible b && not (b == 32)) ≡ true
 shown_is_word b is = grind (arith, common_steps)
 
 digit_is_visible : (b : ℕ) → is_ascii_digit b ≡ true → is_visible b ≡ true
@@ -47,38 +47,38 @@ low_half b = grind (arith, common_steps)
 
 -- ---- bytes as they are shown
 
-byte_is_word : (b : ℕ) → is_byte b ≡ true → is_word (shown_byte false b) ≡ true
-byte_is_word b is = by_test (is_shown false b) refl
+byte_is_word : (b : ℕ) → is_byte b ≡ true → is_log_word (logged_byte false b) ≡ true
+byte_is_word b is = by_test (stands_for_itself false b) refl
   where
-    by_test : (t : Bool) → is_shown false b ≡ t → is_word (cond t (b ∷ []) (92 ∷ (120 ∷ (hex_digit (b / 16) ∷ (hex_digit (b % 16) ∷ []))))) ≡ true
+    by_test : (t : Bool) → stands_for_itself false b ≡ t → is_log_word (cond t (b ∷ []) (92 ∷ (120 ∷ (hex_digit (b / 16) ∷ (hex_digit (b % 16) ∷ []))))) ≡ true
     by_test true shown = rw (shown_is_word b shown) refl
     by_test false hidden = rw (hex_is_word (b / 16) (high_half b is), hex_is_word (b % 16) (low_half b)) refl
 
-byte_is_visible : (blanks : Bool) (b : ℕ) → is_byte b ≡ true → list_all is_visible (shown_byte blanks b) ≡ true
-byte_is_visible blanks b is = by_test (is_shown blanks b) refl
+byte_is_visible : (blanks : Bool) (b : ℕ) → is_byte b ≡ true → list_all is_visible (logged_byte blanks b) ≡ true
+byte_is_visible blanks b is = by_test (stands_for_itself blanks b) refl
   where
-    by_test : (t : Bool) → is_shown blanks b ≡ t → list_all is_visible (cond t (b ∷ []) (92 ∷ (120 ∷ (hex_digit (b / 16) ∷ (hex_digit (b % 16) ∷ []))))) ≡ true
+    by_test : (t : Bool) → stands_for_itself blanks b ≡ t → list_all is_visible (cond t (b ∷ []) (92 ∷ (120 ∷ (hex_digit (b / 16) ∷ (hex_digit (b % 16) ∷ []))))) ≡ true
     by_test true shown = rw (shown_is_visible blanks b shown) refl
     by_test false hidden =
         rw ((both (is_visible (hex_digit (b / 16))) _ (hex_is_word (b / 16) (high_half b is))).0, (both (is_visible (hex_digit (b % 16))) _ (hex_is_word (b % 16) (low_half b))).0) refl
 
-each_shown : (p : ℕ → Bool) (blanks : Bool) → ((b : ℕ) → is_byte b ≡ true → list_all p (shown_byte blanks b) ≡ true)
-    → (bs : List ℕ) → list_all is_byte bs ≡ true → list_all p (shown_text blanks bs) ≡ true
+each_shown : (p : ℕ → Bool) (blanks : Bool) → ((b : ℕ) → is_byte b ≡ true → list_all p (logged_byte blanks b) ≡ true)
+    → (bs : List ℕ) → list_all is_byte bs ≡ true → list_all p (logged_text blanks bs) ≡ true
 each_shown p blanks each [] all = refl
 each_shown p blanks each (b ∷ bs) all =
     let parts = both (is_byte b) (list_all is_byte bs) all in
-    all_both p (shown_byte blanks b) (shown_text blanks bs) (each b parts.0) (each_shown p blanks each bs parts.1)
+    all_both p (logged_byte blanks b) (logged_text blanks bs) (each b parts.0) (each_shown p blanks each bs parts.1)
 
-text_is_visible : (bs : List ℕ) → list_all is_byte bs ≡ true → list_all is_visible (shown_text true bs) ≡ true
+text_is_visible : (bs : List ℕ) → list_all is_byte bs ≡ true → list_all is_visible (logged_text true bs) ≡ true
 text_is_visible bs all = each_shown is_visible true (byte_is_visible true) bs all
 
-pub word_is_word : (bs : List ℕ) → list_all is_byte bs ≡ true → is_word (word_text bs) ≡ true
+pub word_is_word : (bs : List ℕ) → list_all is_byte bs ≡ true → is_log_word (logged_word bs) ≡ true
 word_is_word [] all = refl
 word_is_word (b ∷ bs) all = each_shown (λ c. is_visible c && not (c == 32)) false byte_is_word (b ∷ bs) all
 
-word_is_visible : (bs : List ℕ) → list_all is_byte bs ≡ true → list_all is_visible (word_text bs) ≡ true
+word_is_visible : (bs : List ℕ) → list_all is_byte bs ≡ true → list_all is_visible (logged_word bs) ≡ true
 word_is_visible bs all =
-    all_weaker (λ c. is_visible c && not (c == 32)) is_visible (λ c is. (both (is_visible c) (not (c == 32)) is).0) (word_text bs) (word_is_word bs all)
+    all_weaker (λ c. is_visible c && not (c == 32)) is_visible (λ c is. (both (is_visible c) (not (c == 32)) is).0) (logged_word bs) (word_is_word bs all)
 
 number_is_visible : (n : ℕ) → n < 2 ^ 64 → list_all is_visible (decimal n) ≡ true
 number_is_visible n below = all_weaker is_ascii_digit is_visible digit_is_visible (decimal n) (decimal_back n below).1
@@ -109,10 +109,10 @@ word_behind : {xs ys : List ℕ} → AreVisible xs → AreVisible ys → AreVisi
 word_behind {xs} {ys} first second =
     record { are = all_both is_visible (xs ++ codes " ") ys (all_both is_visible xs (codes " ") first.are refl) second.are }
 
-words_are_visible : (line : Line) → IsGiven line
-    → AreVisible (seconds_text line.moment ++ codes " " ++ word_text line.client ++ codes " " ++ word_text line.method ++ codes " " ++ word_text line.target
-    ++ codes " " ++ decimal line.status ++ codes " " ++ decimal line.length ++ codes " " ++ shown_text true line.reason ++ codes " "
-    ++ seconds_text line.took ++ codes " " ++ word_text line.origin)
+words_are_visible : (line : Line) → LineIsInRange line
+    → AreVisible (seconds_text line.moment ++ codes " " ++ logged_word line.client ++ codes " " ++ logged_word line.method ++ codes " " ++ logged_word line.target
+    ++ codes " " ++ decimal line.status ++ codes " " ++ decimal line.length ++ codes " " ++ logged_text true line.reason ++ codes " "
+    ++ seconds_text line.took ++ codes " " ++ logged_word line.origin)
 words_are_visible line given =
     word_behind (word_behind (word_behind (word_behind (word_behind (word_behind (word_behind (word_behind
     (record { are = time_is_visible line.moment given.moment })
@@ -125,7 +125,7 @@ words_are_visible line given =
     (record { are = time_is_visible line.took given.took }))
     (record { are = word_is_visible line.origin given.origin })
 
-pub line_is_one_line : (line : Line) → IsGiven line → IsOneLine (line_text line)
+pub line_is_one_line : (line : Line) → LineIsInRange line → TextIsOneLine (log_line_text line)
 line_is_one_line line given = record {
   front = _;
   is = refl;

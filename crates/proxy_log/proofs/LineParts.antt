@@ -1,7 +1,7 @@
 -- A line is its three parts, and a part is its words.
 use Rattle.std.proofs.Common.{◌≡◌, ◌<◌, ◌≤◌, ◌+◌, ℕ, Bool, List, [], ◌∷◌, ◌++◌, length, ap, sym, ◌∙◌, arith, Result, Ok, Err, OnOk, OnErr, codes, decimal, true}
 use Rattle.std.proofs.lemmas.List.{append_assoc, length-append}
-use Rattle.proxy_log.specs.Line.{shown_byte, shown_text, word_text, line_text, front_text, answer_text, end_text}
+use Rattle.proxy_log.specs.Line.{logged_byte, logged_text, logged_word, log_line_text, log_line_front, log_line_answer, log_line_end}
 use Rattle.proxy_log.specs.Seconds.{seconds_text}
 use Rattle.proxy_log.specs.declared.line.Line.{Line}
 
@@ -24,13 +24,13 @@ before_four : (f k s o n : List ℕ) → f ++ (k ++ s ++ o ++ n) ≡ f ++ k ++ s
 before_four f k s o n =
     sym (append_assoc f (k ++ s ++ o) n) ∙ ap (λ (z : List ℕ). z ++ n) (sym (append_assoc f (k ++ s) o) ∙ ap (λ (z : List ℕ). z ++ o) (sym (append_assoc f k s)))
 
-pub line_is : (line : Line) → front_text line ++ (answer_text line ++ end_text line) ≡ line_text line
-unfolding front_text answer_text end_text
+pub line_is : (line : Line) → log_line_front line ++ (log_line_answer line ++ log_line_end line) ≡ log_line_text line
+unfolding log_line_front log_line_answer log_line_end
 line_is line =
-    sym (append_assoc (front_text line) (answer_text line) (end_text line))
-    ∙ ap (λ (z : List ℕ). z ++ end_text line) (before_six (front_text line) (decimal line.status) (codes " ") (decimal line.length) (shown_text true line.reason))
-    ∙ before_four (front_text line ++ decimal line.status ++ codes " " ++ decimal line.length ++ codes " " ++ shown_text true line.reason ++ codes " ")
-    (seconds_text line.took) (codes " ") (word_text line.origin) (codes "\n")
+    sym (append_assoc (log_line_front line) (log_line_answer line) (log_line_end line))
+    ∙ ap (λ (z : List ℕ). z ++ log_line_end line) (before_six (log_line_front line) (decimal line.status) (codes " ") (decimal line.length) (logged_text true line.reason))
+    ∙ before_four (log_line_front line ++ decimal line.status ++ codes " " ++ decimal line.length ++ codes " " ++ logged_text true line.reason ++ codes " ")
+    (seconds_text line.took) (codes " ") (logged_word line.origin) (codes "\n")
 
 -- a word and what stands behind it, written behind a text
 next_word : (t u b s x y : List ℕ) → x ≡ t ++ u → y ≡ x ++ (b ++ s) → y ≡ t ++ (u ++ b ++ s)
@@ -44,11 +44,11 @@ four_words t a b c d s x0 x1 x2 x3 e0 e1 e2 e3 =
     next_word t (a ++ s ++ b ++ s ++ c ++ s) d s x2 x3 (next_word t (a ++ s ++ b ++ s) c s x1 x2 (next_word t (a ++ s) b s x0 x1 e0 e1) e2) e3
 
 -- where there is no room for a byte, there was none for all of them
-pub no_room : (blanks : Bool) (b : ℕ) (rest all items before : List ℕ) (old now : ℕ) → items ++ (shown_byte blanks b ++ shown_text blanks rest) ≡ before ++ shown_text blanks all
-    → old ≤ now → now < length items + length (shown_byte blanks b) → old < length before + length (shown_text blanks all)
+pub no_room : (blanks : Bool) (b : ℕ) (rest all items before : List ℕ) (old now : ℕ) → items ++ (logged_byte blanks b ++ logged_text blanks rest) ≡ before ++ logged_text blanks all
+    → old ≤ now → now < length items + length (logged_byte blanks b) → old < length before + length (logged_text blanks all)
 no_room blanks b rest all items before old now is more less =
-    let parts : length (items ++ (shown_byte blanks b ++ shown_text blanks rest)) ≡ length items + (length (shown_byte blanks b) + length (shown_text blanks rest))
-    = length-append items (shown_byte blanks b ++ shown_text blanks rest) ∙ ap (λ (n : ℕ). length items + n) (length-append (shown_byte blanks b) (shown_text blanks rest)) in
-    let long : length (items ++ (shown_byte blanks b ++ shown_text blanks rest)) ≡ length before + length (shown_text blanks all)
-    = ap length is ∙ length-append before (shown_text blanks all) in
+    let parts : length (items ++ (logged_byte blanks b ++ logged_text blanks rest)) ≡ length items + (length (logged_byte blanks b) + length (logged_text blanks rest))
+    = length-append items (logged_byte blanks b ++ logged_text blanks rest) ∙ ap (λ (n : ℕ). length items + n) (length-append (logged_byte blanks b) (logged_text blanks rest)) in
+    let long : length (items ++ (logged_byte blanks b ++ logged_text blanks rest)) ≡ length before + length (logged_text blanks all)
+    = ap length is ∙ length-append before (logged_text blanks all) in
     omega (arith, parts, long, more, less)

@@ -5,7 +5,7 @@ use Rattle.std.specs.Option.{option_map, option_and_then, option_or}
 use Rattle.memchr.specs.Find.{IsFirstByte, is_byte}
 use Rattle.hx_fields.specs.Names.{cut_at}
 use Rattle.hx_framing.specs.HeadLines.{is_empty_line}
-use Rattle.proxy_log.specs.ReplyFacts.{whole_lines, in_first, head_of, last_value, value_in, reason_of, own_reason, reason_and_content}
+use Rattle.proxy_log.specs.ReplyFacts.{whole_lines, byte_in_first_line, head_and_content, last_value, value_of_named_line, reason_or_refusal, own_reason, reason_and_content}
 
 pub cut_found : (byte k : ℕ) (text : List ℕ) → IsFirstByte (is_byte byte) text (Some k) → cut_at byte text ≡ Some (take k text, drop (suc k) text)
 cut_found byte k [] found = absurd (omega (arith, found.0.high))
@@ -38,22 +38,22 @@ pub lines_are_cut : (text : List ℕ) → whole_lines text ≡ lines_cut (cut_at
 lines_are_cut [] = refl
 lines_are_cut (b ∷ bs) = by_test (b == 10) (lines_are_cut bs)
   where
-    in_front : (r : Option (List ℕ × List ℕ)) → in_first b (lines_cut r) ≡ lines_cut (option_map (λ p. (b ∷ p.0, p.1)) r)
+    in_front : (r : Option (List ℕ × List ℕ)) → byte_in_first_line b (lines_cut r) ≡ lines_cut (option_map (λ p. (b ∷ p.0, p.1)) r)
     in_front None = refl
     in_front (Some p) = refl
 
-    by_test : (t : Bool) → whole_lines bs ≡ lines_cut (cut_at 10 bs) → cond t (([], bs) ∷ whole_lines bs) (in_first b (whole_lines bs)) ≡ lines_cut (cond t (Some ([], bs)) (option_map (λ p. (b ∷ p.0, p.1)) (cut_at 10 bs)))
+    by_test : (t : Bool) → whole_lines bs ≡ lines_cut (cut_at 10 bs) → cond t (([], bs) ∷ whole_lines bs) (byte_in_first_line b (whole_lines bs)) ≡ lines_cut (cond t (Some ([], bs)) (option_map (λ p. (b ∷ p.0, p.1)) (cut_at 10 bs)))
     by_test true later = refl
-    by_test false later = ap (in_first b) later ∙ in_front (cut_at 10 bs)
+    by_test false later = ap (byte_in_first_line b) later ∙ in_front (cut_at 10 bs)
 
 -- what a head says whose lines in front said this
 abbrev pub reason_behind : Option (List ℕ) → Option (List ℕ) → List (List ℕ) → Option (List ℕ)
 reason_behind member refusal lines =
-    reason_of (option_or (last_value (codes "Cache-Status: ") lines) member) (option_or (last_value (codes "Refusal: ") lines) refusal)
+    reason_or_refusal (option_or (last_value (codes "Cache-Status: ") lines) member) (option_or (last_value (codes "Refusal: ") lines) refusal)
 
 abbrev pub reason_from : Option (List ℕ) → Option (List ℕ) → List (List ℕ × List ℕ) → Option (List ℕ × List ℕ)
 reason_from member refusal lines =
-    option_and_then {U = List ℕ × List ℕ} (λ h. option_map (λ reason. (reason, h.1)) (reason_behind member refusal h.0)) (head_of lines)
+    option_and_then {U = List ℕ × List ℕ} (λ h. option_map (λ reason. (reason, h.1)) (reason_behind member refusal h.0)) (head_and_content lines)
 
 or_none : (r : Option (List ℕ)) → option_or r None ≡ r
 or_none None = refl
@@ -64,7 +64,7 @@ or_or None b c = refl
 or_or (Some x) b c = refl
 
 pub reason_at_first : (text : List ℕ) → reason_from None None (whole_lines text) ≡ reason_and_content text
-reason_at_first text = by_head (head_of (whole_lines text))
+reason_at_first text = by_head (head_and_content (whole_lines text))
   where
     by_head : (r : Option (List (List ℕ) × List ℕ)) → option_and_then {U = List ℕ × List ℕ} (λ h. option_map (λ reason. (reason, h.1)) (reason_behind None None h.0)) r ≡ option_and_then {U = List ℕ × List ℕ} (λ h. option_map (λ reason. (reason, h.1)) (own_reason h.0)) r
     by_head None = refl
@@ -72,19 +72,19 @@ reason_at_first text = by_head (head_of (whole_lines text))
 
 -- one line further
 pub reason_further : (member refusal : Option (List ℕ)) (line : List ℕ) (behind : List ℕ) (lines : List (List ℕ × List ℕ)) → is_empty_line line ≡ false
-    → reason_from (option_or (value_in (codes "Cache-Status: ") line) member) (option_or (value_in (codes "Refusal: ") line) refusal) lines ≡ reason_from member refusal ((line, behind) ∷ lines)
-reason_further member refusal line behind lines other = rw other (by_head (head_of lines))
+    → reason_from (option_or (value_of_named_line (codes "Cache-Status: ") line) member) (option_or (value_of_named_line (codes "Refusal: ") line) refusal) lines ≡ reason_from member refusal ((line, behind) ∷ lines)
+reason_further member refusal line behind lines other = rw other (by_head (head_and_content lines))
   where
     by_head : (r : Option (List (List ℕ) × List ℕ)) →
-        option_and_then {U = List ℕ × List ℕ} (λ (h : List (List ℕ) × List ℕ). option_map (λ reason. (reason, h.1)) (reason_behind (option_or (value_in (codes "Cache-Status: ") line) member) (option_or (value_in (codes "Refusal: ") line) refusal) h.0)) r
+        option_and_then {U = List ℕ × List ℕ} (λ (h : List (List ℕ) × List ℕ). option_map (λ reason. (reason, h.1)) (reason_behind (option_or (value_of_named_line (codes "Cache-Status: ") line) member) (option_or (value_of_named_line (codes "Refusal: ") line) refusal) h.0)) r
         ≡ option_and_then {U = List ℕ × List ℕ} (λ (h : List (List ℕ) × List ℕ). option_map (λ reason. (reason, h.1)) (reason_behind member refusal h.0)) (option_map (λ h. (line ∷ h.0, h.1)) r)
     by_head None = refl
     by_head (Some h) =
-        rw (or_or (last_value (codes "Cache-Status: ") h.0) (value_in (codes "Cache-Status: ") line) member, or_or (last_value (codes "Refusal: ") h.0) (value_in (codes "Refusal: ") line) refusal) refl
+        rw (or_or (last_value (codes "Cache-Status: ") h.0) (value_of_named_line (codes "Cache-Status: ") line) member, or_or (last_value (codes "Refusal: ") h.0) (value_of_named_line (codes "Refusal: ") line) refusal) refl
 
 -- the end of a head
 pub reason_at_end : (member refusal : Option (List ℕ)) (line : List ℕ) (behind : List ℕ) (lines : List (List ℕ × List ℕ)) → is_empty_line line ≡ true
-    → option_map (λ reason. (reason, behind)) (reason_of member refusal) ≡ reason_from member refusal ((line, behind) ∷ lines)
+    → option_map (λ reason. (reason, behind)) (reason_or_refusal member refusal) ≡ reason_from member refusal ((line, behind) ∷ lines)
 reason_at_end member refusal line behind lines empty = rw empty refl
 
 -- a text whose first line was cut

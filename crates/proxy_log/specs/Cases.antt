@@ -3,8 +3,8 @@ use Rattle.std.specs.Prelude.{ℕ, List, [], codes}
 use Rattle.proxy_log.specs.declared.line.Line.{Line}
 
 -- a GET for a target URI that was answered 200 with five bytes, when, why, after how long and by which origin
-abbrev pub answered : ℕ → List ℕ → ℕ → List ℕ → Line
-answered moment reason took origin =
+abbrev pub get_line : ℕ → List ℕ → ℕ → List ℕ → Line
+get_line moment reason took origin =
     record {
       moment = moment;
       client = codes "127.0.0.1:40001";
@@ -18,8 +18,8 @@ answered moment reason took origin =
     }
 
 -- what couldn't be read as a request
-abbrev pub unread : List ℕ → Line
-unread reason =
+abbrev pub unread_request_line : List ℕ → Line
+unread_request_line reason =
     record {
       moment = 0;
       client = codes "127.0.0.1:40001";
@@ -33,8 +33,8 @@ unread reason =
     }
 
 -- a POST whose content is too large; its target is as it came
-abbrev pub refused : List ℕ → Line
-refused target =
+abbrev pub refused_post_line : List ℕ → Line
+refused_post_line target =
     record {
       moment = 0;
       client = codes "127.0.0.1:40001";
@@ -48,8 +48,8 @@ refused target =
     }
 
 -- a target that is no URI
-abbrev pub with_target : List ℕ → Line
-with_target target =
+abbrev pub line_with_target : List ℕ → Line
+line_with_target target =
     record {
       moment = 7;
       client = codes "127.0.0.1:40001";

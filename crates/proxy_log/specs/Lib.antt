@@ -2,7 +2,7 @@ pub mod Asked
 pub mod Cases
 pub mod Hearing
 pub mod Line
-pub mod Lines
+pub mod PendingLines
 pub mod OneLine
 pub mod Seconds
 pub mod ReplyFacts

@@ -11,17 +11,17 @@ abbrev pub is_visible : ℕ → Bool
 is_visible b = not (nat_lt b 0x20) && not (nat_lt 0x7E b)
 
 -- an LF ends it, and in front of that all is visible
-pub record IsOneLine (text : List ℕ) : Type 0 where
+pub record TextIsOneLine (text : List ℕ) : Type 0 where
   pub front : List ℕ
   pub is : text ≡ front ++ codes "\n"
   pub visible : list_all is_visible front ≡ true
 
 -- what a word of a line may have: visible bytes, and no space
-abbrev pub is_word : List ℕ → Bool
-is_word text = list_all (λ b. is_visible b && not (b == 32)) text
+abbrev pub is_log_word : List ℕ → Bool
+is_log_word text = list_all (λ b. is_visible b && not (b == 32)) text
 
 -- what was handed in are bytes, and numbers of 64 bits
-pub record IsGiven (line : Line) : Type 0 where
+pub record LineIsInRange (line : Line) : Type 0 where
   pub moment : line.moment < 2 ^ 64
   pub status : line.status < 2 ^ 64
   pub length : line.length < 2 ^ 64

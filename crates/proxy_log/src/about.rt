@@ -9,7 +9,7 @@ use std::alloc::{AllocError, Global};
 
 /// What is known of a reply beside its text.
 #[derive(Clone, Copy, Debug)]
-pub struct Seen<'a> {
+pub struct SeenOfReply<'a> {
     /// When it was written, in milliseconds since 1970.
     pub moment: u64,
     /// The client's address and port.
@@ -25,7 +25,7 @@ pub fn line_about(
     alloc: Global,
     question: Question,
     facts: &ReplyFacts<'_>,
-    seen: &Seen<'_>,
+    seen: &SeenOfReply<'_>,
 ) -> Result<Line, AllocError>
     ensures { IfOk result (λ line. line ≡ record {
       moment = seen.now.moment;

@@ -3,13 +3,14 @@ ghost use Rattle.std.specs.Prelude.{◌≡◌, ◌≤◌, ◌<◌, [], length, d
 ghost use Rattle.std.specs.Prelude.{MatchOption, IsOk, OnErr, OnOk, None, Some, false, true};
 ghost use Rattle.std.specs.Option.{option_or};
 ghost use Rattle.hx_framing.specs.declared.messages.Request.{Request};
-ghost use Rattle.hx_framing.specs.Progress.{Progress, fed, start};
+ghost use Rattle.hx_framing.specs.Progress.{Progress, stream_with_piece, no_stream};
 ghost use Rattle.hx_framing.specs.RequestState.{RepresentsStream, weight};
-ghost use Rattle.proxy_log.specs.Asked.{Asks, IsKept, NamesTarget, begun_behind, next_question, nothing, question_in};
+ghost use Rattle.proxy_log.specs.Asked.{QuestionIsOfRequest, QuestionIsKept, TextNamesTarget, begun_after_reply};
+ghost use Rattle.proxy_log.specs.Asked.{next_question, no_question_read, question_of_head};
 ghost use Rattle.proxy_log.specs.Asked.{uri_text};
-ghost use Rattle.proxy_log.specs.Hearing.{HasReadOn, HasReadSome};
+ghost use Rattle.proxy_log.specs.Hearing.{StreamIsReadOn, SomeRequestsWereRead};
 
-use crate::request_line::request_line;
+use crate::request_line::request_line_of_head;
 use hx_fields::Bytes;
 use hx_framing::{Next, Request, RequestReader};
 use hx_target::{Target, TargetFault, read_target};
@@ -40,7 +41,7 @@ pub struct Question {
 }
 
 fn no_question(alloc: Global) -> Question
-    ensures { result ≡ nothing }
+    ensures { result ≡ no_question_read }
 {
     Question {
         method: Bytes::new(alloc),
@@ -65,7 +66,7 @@ fn uri_of(alloc: Global, target: &Target) -> Result<Bytes, AllocError>
 
 /// What a line of the log has as the target of a request. Its only error is out of memory.
 fn target_of(alloc: Global, request: &Request) -> Result<Bytes, AllocError>
-    ensures { IfOk result (λ text. NamesTarget request.now text) }
+    ensures { IfOk result (λ text. TextNamesTarget request.now text) }
 {
     match read_target(alloc, &request.target, &request.fields) {
         Ok(target) => uri_of(alloc, &target),
@@ -75,7 +76,7 @@ fn target_of(alloc: Global, request: &Request) -> Result<Bytes, AllocError>
 }
 
 fn question_of(alloc: Global, request: &Request) -> Result<Question, AllocError>
-    ensures { IfOk result (λ question. Asks request.now question) }
+    ensures { IfOk result (λ question. QuestionIsOfRequest request.now question) }
 {
     Ok(Question {
         method: Bytes::copy_of(alloc, request.method.as_str().as_bytes())?,
@@ -84,10 +85,10 @@ fn question_of(alloc: Global, request: &Request) -> Result<Question, AllocError>
 }
 
 /// What the request line of a head asks for that was refused, or whose content is to come; the target is as it came.
-fn question_in(alloc: Global, head: &[u8]) -> Result<Question, AllocError>
-    ensures { IfOk result (λ question. question ≡ question_in head.now) }
+fn question_of_head(alloc: Global, head: &[u8]) -> Result<Question, AllocError>
+    ensures { IfOk result (λ question. question ≡ question_of_head head.now) }
 {
-    match request_line(head) {
+    match request_line_of_head(head) {
         Some((method, target)) => Ok(Question {
             method: Bytes::copy_of(alloc, method)?,
             target: Bytes::copy_of(alloc, target)?,
@@ -107,7 +108,7 @@ fn rest_from(text: &[u8], from: usize) -> &[u8] {
 impl Asked {
     /// A stream from which nothing has come. Contents have at most `max_body` bytes.
     pub fn new(alloc: Global, max_body: u64) -> Asked
-        ensures represents { RepresentsStream result.reader (start max_body false) }
+        ensures represents { RepresentsStream result.reader (no_stream max_body false) }
         ensures questions { result.questions.items ≡ [] }
         ensures begun { result.begun ≡ None }
         ensures over { result.over ≡ false }
@@ -125,7 +126,7 @@ impl Asked {
     /// error is that want, at the call that gave up.
     pub fn read_piece(&mut self, alloc: Global, piece: &[u8]) -> Result<(), AllocError>
         ensures heard { OnOk result (self.old.over ≡ false → (p : Progress Request) → RepresentsStream self.old.reader p
-            → p.ended ≡ false → HasReadOn (fed p piece.now) self.new.reader self.old.questions.items
+            → p.ended ≡ false → StreamIsReadOn (stream_with_piece p piece.now) self.new.reader self.old.questions.items
             self.new.questions.items self.old.begun self.new.begun self.new.over) }
         ensures gave_up { OnErr result (self.new.over ≡ true) }
         ensures over { self.old.over ≡ true → (self.new ≡ self.old) × IsOk result }
@@ -143,7 +144,7 @@ impl Asked {
     /// Keeps what the requests ask for that are whole with this piece, and what has come of the next head.
     fn take(&mut self, alloc: Global, piece: &[u8]) -> Result<(), AllocError>
         ensures { OnOk result (self.old.over ≡ false → (p : Progress Request) → RepresentsStream self.old.reader p
-            → p.ended ≡ false → HasReadOn (fed p piece.now) self.new.reader self.old.questions.items
+            → p.ended ≡ false → StreamIsReadOn (stream_with_piece p piece.now) self.new.reader self.old.questions.items
             self.new.questions.items self.old.begun self.new.begun self.new.over) }
     {
         self.reader.feed(piece)?;
@@ -163,20 +164,20 @@ impl Asked {
 
     /// Keeps what a request asks for whose head has come, if that isn't kept yet.
     fn begin(&mut self, alloc: Global, head: &[u8]) -> Result<(), AllocError>
-        ensures begun { OnOk result (self.new.begun ≡ option_or self.old.begun (Some (question_in head.now))) }
+        ensures begun { OnOk result (self.new.begun ≡ option_or self.old.begun (Some (question_of_head head.now))) }
         ensures same { self.new.questions.items ≡ self.old.questions.items }
         ensures reader { self.new.reader ≡ self.old.reader }
         ensures over { self.new.over ≡ self.old.over }
     {
         if self.begun.is_none() {
-            self.begun = Some(question_in(alloc, head)?);
+            self.begun = Some(question_of_head(alloc, head)?);
         }
         Ok(())
     }
 
     /// Keeps what a request asks for that came whole: it is what had begun.
     fn keep(&mut self, alloc: Global, request: &Request) -> Result<(), AllocError>
-        ensures kept { OnOk result (IsKept request.now self.old.questions.items self.new.questions.items) }
+        ensures kept { OnOk result (QuestionIsKept request.now self.old.questions.items self.new.questions.items) }
         ensures none_begun { OnOk result (self.new.begun ≡ None) }
         ensures reader { self.new.reader ≡ self.old.reader }
         ensures over { self.new.over ≡ self.old.over }
@@ -189,7 +190,7 @@ impl Asked {
     /// Hears no more behind a request that is refused, and keeps what it asks for.
     fn refuse(&mut self, alloc: Global, head: &[u8]) -> Result<(), AllocError>
         ensures over { self.new.over ≡ true }
-        ensures begun { OnOk result (self.new.begun ≡ option_or self.old.begun (Some (question_in head.now))) }
+        ensures begun { OnOk result (self.new.begun ≡ option_or self.old.begun (Some (question_of_head head.now))) }
         ensures same { self.new.questions.items ≡ self.old.questions.items }
         ensures reader { self.new.reader ≡ self.old.reader }
     {
@@ -208,9 +209,9 @@ impl Asked {
         ensures read { IfOk result (λ place. self.old.over ≡ false → (p : Progress Request)
             → RepresentsStream self.old.reader p
             → MatchOption place
-            (HasReadOn p self.new.reader self.old.questions.items self.new.questions.items
+            (StreamIsReadOn p self.new.reader self.old.questions.items self.new.questions.items
             self.old.begun self.new.begun self.new.over)
-            (λ at. HasReadSome p self.new.reader self.old.questions.items self.new.questions.items
+            (λ at. SomeRequestsWereRead p self.new.reader self.old.questions.items self.new.questions.items
             self.old.begun self.new.begun)) }
         ensures goes_on { IfOk result (λ place. IfSome place (λ at. self.new.over ≡ self.old.over)) }
         ensures less { IfOk result (λ place. IfSome place (λ at. weight self.new.reader < weight self.old.reader)) }
@@ -246,7 +247,7 @@ impl Asked {
     /// where on it is a head that isn't whole.
     fn read_on(&mut self, alloc: Global, text: &[u8]) -> Result<usize, AllocError>
         ensures read { OnOk result (self.old.over ≡ false → (p : Progress Request) → RepresentsStream self.old.reader p
-            → HasReadOn p self.new.reader self.old.questions.items self.new.questions.items
+            → StreamIsReadOn p self.new.reader self.old.questions.items self.new.questions.items
             self.old.begun self.new.begun self.new.over) }
         ensures within { IfOk result (λ from. from ≤ length text.now) }
     {
@@ -268,7 +269,7 @@ impl Asked {
     pub fn next_question(&mut self, alloc: Global) -> Question
         ensures asked { result ≡ next_question self.old.questions.items self.old.begun }
         ensures left { self.new.questions.items ≡ drop 1 self.old.questions.items }
-        ensures begun { self.new.begun ≡ begun_behind self.old.questions.items self.old.begun }
+        ensures begun { self.new.begun ≡ begun_after_reply self.old.questions.items self.old.begun }
         ensures reader { self.new.reader ≡ self.old.reader }
         ensures over { self.new.over ≡ self.old.over }
     {

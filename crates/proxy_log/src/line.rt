@@ -1,8 +1,9 @@
 //! A line of the log, and its text.
 ghost use Rattle.std.specs.Prelude.{◌≡◌, ◌+◌, ◌<◌, ◌≤◌, ◌++◌, codes, decimal, false, length, take, vec_capacity};
 ghost use Rattle.std.specs.Prelude.{IfOk, OnErr, OnOk, IsTrue};
-ghost use Rattle.proxy_log.specs.Line.{is_shown, hex_digit, shown_byte, shown_text, word_text, line_text};
-ghost use Rattle.proxy_log.specs.Line.{front_text, answer_text, end_text};
+ghost use Rattle.proxy_log.specs.Line.{stands_for_itself, hex_digit, logged_byte, logged_text, logged_word};
+ghost use Rattle.proxy_log.specs.Line.{log_line_text};
+ghost use Rattle.proxy_log.specs.Line.{log_line_front, log_line_answer, log_line_end};
 ghost use Rattle.proxy_log.specs.Seconds.{seconds_text};
 
 use crate::seconds::push_seconds;
@@ -34,8 +35,8 @@ pub struct Line {
 }
 
 /// Whether a byte stands for itself in a line.
-fn is_shown(blanks: bool, b: u8) -> bool
-    ensures { result ≡ is_shown blanks b }
+fn stands_for_itself(blanks: bool, b: u8) -> bool
+    ensures { result ≡ stands_for_itself blanks b }
 {
     (b >= 0x21 && b <= 0x7E && b != b'\\') || (blanks && b == b' ')
 }
@@ -49,12 +50,12 @@ fn hex_digit(d: u8) -> u8
 }
 
 fn push_byte(text: &mut Vec<u8>, blanks: bool, b: u8) -> Result<(), AllocError>
-    ensures ok { OnOk result (text.new.items ≡ text.old.items ++ shown_byte blanks b) }
-    ensures full { OnErr result (vec_capacity text.old < length text.old.items + length (shown_byte blanks b)) }
+    ensures ok { OnOk result (text.new.items ≡ text.old.items ++ logged_byte blanks b) }
+    ensures full { OnErr result (vec_capacity text.old < length text.old.items + length (logged_byte blanks b)) }
     ensures capacity { vec_capacity text.old ≤ vec_capacity text.new }
     ensures front { take (length text.old.items) text.new.items ≡ text.old.items }
 {
-    if is_shown(blanks, b) {
+    if stands_for_itself(blanks, b) {
         return text.extend_from_slice(&[b]);
     }
     text.extend_from_slice(&[b'\\', b'x', hex_digit(b / 16), hex_digit(b % 16)])
@@ -62,10 +63,10 @@ fn push_byte(text: &mut Vec<u8>, blanks: bool, b: u8) -> Result<(), AllocError>
 
 /// Whether each of these bytes stands for itself.
 fn are_shown(blanks: bool, bytes: &[u8]) -> bool
-    ensures { IsTrue result → shown_text blanks bytes.now ≡ bytes.now }
+    ensures { IsTrue result → logged_text blanks bytes.now ≡ bytes.now }
 {
     for b in bytes {
-        if !is_shown(blanks, *b) {
+        if !stands_for_itself(blanks, *b) {
             return false;
         }
     }
@@ -73,8 +74,9 @@ fn are_shown(blanks: bool, bytes: &[u8]) -> bool
 }
 
 fn push_shown(text: &mut Vec<u8>, blanks: bool, bytes: &[u8]) -> Result<(), AllocError>
-    ensures ok { OnOk result (text.new.items ≡ text.old.items ++ shown_text blanks bytes.now) }
-    ensures full { OnErr result (vec_capacity text.old < length text.old.items + length (shown_text blanks bytes.now)) }
+    ensures ok { OnOk result (text.new.items ≡ text.old.items ++ logged_text blanks bytes.now) }
+    ensures full { OnErr result (vec_capacity text.old < length text.old.items + length
+        (logged_text blanks bytes.now)) }
     ensures capacity { vec_capacity text.old ≤ vec_capacity text.new }
     ensures front { take (length text.old.items) text.new.items ≡ text.old.items }
 {
@@ -89,9 +91,9 @@ fn push_shown(text: &mut Vec<u8>, blanks: bool, bytes: &[u8]) -> Result<(), Allo
 }
 
 fn push_word(text: &mut Vec<u8>, bytes: &[u8]) -> Result<(), AllocError>
-    ensures ok { OnOk result (text.new.items ≡ text.old.items ++ (word_text bytes.now ++ codes " ")) }
+    ensures ok { OnOk result (text.new.items ≡ text.old.items ++ (logged_word bytes.now ++ codes " ")) }
     ensures full { OnErr result (vec_capacity text.old < length text.old.items + length
-        (word_text bytes.now ++ codes " ")) }
+        (logged_word bytes.now ++ codes " ")) }
     ensures capacity { vec_capacity text.old ≤ vec_capacity text.new }
     ensures front { take (length text.old.items) text.new.items ≡ text.old.items }
 {
@@ -126,9 +128,9 @@ fn push_number(text: &mut Vec<u8>, n: u64) -> Result<(), AllocError>
 
 /// The last word, and the end of the line.
 fn push_last(text: &mut Vec<u8>, bytes: &[u8]) -> Result<(), AllocError>
-    ensures ok { OnOk result (text.new.items ≡ text.old.items ++ (word_text bytes.now ++ codes "\n")) }
+    ensures ok { OnOk result (text.new.items ≡ text.old.items ++ (logged_word bytes.now ++ codes "\n")) }
     ensures full { OnErr result (vec_capacity text.old < length text.old.items + length
-        (word_text bytes.now ++ codes "\n")) }
+        (logged_word bytes.now ++ codes "\n")) }
     ensures capacity { vec_capacity text.old ≤ vec_capacity text.new }
     ensures front { take (length text.old.items) text.new.items ≡ text.old.items }
 {
@@ -140,10 +142,10 @@ fn push_last(text: &mut Vec<u8>, bytes: &[u8]) -> Result<(), AllocError>
 }
 
 /// Who asked for what, and when.
-#[tactic(auto, unfolding(crate::specs::Line::front_text))]
+#[tactic(auto, unfolding(crate::specs::Line::log_line_front))]
 fn push_front(text: &mut Vec<u8>, line: &Line) -> Result<(), AllocError>
-    ensures ok { OnOk result (text.new.items ≡ text.old.items ++ front_text line.now) }
-    ensures full { OnErr result (vec_capacity text.old < length text.old.items + length (front_text line.now)) }
+    ensures ok { OnOk result (text.new.items ≡ text.old.items ++ log_line_front line.now) }
+    ensures full { OnErr result (vec_capacity text.old < length text.old.items + length (log_line_front line.now)) }
     ensures capacity { vec_capacity text.old ≤ vec_capacity text.new }
     ensures front { take (length text.old.items) text.new.items ≡ text.old.items }
 {
@@ -154,10 +156,10 @@ fn push_front(text: &mut Vec<u8>, line: &Line) -> Result<(), AllocError>
 }
 
 /// What it was told.
-#[tactic(auto, unfolding(crate::specs::Line::answer_text))]
+#[tactic(auto, unfolding(crate::specs::Line::log_line_answer))]
 fn push_answer(text: &mut Vec<u8>, line: &Line) -> Result<(), AllocError>
-    ensures ok { OnOk result (text.new.items ≡ text.old.items ++ answer_text line.now) }
-    ensures full { OnErr result (vec_capacity text.old < length text.old.items + length (answer_text line.now)) }
+    ensures ok { OnOk result (text.new.items ≡ text.old.items ++ log_line_answer line.now) }
+    ensures full { OnErr result (vec_capacity text.old < length text.old.items + length (log_line_answer line.now)) }
     ensures capacity { vec_capacity text.old ≤ vec_capacity text.new }
     ensures front { take (length text.old.items) text.new.items ≡ text.old.items }
 {
@@ -168,10 +170,10 @@ fn push_answer(text: &mut Vec<u8>, line: &Line) -> Result<(), AllocError>
 }
 
 /// How long that took, and which origin was asked.
-#[tactic(auto, unfolding(crate::specs::Line::end_text))]
+#[tactic(auto, unfolding(crate::specs::Line::log_line_end))]
 fn push_end(text: &mut Vec<u8>, line: &Line) -> Result<(), AllocError>
-    ensures ok { OnOk result (text.new.items ≡ text.old.items ++ end_text line.now) }
-    ensures full { OnErr result (vec_capacity text.old < length text.old.items + length (end_text line.now)) }
+    ensures ok { OnOk result (text.new.items ≡ text.old.items ++ log_line_end line.now) }
+    ensures full { OnErr result (vec_capacity text.old < length text.old.items + length (log_line_end line.now)) }
     ensures capacity { vec_capacity text.old ≤ vec_capacity text.new }
     ensures front { take (length text.old.items) text.new.items ≡ text.old.items }
 {
@@ -181,9 +183,9 @@ fn push_end(text: &mut Vec<u8>, line: &Line) -> Result<(), AllocError>
 
 fn push_parts(text: &mut Vec<u8>, line: &Line) -> Result<(), AllocError>
     ensures ok { OnOk result (text.new.items ≡ text.old.items
-        ++ (front_text line.now ++ (answer_text line.now ++ end_text line.now))) }
+        ++ (log_line_front line.now ++ (log_line_answer line.now ++ log_line_end line.now))) }
     ensures full { OnErr result (vec_capacity text.old < length text.old.items + length
-        (front_text line.now ++ (answer_text line.now ++ end_text line.now))) }
+        (log_line_front line.now ++ (log_line_answer line.now ++ log_line_end line.now))) }
     ensures capacity { vec_capacity text.old ≤ vec_capacity text.new }
     ensures front { take (length text.old.items) text.new.items ≡ text.old.items }
 {
@@ -194,8 +196,8 @@ fn push_parts(text: &mut Vec<u8>, line: &Line) -> Result<(), AllocError>
 
 /// Adds the text of a line, with its LF. Its only error is out of memory, where there is no room for the text.
 pub(crate) fn push_line(text: &mut Vec<u8>, line: &Line) -> Result<(), AllocError>
-    ensures ok { OnOk result (text.new.items ≡ text.old.items ++ line_text line.now) }
-    ensures full { OnErr result (vec_capacity text.old < length text.old.items + length (line_text line.now)) }
+    ensures ok { OnOk result (text.new.items ≡ text.old.items ++ log_line_text line.now) }
+    ensures full { OnErr result (vec_capacity text.old < length text.old.items + length (log_line_text line.now)) }
     ensures capacity { vec_capacity text.old ≤ vec_capacity text.new }
     ensures front { take (length text.old.items) text.new.items ≡ text.old.items }
 {
@@ -203,8 +205,8 @@ pub(crate) fn push_line(text: &mut Vec<u8>, line: &Line) -> Result<(), AllocErro
 }
 
 /// The text of a line, with its LF. Its only error is out of memory.
-pub fn line_text(alloc: Global, line: &Line) -> Result<Bytes, AllocError>
-    ensures { IfOk result (λ text. text ≡ line_text line.now) }
+pub fn log_line_text(alloc: Global, line: &Line) -> Result<Bytes, AllocError>
+    ensures { IfOk result (λ text. text ≡ log_line_text line.now) }
 {
     let mut text = Vec::new(alloc);
     push_line(&mut text, line)?;

@@ -2,11 +2,12 @@
 ghost use Rattle.std.specs.Prelude.{◌≡◌, ◌==◌, ◌<◌, ℕ, List, length};
 ghost use Rattle.std.specs.Option.{option_map};
 ghost use Rattle.hx_fields.specs.Names.{cut_at};
-ghost use Rattle.proxy_log.specs.ReplyFacts.{behind_name, final_status, number_of, reason_of, reason_and_content};
+ghost use Rattle.proxy_log.specs.ReplyFacts.{without_cache_name, final_status, three_digit_number, reason_or_refusal};
+ghost use Rattle.proxy_log.specs.ReplyFacts.{reason_and_content};
 ghost use Rattle.proxy_log.specs.ReplyFacts.{reply_facts_of};
-ghost use Rattle.proxy_log.specs.ReplyFacts.{value_in};
+ghost use Rattle.proxy_log.specs.ReplyFacts.{value_of_named_line};
 
-use crate::text_lines::{cut_line, is_empty_line, without_return};
+use crate::text_lines::{first_line_cut, is_empty_line, without_return};
 use hx_fields::cut_at;
 
 /// The status of a reply, and its reason.
@@ -43,8 +44,8 @@ pub fn read_reply(reply: &[u8]) -> Option<ReplyFacts<'_>>
 }
 
 /// The number that three digits spell.
-fn number_of(digits: &[u8]) -> Option<u16>
-    ensures { result ≡ number_of digits.now }
+fn three_digit_number(digits: &[u8]) -> Option<u16>
+    ensures { result ≡ three_digit_number digits.now }
 {
     match digits {
         [a, b, c] if a.is_ascii_digit() && b.is_ascii_digit() && c.is_ascii_digit() => Some(
@@ -58,7 +59,7 @@ fn number_of(digits: &[u8]) -> Option<u16>
 fn final_status(reply: &[u8]) -> Option<u16>
     ensures { result ≡ final_status reply.now }
 {
-    let status = number_of(reply.get(9..12)?)?;
+    let status = three_digit_number(reply.get(9..12)?)?;
     if status < 200 {
         return None;
     }
@@ -66,8 +67,8 @@ fn final_status(reply: &[u8]) -> Option<u16>
 }
 
 /// A member of Cache-Status without the name in front.
-fn behind_name(member: &[u8]) -> &[u8]
-    ensures { result.now ≡ behind_name member.now }
+fn without_cache_name(member: &[u8]) -> &[u8]
+    ensures { result.now ≡ without_cache_name member.now }
 {
     match cut_at(b';', member) {
         Some((_, behind)) => behind,
@@ -78,19 +79,20 @@ fn behind_name(member: &[u8]) -> &[u8]
 /// What the proxy's line of Cache-Status says, or where it wrote none that of Refusal.
 fn own_reason<'a>(member: Option<&'a [u8]>, refusal: Option<&'a [u8]>) -> Option<&'a [u8]>
     ensures { option_map (λ reason. reason.now) result
-        ≡ reason_of (option_map (λ value. value.now) member.entry) (option_map (λ value. value.now) refusal.entry) }
+        ≡ reason_or_refusal (option_map (λ value. value.now) member.entry)
+        (option_map (λ value. value.now) refusal.entry) }
 {
     match member {
-        Some(member) => Some(behind_name(member)),
+        Some(member) => Some(without_cache_name(member)),
         None => refusal,
     }
 }
 
 /// The value of a line whose name and colon are in front. The seventh byte of a line tells the proxy's two names from
 /// nearly all others.
-fn value_in<'a>(front: &[u8], line: &'a [u8]) -> Option<&'a [u8]>
+fn value_of_named_line<'a>(front: &[u8], line: &'a [u8]) -> Option<&'a [u8]>
     requires { 6 < length front.now }
-    ensures { option_map (λ value. value.now) result ≡ value_in front.now line.now }
+    ensures { option_map (λ value. value.now) result ≡ value_of_named_line front.now line.now }
 {
     if line.len() > 6 && line[6] == front[6] && line.starts_with(front) {
         Some(without_return(&line[front.len()..]))
@@ -106,13 +108,13 @@ fn reason_and_content(reply: &[u8]) -> Option<(&[u8], &[u8])>
     let mut member = None;
     let mut refusal = None;
     let mut rest = reply;
-    while let Some((line, behind)) = cut_line(rest) {
+    while let Some((line, behind)) = first_line_cut(rest) {
         if is_empty_line(line) {
             let reason = own_reason(member, refusal)?;
             return Some((reason, behind));
         }
-        member = value_in(b"Cache-Status: ", line).or(member);
-        refusal = value_in(b"Refusal: ", line).or(refusal);
+        member = value_of_named_line(b"Cache-Status: ", line).or(member);
+        refusal = value_of_named_line(b"Refusal: ", line).or(refusal);
         rest = behind;
     }
     None

@@ -2,9 +2,9 @@
 
 ghost use Rattle.std.specs.Prelude.{◌≡◌, ◌==◌};
 ghost use Rattle.std.specs.Option.{option_map};
-ghost use Rattle.proxy_log.specs.Asked.{first_line, is_target, is_version, parts_of, request_line};
+ghost use Rattle.proxy_log.specs.Asked.{first_line, is_target, is_version, method_and_target, request_line_of_head};
 
-use crate::text_lines::{cut_line, is_empty_line, without_return};
+use crate::text_lines::{first_line_cut, is_empty_line, without_return};
 use hx_fields::{cut_at, is_token};
 
 /// The first line that isn't empty (RFC 9112, section 2.2). It has to be whole.
@@ -12,7 +12,7 @@ fn first_line(head: &[u8]) -> Option<&[u8]>
     ensures { option_map (λ line. line.now) result ≡ first_line head.now }
 {
     let mut left = head;
-    while let Some((line, behind)) = cut_line(left) {
+    while let Some((line, behind)) = first_line_cut(left) {
         if is_empty_line(line) {
             left = behind;
         } else {
@@ -45,8 +45,8 @@ fn is_target(text: &[u8]) -> bool
 }
 
 /// The method and the target of a line, where they are parted by single spaces from each other and from the version.
-fn parts_of(line: &[u8]) -> Option<(&[u8], &[u8])>
-    ensures { option_map (λ p. (p.0.now, p.1.now)) result ≡ parts_of line.now }
+fn method_and_target(line: &[u8]) -> Option<(&[u8], &[u8])>
+    ensures { option_map (λ p. (p.0.now, p.1.now)) result ≡ method_and_target line.now }
 {
     let (method, rest) = cut_at(b' ', line)?;
     let (target, version) = cut_at(b' ', rest)?;
@@ -58,8 +58,8 @@ fn parts_of(line: &[u8]) -> Option<(&[u8], &[u8])>
 }
 
 /// The method and the target of the request line with which a head begins, where that line is whole and has no fault.
-pub(crate) fn request_line(head: &[u8]) -> Option<(&[u8], &[u8])>
-    ensures { option_map (λ p. (p.0.now, p.1.now)) result ≡ request_line head.now }
+pub(crate) fn request_line_of_head(head: &[u8]) -> Option<(&[u8], &[u8])>
+    ensures { option_map (λ p. (p.0.now, p.1.now)) result ≡ request_line_of_head head.now }
 {
-    parts_of(first_line(head)?)
+    method_and_target(first_line(head)?)
 }

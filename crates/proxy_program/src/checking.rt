@@ -52,7 +52,7 @@ fn target_of(alloc: Global, question: &Question<'_>) -> Result<Target, TargetFau
     read_target(alloc, &target, &fields)
 }
 
-fn shown(is_default: bool, word: &'static str) -> &'static str {
+fn default_or_word(is_default: bool, word: &'static str) -> &'static str {
     if is_default { "" } else { word }
 }
 
@@ -69,11 +69,11 @@ fn print_policy<R: Print>(rt: &R, policy: Policy) -> io::Result<()> {
         println!(rt; "    stale-if-error = {seconds}")?;
     }
     for word in [
-        shown(policy.stores_cookies, "set-cookie = \"not-stored\""),
-        shown(policy.stores_errors, "errors = \"not-stored\""),
-        shown(policy.heeds_requests, "request-directives = \"ignored\""),
-        shown(!policy.waits_for_stale, "wait = \"missing-or-stale\""),
-        shown(!policy.explains_storing, "explain = \"storing\""),
+        default_or_word(policy.stores_cookies, "set-cookie = \"not-stored\""),
+        default_or_word(policy.stores_errors, "errors = \"not-stored\""),
+        default_or_word(policy.heeds_requests, "request-directives = \"ignored\""),
+        default_or_word(!policy.waits_for_stale, "wait = \"missing-or-stale\""),
+        default_or_word(!policy.explains_storing, "explain = \"storing\""),
     ] {
         if !word.is_empty() {
             println!(rt; "    {word}")?;

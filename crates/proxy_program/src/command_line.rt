@@ -12,7 +12,7 @@ use std::net::SocketAddr;
 pub(crate) const VERSION: &str = "0.2.0";
 
 /// The most seconds of a time-out that can be asked for: a day.
-const LONGEST: u64 = 86_400;
+const LONGEST_TIMEOUT: u64 = 86_400;
 
 /// The most connections of clients that can be asked for.
 const MOST_CONNECTIONS: u64 = 65_536;
@@ -57,7 +57,7 @@ fn command<'a>(alloc: Global, name: &'a str) -> Command<'a> {
 }
 
 /// A word that has to be there.
-fn word<'a>(alloc: Global, name: &'a str, help: &'a str) -> Arg<'a> {
+fn required_word<'a>(alloc: Global, name: &'a str, help: &'a str) -> Arg<'a> {
     Arg::new(alloc, name)
         .value_name("FILE")
         .help(help)
@@ -66,7 +66,7 @@ fn word<'a>(alloc: Global, name: &'a str, help: &'a str) -> Arg<'a> {
 }
 
 /// An option with a value.
-fn option<'a>(alloc: Global, name: &'a str, value: &'a str, help: &'a str) -> Arg<'a> {
+fn option_with_value<'a>(alloc: Global, name: &'a str, value: &'a str, help: &'a str) -> Arg<'a> {
     Arg::new(alloc, name)
         .long(name)
         .value_name(value)
@@ -75,10 +75,10 @@ fn option<'a>(alloc: Global, name: &'a str, value: &'a str, help: &'a str) -> Ar
 }
 
 /// An option with a number of seconds.
-fn seconds<'a>(alloc: Global, name: &'a str, default: &'a str, help: &'a str) -> Arg<'a> {
-    option(alloc, name, "SECONDS", help)
+fn seconds_option<'a>(alloc: Global, name: &'a str, default: &'a str, help: &'a str) -> Arg<'a> {
+    option_with_value(alloc, name, "SECONDS", help)
         .default_value(default)
-        .value_parser(ValueParser::unsigned(1, LONGEST))
+        .value_parser(ValueParser::unsigned(1, LONGEST_TIMEOUT))
 }
 
 fn check<'a>(alloc: Global) -> Result<Command<'a>, Error> {
@@ -86,8 +86,8 @@ fn check<'a>(alloc: Global) -> Result<Command<'a>, Error> {
         .about(
             "Checks an operator's table: how many lines it has, which are never reached, what a request meets",
         )
-        .arg(word(alloc, "table", "the table"))?
-        .arg(option(
+        .arg(required_word(alloc, "table", "the table"))?
+        .arg(option_with_value(
             alloc,
             "ask",
             "REQUEST",
@@ -128,8 +128,8 @@ A line on standard error names a fault; what it was about, and what to do, stand
 is there. Seconds are whole ones, 1 to 86400.";
 
 /// Where it listens.
-fn listen<'a>(alloc: Global) -> Arg<'a> {
-    option(
+fn listen_option<'a>(alloc: Global) -> Arg<'a> {
+    option_with_value(
         alloc,
         "listen",
         "ADDRESS",
@@ -139,8 +139,8 @@ fn listen<'a>(alloc: Global) -> Arg<'a> {
 }
 
 /// How many connections of clients there may be.
-fn connections<'a>(alloc: Global) -> Arg<'a> {
-    option(
+fn connections_option<'a>(alloc: Global) -> Arg<'a> {
+    option_with_value(
         alloc,
         "connections",
         "N",
@@ -151,8 +151,8 @@ fn connections<'a>(alloc: Global) -> Arg<'a> {
 }
 
 /// How much may wait for clients.
-fn unsent<'a>(alloc: Global) -> Arg<'a> {
-    option(
+fn unsent_option<'a>(alloc: Global) -> Arg<'a> {
+    option_with_value(
         alloc,
         "unsent-limit",
         "BYTES",
@@ -163,8 +163,8 @@ fn unsent<'a>(alloc: Global) -> Arg<'a> {
 }
 
 /// For how long it serves.
-fn turns<'a>(alloc: Global) -> Arg<'a> {
-    option(
+fn turns_option<'a>(alloc: Global) -> Arg<'a> {
+    option_with_value(
         alloc,
         "turns",
         "N",
@@ -178,13 +178,13 @@ fn served<'a>(alloc: Global) -> Result<Command<'a>, Error> {
     let command = command(alloc, "serve")
         .about("Serves clients by a table, until it is stopped")
         .after_help(SERVE_HELP)
-        .arg(word(alloc, "table", "the table"))?
-        .arg(listen(alloc))?
+        .arg(required_word(alloc, "table", "the table"))?
+        .arg(listen_option(alloc))?
         .next_help_heading("Bounds")
-        .arg(connections(alloc))?
-        .arg(unsent(alloc))?
+        .arg(connections_option(alloc))?
+        .arg(unsent_option(alloc))?
         .next_help_heading("For tests")
-        .arg(turns(alloc))?;
+        .arg(turns_option(alloc))?;
     Ok(command)
 }
 
@@ -192,19 +192,19 @@ fn served<'a>(alloc: Global) -> Result<Command<'a>, Error> {
 fn with_client_times<'a>(alloc: Global, command: Command<'a>) -> Result<Command<'a>, Error> {
     let command = command
         .next_help_heading("Times of clients")
-        .arg(seconds(
+        .arg(seconds_option(
             alloc,
             "client-timeout",
             "60",
             "how long a client that waits for nothing may send and take no byte",
         ))?
-        .arg(seconds(
+        .arg(seconds_option(
             alloc,
             "request-timeout",
             "30",
             "how long a request may take to come whole, from its first byte on",
         ))?
-        .arg(seconds(
+        .arg(seconds_option(
             alloc,
             "abandon-timeout",
             "5",
@@ -217,19 +217,19 @@ fn with_client_times<'a>(alloc: Global, command: Command<'a>) -> Result<Command<
 fn with_origin_times<'a>(alloc: Global, command: Command<'a>) -> Result<Command<'a>, Error> {
     let command = command
         .next_help_heading("Times of origins")
-        .arg(seconds(
+        .arg(seconds_option(
             alloc,
             "connect-timeout",
             "5",
             "how long a connection to an origin may take to be made",
         ))?
-        .arg(seconds(
+        .arg(seconds_option(
             alloc,
             "origin-timeout",
             "60",
             "how long an origin may send no byte",
         ))?
-        .arg(seconds(
+        .arg(seconds_option(
             alloc,
             "exchange-timeout",
             "300",
@@ -242,26 +242,26 @@ fn with_origin_times<'a>(alloc: Global, command: Command<'a>) -> Result<Command<
 fn with_files<'a>(alloc: Global, command: Command<'a>) -> Result<Command<'a>, Error> {
     let command = command
         .next_help_heading("Files")
-        .arg(option(
+        .arg(option_with_value(
             alloc,
             "drain",
             "FILE",
             "where this file is, takes no more connections, finishes what is open, and ends",
         ))?
-        .arg(seconds(alloc, "drain-timeout", "30", "how long that may take"))?
-        .arg(option(
+        .arg(seconds_option(alloc, "drain-timeout", "30", "how long that may take"))?
+        .arg(option_with_value(
             alloc,
             "record",
             "FILE",
             "writes what happens into a new file as a script, up to 16777216 bytes; %s is the moment of the start",
         ))?
-        .arg(option(
+        .arg(option_with_value(
             alloc,
             "log",
             "FILE",
             "adds a line about each reply to a file; - is standard output",
         ))?
-        .arg(option(
+        .arg(option_with_value(
             alloc,
             "stats",
             "FILE",
@@ -330,7 +330,7 @@ fn service_of<'a>(matches: &ArgMatches<'a>, listen: SocketAddr) -> Option<Servic
 }
 
 /// That a text is no address to listen on.
-fn no_address(alloc: Global, text: &str) -> Fault {
+fn address_fault(alloc: Global, text: &str) -> Fault {
     let words = format!(in alloc;
         "error: invalid value '{text}' for '--listen <ADDRESS>': an IPv4 address and a port, as in 127.0.0.1:8080"
     );
@@ -343,7 +343,7 @@ fn serve_of<'a>(alloc: Global, matches: &ArgMatches<'a>) -> Result<Form<'a>, Fau
         return Err(Fault::Usage(None));
     };
     let Some(listen) = address_of(text) else {
-        return Err(no_address(alloc, text));
+        return Err(address_fault(alloc, text));
     };
     match service_of(matches, listen) {
         Some(service) => Ok(Form::Serve(service)),
@@ -361,12 +361,12 @@ fn check_of<'a>(alloc: Global, matches: &ArgMatches<'a>) -> Result<Form<'a>, Fau
     };
     match question_of(text) {
         Some(question) => Ok(Form::Check(path, Some(question))),
-        None => Err(no_question(alloc, text)),
+        None => Err(question_fault(alloc, text)),
     }
 }
 
 /// What is said of a text that is no request.
-fn no_question(alloc: Global, text: &str) -> Fault {
+fn question_fault(alloc: Global, text: &str) -> Fault {
     let words = format!(in alloc;
         "error: invalid value '{text}' for '--ask <REQUEST>': a method, a blank and a URL, as in 'GET http://h.example/a'"
     );

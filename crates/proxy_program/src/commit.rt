@@ -10,7 +10,7 @@ use std::rt::Files;
 const COMMIT: &[u8] = b"-the-commit-is-written-here-by-its-tool-";
 
 /// How many bytes can be read where there are none.
-fn none_read<R: Files>(rt: &R) -> usize {
+fn count_read_of_nothing<R: Files>(rt: &R) -> usize {
     let mut buf = [0u8; 1];
     match fs::open(rt, "/dev/null") {
         Ok(mut file) => file.read(&mut buf).unwrap_or(0),
@@ -19,7 +19,7 @@ fn none_read<R: Files>(rt: &R) -> usize {
 }
 
 /// A text that isn't what stands in a program for its commit; else an empty one.
-fn written(alloc: Global, text: String) -> String {
+fn commit_if_written(alloc: Global, text: String) -> String {
     if text.as_str().starts_with('-') {
         String::new(alloc)
     } else {
@@ -31,10 +31,10 @@ fn written(alloc: Global, text: String) -> String {
 pub(crate) fn commit_of<R: Files + AllocGlobal>(rt: &R) -> Result<String, AllocError> {
     // A compiler that knows from where on the bytes are taken puts their values into the code, where a tool doesn't
     // find them.
-    let bytes = COMMIT.get(none_read(rt)..).unwrap_or(COMMIT);
+    let bytes = COMMIT.get(count_read_of_nothing(rt)..).unwrap_or(COMMIT);
     let text = Vec::from_slice(rt.alloc(), bytes)?;
     match String::from_utf8(text) {
-        Ok(text) => Ok(written(rt.alloc(), text)),
+        Ok(text) => Ok(commit_if_written(rt.alloc(), text)),
         Err(_error) => Ok(String::new(rt.alloc())),
     }
 }

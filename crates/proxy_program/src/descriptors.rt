@@ -5,11 +5,11 @@ use std::rt::Files;
 use std::{fs, str};
 
 /// Links to origins, the listener, the log, the record, and what the system wants besides.
-const BESIDES: u64 = 256 + 16;
+const OTHER_DESCRIPTORS: u64 = 256 + 16;
 
 /// The most descriptors for so many connections of clients.
-pub(crate) fn wanted(connections: u64) -> u64 {
-    connections.saturating_add(BESIDES)
+pub(crate) fn descriptors_wanted(connections: u64) -> u64 {
+    connections.saturating_add(OTHER_DESCRIPTORS)
 }
 
 /// The number behind the words of a line of the system.
@@ -24,7 +24,7 @@ fn number_of(text: &str) -> Option<u64> {
 }
 
 /// The descriptors that the process may have, where the system tells.
-pub(crate) fn allowed<R: Files + AllocGlobal>(rt: &R) -> Option<u64> {
+pub(crate) fn descriptors_allowed<R: Files + AllocGlobal>(rt: &R) -> Option<u64> {
     let mut text = Vec::new(rt.alloc());
     let file = fs::open(rt, "/proc/self/limits").ok()?;
     file.take(4096).read_to_end(&mut text).ok()?;

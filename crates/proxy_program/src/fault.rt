@@ -1,6 +1,6 @@
 //! The line that names a fault on standard error, what is said of it besides, and the program's exit status.
 ghost use Rattle.std.specs.Prelude.{◌≡◌};
-ghost use Rattle.proxy_program.specs.Exits.{status_of};
+ghost use Rattle.proxy_program.specs.Exits.{exit_status_of_fault};
 
 use proxy_replay::ReplayFault;
 use proxy_server::{RecordFault, ServeFault};
@@ -29,7 +29,7 @@ pub(crate) enum Fault {
 }
 
 /// What a call of the system that failed is about: a thing, its name, and what can't be done with it.
-pub(crate) fn words_of(
+pub(crate) fn system_call_words(
     alloc: Global,
     front: &str,
     name: &str,
@@ -101,7 +101,7 @@ fn print_words<R: Print>(rt: &R, words: &Option<String>) -> io::Result<()> {
 impl Fault {
     /// The program's exit status: 64 for the command line, 2 where the table is at fault, else 1.
     pub(crate) fn exit_status(&self) -> u8
-        ensures { result ≡ status_of self.now }
+        ensures { result ≡ exit_status_of_fault self.now }
     {
         match self {
             Fault::Usage(_) => 64,

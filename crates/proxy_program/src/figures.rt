@@ -2,9 +2,9 @@
 
 use crate::command_line::VERSION;
 use crate::stats_file::StatsFile;
-use crate::warnings::Seldom;
+use crate::warnings::RareWarning;
 use hx_store::Shelf;
-use proxy_server::{About, Server, StoreCounts};
+use proxy_server::{Server, ServerFacts, StoreCounts};
 use std::io;
 use std::io::{ErrorKind, Write};
 use std::net::Net;
@@ -20,7 +20,7 @@ pub(crate) struct Figures<'a> {
     store: &'a StoreCounts,
     /// The second in which they were written last.
     written: Option<u64>,
-    warned: Seldom,
+    warned: RareWarning,
 }
 
 impl<'a> Figures<'a> {
@@ -38,7 +38,7 @@ impl<'a> Figures<'a> {
             commit,
             store,
             written: None,
-            warned: Seldom::new(),
+            warned: RareWarning::new(),
         }
     }
 
@@ -49,7 +49,7 @@ impl<'a> Figures<'a> {
         server: &Server<'s, S, R, W>,
         lost_lines: u64,
     ) -> io::Result<()> {
-        let about = About {
+        let about = ServerFacts {
             version: VERSION,
             commit: self.commit.as_str(),
             began: self.began,

@@ -2,7 +2,7 @@
 ghost use Rattle.std.specs.Prelude.{IfOk, IfSome};
 ghost use Rattle.proxy_program.specs.TableFiles.{IsWholeOrTooLong, NoTableIsCut};
 
-use crate::fault::{Fault, fault_of, words_of};
+use crate::fault::{Fault, fault_of, system_call_words};
 use hx_allow::{MOST_TABLE_BYTES, a_table_is_toml_within_the_limit};
 use std::alloc::Global;
 use std::io::Read;
@@ -10,7 +10,7 @@ use std::rt::Files;
 use std::{fs, io};
 
 /// The most bytes of a table, and one more: what is longer is no table, however long it is.
-const MOST: u64 = MOST_TABLE_BYTES as u64 + 1;
+const MOST_FILE_BYTES: u64 = MOST_TABLE_BYTES as u64 + 1;
 
 /// What was read of a file, and is taken as a table, is all of that file.
 pub fn no_table_is_cut()
@@ -24,7 +24,7 @@ fn read_most<F: Read + Drop>(alloc: Global, file: F) -> io::Result<Vec<u8>>
     ensures { IfOk result (λ text. IfSome (F.remaining file) (IsWholeOrTooLong text.items)) }
 {
     let mut text = Vec::new(alloc);
-    let mut front = file.take(MOST);
+    let mut front = file.take(MOST_FILE_BYTES);
     front.read_to_end(&mut text)?;
     Ok(text)
 }
@@ -38,7 +38,7 @@ pub(crate) fn read_table<R: Files + AllocGlobal>(rt: &R, path: &str) -> Result<V
     match read_some(rt, path) {
         Ok(text) => Ok(text),
         Err(e) => {
-            let words = words_of(rt.alloc(), "the table ", path, " can't be read", &e);
+            let words = system_call_words(rt.alloc(), "the table ", path, " can't be read", &e);
             Err(fault_of(&e, Fault::Read(words)))
         }
     }

@@ -1,6 +1,6 @@
 //! Where in a table its fault is: the line of the file where it stops being TOML, or where a key stands that isn't
 //! known.
-ghost use Rattle.proxy_program.specs.TableFiles.{IsConfigOf};
+ghost use Rattle.proxy_program.specs.TableFiles.{BytesAreConfigOrFault};
 
 use crate::fault::Fault;
 use hx_allow::{Config, ConfigFault};
@@ -9,7 +9,7 @@ use std::alloc::Global;
 use toml::{Table, Value};
 
 /// The keys at the top of a table.
-const TOP: [&str; 6] = [
+const TOP_KEYS: [&str; 6] = [
     "version",
     "name",
     "capacity",
@@ -48,7 +48,7 @@ fn line_with(table: &Table, key: &str) -> Option<usize> {
 fn place_of_key(alloc: Global, table: &[u8], key: &[u8]) -> Option<String> {
     let table = toml::table_from_slice(alloc, table).ok()?;
     let key = str::from_utf8(key).ok()?;
-    if table.contains_key(key) && !TOP.contains(&key) {
+    if table.contains_key(key) && !TOP_KEYS.contains(&key) {
         return format!(in alloc; "the key {key} stands at the top of the table").ok();
     }
     let line = line_with(&table, key)?;
@@ -66,7 +66,7 @@ fn place_of(alloc: Global, table: &[u8], fault: &ConfigFault) -> Option<String> 
 
 /// Reads a table; a fault says where it is.
 pub(crate) fn config_of(alloc: Global, table: &[u8]) -> Result<Config, Fault>
-    ensures { IsConfigOf table.now result }
+    ensures { BytesAreConfigOrFault table.now result }
 {
     match Config::read(alloc, table) {
         Ok(config) => Ok(config),

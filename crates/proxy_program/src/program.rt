@@ -66,20 +66,20 @@ where
 
 /// Why the program ends early, and whether its standard output is kept for the log.
 #[derive(Drop)]
-struct Ended {
+struct EndedEarly {
     fault: Fault,
     is_quiet: bool,
 }
 
 /// Of a fault before it is known what is asked for. Where memory was refused that may be a replay, whose standard
 /// output has its effects alone.
-impl From<Fault> for Ended {
-    fn from(fault: Fault) -> Ended {
+impl From<Fault> for EndedEarly {
+    fn from(fault: Fault) -> EndedEarly {
         let is_quiet = match &fault {
             Fault::NoMemory => true,
             _ => false,
         };
-        Ended { fault, is_quiet }
+        EndedEarly { fault, is_quiet }
     }
 }
 
@@ -87,23 +87,23 @@ fn checked<R: Files + Print + AllocGlobal>(
     rt: &R,
     path: &str,
     question: Option<&Question<'_>>,
-) -> Result<(), Ended> {
+) -> Result<(), EndedEarly> {
     match check(rt, path, question) {
         Ok(()) => Ok(()),
-        Err(fault) => Err(Ended {
+        Err(fault) => Err(EndedEarly {
             fault,
             is_quiet: false,
         }),
     }
 }
 
-fn served<R>(rt: &R, service: &Service<'_>) -> Result<(), Ended>
+fn served<R>(rt: &R, service: &Service<'_>) -> Result<(), EndedEarly>
 where
     R: Files + Print + Eprint + AllocGlobal + Net + Clock + RandomSource,
 {
     match serve(rt, service) {
         Ok(()) => Ok(()),
-        Err(fault) => Err(Ended {
+        Err(fault) => Err(EndedEarly {
             fault,
             is_quiet: service.log == Some("-"),
         }),
@@ -111,7 +111,7 @@ where
 }
 
 /// Does what the words ask for; a replay tells its own exit status.
-fn done<R>(rt: &R, words: &[String]) -> Result<ExitCode, Ended>
+fn do_command<R>(rt: &R, words: &[String]) -> Result<ExitCode, EndedEarly>
 where
     R: Files + Env + Input + Print + Eprint + AllocGlobal + Net + Clock + RandomSource,
     <R as Input>::Reader: IsTerminal,
@@ -135,20 +135,20 @@ where
 }
 
 /// The words of the command line.
-fn words<R: Env + AllocGlobal>(rt: &R) -> Result<Vec<String>, Fault> {
+fn command_line_words<R: Env + AllocGlobal>(rt: &R) -> Result<Vec<String>, Fault> {
     match env::args(rt) {
         Ok(args) => Ok(args.collect(rt.alloc())?),
         Err(e) => Err(fault_of(&e, Fault::Usage(None))),
     }
 }
 
-fn run_or_fail<R>(rt: &R) -> Result<ExitCode, Ended>
+fn run_or_fail<R>(rt: &R) -> Result<ExitCode, EndedEarly>
 where
     R: Files + Env + Input + Print + Eprint + AllocGlobal + Net + Clock + RandomSource,
     <R as Input>::Reader: IsTerminal,
 {
-    let words = words(rt)?;
-    done(rt, words.as_slice())
+    let words = command_line_words(rt)?;
+    do_command(rt, words.as_slice())
 }
 
 /// Does what the command line asks for: without a word, replays standard input to standard output.
@@ -159,7 +159,7 @@ where
 {
     match run_or_fail(rt) {
         Ok(status) => status,
-        Err(Ended { fault, is_quiet }) => {
+        Err(EndedEarly { fault, is_quiet }) => {
             // Where standard output or standard error fails too there is nobody left to tell.
             let status = fault.exit_status();
             let _ = eprintln!(rt; "{fault}");

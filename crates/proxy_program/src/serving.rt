@@ -2,15 +2,15 @@
 
 use crate::command_line::Service;
 use crate::commit::commit_of;
-use crate::descriptors::{allowed, wanted};
-use crate::fault::{Fault, fault_of, words_of};
+use crate::descriptors::{descriptors_allowed, descriptors_wanted};
+use crate::fault::{Fault, fault_of, system_call_words};
 use crate::figures::Figures;
 use crate::files::read_table;
 use crate::journal::{Journal, Target, log_file};
 use crate::mistakes::config_of;
 use crate::stats_file::StatsFile;
 use crate::warnings::Warnings;
-use crate::watch::{Goes, Watch};
+use crate::watch::{ServerState, Watch};
 use hx_allow::Config;
 use hx_store::{IndexedShelf, Shelf};
 use proxy_server::{CountedShelf, Limits, LiveSockets, Recorder, ServeFault, Server, StoreCounts};
@@ -61,7 +61,7 @@ fn record_fault<R: AllocGlobal>(rt: &R, name: &str, error: &io::Error) -> Fault 
     } else {
         " can't be begun"
     };
-    let words = words_of(rt.alloc(), "the record ", name, hint, error);
+    let words = system_call_words(rt.alloc(), "the record ", name, hint, error);
     fault_of(error, Fault::Write(words))
 }
 
@@ -69,8 +69,8 @@ fn record_fault<R: AllocGlobal>(rt: &R, name: &str, error: &io::Error) -> Fault 
 fn announce<R: Files + Eprint + AllocGlobal>(rt: &R, address: SocketAddr, limits: &Limits) {
     // Where standard error fails there is nobody left to tell.
     let _ = eprintln!(rt; "listening on {address}");
-    let wants = wanted(limits.connections as u64);
-    if let Some(allows) = allowed(rt) {
+    let wants = descriptors_wanted(limits.connections as u64);
+    if let Some(allows) = descriptors_allowed(rt) {
         if allows < wants {
             let _ = eprintln!(rt;
                 "warning: {allows} descriptors are allowed, and up to {wants} may be wanted"
@@ -97,7 +97,7 @@ where
     for _ in 0..turns {
         // What a turn that ended early left undone is done in the next one.
         let turned = server.serve_turn(rt)?;
-        warnings.look_back(rt, server, &turned);
+        warnings.warn_of_turn(rt, server, &turned);
         let lost = write_log(server, journal);
         if lost > 0 && !log_reported {
             log_reported = true;
@@ -109,11 +109,11 @@ where
         }
         warnings.look(rt, server);
         match watch.look(rt, server, journal) {
-            Goes::On => {}
-            Goes::Draining => {
+            ServerState::On => {}
+            ServerState::Draining => {
                 let _ = eprintln!(rt; "draining");
             }
-            Goes::Over => return Ok(()),
+            ServerState::Over => return Ok(()),
         }
     }
     Ok(())
@@ -148,7 +148,7 @@ fn journal_of<R: Files + AllocGlobal, P: Write + Drop>(
         Some(path) => match log_file(rt, path) {
             Ok(file) => Ok(Some(Journal::new(Target::File(file)))),
             Err(e) => {
-                let words = words_of(rt.alloc(), "the log ", path, " can't be opened", &e);
+                let words = system_call_words(rt.alloc(), "the log ", path, " can't be opened", &e);
                 Err(fault_of(&e, Fault::Write(words)))
             }
         },
@@ -183,7 +183,7 @@ fn seed_of<R: RandomSource + AllocGlobal>(rt: &R) -> Result<u64, Fault> {
     match RandomState::new(rt) {
         Ok(state) => Ok(state.build_hasher().finish()),
         Err(e) => {
-            let words = words_of(
+            let words = system_call_words(
                 rt.alloc(),
                 "",
                 "",
@@ -225,7 +225,7 @@ fn begin_figures<'a, R: Net + Files + AllocGlobal, S: Shelf + Drop, W: Write + D
     match figures.write(rt, server, 0) {
         Ok(()) => Ok(()),
         Err(e) => {
-            let words = words_of(
+            let words = system_call_words(
                 rt.alloc(),
                 "the file of --stats",
                 "",

@@ -7,23 +7,23 @@ use std::io::Write;
 use std::net::Net;
 
 /// Seconds between two warnings of one kind, at the least.
-const BETWEEN: u64 = 60;
+const SECONDS_BETWEEN_WARNINGS: u64 = 60;
 
 /// When a warning was given last, in seconds of the clock that never goes back.
 #[derive(Clone, Copy, Debug)]
-pub(crate) struct Seldom {
+pub(crate) struct RareWarning {
     last: Option<u64>,
 }
 
-impl Seldom {
-    pub(crate) fn new() -> Seldom {
-        Seldom { last: None }
+impl RareWarning {
+    pub(crate) fn new() -> RareWarning {
+        RareWarning { last: None }
     }
 
     /// Whether the warning is to be given. It counts as given then.
     pub(crate) fn is_due(&mut self, second: u64) -> bool {
         let is_early = match self.last {
-            Some(last) => second.saturating_sub(last) < BETWEEN,
+            Some(last) => second.saturating_sub(last) < SECONDS_BETWEEN_WARNINGS,
             None => false,
         };
         if !is_early {
@@ -36,11 +36,11 @@ impl Seldom {
 /// How often the server couldn't do what was asked, as it was told last, and what else is told of its turns.
 #[derive(Clone, Copy, Debug)]
 pub(crate) struct Warnings {
-    full: Seldom,
-    crowded: Seldom,
-    no_descriptor: Seldom,
-    no_link: Seldom,
-    cut: Seldom,
+    full: RareWarning,
+    crowded: RareWarning,
+    no_descriptor: RareWarning,
+    no_link: RareWarning,
+    cut: RareWarning,
     clock: ClockWatch,
     record_reported: bool,
     refused: u64,
@@ -51,11 +51,11 @@ pub(crate) struct Warnings {
 impl Warnings {
     pub(crate) fn new() -> Warnings {
         Warnings {
-            full: Seldom::new(),
-            crowded: Seldom::new(),
-            no_descriptor: Seldom::new(),
-            no_link: Seldom::new(),
-            cut: Seldom::new(),
+            full: RareWarning::new(),
+            crowded: RareWarning::new(),
+            no_descriptor: RareWarning::new(),
+            no_link: RareWarning::new(),
+            cut: RareWarning::new(),
             clock: ClockWatch::new(),
             record_reported: false,
             refused: 0,
@@ -66,7 +66,7 @@ impl Warnings {
 
     /// Tells what is to be told of a turn: that it ended early, that the clock went back, and once that the record has
     /// ended.
-    pub(crate) fn look_back<'s, R: Net + Eprint, S: Shelf + Drop, W: Write + Drop>(
+    pub(crate) fn warn_of_turn<'s, R: Net + Eprint, S: Shelf + Drop, W: Write + Drop>(
         &mut self,
         rt: &R,
         server: &Server<'s, S, R, W>,

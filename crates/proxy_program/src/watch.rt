@@ -22,7 +22,7 @@ pub(crate) struct Watch<'a> {
 
 /// Whether a server goes on.
 #[derive(Clone, Copy, Debug, PartialEq, Eq)]
-pub(crate) enum Goes {
+pub(crate) enum ServerState {
     On,
     /// It begins to end.
     Draining,
@@ -79,15 +79,15 @@ impl<'a> Watch<'a> {
         rt: &R,
         server: &mut Server<'s, S, R, R::File>,
         journal: &mut Option<Journal<R::File, P>>,
-    ) -> Goes {
+    ) -> ServerState {
         let now = server.second();
         if let Some(ends) = self.ends {
             if now >= ends || server.is_drained() {
-                return Goes::Over;
+                return ServerState::Over;
             }
         }
         if self.looked == Some(now) {
-            return Goes::On;
+            return ServerState::On;
         }
         self.looked = Some(now);
         if let (Some(journal), Some(path)) = (journal, self.log) {
@@ -96,8 +96,8 @@ impl<'a> Watch<'a> {
         if self.ends.is_none() && self.is_to_end(rt) {
             self.ends = Some(now.saturating_add(self.drain_timeout));
             server.drain();
-            return Goes::Draining;
+            return ServerState::Draining;
         }
-        Goes::On
+        ServerState::On
     }
 }

@@ -3,11 +3,11 @@ use Rattle.std.proofs.Common.{◌≡◌, ℕ, List, [], ◌∷◌, ◌++◌, fal
 use Rattle.std.proofs.lemmas.Bool.{false≢true}
 use Rattle.proxy_script.specs.Script.{IsScript}
 use Rattle.proxy_script.specs.Effects.{effects_text}
-use Rattle.proxy_replay.specs.Replay.{LeadsTo, IsReplayed, HasOneText}
-use Rattle.proxy_replay.specs.OneReplay.{NoOtherText, NotBeforeItsEnd, NoReadFailsAtTheEnd, NothingByARefusedTable}
+use Rattle.proxy_replay.specs.Replay.{BytesLeadToWhere, IsReplayed, ReplayHasOneText}
+use Rattle.proxy_replay.specs.OneReplay.{ReplayHasNoOtherText, NoWholeReplayBeforeTheEnd, NoReadFaultAtTheEnd, NothingIsWrittenForARefusedTable}
 
 -- bytes that lead to their end are a script
-replayed : (script written : List ℕ) → LeadsTo script (λ items rest effects last. (rest ≡ []) × (written ≡ effects_text effects)) → IsReplayed script written
+replayed : (script written : List ℕ) → BytesLeadToWhere script (λ items rest effects last. (rest ≡ []) × (written ≡ effects_text effects)) → IsReplayed script written
 replayed script written to =
     let whole : script ≡ to.leads.front = to.leads.bytes_are ∙ ap (λ (z : List ℕ). to.leads.front ++ z) to.holds.0 ∙ append-nil to.leads.front in
     record {
@@ -23,14 +23,14 @@ replayed script written to =
       emitted = to.holds.1;
     }
 
-pub no_other_text : HasOneText → NoOtherText
+pub no_other_text : ReplayHasOneText → ReplayHasNoOtherText
 no_other_text one script written other h differ k = differ (one script written other (replayed script written h.1) (replayed script other k.1))
 
-pub not_before_its_end : NotBeforeItsEnd
+pub not_before_its_end : NoWholeReplayBeforeTheEnd
 not_before_its_end bytes written h = false≢true h.0
 
-pub no_read_fails_at_the_end : NoReadFailsAtTheEnd
+pub no_read_fails_at_the_end : NoReadFaultAtTheEnd
 no_read_fails_at_the_end bytes written h = false≢true (sym h.0)
 
-pub nothing_by_a_refused_table : NothingByARefusedTable
+pub nothing_by_a_refused_table : NothingIsWrittenForARefusedTable
 nothing_by_a_refused_table bytes written byte ended fault h = let never : byte ∷ written ≡ [] = h.4 in absurd (cc)

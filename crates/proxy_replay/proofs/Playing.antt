@@ -5,26 +5,26 @@ use Rattle.std.specs.List.{flat_map, AllByRecursion}
 use Rattle.std.proofs.KnownBytes.{Appends-trans, Appends-nil}
 use Rattle.std.proofs.lemmas.Grind.{flat_map-append}
 use Rattle.std.proofs.lemmas.List.{append-nil, length_push, take_at, drop_at}
-use Rattle.hx_allow.specs.Lines.{Table}
-use Rattle.proxy_script.specs.Script.{Said as Item, spelled, Fits, IsPlaced, IsScript, Found, Cut, Wrong, item_at}
+use Rattle.hx_allow.specs.TableLines.{Table}
+use Rattle.proxy_script.specs.Script.{PlainItem as Item, item_spelling, ItemHasSpelling, ItemMayStandHere, IsScript, Found, Cut, Wrong, item_in_front}
 use Rattle.proxy_script.specs.Script as item
 use Rattle.proxy_script.specs.Effects.{effect_text, effects_text}
 use Rattle.proxy_script.specs.declared.effect_list.Effect.{Effect}
-use Rattle.proxy_engine.specs.State.{State, Represents}
-use Rattle.proxy_replay.specs.Bytes.{WasRead, limit}
-use Rattle.proxy_replay.specs.Played.{Scene, beginning, happening_of, moment_after, PlaysItem, Plays, Refuses}
+use Rattle.proxy_engine.specs.State.{State, EngineRepresents}
+use Rattle.proxy_replay.specs.Bytes.{ReaderGave, script_limit}
+use Rattle.proxy_replay.specs.Played.{Scene, initial_scene, happening_of_item, moment_after, ItemIsPlayed, ItemsArePlayed, EngineRefusesHappening}
 use Rattle.proxy_replay.proofs.Running.{plays_run}
-use Rattle.proxy_replay.specs.Replay.{BeginsWith, IsWrong, Leads, LeadsTo, EndsAt, Fails, Writes, IsReplay, IsReplayed, IsRefused}
-use Rattle.proxy_replay.specs.Steps.{Opens, StepDone, StepNotDone, StepFails}
-use Rattle.proxy_replay.specs.declared.faults.ReplayFault.{ReplayFault}
-use Rattle.proxy_replay.specs.declared.faults.ReplayFault.TheVariants as faults
+use Rattle.proxy_replay.specs.Replay.{BytesBeginWithItem, NoItemStandsInFront, BytesLeadTo, BytesLeadToWhere, ReplayEndsAt, ReplayFails, ReplayWrites, IsReplay, IsReplayed, ScriptIsRefused}
+use Rattle.proxy_replay.specs.Steps.{TableIsReadFirst, ItemWasPlayed, ItemWasNotPlayed, PlayingItemFails}
+use Rattle.proxy_replay.specs.declared.replay_fault.ReplayFault.{ReplayFault}
+use Rattle.proxy_replay.specs.declared.replay_fault.ReplayFault.TheVariants as faults
 use Rattle.proxy_replay.proofs.Fronts.{ends_first}
 
 -- one item further
 
-plays_more : (items : List Item) (a b c : Scene) (effects more : List Effect) (h : Item) → Plays a items effects b → PlaysItem b h more c → Plays a (items ++ h ∷ []) (effects ++ more) c
+plays_more : (items : List Item) (a b c : Scene) (effects more : List Effect) (h : Item) → ItemsArePlayed a items effects b → ItemIsPlayed b h more c → ItemsArePlayed a (items ++ h ∷ []) (effects ++ more) c
 plays_more [] a b c effects more h before one =
-    (c, more, [], subst (λ x. PlaysItem x h more c) before.1 one, (refl, refl), ap (λ es. es ++ more) before.0 ∙ sym (append-nil more))
+    (c, more, [], subst (λ x. ItemIsPlayed x h more c) before.1 one, (refl, refl), ap (λ es. es ++ more) before.0 ∙ sym (append-nil more))
 plays_more (first ∷ items) a b c effects more h before one = (
   before.0,
   before.1,
@@ -38,20 +38,20 @@ all_push : (P : Item → Type 0) (items : List Item) (h : Item) → AllByRecursi
 all_push P [] h all one = (one, tt)
 all_push P (first ∷ items) h all one = (all.0, all_push P items h all.1 one)
 
-script_more : (front table : List ℕ) (items : List Item) (h : Item) → IsScript front table items → Fits h → IsPlaced false h → IsScript (front ++ spelled h) table (items ++ h ∷ [])
+script_more : (front table : List ℕ) (items : List Item) (h : Item) → IsScript front table items → ItemHasSpelling h → ItemMayStandHere false h → IsScript (front ++ item_spelling h) table (items ++ h ∷ [])
 script_more front table items h script fits placed = record {
-  script = ap (λ xs. xs ++ spelled h) script.script
-      ∙ (append_assoc (spelled (item.Table table)) (flat_map spelled items) (spelled h)
-      ∙ ap (λ xs. spelled (item.Table table) ++ xs) (ap (λ xs. flat_map spelled items ++ xs) (sym (append-nil (spelled h))) ∙ sym (flat_map-append spelled items (h ∷ []))));
+  script = ap (λ xs. xs ++ item_spelling h) script.script
+      ∙ (append_assoc (item_spelling (item.Table table)) (flat_map item_spelling items) (item_spelling h)
+      ∙ ap (λ xs. item_spelling (item.Table table) ++ xs) (ap (λ xs. flat_map item_spelling items ++ xs) (sym (append-nil (item_spelling h))) ∙ sym (flat_map-append item_spelling items (h ∷ []))));
   table_fits = script.table_fits;
-  items_fit = all_push Fits items h script.items_fit fits;
-  one_table = all_push (IsPlaced false) items h script.one_table placed;
+  items_fit = all_push ItemHasSpelling items h script.items_fit fits;
+  one_table = all_push (ItemMayStandHere false) items h script.one_table placed;
 }
 
-leads_more : (bytes rest more : List ℕ) (items : List Item) (h : Item) (effects others : List Effect) (b c : Scene) → Leads bytes items rest effects b → BeginsWith false rest h more → PlaysItem b h others c → Leads bytes (items ++ h ∷ []) more (effects ++ others) c
-leads_more bytes rest more items h effects others b c leads represents one = let longer = plays_more items (beginning leads.config) b c effects others h leads.plays one in record {
-  front = leads.front ++ spelled h;
-  bytes_are = leads.bytes_are ∙ (ap (λ xs. leads.front ++ xs) represents.0 ∙ sym (append_assoc leads.front (spelled h) more));
+leads_more : (bytes rest more : List ℕ) (items : List Item) (h : Item) (effects others : List Effect) (b c : Scene) → BytesLeadTo bytes items rest effects b → BytesBeginWithItem false rest h more → ItemIsPlayed b h others c → BytesLeadTo bytes (items ++ h ∷ []) more (effects ++ others) c
+leads_more bytes rest more items h effects others b c leads represents one = let longer = plays_more items (initial_scene leads.config) b c effects others h leads.plays one in record {
+  front = leads.front ++ item_spelling h;
+  bytes_are = leads.bytes_are ∙ (ap (λ xs. leads.front ++ xs) represents.0 ∙ sym (append_assoc leads.front (item_spelling h) more));
   table = leads.table;
   script = script_more leads.front leads.table items h leads.script represents.1 represents.2;
   config = leads.config;
@@ -65,26 +65,26 @@ pub record SoFar (bytes rest : List ℕ) (now line : ℕ) (e : State) (old curre
   pub items : List Item
   pub effects : List Effect
   pub last : Scene
-  pub leads : Leads bytes items rest effects last
+  pub leads : BytesLeadTo bytes items rest effects last
   pub moment : last.now ≡ now
   pub line_is : line ≡ length items + 2
-  pub represents : Represents e last.model
+  pub represents : EngineRepresents e last.model
   pub appends : Appends old current (effects_text effects)
 
-pub so_far_first : (bytes rest : List ℕ) (table : Table) (e : State) (old : Option (List ℕ)) → Opens bytes table rest → Represents e (beginning table).model → SoFar bytes rest 0 2 e old old
+pub so_far_first : (bytes rest : List ℕ) (table : Table) (e : State) (old : Option (List ℕ)) → TableIsReadFirst bytes table rest → EngineRepresents e (initial_scene table).model → SoFar bytes rest 0 2 e old old
 so_far_first bytes rest table e old opens represents = record {
   items = [];
   effects = [];
-  last = beginning table;
+  last = initial_scene table;
   leads = record {
-    front = spelled (item.Table opens.text);
+    front = item_spelling (item.Table opens.text);
     bytes_are = opens.represents.0;
     table = opens.text;
-    script = record { script = sym (append-nil (spelled (item.Table opens.text))); table_fits = opens.represents.1; items_fit = tt; one_table = tt };
+    script = record { script = sym (append-nil (item_spelling (item.Table opens.text))); table_fits = opens.represents.1; items_fit = tt; one_table = tt };
     config = table;
     reads = opens.reads;
     plays = (refl, refl);
-    run = plays_run table [] [] (beginning table) (refl, refl);
+    run = plays_run table [] [] (initial_scene table) (refl, refl);
   };
   moment = refl;
   line_is = refl;
@@ -93,10 +93,10 @@ so_far_first bytes rest table e old opens represents = record {
 }
 
 -- an item was played
-played : (a : Scene) (now : ℕ) (h : Item) (e : State) (old new : Option (List ℕ)) (emitted : StepDone a.model (moment_after now h) (happening_of h) e old new) → a.now ≡ now → PlaysItem a h emitted.effects (record { model = emitted.last; now = moment_after now h })
+played : (a : Scene) (now : ℕ) (h : Item) (e : State) (old new : Option (List ℕ)) (emitted : ItemWasPlayed a.model (moment_after now h) (happening_of_item h) e old new) → a.now ≡ now → ItemIsPlayed a h emitted.effects (record { model = emitted.last; now = moment_after now h })
 played a now h e old new emitted same = record { moment = ap (λ m. moment_after m h) (sym same); happened = emitted.happened }
 
-pub so_far_more : (bytes rest more : List ℕ) (now line : ℕ) (h : Item) (e f : State) (old mid new : Option (List ℕ)) → (before : SoFar bytes rest now line e old mid) → BeginsWith false rest h more → StepDone before.last.model (moment_after now h) (happening_of h) f mid new → SoFar bytes more (moment_after now h) (line + 1) f old new
+pub so_far_more : (bytes rest more : List ℕ) (now line : ℕ) (h : Item) (e f : State) (old mid new : Option (List ℕ)) → (before : SoFar bytes rest now line e old mid) → BytesBeginWithItem false rest h more → ItemWasPlayed before.last.model (moment_after now h) (happening_of_item h) f mid new → SoFar bytes more (moment_after now h) (line + 1) f old new
 so_far_more bytes rest more now line h e f old mid new before represents emitted = record {
   items = before.items ++ h ∷ [];
   effects = before.effects ++ emitted.effects;
@@ -110,11 +110,11 @@ so_far_more bytes rest more now line h e f old mid new before represents emitted
 
 -- how a replay ends
 
-leads_so_far : (P : List Item → List ℕ → List Effect → Scene → Type 0) (bytes rest : List ℕ) (now line : ℕ) (e : State) (old current : Option (List ℕ)) → (before : SoFar bytes rest now line e old current) → P before.items rest before.effects before.last → LeadsTo bytes P
+leads_so_far : (P : List Item → List ℕ → List Effect → Scene → Type 0) (bytes rest : List ℕ) (now line : ℕ) (e : State) (old current : Option (List ℕ)) → (before : SoFar bytes rest now line e old current) → P before.items rest before.effects before.last → BytesLeadToWhere bytes P
 leads_so_far P bytes rest now line e old current before holds = record { items = before.items; rest = rest; effects = before.effects; last = before.last; leads = before.leads; holds = holds }
 
 -- behind what was played so far
-ends_here : (P : Bool → List ℕ → ℕ → Type 0) (bytes rest : List ℕ) (now line : ℕ) (e : State) (old current : Option (List ℕ)) → (before : SoFar bytes rest now line e old current) → P false rest line → EndsAt bytes (effects_text before.effects) P
+ends_here : (P : Bool → List ℕ → ℕ → Type 0) (bytes rest : List ℕ) (now line : ℕ) (e : State) (old current : Option (List ℕ)) → (before : SoFar bytes rest now line e old current) → P false rest line → ReplayEndsAt bytes (effects_text before.effects) P
 ends_here P bytes rest now line e old current before holds = record {
   first = false;
   rest = rest;
@@ -126,11 +126,11 @@ ends_here P bytes rest now line e old current before holds = record {
 }
 
 -- in front of the table
-pub writes_first : (bytes : List ℕ) (ended : Bool) (fault : ReplayFault) (old : Option (List ℕ)) → Fails bytes ended [] fault → Writes bytes ended old old (Err fault)
+pub writes_first : (bytes : List ℕ) (ended : Bool) (fault : ReplayFault) (old : Option (List ℕ)) → ReplayFails bytes ended [] fault → ReplayWrites bytes ended old old (Err fault)
 writes_first bytes ended fault old fails = record { written = []; appends = Appends-nil old; replays = fails }
 
 -- at a line or a block that is wrong
-pub writes_wrong : (bytes rest : List ℕ) (ended : Bool) (now line : ℕ) (e : State) (old current : Option (List ℕ)) → SoFar bytes rest now line e old current → IsWrong false ended rest → Writes bytes ended old current (Err (faults.Line line))
+pub writes_wrong : (bytes rest : List ℕ) (ended : Bool) (now line : ℕ) (e : State) (old current : Option (List ℕ)) → SoFar bytes rest now line e old current → NoItemStandsInFront false ended rest → ReplayWrites bytes ended old current (Err (faults.Line line))
 writes_wrong bytes rest ended now line e old current before wrong = record {
   written = effects_text before.effects;
   appends = before.appends;
@@ -138,7 +138,7 @@ writes_wrong bytes rest ended now line e old current before wrong = record {
 }
 
 -- where the reader failed in the middle of an item
-pub writes_cut : (bytes rest : List ℕ) (ended : Bool) (now line : ℕ) (e : State) (old current : Option (List ℕ)) → SoFar bytes rest now line e old current → ended ≡ false → item_at false rest ≡ Cut → Writes bytes ended old current (Err faults.Read)
+pub writes_cut : (bytes rest : List ℕ) (ended : Bool) (now line : ℕ) (e : State) (old current : Option (List ℕ)) → SoFar bytes rest now line e old current → ended ≡ false → item_in_front false rest ≡ Cut → ReplayWrites bytes ended old current (Err faults.Read)
 writes_cut bytes rest ended now line e old current before more cut = record {
   written = effects_text before.effects;
   appends = before.appends;
@@ -146,7 +146,7 @@ writes_cut bytes rest ended now line e old current before more cut = record {
 }
 
 -- at the script's end
-pub writes_whole : (bytes rest : List ℕ) (ended : Bool) (now line : ℕ) (e : State) (old current : Option (List ℕ)) → SoFar bytes rest now line e old current → ended ≡ true → rest ≡ [] → Writes bytes ended old current (Ok tt)
+pub writes_whole : (bytes rest : List ℕ) (ended : Bool) (now line : ℕ) (e : State) (old current : Option (List ℕ)) → SoFar bytes rest now line e old current → ended ≡ true → rest ≡ [] → ReplayWrites bytes ended old current (Ok tt)
 writes_whole bytes rest ended now line e old current before whole none = record {
   written = effects_text before.effects;
   appends = before.appends;
@@ -157,17 +157,17 @@ take_past : (xs ys : List ℕ) (k : ℕ) → take (length xs + k) (xs ++ ys) ≡
 take_past xs ys k = take-add (length xs) k (xs ++ ys) ∙ (ap (λ a. a ++ take k (drop (length xs) (xs ++ ys))) (take_at xs ys (length xs) refl) ∙ ap (λ b. xs ++ take k b) (drop_at xs ys (length xs) refl))
 
 -- at an item that isn't taken, or whose text isn't written
-fails_by : (bytes rest more : List ℕ) (h : Item) (ended : Bool) (now line : ℕ) (e : State) (old mid : Option (List ℕ)) (written : List ℕ) (fault : ReplayFault) → (before : SoFar bytes rest now line e old mid) → BeginsWith false rest h more → StepFails before.last.model (moment_after now h) (happening_of h) written fault → Fails bytes ended (effects_text before.effects ++ written) fault
+fails_by : (bytes rest more : List ℕ) (h : Item) (ended : Bool) (now line : ℕ) (e : State) (old mid : Option (List ℕ)) (written : List ℕ) (fault : ReplayFault) → (before : SoFar bytes rest now line e old mid) → BytesBeginWithItem false rest h more → PlayingItemFails before.last.model (moment_after now h) (happening_of_item h) written fault → ReplayFails bytes ended (effects_text before.effects ++ written) fault
 fails_by bytes rest more h ended now line e old mid written (faults.Engine fault) before represents fails =
     leads_so_far _ bytes rest now line e old mid before (
       h,
       more,
       represents,
-      (fails.0, fails.1, subst (λ m. Refuses before.last.model (moment_after m h) fails.0 fault) (sym before.moment) fails.2),
+      (fails.0, fails.1, subst (λ m. EngineRefusesHappening before.last.model (moment_after m h) fails.0 fault) (sym before.moment) fails.2),
       ap (λ w. effects_text before.effects ++ w) fails.3 ∙ append-nil (effects_text before.effects),
     )
 fails_by bytes rest more h ended now line e old mid written faults.OutOfMemory before represents fails =
-    subst (λ w. EndsAt bytes w (λ first rest line. Unit {0})) (sym (append-nil (effects_text before.effects)) ∙ ap (λ w. effects_text before.effects ++ w) (sym fails)) (ends_here _ bytes rest now line e old mid before tt)
+    subst (λ w. ReplayEndsAt bytes w (λ first rest line. Unit {0})) (sym (append-nil (effects_text before.effects)) ∙ ap (λ w. effects_text before.effects ++ w) (sym fails)) (ends_here _ bytes rest now line e old mid before tt)
 fails_by bytes rest more h ended now line e old mid written faults.Write before represents fails = record {
   items = before.items ++ h ∷ [];
   rest = more;
@@ -184,7 +184,7 @@ fails_by bytes rest more h ended now line e old mid written (faults.Config fault
 fails_by bytes rest more h ended now line e old mid written (faults.Line n) before represents fails = absurd fails
 fails_by bytes rest more h ended now line e old mid written faults.Read before represents fails = absurd fails
 
-pub writes_not_done : (bytes rest more : List ℕ) (h : Item) (ended : Bool) (now line : ℕ) (e : State) (old mid new : Option (List ℕ)) (fault : ReplayFault) → (before : SoFar bytes rest now line e old mid) → BeginsWith false rest h more → StepNotDone before.last.model (moment_after now h) (happening_of h) fault mid new → Writes bytes ended old new (Err fault)
+pub writes_not_done : (bytes rest more : List ℕ) (h : Item) (ended : Bool) (now line : ℕ) (e : State) (old mid new : Option (List ℕ)) (fault : ReplayFault) → (before : SoFar bytes rest now line e old mid) → BytesBeginWithItem false rest h more → ItemWasNotPlayed before.last.model (moment_after now h) (happening_of_item h) fault mid new → ReplayWrites bytes ended old new (Err fault)
 writes_not_done bytes rest more h ended now line e old mid new fault before represents not_done = record {
   written = effects_text before.effects ++ not_done.written;
   appends = Appends-trans old mid new (effects_text before.effects) not_done.written before.appends not_done.appends;
@@ -206,7 +206,7 @@ ends_unread old new before read consumes = record {
   writes = writes_first [] false faults.OutOfMemory before (ends_first _ [] tt);
 }
 
-pub ends_read : (bytes : List ℕ) (ended : Bool) (old new before after : Option (List ℕ)) (r : Result (Unit {0}) ReplayFault) → WasRead limit bytes ended old new → Writes bytes ended before after r → IsReplay old new before after r
+pub ends_read : (bytes : List ℕ) (ended : Bool) (old new before after : Option (List ℕ)) (r : Result (Unit {0}) ReplayFault) → ReaderGave script_limit bytes ended old new → ReplayWrites bytes ended before after r → IsReplay old new before after r
 ends_read bytes ended old new before after r was writes = record {
   bytes = bytes;
   over = was.over;
@@ -240,7 +240,7 @@ replayed_by script rest before text none replay =
       emitted = replay.writes.appends ∙ (ap (λ xs. xs ++ replay.writes.written) none ∙ led.holds.1);
     }
 
-pub refused_by : (script rest before text : List ℕ) (fault : ReplayFault) → IsReplay (Some script) (Some rest) (Some before) (Some text) (Err fault) → IsRefused script fault
+pub refused_by : (script rest before text : List ℕ) (fault : ReplayFault) → IsReplay (Some script) (Some rest) (Some before) (Some text) (Err fault) → ScriptIsRefused script fault
 refused_by script rest before text fault replay = record {
   bytes = replay.bytes;
   more = replay.over ++ rest;

@@ -1,42 +1,42 @@
 -- The core's steps of a play are a good run.
 use Rattle.std.proofs.Common.{◌≡◌, ℕ, List, [], ◌∷◌, ◌++◌, refl, sym, ap, ◌∙◌, subst, Option, None, Some}
 use Rattle.std.proofs.lemmas.List.{append_assoc, append-nil}
-use Rattle.hx_allow.specs.Lines.{Table}
-use Rattle.proxy_script.specs.Script.{Said as Item}
+use Rattle.hx_allow.specs.TableLines.{Table}
+use Rattle.proxy_script.specs.Script.{PlainItem as Item}
 use Rattle.proxy_script.specs.declared.effect_list.Effect.{Effect}
-use Rattle.proxy_engine.specs.Happenings.{Said as Happening}
-use Rattle.proxy_engine.specs.EngineModel.{EngineModel, heard}
-use Rattle.proxy_engine.specs.Executions.{Step, Took, Worked, Executes, emitted_by}
+use Rattle.proxy_engine.specs.Happenings.{PlainHappening as Happening}
+use Rattle.proxy_engine.specs.EngineModel.{EngineModel, model_after_happening}
+use Rattle.proxy_engine.specs.Executions.{ExecutionStep, Took, Worked, StepsLead, effects_of_steps}
 use Rattle.proxy_engine.proofs.Living.{executions_are_runs}
-use Rattle.proxy_replay.specs.Played.{DoneAct, Works, effects_of, Scene, beginning, Plays, HappenedIf, happening_of}
-use Rattle.proxy_replay.specs.Runs.{worked, FollowsItem, Follows, IsRun}
+use Rattle.proxy_replay.specs.Played.{DoneAct, ActsAreDoneInOrder, effects_of_acts, Scene, initial_scene, ItemsArePlayed, HappeningIfAnyIsPlayed, happening_of_item}
+use Rattle.proxy_replay.specs.Runs.{steps_of_acts, StepsFollowItem, StepsFollowItems, PlayIsAGoodRun}
 
 module _ (begin : EngineModel) where
   -- steps that lead from the beginning, and what they told
-  record Executed (steps : List Step) (t : EngineModel) (emitted : List Effect) : Type 0 where
-    executes : Executes begin steps t
-    emitted_is : emitted_by steps ≡ emitted
+  record Executed (steps : List ExecutionStep) (t : EngineModel) (emitted : List Effect) : Type 0 where
+    executes : StepsLead begin steps t
+    emitted_is : effects_of_steps steps ≡ emitted
 
-  same_end : (steps : List Step) (s t : EngineModel) (emitted more : List Effect) → t ≡ s → more ≡ emitted → Executed steps s emitted → Executed steps t more
-  same_end steps s t emitted more e m h = record { executes = subst (λ (u : EngineModel). Executes begin steps u) (sym e) h.executes; emitted_is = h.emitted_is ∙ sym m }
+  same_end : (steps : List ExecutionStep) (s t : EngineModel) (emitted more : List Effect) → t ≡ s → more ≡ emitted → Executed steps s emitted → Executed steps t more
+  same_end steps s t emitted more e m h = record { executes = subst (λ (u : EngineModel). StepsLead begin steps u) (sym e) h.executes; emitted_is = h.emitted_is ∙ sym m }
 
-  works : (steps : List Step) (s : EngineModel) (now : ℕ) (done_acts : List DoneAct) (t : EngineModel) (emitted : List Effect) → Works s now done_acts t → Executed steps s emitted → Executed (worked now done_acts steps) t (emitted ++ effects_of done_acts)
+  works : (steps : List ExecutionStep) (s : EngineModel) (now : ℕ) (done_acts : List DoneAct) (t : EngineModel) (emitted : List Effect) → ActsAreDoneInOrder s now done_acts t → Executed steps s emitted → Executed (steps_of_acts now done_acts steps) t (emitted ++ effects_of_acts done_acts)
   works steps s now [] t emitted h executed = same_end steps s t emitted (emitted ++ []) h (append-nil emitted) executed
   works steps s now (done_act ∷ done_acts) t emitted h executed =
       let one : Executed (Worked now done_act.act done_act.effects ∷ steps) h.0 (emitted ++ done_act.effects) = record {
         executes = (s, executed.executes, (h.1, h.2));
         emitted_is = ap (λ (es : List Effect). es ++ done_act.effects) executed.emitted_is;
       } in
-      same_end (worked now (done_act ∷ done_acts) steps) t t ((emitted ++ done_act.effects) ++ effects_of done_acts) (emitted ++ effects_of (done_act ∷ done_acts)) refl (sym (append_assoc emitted done_act.effects (effects_of done_acts)))
+      same_end (steps_of_acts now (done_act ∷ done_acts) steps) t t ((emitted ++ done_act.effects) ++ effects_of_acts done_acts) (emitted ++ effects_of_acts (done_act ∷ done_acts)) refl (sym (append_assoc emitted done_act.effects (effects_of_acts done_acts)))
       (works (Worked now done_act.act done_act.effects ∷ steps) h.0 now done_acts t (emitted ++ done_act.effects) h.3 one)
 
   -- an item further
-  record Further (now : ℕ) (o : Option Happening) (past : List Step) (t : EngineModel) (emitted : List Effect) : Type 0 where
-    steps : List Step
-    follows : FollowsItem now o past steps
+  record Further (now : ℕ) (o : Option Happening) (past : List ExecutionStep) (t : EngineModel) (emitted : List Effect) : Type 0 where
+    steps : List ExecutionStep
+    follows : StepsFollowItem now o past steps
     executed : Executed steps t emitted
 
-  happened : (past : List Step) (s : EngineModel) (now : ℕ) (o : Option Happening) (effects : List Effect) (t : EngineModel) (emitted : List Effect) → HappenedIf o s now effects t → Executed past s emitted →
+  happened : (past : List ExecutionStep) (s : EngineModel) (now : ℕ) (o : Option Happening) (effects : List Effect) (t : EngineModel) (emitted : List Effect) → HappeningIfAnyIsPlayed o s now effects t → Executed past s emitted →
       Further now o past t (emitted ++ effects)
   happened past s now None effects t emitted h executed = record {
     steps = past;
@@ -44,21 +44,21 @@ module _ (begin : EngineModel) where
     executed = same_end past s t emitted (emitted ++ effects) h.1 (ap (λ (es : List Effect). emitted ++ es) h.0 ∙ append-nil emitted) executed;
   }
   happened past s now (Some happening) effects t emitted h executed =
-      let took : Executed (Took happening ∷ past) (heard s happening) emitted = record { executes = (s, executed.executes, (h.free, refl)); emitted_is = executed.emitted_is } in
-      let steps = worked now h.done_acts (Took happening ∷ past) in
+      let took : Executed (Took happening ∷ past) (model_after_happening s happening) emitted = record { executes = (s, executed.executes, (h.free, refl)); emitted_is = executed.emitted_is } in
+      let steps = steps_of_acts now h.done_acts (Took happening ∷ past) in
       record {
         steps = steps;
         follows = (h.done_acts, refl);
-        executed = same_end steps t t (emitted ++ effects_of h.done_acts) (emitted ++ effects) refl (ap (λ (es : List Effect). emitted ++ es) h.emitted) (works (Took happening ∷ past) (heard s happening) now h.done_acts t emitted h.settles.0 took);
+        executed = same_end steps t t (emitted ++ effects_of_acts h.done_acts) (emitted ++ effects) refl (ap (λ (es : List Effect). emitted ++ es) h.emitted) (works (Took happening ∷ past) (model_after_happening s happening) now h.done_acts t emitted h.settles.0 took);
       }
 
   -- all items
-  record Whole (now : ℕ) (items : List Item) (past : List Step) (t : EngineModel) (emitted : List Effect) : Type 0 where
-    steps : List Step
-    follows : Follows now items past steps
+  record Whole (now : ℕ) (items : List Item) (past : List ExecutionStep) (t : EngineModel) (emitted : List Effect) : Type 0 where
+    steps : List ExecutionStep
+    follows : StepsFollowItems now items past steps
     executed : Executed steps t emitted
 
-  plays : (items : List Item) (past : List Step) (a : Scene) (effects : List Effect) (last : Scene) (emitted : List Effect) → Plays a items effects last → Executed past a.model emitted →
+  plays : (items : List Item) (past : List ExecutionStep) (a : Scene) (effects : List Effect) (last : Scene) (emitted : List Effect) → ItemsArePlayed a items effects last → Executed past a.model emitted →
       Whole a.now items past last.model (emitted ++ effects)
   plays [] past a effects last emitted h executed = record {
     steps = past;
@@ -67,22 +67,22 @@ module _ (begin : EngineModel) where
   }
   plays (item ∷ items) past a effects last emitted h executed =
       let b = h.0 in
-      let one = happened past a.model b.now (happening_of item) h.1 b.model emitted h.3.happened executed in
+      let one = happened past a.model b.now (happening_of_item item) h.1 b.model emitted h.3.happened executed in
       let rest = plays items one.steps b h.2 last (emitted ++ h.1) h.4 one.executed in
       record {
         steps = rest.steps;
         follows = (
           one.steps,
-          subst (λ n. FollowsItem n (happening_of item) past one.steps) h.3.moment one.follows,
-          subst (λ n. Follows n items one.steps rest.steps) h.3.moment rest.follows,
+          subst (λ n. StepsFollowItem n (happening_of_item item) past one.steps) h.3.moment one.follows,
+          subst (λ n. StepsFollowItems n items one.steps rest.steps) h.3.moment rest.follows,
         );
         executed = same_end rest.steps last.model last.model ((emitted ++ h.1) ++ h.2) (emitted ++ effects) refl (ap (λ (es : List Effect). emitted ++ es) h.5 ∙ sym (append_assoc emitted h.1 h.2)) rest.executed;
       }
 
-pub plays_run : (table : Table) (items : List Item) (effects : List Effect) (last : Scene) → Plays (beginning table) items effects last → IsRun table items effects last
+pub plays_run : (table : Table) (items : List Item) (effects : List Effect) (last : Scene) → ItemsArePlayed (initial_scene table) items effects last → PlayIsAGoodRun table items effects last
 plays_run table items effects last h =
-    let begin = (beginning table).model in
-    let whole = plays begin items [] (beginning table) effects last [] h (record { executes = refl; emitted_is = refl }) in
+    let begin = (initial_scene table).model in
+    let whole = plays begin items [] (initial_scene table) effects last [] h (record { executes = refl; emitted_is = refl }) in
     record {
       steps = whole.steps;
       follows = whole.follows;

@@ -8,58 +8,58 @@ use Rattle.std.specs.declared.vec.Vec.{Vec}
 use Rattle.std.specs.declared.alloc.Global.{Global}
 use Rattle.proxy_script.specs.Effects.{effects_text}
 use Rattle.proxy_script.specs.declared.effect_list.Effect.{Effect}
-use Rattle.proxy_engine.specs.Happenings.{Said as Happening}
-use Rattle.proxy_engine.specs.EngineModel.{EngineModel, heard, fault_of}
+use Rattle.proxy_engine.specs.Happenings.{PlainHappening as Happening}
+use Rattle.proxy_engine.specs.EngineModel.{EngineModel, model_after_happening, happening_fault}
 use Rattle.proxy_engine.specs.Due.{IsDueFirst}
-use Rattle.proxy_engine.specs.Acts.{Does}
-use Rattle.proxy_engine.specs.State.{State, Represents, IsRefusal, TakeFault, Did, Failed}
+use Rattle.proxy_engine.specs.Acts.{ActIsDone}
+use Rattle.proxy_engine.specs.State.{State, EngineRepresents, IsFaultOrOutOfMemory, IsFaultOfTaking, FirstDueActWasDone, NoActWasDoneSince}
 use Rattle.proxy_engine.specs.declared.work.EngineFault.{EngineFault}
 use Rattle.proxy_engine.specs.declared.work.EngineFault.TheVariants as engine
 use Rattle.proxy_engine.specs.declared.work.Work.{Work}
 use Rattle.proxy_engine.specs.declared.work.Work.TheVariants as work
-use Rattle.proxy_replay.specs.declared.faults.ReplayFault.TheVariants as faults
-use Rattle.proxy_replay.specs.Played.{DoneAct, Works, effects_of, Breaks, Refuses}
-use Rattle.proxy_replay.specs.Steps.{of_engine, Worked, Settled, StepDone, StepFails, StepNotDone}
+use Rattle.proxy_replay.specs.declared.replay_fault.ReplayFault.TheVariants as faults
+use Rattle.proxy_replay.specs.Played.{DoneAct, ActsAreDoneInOrder, effects_of_acts, PlayBreaksOff, EngineRefusesHappening}
+use Rattle.proxy_replay.specs.Steps.{replay_fault_of_engine_fault, EngineDidDueActs, EngineIsSettled, ItemWasPlayed, PlayingItemFails, ItemWasNotPlayed}
 
 -- acts that were done
 
-works_more : (done_acts : List DoneAct) (s : EngineModel) (now : ℕ) (done_act : DoneAct) (t u : EngineModel) → Works s now done_acts t → IsDueFirst t (Some done_act.act) → Does t now done_act.act done_act.effects u → Works s now (done_acts ++ done_act ∷ []) u
+works_more : (done_acts : List DoneAct) (s : EngineModel) (now : ℕ) (done_act : DoneAct) (t u : EngineModel) → ActsAreDoneInOrder s now done_acts t → IsDueFirst t (Some done_act.act) → ActIsDone t now done_act.act done_act.effects u → ActsAreDoneInOrder s now (done_acts ++ done_act ∷ []) u
 works_more [] s now done_act t u here due does =
-    (u, subst (λ x. IsDueFirst x (Some done_act.act)) here due, subst (λ x. Does x now done_act.act done_act.effects u) here does, refl)
+    (u, subst (λ x. IsDueFirst x (Some done_act.act)) here due, subst (λ x. ActIsDone x now done_act.act done_act.effects u) here does, refl)
 works_more (first ∷ done_acts) s now done_act t u before due does =
     (before.0, before.1, before.2, works_more done_acts before.0 now done_act t u before.3 due does)
 
-pub worked_first : (s : EngineModel) (now : ℕ) (e : State) → Represents e s → Worked s now [] e
+pub worked_first : (s : EngineModel) (now : ℕ) (e : State) → EngineRepresents e s → EngineDidDueActs s now [] e
 worked_first s now e represents = record { done_acts = []; last = s; works = refl; emitted = refl; represents = represents }
 
-pub worked_more : (s : EngineModel) (now : ℕ) (effects : List Effect) (e new : State) (w : Work) (more : Vec Effect Global) → (before : Worked s now effects e) → w ≡ work.Did more → Did before.last now w new → Worked s now (effects ++ more.items) new
+pub worked_more : (s : EngineModel) (now : ℕ) (effects : List Effect) (e new : State) (w : Work) (more : Vec Effect Global) → (before : EngineDidDueActs s now effects e) → w ≡ work.Did more → FirstDueActWasDone before.last now w new → EngineDidDueActs s now (effects ++ more.items) new
 worked_more s now effects e new w more before is did =
-    let one = subst (λ w. Did before.last now w new) is did in
+    let one = subst (λ w. FirstDueActWasDone before.last now w new) is did in
     let done_act : DoneAct = record { act = one.0; effects = more.items } in
     record {
       done_acts = before.done_acts ++ done_act ∷ [];
       last = one.2.after;
       works = works_more before.done_acts s now done_act before.last one.2.after before.works one.1 one.2.does;
       emitted = ap (λ es. es ++ more.items) before.emitted
-          ∙ (ap (λ es. effects_of before.done_acts ++ es) (sym (append-nil more.items))
+          ∙ (ap (λ es. effects_of_acts before.done_acts ++ es) (sym (append-nil more.items))
           ∙ sym (flat_map-append (λ (d : DoneAct). d.effects) before.done_acts (done_act ∷ [])));
       represents = one.2.represents;
     }
 
-pub settled_by : (s : EngineModel) (now : ℕ) (effects : List Effect) (e new : State) (w : Work) → (before : Worked s now effects e) → w ≡ work.Idle → Did before.last now w new → Settled s now effects new
+pub settled_by : (s : EngineModel) (now : ℕ) (effects : List Effect) (e new : State) (w : Work) → (before : EngineDidDueActs s now effects e) → w ≡ work.Idle → FirstDueActWasDone before.last now w new → EngineIsSettled s now effects new
 settled_by s now effects e new w before is did =
-    let idle = subst (λ w. Did before.last now w new) is did in
+    let idle = subst (λ w. FirstDueActWasDone before.last now w new) is did in
     record {
       worked = record { done_acts = before.done_acts; last = before.last; works = before.works; emitted = before.emitted; represents = idle.1 };
       idle = idle.0;
     }
 
-pub broke_by : (s : EngineModel) (now : ℕ) (effects : List Effect) (e : State) (fault : EngineFault) → (before : Worked s now effects e) → Failed before.last fault → Breaks s now fault
+pub broke_by : (s : EngineModel) (now : ℕ) (effects : List Effect) (e : State) (fault : EngineFault) → (before : EngineDidDueActs s now effects e) → NoActWasDoneSince before.last fault → PlayBreaksOff s now fault
 broke_by s now effects e fault before failed = record { done_acts = before.done_acts; last = before.last; works = before.works; failed = failed }
 
 -- what an item tells the engine
 
-pub done_by : (s : EngineModel) (now : ℕ) (h : Happening) (effects : List Effect) (e : State) (old new : Option (List ℕ)) → fault_of s h ≡ None → Settled (heard s h) now effects e → Appends old new (effects_text effects) → StepDone s now (Some h) e old new
+pub done_by : (s : EngineModel) (now : ℕ) (h : Happening) (effects : List Effect) (e : State) (old new : Option (List ℕ)) → happening_fault s h ≡ None → EngineIsSettled (model_after_happening s h) now effects e → Appends old new (effects_text effects) → ItemWasPlayed s now (Some h) e old new
 done_by s now h effects e old new free settled appends = record {
   effects = effects;
   last = settled.worked.last;
@@ -68,8 +68,8 @@ done_by s now h effects e old new free settled appends = record {
   appends = appends;
 }
 
-pub nothing_done : (s : EngineModel) (now : ℕ) (e : State) (h : Option Happening) (old : Option (List ℕ)) → None ≡ h → Represents e s → StepDone s now h e old old
-nothing_done s now e h old none represents = subst (λ h. StepDone s now h e old old) none (record {
+pub nothing_done : (s : EngineModel) (now : ℕ) (e : State) (h : Option Happening) (old : Option (List ℕ)) → None ≡ h → EngineRepresents e s → ItemWasPlayed s now h e old old
+nothing_done s now e h old none represents = subst (λ h. ItemWasPlayed s now h e old old) none (record {
   effects = [];
   last = s;
   happened = (refl, refl);
@@ -79,29 +79,29 @@ nothing_done s now e h old none represents = subst (λ h. StepDone s now h e old
 
 -- why it wasn't done
 
-refuses_by : (s : EngineModel) (now : ℕ) (h : Happening) (o : Option EngineFault) (fault : EngineFault) → fault_of s h ≡ o → IsRefusal o fault → fault ≢ engine.OutOfMemory → Refuses s now h fault
+refuses_by : (s : EngineModel) (now : ℕ) (h : Happening) (o : Option EngineFault) (fault : EngineFault) → happening_fault s h ≡ o → IsFaultOrOutOfMemory o fault → fault ≢ engine.OutOfMemory → EngineRefusesHappening s now h fault
 refuses_by s now h None fault is refusal other = absurd (other refusal)
 refuses_by s now h (Some f) fault is refusal other = inl (is ∙ ap Some (sym refusal))
 
-refused_by : (s : EngineModel) (now : ℕ) (h : Happening) (fault : EngineFault) → TakeFault s h fault → StepFails s now (Some h) [] (of_engine fault)
-refused_by s now h engine.WrongNumber refusal = (h, refl, refuses_by s now h (fault_of s h) engine.WrongNumber refl refusal (λ e. cc), refl)
-refused_by s now h engine.NotAccepted refusal = (h, refl, refuses_by s now h (fault_of s h) engine.NotAccepted refl refusal (λ e. cc), refl)
+refused_by : (s : EngineModel) (now : ℕ) (h : Happening) (fault : EngineFault) → IsFaultOfTaking s h fault → PlayingItemFails s now (Some h) [] (replay_fault_of_engine_fault fault)
+refused_by s now h engine.WrongNumber refusal = (h, refl, refuses_by s now h (happening_fault s h) engine.WrongNumber refl refusal (λ e. cc), refl)
+refused_by s now h engine.NotAccepted refusal = (h, refl, refuses_by s now h (happening_fault s h) engine.NotAccepted refl refusal (λ e. cc), refl)
 refused_by s now h engine.OutOfMemory refusal = refl
-refused_by s now h engine.Spent refusal = (h, refl, refuses_by s now h (fault_of s h) engine.Spent refl refusal (λ e. cc), refl)
+refused_by s now h engine.Spent refusal = (h, refl, refuses_by s now h (happening_fault s h) engine.Spent refl refusal (λ e. cc), refl)
 
-pub untaken : (s : EngineModel) (now : ℕ) (h : Happening) (fault : EngineFault) (old : Option (List ℕ)) → TakeFault s h fault → StepNotDone s now (Some h) (of_engine fault) old old
+pub untaken : (s : EngineModel) (now : ℕ) (h : Happening) (fault : EngineFault) (old : Option (List ℕ)) → IsFaultOfTaking s h fault → ItemWasNotPlayed s now (Some h) (replay_fault_of_engine_fault fault) old old
 untaken s now h fault old refusal = record { written = []; appends = Appends-nil old; fails = refused_by s now h fault refusal }
 
-breaks_by : (s : EngineModel) (now : ℕ) (h : Happening) (fault : EngineFault) → fault_of s h ≡ None → Breaks (heard s h) now fault → StepFails s now (Some h) [] (of_engine fault)
+breaks_by : (s : EngineModel) (now : ℕ) (h : Happening) (fault : EngineFault) → happening_fault s h ≡ None → PlayBreaksOff (model_after_happening s h) now fault → PlayingItemFails s now (Some h) [] (replay_fault_of_engine_fault fault)
 breaks_by s now h engine.WrongNumber free breaks = absurd breaks.failed
 breaks_by s now h engine.NotAccepted free breaks = absurd breaks.failed
 breaks_by s now h engine.OutOfMemory free breaks = refl
 breaks_by s now h engine.Spent free breaks = (h, refl, inr (refl, free, breaks), refl)
 
-pub unsettled : (s : EngineModel) (now : ℕ) (h : Happening) (fault : EngineFault) (old : Option (List ℕ)) → fault_of s h ≡ None → Breaks (heard s h) now fault → StepNotDone s now (Some h) (of_engine fault) old old
+pub unsettled : (s : EngineModel) (now : ℕ) (h : Happening) (fault : EngineFault) (old : Option (List ℕ)) → happening_fault s h ≡ None → PlayBreaksOff (model_after_happening s h) now fault → ItemWasNotPlayed s now (Some h) (replay_fault_of_engine_fault fault) old old
 unsettled s now h fault old free breaks = record { written = []; appends = Appends-nil old; fails = breaks_by s now h fault free breaks }
 
-pub unwritten : (s : EngineModel) (now : ℕ) (h : Happening) (effects : List Effect) (e : State) (text : List ℕ) (old new : Option (List ℕ)) (k : ℕ) → fault_of s h ≡ None → Settled (heard s h) now effects e → text ≡ effects_text effects → Appends old new (take k text) → StepNotDone s now (Some h) faults.Write old new
+pub unwritten : (s : EngineModel) (now : ℕ) (h : Happening) (effects : List Effect) (e : State) (text : List ℕ) (old new : Option (List ℕ)) (k : ℕ) → happening_fault s h ≡ None → EngineIsSettled (model_after_happening s h) now effects e → text ≡ effects_text effects → Appends old new (take k text) → ItemWasNotPlayed s now (Some h) faults.Write old new
 unwritten s now h effects e text old new k free settled is appends = record {
   written = take k text;
   appends = appends;

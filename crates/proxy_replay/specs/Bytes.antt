@@ -3,12 +3,12 @@ use Rattle.std.specs.Prelude.{◌≡◌, ◌≢◌, ℕ, ◌≤◌, List, [], �
 use Rattle.std.specs.Io.KnownBytes.{Consumes, IsAtEnd}
 
 -- the most bytes of a script
-abbrev pub limit : ℕ
-limit = 16777216
+abbrev pub script_limit : ℕ
+script_limit = 16777216
 
 -- At most so many bytes were read, and some more only where they are too many. They ended where the reader is at its
 -- end.
-pub record WasRead (most : ℕ) (bytes : List ℕ) (ended : Bool) (old new : Option (List ℕ)) : Type 0 where
+pub record ReaderGave (most : ℕ) (bytes : List ℕ) (ended : Bool) (old new : Option (List ℕ)) : Type 0 where
   pub over : List ℕ
   pub consumes : Consumes old new (bytes ++ over)
   pub few : length bytes ≤ most

@@ -1,16 +1,17 @@
 //! The line that names a fault on standard error, and the program's exit status. Neither takes memory.
 ghost use Rattle.std.specs.Prelude.{◌≡◌, Some, codes, ◌++◌};
 ghost use Rattle.std.specs.Fmt.{WritesOnOk};
-ghost use Rattle.proxy_replay.specs.FaultLines.{shown_byte, shown, config_line, engine_line, fault_line, status_of};
+ghost use Rattle.proxy_replay.specs.FaultLines.{printable_byte, printable_key, config_fault_line, engine_fault_line};
+ghost use Rattle.proxy_replay.specs.FaultLines.{fault_line, exit_status_of};
 
-use crate::faults::ReplayFault;
+use crate::replay_fault::ReplayFault;
 use hx_allow::ConfigFault;
 use proxy_engine::EngineFault;
 use std::fmt;
 use std::fmt::Formatter;
 
-fn shown_byte(byte: u8) -> u8
-    ensures { result ≡ shown_byte byte }
+fn printable_byte(byte: u8) -> u8
+    ensures { result ≡ printable_byte byte }
 {
     if 0x21 <= byte && byte <= 0x7e {
         byte
@@ -21,16 +22,16 @@ fn shown_byte(byte: u8) -> u8
 
 /// Writes the bytes of a key, those that aren't printable as question marks.
 fn write_key<W: fmt::Write>(f: &mut Formatter<W>, key: &[u8]) -> fmt::Result
-    ensures { WritesOnOk W.write_str_gives f.old result (shown key.now) f.new }
+    ensures { WritesOnOk W.write_str_gives f.old result (printable_key key.now) f.new }
 {
     for byte in key {
-        f.write_char(char::from(shown_byte(*byte)))?;
+        f.write_char(char::from(printable_byte(*byte)))?;
     }
     Ok(())
 }
 
 fn write_config_fault<W: fmt::Write>(f: &mut Formatter<W>, fault: &ConfigFault) -> fmt::Result
-    ensures { WritesOnOk W.write_str_gives f.old result (config_line fault.now) f.new }
+    ensures { WritesOnOk W.write_str_gives f.old result (config_fault_line fault.now) f.new }
 {
     match fault {
         ConfigFault::NotToml => f.write_str("config fault 1"),
@@ -58,7 +59,7 @@ fn write_config_fault<W: fmt::Write>(f: &mut Formatter<W>, fault: &ConfigFault) 
 }
 
 fn engine_text(fault: EngineFault) -> &'static str
-    ensures { result.now ≡ engine_line fault }
+    ensures { result.now ≡ engine_fault_line fault }
 {
     match fault {
         EngineFault::WrongNumber => "engine fault 1",
@@ -89,7 +90,7 @@ impl fmt::Display for ReplayFault {
 impl ReplayFault {
     /// The program's exit status: 2 where the table is at fault, else 1.
     pub fn exit_status(&self) -> u8
-        ensures { result ≡ status_of self.now }
+        ensures { result ≡ exit_status_of self.now }
     {
         match self {
             ReplayFault::Config(ConfigFault::OutOfMemory) => 1,

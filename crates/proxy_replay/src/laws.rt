@@ -1,17 +1,18 @@
 //! Laws on the definitions that the contracts cite.
 ghost use Rattle.std.specs.Prelude.{List};
-ghost use Rattle.hx_allow.specs.Lines.{Table};
-ghost use Rattle.proxy_script.specs.Script.{Said as Item};
+ghost use Rattle.hx_allow.specs.TableLines.{Table};
+ghost use Rattle.proxy_script.specs.Script.{PlainItem as Item};
 ghost use Rattle.proxy_script.specs.declared.effect_list.Effect.{Effect};
-ghost use Rattle.proxy_replay.specs.Played.{Scene, Plays, beginning};
-ghost use Rattle.proxy_replay.specs.Closes.{NothingFollowsAClose, NothingFollowsAGone, EachLinkIsDroppedOnce};
-ghost use Rattle.proxy_replay.specs.Runs.{IsRun, HasOnePlay};
-ghost use Rattle.proxy_replay.specs.Replay.{HasOneText};
+ghost use Rattle.proxy_replay.specs.Played.{Scene, ItemsArePlayed, initial_scene};
+ghost use Rattle.proxy_replay.specs.Closes.{NoEffectFollowsAClose, NoEffectFollowsAGoneClient};
+ghost use Rattle.proxy_replay.specs.Closes.{EachEndedLinkIsDroppedOnce};
+ghost use Rattle.proxy_replay.specs.Runs.{PlayIsAGoodRun, ScriptHasOnePlay};
+ghost use Rattle.proxy_replay.specs.Replay.{ReplayHasOneText};
 
 use hx_allow::a_table_is_read_in_one_way;
 use proxy_engine::{
-    an_act_has_three_effects_at_most, an_act_is_done_in_one_way, due_once, each_drop_is_emitted,
-    effects_name_open_ends, what_ends_stays_ended,
+    an_act_has_three_effects_at_most, an_act_is_done_in_one_way, each_drop_is_emitted,
+    effects_name_open_ends, one_act_is_due_first, what_ends_stays_ended,
 };
 use proxy_script::items_are_found_as_they_are_spelled;
 
@@ -20,15 +21,15 @@ use proxy_script::items_are_found_as_they_are_spelled;
 /// it, and what was written is what the steps gave.
 pub fn a_play_is_a_run()
     ensures { (table : Table) → (items : List Item) → (effects : List Effect) → (last : Scene)
-        → Plays (beginning table) items effects last → IsRun table items effects last }
+        → ItemsArePlayed (initial_scene table) items effects last → PlayIsAGoodRun table items effects last }
 {}
 
 /// A script has one play, and so one text of its effects.
 pub fn a_script_has_one_play()
-    ensures play { HasOnePlay }
-    ensures text { HasOneText }
+    ensures play { ScriptHasOnePlay }
+    ensures text { ReplayHasOneText }
 {
-    due_once();
+    one_act_is_due_first();
     an_act_is_done_in_one_way();
     a_table_is_read_in_one_way();
     items_are_found_as_they_are_spelled();
@@ -36,7 +37,7 @@ pub fn a_script_has_one_play()
 
 /// Whatever a script plays, nothing goes to a client behind the close of its connection, and none is closed twice.
 pub fn nothing_follows_a_close()
-    ensures { NothingFollowsAClose }
+    ensures { NoEffectFollowsAClose }
 {
     effects_name_open_ends();
     what_ends_stays_ended();
@@ -45,7 +46,7 @@ pub fn nothing_follows_a_close()
 
 /// Whatever a script plays, no effect names a client's connection once it went away.
 pub fn nothing_follows_a_gone()
-    ensures { NothingFollowsAGone }
+    ensures { NoEffectFollowsAGoneClient }
 {
     effects_name_open_ends();
     what_ends_stays_ended();
@@ -54,7 +55,7 @@ pub fn nothing_follows_a_gone()
 
 /// Whatever a script plays, each link that ends is dropped, and once; behind that no effect names it.
 pub fn each_link_is_dropped_once()
-    ensures { EachLinkIsDroppedOnce }
+    ensures { EachEndedLinkIsDroppedOnce }
 {
     effects_name_open_ends();
     what_ends_stays_ended();

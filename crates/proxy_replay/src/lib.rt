@@ -8,20 +8,20 @@
 
 mod bytes;
 mod fault_lines;
-mod faults;
 mod laws;
 mod memory;
+mod new_shelf;
 mod play;
+mod playing_items;
 pub mod program;
+mod replay_fault;
 mod replay_laws;
-mod shelves;
-mod steps;
 
-pub use crate::faults::ReplayFault;
 pub use crate::laws::{
     a_play_is_a_run, a_script_has_one_play, each_link_is_dropped_once, nothing_follows_a_close,
     nothing_follows_a_gone,
 };
 pub use crate::memory::replayed;
 pub use crate::play::{replay, replay_on_list};
-pub use crate::replay_laws::{a_replay_refuses_other_texts, what_items_do};
+pub use crate::replay_fault::ReplayFault;
+pub use crate::replay_laws::{a_replay_refuses_other_texts, worked_items};

@@ -1,28 +1,28 @@
 //! The replay of a script: its table is read, and its items are played one by one.
 ghost use Rattle.std.specs.Prelude.{◌≡◌, ◌≤◌, length, false, [], IfOk, IfErr, MatchOption};
-ghost use Rattle.proxy_engine.specs.State.{Represents};
-ghost use Rattle.proxy_script.specs.Lines.{is_config};
-ghost use Rattle.proxy_script.specs.Script.{said, line_of, Table};
-ghost use Rattle.proxy_replay.specs.Bytes.{limit};
-ghost use Rattle.proxy_replay.specs.Played.{beginning};
-ghost use Rattle.proxy_replay.specs.Replay.{Fails, Writes, IsReplay};
-ghost use Rattle.proxy_replay.specs.Steps.{Opens};
+ghost use Rattle.proxy_engine.specs.State.{EngineRepresents};
+ghost use Rattle.proxy_script.specs.ScriptLines.{is_config};
+ghost use Rattle.proxy_script.specs.Script.{plain_item, line_of_item, Table};
+ghost use Rattle.proxy_replay.specs.Bytes.{script_limit};
+ghost use Rattle.proxy_replay.specs.Played.{initial_scene};
+ghost use Rattle.proxy_replay.specs.Replay.{ReplayFails, ReplayWrites, IsReplay};
+ghost use Rattle.proxy_replay.specs.Steps.{TableIsReadFirst};
 
 use crate::bytes::read_script;
-use crate::faults::ReplayFault;
-use crate::shelves::NewShelf;
-use crate::steps::{moment_after, play_item};
+use crate::new_shelf::NewShelf;
+use crate::playing_items::{moment_after, play_item};
+use crate::replay_fault::ReplayFault;
 use hx_allow::Config;
 use hx_store::{IndexedShelf, ListShelf};
 use proxy_engine::Engine;
-use proxy_script::{Front, Item, read_item};
+use proxy_script::{FrontItem, Item, read_item};
 use std::alloc::{AllocError, Global};
 use std::io::{Read, Write};
 
 /// The bytes of a table, where the item is one.
-fn table_in(item: Item<'_>) -> Option<&[u8]>
-    ensures { MatchOption result (is_config (line_of (said item.entry)) ≡ false)
-        (λ table. said item.entry ≡ Table table.now) }
+fn table_of_item(item: Item<'_>) -> Option<&[u8]>
+    ensures { MatchOption result (is_config (line_of_item (plain_item item.entry)) ≡ false)
+        (λ table. plain_item item.entry ≡ Table table.now) }
 {
     match item {
         Item::Config(table) => Some(table),
@@ -32,26 +32,26 @@ fn table_in(item: Item<'_>) -> Option<&[u8]>
 
 /// The operator's table, which stands first, and what follows it.
 fn read_table(alloc: Global, bytes: &[u8], ended: bool) -> Result<(Config, &[u8]), ReplayFault>
-    ensures ok { IfOk result (λ r. Opens bytes.now r.0 r.1.now) }
-    ensures fault { IfErr result (λ fault. Fails bytes.now ended [] fault) }
+    ensures ok { IfOk result (λ r. TableIsReadFirst bytes.now r.0 r.1.now) }
+    ensures fault { IfErr result (λ fault. ReplayFails bytes.now ended [] fault) }
 {
     match read_item(true, bytes) {
-        Front::Found(item, rest) => match table_in(item) {
+        FrontItem::Found(item, rest) => match table_of_item(item) {
             Some(table) => match Config::read(alloc, table) {
                 Ok(config) => Ok((config, rest)),
-                Err(fault) => Err(ReplayFault::of_config(fault)),
+                Err(fault) => Err(ReplayFault::replay_fault_of_config_fault(fault)),
             },
             None => Err(ReplayFault::Line(1)),
         },
-        Front::Wrong => Err(ReplayFault::Line(1)),
-        Front::Cut if ended => Err(ReplayFault::Line(1)),
-        Front::Cut => Err(ReplayFault::Read),
+        FrontItem::Wrong => Err(ReplayFault::Line(1)),
+        FrontItem::Cut if ended => Err(ReplayFault::Line(1)),
+        FrontItem::Cut => Err(ReplayFault::Read),
     }
 }
 
 /// The engine of a table, to which nothing has happened.
 fn begin<S: NewShelf>(alloc: Global, config: Config) -> Result<Engine<S>, AllocError>
-    ensures { IfOk result (λ engine. Represents engine (beginning config).model) }
+    ensures { IfOk result (λ engine. EngineRepresents engine (initial_scene config).model) }
 {
     let shelf = S::with_capacity(alloc, config.capacity())?;
     Ok(Engine::new(alloc, config, shelf, 1, 1))
@@ -64,8 +64,8 @@ fn play<S: NewShelf + Drop, W: Write>(
     ended: bool,
     writer: &mut W,
 ) -> Result<(), ReplayFault>
-    requires { length bytes.now ≤ limit }
-    ensures { Writes bytes.now ended (W.contents writer.old) (W.contents writer.new) result }
+    requires { length bytes.now ≤ script_limit }
+    ensures { ReplayWrites bytes.now ended (W.contents writer.old) (W.contents writer.new) result }
 {
     let (config, mut rest) = match read_table(alloc, bytes, ended) {
         Ok(opened) => opened,
@@ -79,7 +79,7 @@ fn play<S: NewShelf + Drop, W: Write>(
     let mut line = 2u64;
     'items: loop {
         match read_item(false, rest) {
-            Front::Found(item, more) => {
+            FrontItem::Found(item, more) => {
                 now = moment_after(now, item);
                 match play_item(alloc, &mut engine, now, item, writer) {
                     Ok(()) => {}
@@ -88,8 +88,8 @@ fn play<S: NewShelf + Drop, W: Write>(
                 rest = more;
                 line += 1;
             }
-            Front::Wrong => return Err(ReplayFault::Line(line)),
-            Front::Cut => {
+            FrontItem::Wrong => return Err(ReplayFault::Line(line)),
+            FrontItem::Cut => {
                 if !ended {
                     return Err(ReplayFault::Read);
                 }

@@ -2,8 +2,8 @@
 //!
 //! One line on standard error names a fault, and the exit status tells its kind.
 
-use crate::faults::ReplayFault;
 use crate::play::replay;
+use crate::replay_fault::ReplayFault;
 use std::env::FillError;
 use std::io;
 use std::process::ExitCode;

@@ -6,24 +6,24 @@ ghost use Rattle.proxy_script.specs.declared.effect_list.Effect.TheVariants as e
 ghost use Rattle.proxy_engine.specs.Happenings.{Accepts};
 ghost use Rattle.proxy_engine.specs.Due.{Wakes};
 ghost use Rattle.proxy_engine.specs.Executions.{Took, Worked};
-ghost use Rattle.proxy_replay.specs.Played.{beginning, effects_of, happening_of, moment_after};
-ghost use Rattle.proxy_replay.specs.Runs.{worked};
-ghost use Rattle.proxy_replay.specs.OneReplay.{NoOtherText, NotBeforeItsEnd, NoReadFailsAtTheEnd};
-ghost use Rattle.proxy_replay.specs.OneReplay.{NothingByARefusedTable};
+ghost use Rattle.proxy_replay.specs.Played.{initial_scene, effects_of_acts, happening_of_item, moment_after};
+ghost use Rattle.proxy_replay.specs.Runs.{steps_of_acts};
+ghost use Rattle.proxy_replay.specs.OneReplay.{ReplayHasNoOtherText, NoWholeReplayBeforeTheEnd, NoReadFaultAtTheEnd};
+ghost use Rattle.proxy_replay.specs.OneReplay.{NothingIsWrittenForARefusedTable};
 
 use hx_allow::a_table_is_read_in_one_way;
-use proxy_engine::{an_act_is_done_in_one_way, due_once};
+use proxy_engine::{an_act_is_done_in_one_way, one_act_is_due_first};
 use proxy_script::items_are_found_as_they_are_spelled;
 
 /// A whole script is replayed with no other text than that of its play, and not before its end; no read fails at the
 /// end; and nothing is written where the table is refused.
 pub fn a_replay_refuses_other_texts()
-    ensures text { NoOtherText }
-    ensures whole { NotBeforeItsEnd }
-    ensures read { NoReadFailsAtTheEnd }
-    ensures refused { NothingByARefusedTable }
+    ensures text { ReplayHasNoOtherText }
+    ensures whole { NoWholeReplayBeforeTheEnd }
+    ensures read { NoReadFaultAtTheEnd }
+    ensures refused { NothingIsWrittenForARefusedTable }
 {
-    due_once();
+    one_act_is_due_first();
     an_act_is_done_in_one_way();
     a_table_is_read_in_one_way();
     items_are_found_as_they_are_spelled();
@@ -32,17 +32,18 @@ pub fn a_replay_refuses_other_texts()
 /// What items do: a moment stands from its item on, a happening is taken, the table and a moment happen to nobody. Acts
 /// stand in order, and as steps the latest first, at the moment that stands. A play begins with the room of its table,
 /// at moment 0.
-pub fn what_items_do()
+pub fn worked_items()
     ensures moment { moment_after 5 (item.Moment 9) ≡ 9 }
     ensures stays { moment_after 5 (item.Happens (Accepts 1)) ≡ 5 }
     ensures of_the_table { moment_after 5 (item.Table []) ≡ 5 }
-    ensures happens { happening_of (item.Happens (Accepts 1)) ≡ Some (Accepts 1) }
-    ensures table_says_nothing { happening_of (item.Table []) ≡ None }
-    ensures moment_says_nothing { happening_of (item.Moment 9) ≡ None }
-    ensures in_order { effects_of (record { act = Wakes 0; effects = effects.Close 1 ∷ [] }
+    ensures happens { happening_of_item (item.Happens (Accepts 1)) ≡ Some (Accepts 1) }
+    ensures table_says_nothing { happening_of_item (item.Table []) ≡ None }
+    ensures moment_says_nothing { happening_of_item (item.Moment 9) ≡ None }
+    ensures in_order { effects_of_acts (record { act = Wakes 0; effects = effects.Close 1 ∷ [] }
         ∷ record { act = Wakes 1; effects = effects.Close 2 ∷ [] } ∷ []) ≡ effects.Close 1 ∷ effects.Close 2 ∷ [] }
-    ensures steps { worked 7 (record { act = Wakes 0; effects = [] } ∷ record { act = Wakes 1; effects = [] } ∷ [])
+    ensures steps { steps_of_acts 7 (record { act = Wakes 0; effects = [] } ∷ record { act = Wakes 1; effects = [] }
+        ∷ [])
         (Took (Accepts 1) ∷ []) ≡ Worked 7 (Wakes 1) [] ∷ Worked 7 (Wakes 0) [] ∷ Took (Accepts 1) ∷ [] }
-    ensures room { (beginning table).model.core.limit ≡ table.capacity }
-    ensures from_0 { (beginning table).now ≡ 0 }
+    ensures room { (initial_scene table).model.core.limit ≡ table.capacity }
+    ensures from_0 { (initial_scene table).now ≡ 0 }
 {}

@@ -3,11 +3,11 @@ use Rattle.std.proofs.Common.{◌≡◌, ℕ, suc, ◌+◌, ◌<◌, ◌≤◌, 
 use Rattle.std.proofs.lemmas.List.{length-append, get_or_at, take_at, length-take-le, drop_more, take-append-drop}
 use Rattle.std.proofs.lemmas.Bool.{eqb-true, leb-false, lt-leb}
 use Rattle.hx_fields.specs.Names.{cut_at}
-use Rattle.proxy_script.specs.Lines.{line_text, FitsLine, is_config, placed}
+use Rattle.proxy_script.specs.ScriptLines.{line_text, LineHasSpelling, is_config, line_that_may_stand_here}
 use Rattle.proxy_script.specs.Happenings as happening
-use Rattle.proxy_script.specs.Script.{Said, Table, Moment, Happens, line_of, block_of, spelled, Fits, IsPlaced, Found, Whole, Short, Bad, block_at, with_block, item_by, item_under, item_on, item_at}
-use Rattle.proxy_script.specs.declared.line_parser.Header.{Header}
-use Rattle.proxy_script.specs.declared.line_parser.Header.TheVariants.{Config, At, Accept, Client, Link, End, Gone, Shut, Fail}
+use Rattle.proxy_script.specs.Script.{PlainItem, Table, Moment, Happens, line_of_item, block_of_item, item_spelling, ItemHasSpelling, ItemMayStandHere, Found, Whole, Short, Bad, block_in_front, item_reading_with_block, item_of_line, item_of_line_if_any, item_after_line_end, item_in_front}
+use Rattle.proxy_script.specs.declared.line_parser.ItemLine.{ItemLine}
+use Rattle.proxy_script.specs.declared.line_parser.ItemLine.TheVariants.{Config, At, Accept, Client, Link, End, Gone, Shut, Fail}
 use Rattle.proxy_script.proofs.NumberLaws.{cut_found, cut_again}
 use Rattle.proxy_script.proofs.LineLaws.{line_one_line, placed_again, placed_found}
 
@@ -15,7 +15,7 @@ drop_past : (xs : List ℕ) (y : ℕ) (ys : List ℕ) → drop (suc (length xs))
 drop_past [] y ys = refl
 drop_past (x ∷ xs) y ys = drop_past xs y ys
 
-block_again : (bytes rest : List ℕ) → block_at (length bytes) ((bytes ++ 10 ∷ []) ++ rest) ≡ Whole bytes rest
+block_again : (bytes rest : List ℕ) → block_in_front (length bytes) ((bytes ++ 10 ∷ []) ++ rest) ≡ Whole bytes rest
 block_again bytes rest =
     let after = append_assoc bytes (10 ∷ []) rest in
     let short : nat_le (length ((bytes ++ 10 ∷ []) ++ rest)) (length bytes) ≡ false = lt-leb (length ((bytes ++ 10 ∷ []) ++ rest)) (length bytes) (omega (arith, length-append (bytes ++ 10 ∷ []) rest, length-append bytes (10 ∷ []))) in
@@ -23,46 +23,46 @@ block_again bytes rest =
     rw (short, after, feed, take_at bytes (10 ∷ rest) (length bytes) refl)
     (ap (λ r. Whole bytes r) (ap (λ k. drop k (bytes ++ (10 ∷ rest))) (add-one (length bytes)) ∙ drop_past bytes 10 rest))
 
-said_again : (h : Said) (rest : List ℕ) → item_by (line_of h) (block_of h ++ rest) ≡ Found h rest
-said_again (Table bytes) rest = ap (with_block Table) (block_again bytes rest)
+said_again : (h : PlainItem) (rest : List ℕ) → item_of_line (line_of_item h) (block_of_item h ++ rest) ≡ Found h rest
+said_again (Table bytes) rest = ap (item_reading_with_block Table) (block_again bytes rest)
 said_again (Moment m) rest = refl
 said_again (Happens (happening.Accepts n)) rest = refl
-said_again (Happens (happening.Sends n bytes)) rest = ap (with_block (λ b. Happens (happening.Sends n b))) (block_again bytes rest)
-said_again (Happens (happening.Hears l bytes)) rest = ap (with_block (λ b. Happens (happening.Hears l b))) (block_again bytes rest)
+said_again (Happens (happening.Sends n bytes)) rest = ap (item_reading_with_block (λ b. Happens (happening.Sends n b))) (block_again bytes rest)
+said_again (Happens (happening.Hears l bytes)) rest = ap (item_reading_with_block (λ b. Happens (happening.Hears l b))) (block_again bytes rest)
 said_again (Happens (happening.Ends n)) rest = refl
 said_again (Happens (happening.Leaves n)) rest = refl
 said_again (Happens (happening.Shuts l)) rest = refl
 said_again (Happens (happening.Fails l kind)) rest = refl
 
-pub item_again : (first : Bool) (h : Said) (rest : List ℕ) → Fits h → IsPlaced first h → item_at first (spelled h ++ rest) ≡ Found h rest
-unfolding item_at
+pub item_again : (first : Bool) (h : PlainItem) (rest : List ℕ) → ItemHasSpelling h → ItemMayStandHere first h → item_in_front first (item_spelling h ++ rest) ≡ Found h rest
+unfolding item_in_front
 item_again first h rest fits here =
-    let line = line_text (line_of h) in
-    ap (λ bytes. item_on first (cut_at 10 bytes)) (append_assoc line (10 ∷ block_of h) rest)
-    ∙ (ap (item_on first) (cut_again 10 line (block_of h ++ rest) (line_one_line (line_of h) fits))
-    ∙ (ap (item_under (block_of h ++ rest)) (placed_again first (line_of h) fits here)
+    let line = line_text (line_of_item h) in
+    ap (λ bytes. item_after_line_end first (cut_at 10 bytes)) (append_assoc line (10 ∷ block_of_item h) rest)
+    ∙ (ap (item_after_line_end first) (cut_again 10 line (block_of_item h ++ rest) (line_one_line (line_of_item h) fits))
+    ∙ (ap (item_of_line_if_any (block_of_item h ++ rest)) (placed_again first (line_of_item h) fits here)
     ∙ said_again h rest))
 
 -- the item is that of the line, and its block stands behind it
-abbrev IsBehind : Header → List ℕ → Said → List ℕ → Type 0
-IsBehind line bytes h rest = (line ≡ line_of h) × (bytes ≡ block_of h ++ rest)
+abbrev IsBehind : ItemLine → List ℕ → PlainItem → List ℕ → Type 0
+IsBehind line bytes h rest = (line ≡ line_of_item h) × (bytes ≡ block_of_item h ++ rest)
 
-plain_found : (g h : Said) (bytes rest : List ℕ) → block_of g ≡ [] → Found g bytes ≡ Found h rest → IsBehind (line_of g) bytes h rest
+plain_found : (g h : PlainItem) (bytes rest : List ℕ) → block_of_item g ≡ [] → Found g bytes ≡ Found h rest → IsBehind (line_of_item g) bytes h rest
 plain_found g h bytes rest none e =
     let this : g ≡ h = cc in let left : bytes ≡ rest = cc in
-    subst (λ x. IsBehind (line_of g) bytes x rest) this (refl, rw none left)
+    subst (λ x. IsBehind (line_of_item g) bytes x rest) this (refl, rw none left)
 
-block_found_by : (a b : Bool) (says : List ℕ → Said) (head : ℕ → Header) (len : ℕ) (bytes rest : List ℕ) (h : Said)
-    → ((block : List ℕ) → line_of (says block) ≡ head (length block)) → ((block : List ℕ) → block_of (says block) ≡ block ++ 10 ∷ [])
+block_found_by : (a b : Bool) (says : List ℕ → PlainItem) (head : ℕ → ItemLine) (len : ℕ) (bytes rest : List ℕ) (h : PlainItem)
+    → ((block : List ℕ) → line_of_item (says block) ≡ head (length block)) → ((block : List ℕ) → block_of_item (says block) ≡ block ++ 10 ∷ [])
     → (a ≡ false → len < length bytes) → (b ≡ true → get_or bytes len 0 ≡ 10)
-    → with_block says (cond a Short (cond b (Whole (take len bytes) (drop (len + 1) bytes)) Bad)) ≡ Found h rest → IsBehind (head len) bytes h rest
+    → item_reading_with_block says (cond a Short (cond b (Whole (take len bytes) (drop (len + 1) bytes)) Bad)) ≡ Found h rest → IsBehind (head len) bytes h rest
 block_found_by true b says head len bytes rest h line block long feed e = cc
 block_found_by false false says head len bytes rest h line block long feed e = cc
 block_found_by false true says head len bytes rest h line block long feed e =
     let this : says (take len bytes) ≡ h = cc in let left : drop (len + 1) bytes ≡ rest = cc in
     let enough : len ≤ length bytes = let more = long refl in omega (arith, more) in
     let taken = length-take-le len bytes enough in
-    let heads : head len ≡ line_of (says (take len bytes)) = ap head (sym taken) ∙ sym (line (take len bytes)) in
+    let heads : head len ≡ line_of_item (says (take len bytes)) = ap head (sym taken) ∙ sym (line (take len bytes)) in
     let whole : bytes ≡ (take len bytes ++ 10 ∷ []) ++ drop (len + 1) bytes =
     sym (append_assoc (take len bytes) (10 ∷ []) (drop (len + 1) bytes)
     ∙ (ap (λ c. take len bytes ++ (c ∷ drop (len + 1) bytes)) (sym (feed refl))
@@ -70,13 +70,13 @@ block_found_by false true says head len bytes rest h line block long feed e =
     subst (λ x. IsBehind (head len) bytes x rest) this
     (heads, whole ∙ (ap (λ r. (take len bytes ++ 10 ∷ []) ++ r) left ∙ ap (λ b. b ++ rest) (sym (block (take len bytes)))))
 
-block_found : (says : List ℕ → Said) (head : ℕ → Header) (len : ℕ) (bytes rest : List ℕ) (h : Said)
-    → ((block : List ℕ) → line_of (says block) ≡ head (length block)) → ((block : List ℕ) → block_of (says block) ≡ block ++ 10 ∷ [])
-    → with_block says (block_at len bytes) ≡ Found h rest → IsBehind (head len) bytes h rest
+block_found : (says : List ℕ → PlainItem) (head : ℕ → ItemLine) (len : ℕ) (bytes rest : List ℕ) (h : PlainItem)
+    → ((block : List ℕ) → line_of_item (says block) ≡ head (length block)) → ((block : List ℕ) → block_of_item (says block) ≡ block ++ 10 ∷ [])
+    → item_reading_with_block says (block_in_front len bytes) ≡ Found h rest → IsBehind (head len) bytes h rest
 block_found says head len bytes rest h line block e =
     block_found_by (nat_le (length bytes) len) (get_or bytes len 0 == 10) says head len bytes rest h line block (leb-false (length bytes) len) (eqb-true (get_or bytes len 0) 10) e
 
-behind_found : (line : Header) (bytes rest : List ℕ) (h : Said) → item_by line bytes ≡ Found h rest → IsBehind line bytes h rest
+behind_found : (line : ItemLine) (bytes rest : List ℕ) (h : PlainItem) → item_of_line line bytes ≡ Found h rest → IsBehind line bytes h rest
 behind_found (Config len) bytes rest h e = block_found Table Config len bytes rest h (λ b. refl) (λ b. refl) e
 behind_found (At m) bytes rest h e = plain_found (Moment m) h bytes rest refl e
 behind_found (Accept n) bytes rest h e = plain_found (Happens (happening.Accepts n)) h bytes rest refl e
@@ -87,23 +87,23 @@ behind_found (Gone n) bytes rest h e = plain_found (Happens (happening.Leaves n)
 behind_found (Shut l) bytes rest h e = plain_found (Happens (happening.Shuts l)) h bytes rest refl e
 behind_found (Fail l kind) bytes rest h e = plain_found (Happens (happening.Fails l kind)) h bytes rest refl e
 
-under_found : (first : Bool) (o : Option Header) (line bytes rest : List ℕ) (h : Said) → placed first line ≡ o → item_under bytes o ≡ Found h rest → (line ++ 10 ∷ bytes ≡ spelled h ++ rest) × Fits h × IsPlaced first h
+under_found : (first : Bool) (o : Option ItemLine) (line bytes rest : List ℕ) (h : PlainItem) → line_that_may_stand_here first line ≡ o → item_of_line_if_any bytes o ≡ Found h rest → (line ++ 10 ∷ bytes ≡ item_spelling h ++ rest) × ItemHasSpelling h × ItemMayStandHere first h
 under_found first None line bytes rest h is e = cc
 under_found first (Some header) line bytes rest h is e =
     let spells = placed_found first line header is in
     let block = behind_found header bytes rest h e in (
       ap (λ l. l ++ 10 ∷ bytes) (spells.0 ∙ ap line_text block.0)
-          ∙ (ap (λ b. line_text (line_of h) ++ 10 ∷ b) block.1 ∙ sym (append_assoc (line_text (line_of h)) (10 ∷ block_of h) rest)),
-      subst FitsLine block.0 spells.1,
+          ∙ (ap (λ b. line_text (line_of_item h) ++ 10 ∷ b) block.1 ∙ sym (append_assoc (line_text (line_of_item h)) (10 ∷ block_of_item h) rest)),
+      subst LineHasSpelling block.0 spells.1,
       ap is_config (sym block.0) ∙ spells.2,
     )
 
-on_found : (first : Bool) (o : Option (List ℕ × List ℕ)) (bytes rest : List ℕ) (h : Said) → cut_at 10 bytes ≡ o → item_on first o ≡ Found h rest → (bytes ≡ spelled h ++ rest) × Fits h × IsPlaced first h
+on_found : (first : Bool) (o : Option (List ℕ × List ℕ)) (bytes rest : List ℕ) (h : PlainItem) → cut_at 10 bytes ≡ o → item_after_line_end first o ≡ Found h rest → (bytes ≡ item_spelling h ++ rest) × ItemHasSpelling h × ItemMayStandHere first h
 on_found first None bytes rest h is e = cc
 on_found first (Some p) bytes rest h is e =
-    let found = under_found first (placed first p.0) p.0 p.1 rest h refl e in
+    let found = under_found first (line_that_may_stand_here first p.0) p.0 p.1 rest h refl e in
     (cut_found 10 bytes p.0 p.1 is ∙ found.0, found.1, found.2)
 
-pub item_found : (first : Bool) (bytes rest : List ℕ) (h : Said) → item_at first bytes ≡ Found h rest → (bytes ≡ spelled h ++ rest) × Fits h × IsPlaced first h
-unfolding item_at
+pub item_found : (first : Bool) (bytes rest : List ℕ) (h : PlainItem) → item_in_front first bytes ≡ Found h rest → (bytes ≡ item_spelling h ++ rest) × ItemHasSpelling h × ItemMayStandHere first h
+unfolding item_in_front
 item_found first bytes rest h e = on_found first (cut_at 10 bytes) bytes rest h refl e

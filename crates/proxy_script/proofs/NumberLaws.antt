@@ -10,7 +10,7 @@ use Rattle.std.specs.Char.{is_ascii_digit}
 use Rattle.std.specs.Fmt.{decimal}
 use Rattle.std.proofs.lemmas.Fmt.{decimal-digits_value, digits_decimal, digits_value-decimal, decimal_nonempty, first_decimal, decimal_digit}
 use Rattle.hx_fields.specs.Names.{cut_at}
-use Rattle.proxy_script.specs.Numbers.{value_of, number_of}
+use Rattle.proxy_script.specs.DecimalNumbers.{value_of, number_of}
 
 -- the parts of equal pairs
 pub same_pair : {A B : Type 0} {x y : A} {u v : B} → ◌≡◌ {A = Option (A × B)} (Some (x, u)) (Some (y, v)) → (x ≡ y) × (u ≡ v)

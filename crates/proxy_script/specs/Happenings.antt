@@ -4,20 +4,20 @@ use Rattle.hx_status.specs.declared.cause.FailKind.{FailKind}
 use Rattle.proxy_script.specs.declared.happening.Happening.{Happening}
 use Rattle.proxy_script.specs.declared.happening.Happening.TheVariants as happenings
 
-pub data Said : Type 0 where
-  Accepts : (n : ℕ) → Said
-  Sends : (n : ℕ) (bytes : List ℕ) → Said
-  Hears : (l : ℕ) (bytes : List ℕ) → Said
-  Ends : (n : ℕ) → Said
-  Leaves : (n : ℕ) → Said
-  Shuts : (l : ℕ) → Said
-  Fails : (l : ℕ) (kind : FailKind) → Said
+pub data PlainHappening : Type 0 where
+  Accepts : (n : ℕ) → PlainHappening
+  Sends : (n : ℕ) (bytes : List ℕ) → PlainHappening
+  Hears : (l : ℕ) (bytes : List ℕ) → PlainHappening
+  Ends : (n : ℕ) → PlainHappening
+  Leaves : (n : ℕ) → PlainHappening
+  Shuts : (l : ℕ) → PlainHappening
+  Fails : (l : ℕ) (kind : FailKind) → PlainHappening
 
-abbrev pub said : Happening → Said
-said (happenings.Accept n) = Accepts n
-said (happenings.Client n bytes) = Sends n bytes.now
-said (happenings.Link l bytes) = Hears l bytes.now
-said (happenings.End n) = Ends n
-said (happenings.Gone n) = Leaves n
-said (happenings.Shut l) = Shuts l
-said (happenings.Fail l kind) = Fails l kind
+abbrev pub plain_happening : Happening → PlainHappening
+plain_happening (happenings.Accept n) = Accepts n
+plain_happening (happenings.Client n bytes) = Sends n bytes.now
+plain_happening (happenings.Link l bytes) = Hears l bytes.now
+plain_happening (happenings.End n) = Ends n
+plain_happening (happenings.Gone n) = Leaves n
+plain_happening (happenings.Shut l) = Shuts l
+plain_happening (happenings.Fail l kind) = Fails l kind

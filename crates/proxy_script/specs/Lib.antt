@@ -1,5 +1,5 @@
 pub mod Effects
-pub mod Lines
-pub mod Numbers
+pub mod ScriptLines
+pub mod DecimalNumbers
 pub mod Happenings
 pub mod Script

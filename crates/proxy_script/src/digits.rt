@@ -2,7 +2,7 @@
 ghost use Rattle.std.specs.Prelude.{◌≡◌};
 ghost use Rattle.std.specs.List.{list_all};
 ghost use Rattle.std.specs.Char.{is_ascii_digit};
-ghost use Rattle.proxy_script.specs.Numbers.{value_of, number_of};
+ghost use Rattle.proxy_script.specs.DecimalNumbers.{value_of, number_of};
 
 use hx_fields::number_up_to;
 
@@ -23,7 +23,7 @@ fn value_of(bytes: &[u8]) -> Option<u64>
 }
 
 /// A decimal number below 2^64 without leading zeros.
-#[tactic(auto, unfolding(crate::specs::Numbers::number_of))]
+#[tactic(auto, unfolding(crate::specs::DecimalNumbers::number_of))]
 pub fn number_of(bytes: &[u8]) -> Option<u64>
     ensures { result ≡ number_of bytes.now }
 {

@@ -71,7 +71,7 @@ fn push_effect(text: &mut Vec<u8>, effect: &Effect) -> Result<(), AllocError>
 
 /// How many bytes the text of effects takes, or some more: room for it, so that its memory is asked for once. No clause
 /// speaks of it.
-fn room_for(effects: &[Effect]) -> usize {
+fn length_bound_of_effects(effects: &[Effect]) -> usize {
     let mut room = 0usize;
     for effect in effects {
         room = room.saturating_add(MOST_LINE).saturating_add(match effect {
@@ -88,7 +88,7 @@ fn room_for(effects: &[Effect]) -> usize {
 pub fn effects_text(alloc: Global, effects: &[Effect]) -> Result<Vec<u8>, AllocError>
     ensures { IfOk result (λ text. text.items ≡ effects_text effects.now) }
 {
-    let mut text = Vec::with_capacity(alloc, room_for(effects))?;
+    let mut text = Vec::with_capacity(alloc, length_bound_of_effects(effects))?;
     for effect in effects {
         push_effect(&mut text, effect)?;
     }

@@ -8,6 +8,7 @@
 
 mod digits;
 mod effect_list;
+mod first_words;
 mod happening;
 mod items;
 mod laws;
@@ -16,15 +17,15 @@ mod line_parser;
 mod parser;
 mod script_cases;
 mod spelling;
-mod words;
 
 pub use effect_list::{Effect, effects_text};
 pub use happening::Happening;
 pub use items::Item;
 pub use laws::items_are_found_as_they_are_spelled;
 pub use limits::MOST_SCRIPT_BYTES;
-pub use parser::{Front, read_item};
+pub use parser::{FrontItem, read_item};
 pub use script_cases::{
-    effects_are_spelled, items_are_read, items_are_spelled, items_wait, wrong_items_are_refused,
+    unfinished_items_wait, worked_effects_are_spelled, worked_items_are_read,
+    worked_items_are_spelled, wrong_items_are_refused,
 };
 pub use spelling::item_text;

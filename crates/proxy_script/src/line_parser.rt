@@ -1,16 +1,17 @@
 //! The lines of a script.
 ghost use Rattle.std.specs.Prelude.{◌≡◌};
-ghost use Rattle.proxy_script.specs.Lines.{moment_of, two_numbers, number_and_failure, header_with, header_of};
-ghost use Rattle.proxy_script.specs.Lines.{is_config};
+ghost use Rattle.proxy_script.specs.ScriptLines.{moment_of, two_numbers, number_and_failure, line_behind_word};
+ghost use Rattle.proxy_script.specs.ScriptLines.{line_of_text};
+ghost use Rattle.proxy_script.specs.ScriptLines.{is_config};
 
 use crate::digits::number_of;
-use crate::words::{Word, failure_of, word_of};
+use crate::first_words::{Word, failure_of, word_of};
 use hx_fields::{END_OF_TIME, cut_at};
 use hx_status::FailKind;
 
 /// The line of an item, with the length of the block that follows where one does.
 #[derive(Clone, Copy)]
-pub enum Header {
+pub enum ItemLine {
     Config(u64),
     At(u64),
     Accept(u64),
@@ -50,47 +51,47 @@ fn number_and_failure(text: &[u8]) -> Option<(u64, FailKind)>
 }
 
 /// What a line says behind its first word.
-fn header_with(word: Word, rest: &[u8]) -> Option<Header>
-    ensures { result ≡ header_with word rest.now }
+fn line_behind_word(word: Word, rest: &[u8]) -> Option<ItemLine>
+    ensures { result ≡ line_behind_word word rest.now }
 {
     Some(match word {
-        Word::Config => Header::Config(number_of(rest)?),
-        Word::At => Header::At(moment_of(rest)?),
-        Word::Accept => Header::Accept(number_of(rest)?),
+        Word::Config => ItemLine::Config(number_of(rest)?),
+        Word::At => ItemLine::At(moment_of(rest)?),
+        Word::Accept => ItemLine::Accept(number_of(rest)?),
         Word::Client => {
             let (n, len) = two_numbers(rest)?;
-            Header::Client(n, len)
+            ItemLine::Client(n, len)
         }
         Word::Link => {
             let (l, len) = two_numbers(rest)?;
-            Header::Link(l, len)
+            ItemLine::Link(l, len)
         }
-        Word::End => Header::End(number_of(rest)?),
-        Word::Gone => Header::Gone(number_of(rest)?),
-        Word::Shut => Header::Shut(number_of(rest)?),
+        Word::End => ItemLine::End(number_of(rest)?),
+        Word::Gone => ItemLine::Gone(number_of(rest)?),
+        Word::Shut => ItemLine::Shut(number_of(rest)?),
         Word::Fail => {
             let (l, kind) = number_and_failure(rest)?;
-            Header::Fail(l, kind)
+            ItemLine::Fail(l, kind)
         }
     })
 }
 
 /// What a line says.
-#[tactic(auto, unfolding(crate::specs::Lines::header_of))]
-pub fn header_of(line: &[u8]) -> Option<Header>
-    ensures { result ≡ header_of line.now }
+#[tactic(auto, unfolding(crate::specs::ScriptLines::line_of_text))]
+pub fn line_of_text(line: &[u8]) -> Option<ItemLine>
+    ensures { result ≡ line_of_text line.now }
 {
     let (word, rest) = cut_at(b' ', line)?;
     let word = word_of(word)?;
-    header_with(word, rest)
+    line_behind_word(word, rest)
 }
 
 /// Whether the line is that of the operator's table.
-pub fn is_config(header: Header) -> bool
+pub fn is_config(header: ItemLine) -> bool
     ensures { result ≡ is_config header }
 {
     match header {
-        Header::Config(_) => true,
+        ItemLine::Config(_) => true,
         _ => false,
     }
 }

@@ -1,17 +1,18 @@
 //! The item at the front of a script.
 ghost use Rattle.std.specs.Prelude.{◌≡◌};
 ghost use Rattle.std.specs.Option.{option_map};
-ghost use Rattle.proxy_script.specs.Lines.{placed};
-ghost use Rattle.proxy_script.specs.Happenings.{said};
-ghost use Rattle.proxy_script.specs.Script.{Found, Happens, block_at, item_by, item_at, seen, seen_block};
+ghost use Rattle.proxy_script.specs.ScriptLines.{line_that_may_stand_here};
+ghost use Rattle.proxy_script.specs.Happenings.{plain_happening};
+ghost use Rattle.proxy_script.specs.Script.{Found, Happens, block_in_front, item_of_line, item_in_front, plain_reading};
+ghost use Rattle.proxy_script.specs.Script.{plain_block};
 
-use crate::line_parser::{Header, header_of, is_config};
+use crate::line_parser::{ItemLine, is_config, line_of_text};
 use crate::{Happening, Item};
 use hx_fields::cut_at;
 
 /// What stands at the front of bytes.
 #[derive(Clone, Copy)]
-pub enum Front<'a> {
+pub enum FrontItem<'a> {
     /// An item, and what follows it.
     Found(Item<'a>, &'a [u8]),
     /// The bytes end inside a line or a block. At the end of a script that is a wrong line.
@@ -27,8 +28,8 @@ enum Block<'a> {
     Wrong,
 }
 
-fn block_at(len: u64, rest: &[u8]) -> Block<'_>
-    ensures { seen_block result ≡ block_at len rest.now }
+fn block_in_front(len: u64, rest: &[u8]) -> Block<'_>
+    ensures { plain_block result ≡ block_in_front len rest.now }
 {
     if rest.len() as u64 <= len {
         return Block::Cut;
@@ -40,45 +41,45 @@ fn block_at(len: u64, rest: &[u8]) -> Block<'_>
     Block::Whole(&rest[..end], &rest[end + 1..])
 }
 
-fn happens<'a>(happening: Happening<'a>, rest: &'a [u8]) -> Front<'a>
-    ensures { seen result ≡ Found (Happens (said happening.entry)) rest.now }
+fn front_with_happening<'a>(happening: Happening<'a>, rest: &'a [u8]) -> FrontItem<'a>
+    ensures { plain_reading result ≡ Found (Happens (plain_happening happening.entry)) rest.now }
 {
-    Front::Found(Item::Happens(happening), rest)
+    FrontItem::Found(Item::Happens(happening), rest)
 }
 
-fn item_by(header: Header, rest: &[u8]) -> Front<'_>
-    ensures { seen result ≡ item_by header rest.now }
+fn item_of_line(header: ItemLine, rest: &[u8]) -> FrontItem<'_>
+    ensures { plain_reading result ≡ item_of_line header rest.now }
 {
     match header {
-        Header::Config(len) => match block_at(len, rest) {
-            Block::Whole(table, rest) => Front::Found(Item::Config(table), rest),
-            Block::Cut => Front::Cut,
-            Block::Wrong => Front::Wrong,
+        ItemLine::Config(len) => match block_in_front(len, rest) {
+            Block::Whole(table, rest) => FrontItem::Found(Item::Config(table), rest),
+            Block::Cut => FrontItem::Cut,
+            Block::Wrong => FrontItem::Wrong,
         },
-        Header::At(moment) => Front::Found(Item::At(moment), rest),
-        Header::Accept(n) => happens(Happening::Accept(n), rest),
-        Header::Client(n, len) => match block_at(len, rest) {
-            Block::Whole(bytes, rest) => happens(Happening::Client(n, bytes), rest),
-            Block::Cut => Front::Cut,
-            Block::Wrong => Front::Wrong,
+        ItemLine::At(moment) => FrontItem::Found(Item::At(moment), rest),
+        ItemLine::Accept(n) => front_with_happening(Happening::Accept(n), rest),
+        ItemLine::Client(n, len) => match block_in_front(len, rest) {
+            Block::Whole(bytes, rest) => front_with_happening(Happening::Client(n, bytes), rest),
+            Block::Cut => FrontItem::Cut,
+            Block::Wrong => FrontItem::Wrong,
         },
-        Header::Link(l, len) => match block_at(len, rest) {
-            Block::Whole(bytes, rest) => happens(Happening::Link(l, bytes), rest),
-            Block::Cut => Front::Cut,
-            Block::Wrong => Front::Wrong,
+        ItemLine::Link(l, len) => match block_in_front(len, rest) {
+            Block::Whole(bytes, rest) => front_with_happening(Happening::Link(l, bytes), rest),
+            Block::Cut => FrontItem::Cut,
+            Block::Wrong => FrontItem::Wrong,
         },
-        Header::End(n) => happens(Happening::End(n), rest),
-        Header::Gone(n) => happens(Happening::Gone(n), rest),
-        Header::Shut(l) => happens(Happening::Shut(l), rest),
-        Header::Fail(l, kind) => happens(Happening::Fail(l, kind), rest),
+        ItemLine::End(n) => front_with_happening(Happening::End(n), rest),
+        ItemLine::Gone(n) => front_with_happening(Happening::Gone(n), rest),
+        ItemLine::Shut(l) => front_with_happening(Happening::Shut(l), rest),
+        ItemLine::Fail(l, kind) => front_with_happening(Happening::Fail(l, kind), rest),
     }
 }
 
 /// What a line says, where an item of its kind stands here: the table first, and first alone.
-fn placed(first: bool, line: &[u8]) -> Option<Header>
-    ensures { result ≡ placed first line.now }
+fn line_that_may_stand_here(first: bool, line: &[u8]) -> Option<ItemLine>
+    ensures { result ≡ line_that_may_stand_here first line.now }
 {
-    match header_of(line) {
+    match line_of_text(line) {
         Some(header) => {
             if is_config(header) == first {
                 Some(header)
@@ -91,15 +92,15 @@ fn placed(first: bool, line: &[u8]) -> Option<Header>
 }
 
 /// The item at the front of the bytes of a script; the first one is the operator's table, and no other is.
-#[tactic(auto, unfolding(crate::specs::Script::item_at))]
-pub fn read_item(first: bool, bytes: &[u8]) -> Front<'_>
-    ensures { seen result ≡ item_at first bytes.now }
+#[tactic(auto, unfolding(crate::specs::Script::item_in_front))]
+pub fn read_item(first: bool, bytes: &[u8]) -> FrontItem<'_>
+    ensures { plain_reading result ≡ item_in_front first bytes.now }
 {
     match cut_at(b'\n', bytes) {
-        None => Front::Cut,
-        Some((line, rest)) => match placed(first, line) {
-            None => Front::Wrong,
-            Some(header) => item_by(header, rest),
+        None => FrontItem::Cut,
+        Some((line, rest)) => match line_that_may_stand_here(first, line) {
+            None => FrontItem::Wrong,
+            Some(header) => item_of_line(header, rest),
         },
     }
 }

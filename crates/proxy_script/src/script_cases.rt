@@ -4,84 +4,84 @@ ghost use Rattle.hx_status.specs.declared.cause.FailKind.TheVariants.{Refused, T
 ghost use Rattle.proxy_script.specs.declared.effect_list.Effect.TheVariants as effect;
 ghost use Rattle.proxy_script.specs.Effects.{effect_text, effects_text};
 ghost use Rattle.proxy_script.specs.Happenings as happening;
-ghost use Rattle.proxy_script.specs.Script.{Cut, Found, Happens, Moment, Table, Wrong, item_at, spelled};
+ghost use Rattle.proxy_script.specs.Script.{Cut, Found, Happens, Moment, Table, Wrong, item_in_front, item_spelling};
 
 /// How each item is spelled: a word, its numbers, and for bytes a block behind the line.
-pub fn items_are_spelled()
-    ensures table { spelled (Table (codes "* * GET\n")) ≡ codes "config 8\n* * GET\n\n" }
-    ensures empty_table { spelled (Table []) ≡ codes "config 0\n\n" }
-    ensures moment { spelled (Moment 1000) ≡ codes "at 1000\n" }
-    ensures accepts { spelled (Happens (happening.Accepts 1)) ≡ codes "accept 1\n" }
-    ensures sends { spelled (Happens (happening.Sends 1 (codes "GET"))) ≡ codes "client 1 3\nGET\n" }
-    ensures hears { spelled (Happens (happening.Hears 2 (codes "HTTP"))) ≡ codes "link 2 4\nHTTP\n" }
-    ensures ends { spelled (Happens (happening.Ends 1)) ≡ codes "end 1\n" }
-    ensures leaves { spelled (Happens (happening.Leaves 1)) ≡ codes "gone 1\n" }
-    ensures shuts { spelled (Happens (happening.Shuts 2)) ≡ codes "shut 2\n" }
-    ensures refused { spelled (Happens (happening.Fails 2 Refused)) ≡ codes "fail 2 refused\n" }
-    ensures timed_out { spelled (Happens (happening.Fails 2 TimedOut)) ≡ codes "fail 2 timed-out\n" }
-    ensures closed { spelled (Happens (happening.Fails 2 Closed)) ≡ codes "fail 2 closed\n" }
+pub fn worked_items_are_spelled()
+    ensures table { item_spelling (Table (codes "* * GET\n")) ≡ codes "config 8\n* * GET\n\n" }
+    ensures empty_table { item_spelling (Table []) ≡ codes "config 0\n\n" }
+    ensures moment { item_spelling (Moment 1000) ≡ codes "at 1000\n" }
+    ensures accepts { item_spelling (Happens (happening.Accepts 1)) ≡ codes "accept 1\n" }
+    ensures sends { item_spelling (Happens (happening.Sends 1 (codes "GET"))) ≡ codes "client 1 3\nGET\n" }
+    ensures hears { item_spelling (Happens (happening.Hears 2 (codes "HTTP"))) ≡ codes "link 2 4\nHTTP\n" }
+    ensures ends { item_spelling (Happens (happening.Ends 1)) ≡ codes "end 1\n" }
+    ensures leaves { item_spelling (Happens (happening.Leaves 1)) ≡ codes "gone 1\n" }
+    ensures shuts { item_spelling (Happens (happening.Shuts 2)) ≡ codes "shut 2\n" }
+    ensures refused { item_spelling (Happens (happening.Fails 2 Refused)) ≡ codes "fail 2 refused\n" }
+    ensures timed_out { item_spelling (Happens (happening.Fails 2 TimedOut)) ≡ codes "fail 2 timed-out\n" }
+    ensures closed { item_spelling (Happens (happening.Fails 2 Closed)) ≡ codes "fail 2 closed\n" }
 {}
 
 /// What stands at the front of a script; what follows it is left.
-#[tactic(auto, unfolding(crate::specs::Script::item_at, crate::specs::Lines::header_of, crate::specs::Numbers::number_of))]
-pub fn items_are_read()
-    ensures table { item_at true (codes "config 3\na\nb\nat 1\n") ≡ Found (Table (codes "a\nb")) (codes "at 1\n") }
-    ensures moment { item_at false (codes "at 0\nx") ≡ Found (Moment 0) (codes "x") }
-    ensures last_moment { item_at false (codes "at 253402300799\n") ≡ Found (Moment 253402300799) [] }
-    ensures accepts { item_at false (codes "accept 1\n") ≡ Found (Happens (happening.Accepts 1)) [] }
-    ensures last_number { item_at false (codes "accept 18446744073709551615\n")
+#[tactic(auto, unfolding(crate::specs::Script::item_in_front, crate::specs::ScriptLines::line_of_text, crate::specs::DecimalNumbers::number_of))]
+pub fn worked_items_are_read()
+    ensures table { item_in_front true (codes "config 3\na\nb\nat 1\n") ≡ Found (Table (codes "a\nb")) (codes "at 1\n") }
+    ensures moment { item_in_front false (codes "at 0\nx") ≡ Found (Moment 0) (codes "x") }
+    ensures last_moment { item_in_front false (codes "at 253402300799\n") ≡ Found (Moment 253402300799) [] }
+    ensures accepts { item_in_front false (codes "accept 1\n") ≡ Found (Happens (happening.Accepts 1)) [] }
+    ensures last_number { item_in_front false (codes "accept 18446744073709551615\n")
         ≡ Found (Happens (happening.Accepts 18446744073709551615)) [] }
-    ensures sends { item_at false (codes "client 1 3\nGET\nend 1\n")
+    ensures sends { item_in_front false (codes "client 1 3\nGET\nend 1\n")
         ≡ Found (Happens (happening.Sends 1 (codes "GET"))) (codes "end 1\n") }
-    ensures nothing { item_at false (codes "client 1 0\n\n") ≡ Found (Happens (happening.Sends 1 [])) [] }
-    ensures hears { item_at false (codes "link 2 4\nHTTP\n") ≡ Found (Happens (happening.Hears 2 (codes "HTTP"))) [] }
-    ensures ends { item_at false (codes "end 1\n") ≡ Found (Happens (happening.Ends 1)) [] }
-    ensures leaves { item_at false (codes "gone 1\n") ≡ Found (Happens (happening.Leaves 1)) [] }
-    ensures shuts { item_at false (codes "shut 2\n") ≡ Found (Happens (happening.Shuts 2)) [] }
-    ensures refused { item_at false (codes "fail 2 refused\n") ≡ Found (Happens (happening.Fails 2 Refused)) [] }
-    ensures timed_out { item_at false (codes "fail 2 timed-out\n") ≡ Found (Happens (happening.Fails 2 TimedOut)) [] }
-    ensures closed { item_at false (codes "fail 2 closed\n") ≡ Found (Happens (happening.Fails 2 Closed)) [] }
+    ensures nothing { item_in_front false (codes "client 1 0\n\n") ≡ Found (Happens (happening.Sends 1 [])) [] }
+    ensures hears { item_in_front false (codes "link 2 4\nHTTP\n") ≡ Found (Happens (happening.Hears 2 (codes "HTTP"))) [] }
+    ensures ends { item_in_front false (codes "end 1\n") ≡ Found (Happens (happening.Ends 1)) [] }
+    ensures leaves { item_in_front false (codes "gone 1\n") ≡ Found (Happens (happening.Leaves 1)) [] }
+    ensures shuts { item_in_front false (codes "shut 2\n") ≡ Found (Happens (happening.Shuts 2)) [] }
+    ensures refused { item_in_front false (codes "fail 2 refused\n") ≡ Found (Happens (happening.Fails 2 Refused)) [] }
+    ensures timed_out { item_in_front false (codes "fail 2 timed-out\n") ≡ Found (Happens (happening.Fails 2 TimedOut)) [] }
+    ensures closed { item_in_front false (codes "fail 2 closed\n") ≡ Found (Happens (happening.Fails 2 Closed)) [] }
 {}
 
 /// A line without its LF and a block that isn't whole wait for the rest.
-#[tactic(auto, unfolding(crate::specs::Script::item_at, crate::specs::Lines::header_of, crate::specs::Numbers::number_of))]
-pub fn items_wait()
-    ensures nothing { item_at false [] ≡ Cut }
-    ensures line { item_at false (codes "end 1") ≡ Cut }
-    ensures wrong_line { item_at false (codes "no such word") ≡ Cut }
-    ensures block { item_at false (codes "client 1 3\nGE") ≡ Cut }
-    ensures end_of_block { item_at false (codes "client 1 3\nGET") ≡ Cut }
-    ensures link { item_at false (codes "link 1 1\n") ≡ Cut }
-    ensures table { item_at true (codes "config 1\nx") ≡ Cut }
+#[tactic(auto, unfolding(crate::specs::Script::item_in_front, crate::specs::ScriptLines::line_of_text, crate::specs::DecimalNumbers::number_of))]
+pub fn unfinished_items_wait()
+    ensures nothing { item_in_front false [] ≡ Cut }
+    ensures line { item_in_front false (codes "end 1") ≡ Cut }
+    ensures wrong_line { item_in_front false (codes "no such word") ≡ Cut }
+    ensures block { item_in_front false (codes "client 1 3\nGE") ≡ Cut }
+    ensures end_of_block { item_in_front false (codes "client 1 3\nGET") ≡ Cut }
+    ensures link { item_in_front false (codes "link 1 1\n") ≡ Cut }
+    ensures table { item_in_front true (codes "config 1\nx") ≡ Cut }
 {}
 
 /// What is no item: another word, a number that has no spelling, a block without LF, a table that isn't first.
-#[tactic(auto, unfolding(crate::specs::Script::item_at, crate::specs::Lines::header_of, crate::specs::Numbers::number_of))]
+#[tactic(auto, unfolding(crate::specs::Script::item_in_front, crate::specs::ScriptLines::line_of_text, crate::specs::DecimalNumbers::number_of))]
 pub fn wrong_items_are_refused()
-    ensures empty { item_at false (codes "\n") ≡ Wrong }
-    ensures word { item_at false (codes "ends 1\n") ≡ Wrong }
-    ensures upper_case { item_at false (codes "END 1\n") ≡ Wrong }
-    ensures no_number { item_at false (codes "end \n") ≡ Wrong }
-    ensures no_space { item_at false (codes "end\n") ≡ Wrong }
-    ensures two_spaces { item_at false (codes "end  1\n") ≡ Wrong }
-    ensures space_behind { item_at false (codes "end 1 \n") ≡ Wrong }
-    ensures leading_zero { item_at false (codes "end 01\n") ≡ Wrong }
-    ensures slash { item_at false (codes "end 1/\n") ≡ Wrong }
-    ensures colon { item_at false (codes "end 1:\n") ≡ Wrong }
-    ensures large_number { item_at false (codes "end 18446744073709551616\n") ≡ Wrong }
-    ensures large_moment { item_at false (codes "at 253402300800\n") ≡ Wrong }
-    ensures one_number { item_at false (codes "client 1\n") ≡ Wrong }
-    ensures three_numbers { item_at false (codes "client 1 2 3\n") ≡ Wrong }
-    ensures no_failure { item_at false (codes "fail 1\n") ≡ Wrong }
-    ensures other_failure { item_at false (codes "fail 1 bad-answer\n") ≡ Wrong }
-    ensures large_answer { item_at false (codes "fail 1 too-large\n") ≡ Wrong }
-    ensures no_feed { item_at false (codes "client 1 3\nGET!") ≡ Wrong }
-    ensures second_table { item_at false (codes "config 0\n\n") ≡ Wrong }
-    ensures no_table { item_at true (codes "at 1\n") ≡ Wrong }
+    ensures empty { item_in_front false (codes "\n") ≡ Wrong }
+    ensures word { item_in_front false (codes "ends 1\n") ≡ Wrong }
+    ensures upper_case { item_in_front false (codes "END 1\n") ≡ Wrong }
+    ensures no_number { item_in_front false (codes "end \n") ≡ Wrong }
+    ensures no_space { item_in_front false (codes "end\n") ≡ Wrong }
+    ensures two_spaces { item_in_front false (codes "end  1\n") ≡ Wrong }
+    ensures space_behind { item_in_front false (codes "end 1 \n") ≡ Wrong }
+    ensures leading_zero { item_in_front false (codes "end 01\n") ≡ Wrong }
+    ensures slash { item_in_front false (codes "end 1/\n") ≡ Wrong }
+    ensures colon { item_in_front false (codes "end 1:\n") ≡ Wrong }
+    ensures large_number { item_in_front false (codes "end 18446744073709551616\n") ≡ Wrong }
+    ensures large_moment { item_in_front false (codes "at 253402300800\n") ≡ Wrong }
+    ensures one_number { item_in_front false (codes "client 1\n") ≡ Wrong }
+    ensures three_numbers { item_in_front false (codes "client 1 2 3\n") ≡ Wrong }
+    ensures no_failure { item_in_front false (codes "fail 1\n") ≡ Wrong }
+    ensures other_failure { item_in_front false (codes "fail 1 bad-answer\n") ≡ Wrong }
+    ensures large_answer { item_in_front false (codes "fail 1 too-large\n") ≡ Wrong }
+    ensures no_feed { item_in_front false (codes "client 1 3\nGET!") ≡ Wrong }
+    ensures second_table { item_in_front false (codes "config 0\n\n") ≡ Wrong }
+    ensures no_table { item_in_front true (codes "at 1\n") ≡ Wrong }
 {}
 
 /// How each effect is told.
-pub fn effects_are_spelled()
+pub fn worked_effects_are_spelled()
     ensures closes { effects_text (effect.Close 1 ∷ effect.Drop 2 ∷ []) ≡ codes "close 1\ndrop 2\n" }
     ensures bytes { effects_text (effect.Client 3 (codes "hi") ∷ effect.Close 3 ∷ [])
         ≡ codes "client 3 2\nhi\nclose 3\n" }

@@ -1,12 +1,12 @@
 //! The text of an item: what `read_item` reads, written.
 ghost use Rattle.std.specs.Prelude.{◌≡◌, ◌++◌, ◌∷◌, [], OnOk, IfOk};
-ghost use Rattle.hx_status.specs.Refusals.{kind_word};
-ghost use Rattle.proxy_script.specs.Lines.{word_text, word_in, rest_text, line_text};
-ghost use Rattle.proxy_script.specs.Script.{said, line_of, block_of, spelled};
+ghost use Rattle.hx_status.specs.Refusals.{fail_kind_word};
+ghost use Rattle.proxy_script.specs.ScriptLines.{word_text, word_of_line, text_behind_word, line_text};
+ghost use Rattle.proxy_script.specs.Script.{plain_item, line_of_item, block_of_item, item_spelling};
 
 use crate::effect_list::push_number;
-use crate::line_parser::Header;
-use crate::words::Word;
+use crate::first_words::Word;
+use crate::line_parser::ItemLine;
 use crate::{Happening, Item};
 use hx_status::FailKind;
 use std::alloc::{AllocError, Global};
@@ -28,7 +28,7 @@ fn word_text(word: Word) -> &'static [u8]
 }
 
 fn kind_word(kind: FailKind) -> &'static [u8]
-    ensures { result.now ≡ kind_word kind }
+    ensures { result.now ≡ fail_kind_word kind }
 {
     match kind {
         FailKind::Refused => b"refused",
@@ -39,25 +39,25 @@ fn kind_word(kind: FailKind) -> &'static [u8]
     }
 }
 
-fn word_in(header: Header) -> Word
-    ensures { result ≡ word_in header }
+fn word_of_line(header: ItemLine) -> Word
+    ensures { result ≡ word_of_line header }
 {
     match header {
-        Header::Config(_) => Word::Config,
-        Header::At(_) => Word::At,
-        Header::Accept(_) => Word::Accept,
-        Header::Client(_, _) => Word::Client,
-        Header::Link(_, _) => Word::Link,
-        Header::End(_) => Word::End,
-        Header::Gone(_) => Word::Gone,
-        Header::Shut(_) => Word::Shut,
-        Header::Fail(_, _) => Word::Fail,
+        ItemLine::Config(_) => Word::Config,
+        ItemLine::At(_) => Word::At,
+        ItemLine::Accept(_) => Word::Accept,
+        ItemLine::Client(_, _) => Word::Client,
+        ItemLine::Link(_, _) => Word::Link,
+        ItemLine::End(_) => Word::End,
+        ItemLine::Gone(_) => Word::Gone,
+        ItemLine::Shut(_) => Word::Shut,
+        ItemLine::Fail(_, _) => Word::Fail,
     }
 }
 
 /// Writes a number, a space and another number.
-fn push_two(text: &mut Vec<u8>, first: u64, second: u64) -> Result<(), AllocError>
-    ensures { OnOk result (text.new.items ≡ text.old.items ++ rest_text (Header.Client first second)) }
+fn push_two_numbers(text: &mut Vec<u8>, first: u64, second: u64) -> Result<(), AllocError>
+    ensures { OnOk result (text.new.items ≡ text.old.items ++ text_behind_word (ItemLine.Client first second)) }
 {
     push_number(text, first)?;
     text.push(b' ')?;
@@ -65,19 +65,19 @@ fn push_two(text: &mut Vec<u8>, first: u64, second: u64) -> Result<(), AllocErro
 }
 
 /// Writes what stands behind the first word of a line and its space.
-fn push_rest(text: &mut Vec<u8>, header: Header) -> Result<(), AllocError>
-    ensures { OnOk result (text.new.items ≡ text.old.items ++ rest_text header) }
+fn push_text_behind_word(text: &mut Vec<u8>, header: ItemLine) -> Result<(), AllocError>
+    ensures { OnOk result (text.new.items ≡ text.old.items ++ text_behind_word header) }
 {
     match header {
-        Header::Config(len) => push_number(text, len),
-        Header::At(moment) => push_number(text, moment),
-        Header::Accept(n) => push_number(text, n),
-        Header::Client(n, len) => push_two(text, n, len),
-        Header::Link(l, len) => push_two(text, l, len),
-        Header::End(n) => push_number(text, n),
-        Header::Gone(n) => push_number(text, n),
-        Header::Shut(l) => push_number(text, l),
-        Header::Fail(l, kind) => {
+        ItemLine::Config(len) => push_number(text, len),
+        ItemLine::At(moment) => push_number(text, moment),
+        ItemLine::Accept(n) => push_number(text, n),
+        ItemLine::Client(n, len) => push_two_numbers(text, n, len),
+        ItemLine::Link(l, len) => push_two_numbers(text, l, len),
+        ItemLine::End(n) => push_number(text, n),
+        ItemLine::Gone(n) => push_number(text, n),
+        ItemLine::Shut(l) => push_number(text, l),
+        ItemLine::Fail(l, kind) => {
             push_number(text, l)?;
             text.push(b' ')?;
             text.extend_from_slice(kind_word(kind))
@@ -86,28 +86,28 @@ fn push_rest(text: &mut Vec<u8>, header: Header) -> Result<(), AllocError>
 }
 
 /// Writes a line, without its LF.
-fn push_line(text: &mut Vec<u8>, header: Header) -> Result<(), AllocError>
+fn push_line(text: &mut Vec<u8>, header: ItemLine) -> Result<(), AllocError>
     ensures { OnOk result (text.new.items ≡ text.old.items ++ line_text header) }
 {
-    text.extend_from_slice(word_text(word_in(header)))?;
+    text.extend_from_slice(word_text(word_of_line(header)))?;
     text.push(b' ')?;
-    push_rest(text, header)
+    push_text_behind_word(text, header)
 }
 
 /// The line of an item.
-fn line_of(item: Item<'_>) -> Header
-    ensures { result ≡ line_of (said item.entry) }
+fn line_of_item(item: Item<'_>) -> ItemLine
+    ensures { result ≡ line_of_item (plain_item item.entry) }
 {
     match item {
-        Item::Config(table) => Header::Config(table.len() as u64),
-        Item::At(moment) => Header::At(moment),
-        Item::Happens(Happening::Accept(n)) => Header::Accept(n),
-        Item::Happens(Happening::Client(n, bytes)) => Header::Client(n, bytes.len() as u64),
-        Item::Happens(Happening::Link(l, bytes)) => Header::Link(l, bytes.len() as u64),
-        Item::Happens(Happening::End(n)) => Header::End(n),
-        Item::Happens(Happening::Gone(n)) => Header::Gone(n),
-        Item::Happens(Happening::Shut(l)) => Header::Shut(l),
-        Item::Happens(Happening::Fail(l, kind)) => Header::Fail(l, kind),
+        Item::Config(table) => ItemLine::Config(table.len() as u64),
+        Item::At(moment) => ItemLine::At(moment),
+        Item::Happens(Happening::Accept(n)) => ItemLine::Accept(n),
+        Item::Happens(Happening::Client(n, bytes)) => ItemLine::Client(n, bytes.len() as u64),
+        Item::Happens(Happening::Link(l, bytes)) => ItemLine::Link(l, bytes.len() as u64),
+        Item::Happens(Happening::End(n)) => ItemLine::End(n),
+        Item::Happens(Happening::Gone(n)) => ItemLine::Gone(n),
+        Item::Happens(Happening::Shut(l)) => ItemLine::Shut(l),
+        Item::Happens(Happening::Fail(l, kind)) => ItemLine::Fail(l, kind),
     }
 }
 
@@ -122,7 +122,7 @@ fn push_block(text: &mut Vec<u8>, bytes: &[u8]) -> Result<(), AllocError>
 
 /// Writes the block behind the line of an item, where one stands.
 fn push_block_of(text: &mut Vec<u8>, item: Item<'_>) -> Result<(), AllocError>
-    ensures { OnOk result (text.new.items ≡ text.old.items ++ block_of (said item.entry)) }
+    ensures { OnOk result (text.new.items ≡ text.old.items ++ block_of_item (plain_item item.entry)) }
 {
     match item {
         Item::Config(table) => push_block(text, table),
@@ -135,10 +135,10 @@ fn push_block_of(text: &mut Vec<u8>, item: Item<'_>) -> Result<(), AllocError>
 /// The text of an item, which `read_item` reads as that item. A moment is below 253402300800, and the kind of a link's
 /// failure is one that can happen by itself. Its only error is out of memory.
 pub fn item_text(alloc: Global, item: Item<'_>) -> Result<Vec<u8>, AllocError>
-    ensures { IfOk result (λ text. text.items ≡ spelled (said item.entry)) }
+    ensures { IfOk result (λ text. text.items ≡ item_spelling (plain_item item.entry)) }
 {
     let mut text = Vec::new(alloc);
-    push_line(&mut text, line_of(item))?;
+    push_line(&mut text, line_of_item(item))?;
     text.push(b'\n')?;
     push_block_of(&mut text, item)?;
     Ok(text)

@@ -7,9 +7,9 @@ use Rattle.std.proofs.lemmas.Cmp.{ranked}
 use Rattle.std.proofs.lemmas.Option.{slice_get-get_or}
 use Rattle.std.proofs.lemmas.List.Sorted.{IsNonDecreasingBy-from_default}
 use Rattle.std.proofs.lemmas.Bool.Decides.{nat_tests}
-use Rattle.proxy_server.specs.Asked.{least_place, number_at, Falls, IsGapFor}
+use Rattle.proxy_server.specs.Asked.{origin_of_least_link, failed_link_number_at, FailedLinkNumbersFall, IsGapForLink}
 
-pub least_place_append : (xs : List (ℕ × ℕ)) (x : ℕ × ℕ) → least_place (xs ++ (x ∷ [])) ≡ Some x.1
+pub least_place_append : (xs : List (ℕ × ℕ)) (x : ℕ × ℕ) → origin_of_least_link (xs ++ (x ∷ [])) ≡ Some x.1
 least_place_append [] x = refl
 least_place_append (y ∷ []) x = refl
 least_place_append (y ∷ (z ∷ rest)) x = least_place_append (z ∷ rest) x
@@ -26,12 +26,12 @@ module _ (xs : List (ℕ × ℕ)) (l : ℕ) where
   gap_in_range (Err at) within = within
 
   -- where numbers fall, the comparisons rise, as a search asks
-  comparisons_rise : Falls xs → IsNonDecreasingBy (λ (one : ℕ × ℕ). ordering_index (nat_cmp l one.0)) xs
+  comparisons_rise : FailedLinkNumbersFall xs → IsNonDecreasingBy (λ (one : ℕ × ℕ). ordering_index (nat_cmp l one.0)) xs
   comparisons_rise falls = IsNonDecreasingBy-from_default (λ (one : ℕ × ℕ). ordering_index (nat_cmp l one.0)) xs (0, 0) (λ i j le in_range.
-      let keys_fall : number_at xs j ≤ number_at xs i = grind (arith, falls i j, λ (same : i ≡ j). ap (number_at xs) same) in
+      let keys_fall : failed_link_number_at xs j ≤ failed_link_number_at xs i = grind (arith, falls i j, λ (same : i ≡ j). ap (failed_link_number_at xs) same) in
       grind (arith, nat_tests))
 
-  pub gap_found : (r : Result ℕ ℕ) → IsSearchInRange r (length xs) → IsBinarySearchResult (λ one. nat_cmp l one.0) xs r → Falls xs → IfErr r (IsGapFor xs l)
+  pub gap_found : (r : Result ℕ ℕ) → IsSearchInRange r (length xs) → IsBinarySearchResult (λ one. nat_cmp l one.0) xs r → FailedLinkNumbersFall xs → IfErr r (IsGapForLink xs l)
   gap_found (Ok at) within equal falls = tt
   gap_found (Err at) within parted falls = record {
     in_range = within;

@@ -3,40 +3,40 @@ use Rattle.std.proofs.Common.{◌≡◌, List, [], ◌∷◌, ◌++◌, refl, sy
 use Rattle.std.specs.Prelude.{option_map}
 use Rattle.hx_status.specs.declared.cause.FailKind.{FailKind}
 use Rattle.proxy_script.specs.declared.happening.Happening.{Happening}
-use Rattle.proxy_engine.specs.Happenings.{Said, said}
+use Rattle.proxy_engine.specs.Happenings.{PlainHappening, plain_happening}
 use Rattle.proxy_engine.specs.EngineModel.{EngineModel}
-use Rattle.proxy_engine.specs.State.{State, Represents, Takes}
+use Rattle.proxy_engine.specs.State.{State, EngineRepresents, EngineTakesHappening}
 use Rattle.proxy_engine.specs.declared.work.End.{End}
 use Rattle.proxy_engine.specs.declared.work.End.TheVariants as ends
 use Rattle.proxy_engine.specs.declared.work.EngineFault.{EngineFault}
-use Rattle.proxy_turn.specs.Turn.{lost}
-use Rattle.proxy_turn.specs.Served.{LosesOn, NothingIsLost, OneIsLost}
-use Rattle.proxy_server.specs.Losses.{TakesLoss, LosesEnd}
+use Rattle.proxy_turn.specs.Turn.{happening_of_loss}
+use Rattle.proxy_turn.specs.Served.{EngineTakesLosses, NoLossIsALossList, OneLossIsTaken}
+use Rattle.proxy_server.specs.Losses.{EngineTakesLoss, EndIsLost}
 
 -- nothing is taken
-stays : (o : Option Said) (e : State) → TakesLoss o e e
+stays : (o : Option PlainHappening) (e : State) → EngineTakesLoss o e e
 stays None e = refl
 stays (Some h) e = inl refl
 
-pub not_lost : (end : End) (kind : FailKind) (e new : State) → new ≡ e → LosesEnd end kind e new
-not_lost end kind e new is = subst (LosesEnd end kind e) (sym is) (stays (lost end kind) e)
+pub not_lost : (end : End) (kind : FailKind) (e new : State) → new ≡ e → EndIsLost end kind e new
+not_lost end kind e new is = subst (EndIsLost end kind e) (sym is) (stays (happening_of_loss end kind) e)
 
-took : (e new : State) (h : Said) (r : Result (Unit {0}) EngineFault) → OnOk r ((s : EngineModel) → Represents e s → Takes s h new) → OnErr r (new ≡ e) → TakesLoss (Some h) e new
+took : (e new : State) (h : PlainHappening) (r : Result (Unit {0}) EngineFault) → OnOk r ((s : EngineModel) → EngineRepresents e s → EngineTakesHappening s h new) → OnErr r (new ≡ e) → EngineTakesLoss (Some h) e new
 took e new h (Ok x) taken same = inr taken
 took e new h (Err fault) taken same = inl same
 
 -- what is handed in is what happened
-pub lost_end : (o : Option Happening) (end : End) (kind : FailKind) (h : Happening) (e new : State) (r : Result (Unit {0}) EngineFault) → o ≡ Some h → option_map said o ≡ lost end kind → OnOk r ((s : EngineModel) → Represents e s → Takes s (said h) new) → OnErr r (new ≡ e) → LosesEnd end kind e new
+pub lost_end : (o : Option Happening) (end : End) (kind : FailKind) (h : Happening) (e new : State) (r : Result (Unit {0}) EngineFault) → o ≡ Some h → option_map plain_happening o ≡ happening_of_loss end kind → OnOk r ((s : EngineModel) → EngineRepresents e s → EngineTakesHappening s (plain_happening h) new) → OnErr r (new ≡ e) → EndIsLost end kind e new
 lost_end o end kind h e new r is reported taken same =
-    subst (λ (l : Option Said). TakesLoss l e new) (sym (ap (option_map said) is) ∙ reported) (took e new (said h) r taken same)
+    subst (λ (l : Option PlainHappening). EngineTakesLoss l e new) (sym (ap (option_map plain_happening) is) ∙ reported) (took e new (plain_happening h) r taken same)
 
 -- ---- they are losses, and nothing else
 
-module _ (none : NothingIsLost) (one : OneIsLost) where
-  on_same : (e new : State) → new ≡ e → LosesOn e new
-  on_same e new is = subst (LosesOn e) (sym is) (none e)
+module _ (none : NoLossIsALossList) (one : OneLossIsTaken) where
+  on_same : (e new : State) → new ≡ e → EngineTakesLosses e new
+  on_same e new is = subst (EngineTakesLosses e) (sym is) (none e)
 
-  pub end_on : (end : End) (kind : FailKind) (e new : State) → LosesEnd end kind e new → LosesOn e new
+  pub end_on : (end : End) (kind : FailKind) (e new : State) → EndIsLost end kind e new → EngineTakesLosses e new
   end_on ends.Listener kind e new is = on_same e new is
   end_on (ends.Client n) kind e new (inl same) = on_same e new same
   end_on (ends.Client n) kind e new (inr taken) = one e new _ tt taken

@@ -1,19 +1,19 @@
 -- What a write to a peer comes to.
 use Rattle.std.proofs.Common.{◌≡◌, ℕ, true, false, List, [], ◌++◌, refl, sym, subst, ◌∙◌}
 use Rattle.std.proofs.lemmas.Bool.{true≢false}
-use Rattle.proxy_server.specs.Peers.{Gave, IsHanded, IsHandedInPart}
-use Rattle.proxy_server.specs.Streams.{IsWritten}
+use Rattle.proxy_server.specs.Peers.{PeerReadOutcome, BytesAreHandedOn, BytesAreHandedOnInPart}
+use Rattle.proxy_server.specs.Streams.{PeerIsWritten}
 use Rattle.proxy_server.specs.declared.peer.Peer.{Peer}
 
-module _ {S : Type 0} (Passed : S → List ℕ → List Gave → S → Type 0) (bytes : List ℕ) (old new : Peer S) where
-  pub written_whole : IsHanded (λ took. Passed old.stream took [] new.stream) (old.unsent.bytes ++ bytes) new.unsent.bytes → IsWritten Passed bytes old new
+module _ {S : Type 0} (Passed : S → List ℕ → List PeerReadOutcome → S → Type 0) (bytes : List ℕ) (old new : Peer S) where
+  pub written_whole : BytesAreHandedOn (λ took. Passed old.stream took [] new.stream) (old.unsent.bytes ++ bytes) new.unsent.bytes → PeerIsWritten Passed bytes old new
   written_whole h = record { in_part = (new.unsent.bytes, h); whole = λ _. h }
 
-  pub written_in_part : IsHandedInPart (λ took. Passed old.stream took [] new.stream) (old.unsent.bytes ++ bytes) → new.broken ≡ true
-      → IsWritten Passed bytes old new
+  pub written_in_part : BytesAreHandedOnInPart (λ took. Passed old.stream took [] new.stream) (old.unsent.bytes ++ bytes) → new.broken ≡ true
+      → PeerIsWritten Passed bytes old new
   written_in_part h broken = record { in_part = h; whole = λ going. absurd (true≢false (sym broken ∙ going)) }
 
-  pub not_written : ((s : S) → Passed s [] [] s) → new.stream ≡ old.stream → new.broken ≡ true → IsWritten Passed bytes old new
+  pub not_written : ((s : S) → Passed s [] [] s) → new.stream ≡ old.stream → new.broken ≡ true → PeerIsWritten Passed bytes old new
   not_written none same broken =
       let P : S → Type 0 = λ s. Passed old.stream [] [] s in
       written_in_part (old.unsent.bytes ++ bytes, ([], subst P (sym same) (none old.stream), refl)) broken

@@ -4,5 +4,6 @@ use Rattle.std.specs.Option.{option_and_then}
 use Rattle.proxy_server.specs.declared.links.Link.{Link}
 
 -- not of a link that has no stream, or isn't there
-abbrev pub is_connecting : {S : Type 0} → Option (Link S) → Bool
-is_connecting link = unwrap_or (option_map (λ peer. peer.connecting) (option_and_then (λ one. one.peer) link)) false
+abbrev pub link_is_connecting : {S : Type 0} → Option (Link S) → Bool
+link_is_connecting link = unwrap_or (option_map (λ peer. peer.connecting)
+    (option_and_then (λ one. one.peer) link)) false

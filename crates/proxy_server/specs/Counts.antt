@@ -2,9 +2,10 @@
 use Rattle.std.specs.Prelude.{ℕ, ◌+◌, nat_lt, if◌then◌else◌, List, length, slice_set, slice_index}
 
 -- one more, up to the most that a count has
-abbrev pub one_more : ℕ → ℕ
-one_more n = if nat_lt n 18446744073709551615 then n + 1 else 18446744073709551615
+abbrev pub count_plus_one : ℕ → ℕ
+count_plus_one n = if nat_lt n 18446744073709551615 then n + 1 else 18446744073709551615
 
 -- counts, with one more at a place, if there is one
-abbrev pub counted : List ℕ → ℕ → List ℕ
-counted counts at = if nat_lt at (length counts) then slice_set counts at (one_more (slice_index counts at)) else counts
+abbrev pub counts_with_one_more : List ℕ → ℕ → List ℕ
+counts_with_one_more counts at = if nat_lt at (length counts) then slice_set counts at
+    (count_plus_one (slice_index counts at)) else counts

@@ -7,12 +7,12 @@ pub mod FaultTexts
 pub mod Forgetting
 pub mod Logging
 pub mod Losses
-pub mod Numbers
+pub mod OtherEntries
 pub mod Paces
 pub mod Page
 pub mod Patience
 pub mod Peers
-pub mod Places
+pub mod ClientPlaces
 pub mod Recorded
 pub mod RecordedTurns
 pub mod Records

@@ -1,6 +1,7 @@
 -- Whether the next turn waits, and at which moment it is.
 --
--- behind: what a turn leaves to the next      moment_of, milliseconds_of: what a clock tells
+-- next_turn_must_not_wait: what a turn leaves to the next
+-- moment_and_milliseconds, milliseconds_of_duration: what a clock tells
 use Rattle.std.specs.Prelude.{ℕ, ◌+◌, ◌-◌, ◌*◌, ◌/◌, ◌%◌, min, nat_lt, Bool, true, false, not, ◌&&◌, ◌||◌, Result, Ok}
 use Rattle.std.specs.Prelude.{Err}
 use Rattle.std.specs.Duration.{as_nanos}
@@ -13,30 +14,35 @@ use Rattle.proxy_turn.specs.declared.report.TurnFault.TheVariants as faults
 use Rattle.proxy_server.specs.declared.pace.Pace.{Pace}
 
 -- an act was done, or a call failed: an end may be free
-abbrev pub has_freed : Result Report TurnFault → Bool
-has_freed (Ok report) = nat_lt 0 report.works || nat_lt 0 report.faults
-has_freed (Err fault) = false
+abbrev pub turn_has_freed_an_end : Result Report TurnFault → Bool
+turn_has_freed_an_end (Ok report) = nat_lt 0 report.works || nat_lt 0 report.faults
+turn_has_freed_an_end (Err fault) = false
 
 -- The next turn comes at once where something is due, where what was freed lets more be read, where
 -- ends whose time is over are still looked for, or where there is more to take; and where no
 -- connection could be accepted, or the last number of a link was used. Where memory was wanting it
 -- waits: there may be some a little later.
-abbrev pub behind : Pace → Result Report TurnFault → Bool → Bool → Pace
-behind p (Ok report) unread more =
+abbrev pub next_turn_must_not_wait : Pace → Result Report TurnFault → Bool → Bool → Pace
+next_turn_must_not_wait p (Ok report) unread more =
     record p {
       settled = nat_lt report.works MOST_WORKS;
-      busy = not (nat_lt report.works MOST_WORKS) || (has_freed (Ok report) && unread) || p.sweeping || more;
+      busy = not (nat_lt report.works MOST_WORKS) || (turn_has_freed_an_end (Ok report) && unread) || p.sweeping
+          || more;
     }
-behind p (Err faults.Listener) unread more = record p { settled = false; busy = true }
-behind p (Err faults.NoMemory) unread more = record p { settled = false; busy = false }
-behind p (Err faults.Spent) unread more = record p { settled = false; busy = true }
+next_turn_must_not_wait p (Err faults.Listener) unread more = record p { settled = false; busy = true }
+next_turn_must_not_wait p (Err faults.NoMemory) unread more = record p { settled = false; busy = false }
+next_turn_must_not_wait p (Err faults.Spent) unread more = record p { settled = false; busy = true }
 
 -- the clock's time since 1970 as a moment in seconds, at most the last of the year 9999, and its milliseconds
-abbrev pub moment_of : Duration → ℕ × ℕ
-moment_of time = (min (as_nanos time / 1_000_000_000) (END_OF_TIME - 1), as_nanos time % 1_000_000_000 / 1_000_000)
+abbrev pub moment_and_milliseconds : Duration → ℕ × ℕ
+moment_and_milliseconds time = (
+  min (as_nanos time / 1_000_000_000)
+      (END_OF_TIME - 1),
+  as_nanos time % 1_000_000_000 / 1_000_000,
+)
 
 -- in milliseconds; more than 64 bits have are the most that they have
-abbrev pub milliseconds_of : Duration → ℕ
-milliseconds_of time =
+abbrev pub milliseconds_of_duration : Duration → ℕ
+milliseconds_of_duration time =
     min (min ((as_nanos time / 1_000_000_000) * 1000) 18446744073709551615
     + as_nanos time % 1_000_000_000 / 1_000_000) 18446744073709551615

@@ -18,23 +18,25 @@ abbrev pub label_text : List ℕ → List ℕ → List ℕ
 label_text key label = key ++ codes "=\"" ++ label ++ codes "\""
 
 -- the name of a sample, and the label of its program
-abbrev pub named_text : List ℕ → List ℕ → List ℕ
-named_text listen name = name ++ codes "{" ++ label_text (codes "listen") listen
+abbrev pub sample_name_text : List ℕ → List ℕ → List ℕ
+sample_name_text listen name = name ++ codes "{" ++ label_text (codes "listen") listen
 
-abbrev pub further_text : List ℕ → List ℕ → List ℕ
-further_text key label = codes "," ++ label_text key label
+abbrev pub further_label_text : List ℕ → List ℕ → List ℕ
+further_label_text key label = codes "," ++ label_text key label
 
 -- the value, and the end of a sample
 abbrev pub value_text : List ℕ → List ℕ
 value_text value = codes "} " ++ value ++ codes "\n"
 
 abbrev pub sample_text : List ℕ → List ℕ → List ℕ → List ℕ
-sample_text listen name value = named_text listen name ++ value_text value
+sample_text listen name value = sample_name_text listen name ++ value_text value
 
 -- with a label of its own, and with two
-abbrev pub labelled_text : List ℕ → List ℕ → List ℕ → List ℕ → List ℕ → List ℕ
-labelled_text listen name key label value = named_text listen name ++ further_text key label ++ value_text value
+abbrev pub sample_with_label_text : List ℕ → List ℕ → List ℕ → List ℕ → List ℕ → List ℕ
+sample_with_label_text listen name key label value = sample_name_text listen name ++ further_label_text key label
+    ++ value_text value
 
-abbrev pub pair_text : List ℕ → List ℕ → List ℕ → List ℕ → List ℕ → List ℕ → List ℕ → List ℕ
-pair_text listen name key label other_key other_label value =
-    named_text listen name ++ further_text key label ++ further_text other_key other_label ++ value_text value
+abbrev pub sample_with_two_labels_text : List ℕ → List ℕ → List ℕ → List ℕ → List ℕ → List ℕ → List ℕ → List ℕ
+sample_with_two_labels_text listen name key label other_key other_label value =
+    sample_name_text listen name ++ further_label_text key label ++ further_label_text other_key other_label
+    ++ value_text value

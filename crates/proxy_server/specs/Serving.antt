@@ -2,7 +2,7 @@
 use Rattle.std.specs.Prelude.{◌≡◌, ℕ, ◌<◌, Result, Ok, Err}
 use Rattle.hx_fields.specs.declared.limits.TheConstants.{END_OF_TIME}
 use Rattle.proxy_engine.specs.State.{State}
-use Rattle.proxy_turn.specs.Served.{Serves}
+use Rattle.proxy_turn.specs.Served.{EngineServesTurn}
 use Rattle.proxy_turn.specs.declared.report.Report.{Report}
 use Rattle.proxy_turn.specs.declared.report.TurnFault.{TurnFault}
 use Rattle.proxy_turn.specs.declared.report.TurnFault.TheVariants as faults
@@ -11,23 +11,25 @@ use Rattle.proxy_server.specs.declared.server.ServeFault.{ServeFault}
 use Rattle.proxy_server.specs.declared.server.ServeFault.TheVariants.{Socket, Clock, Record, Spent}
 
 -- no number of a link was wanted that is used up
-abbrev pub HasLinksLeft : Result Report TurnFault → Type 0
-HasLinksLeft (Ok report) = Unit {0}
-HasLinksLeft (Err faults.Listener) = Unit {0}
-HasLinksLeft (Err faults.NoMemory) = Unit {0}
-HasLinksLeft (Err faults.Spent) = ⊥
+abbrev pub TurnHadLinkNumbersLeft : Result Report TurnFault → Type 0
+TurnHadLinkNumbersLeft (Ok report) = Unit {0}
+TurnHadLinkNumbersLeft (Err faults.Listener) = Unit {0}
+TurnHadLinkNumbersLeft (Err faults.NoMemory) = Unit {0}
+TurnHadLinkNumbersLeft (Err faults.Spent) = ⊥
 
 -- one turn was served, behind what was lost, at some moment of those up to the end of the year 9999
-abbrev pub ServesAtAMoment : State → State → Result Report TurnFault → Type 0
-ServesAtAMoment e new reported = (now : ℕ) × (now < END_OF_TIME) × Serves now e new reported
+abbrev pub TurnIsServedAtAMoment : State → State → Result Report TurnFault → Type 0
+TurnIsServedAtAMoment e new reported = (now : ℕ) × (now < END_OF_TIME) × EngineServesTurn now e new reported
 
 -- One turn was served, behind what was lost, at the moment that it names, and told what it says. Where the system can't
 -- tell what is ready, or a clock can't be read, nothing was taken or done. Where the record failed, a turn was served
 -- as far as it came; and where the last number of a link is used, by a turn that ended so.
-abbrev pub Answers : State → State → Result Turned ServeFault → Type 0
-Answers e new (Ok turned) =
-    (turned.moment < END_OF_TIME) × HasLinksLeft turned.reported × Serves turned.moment e new turned.reported
-Answers e new (Err Socket) = new ≡ e
-Answers e new (Err Clock) = new ≡ e
-Answers e new (Err (Record fault)) = (reported : Result Report TurnFault) × ServesAtAMoment e new reported
-Answers e new (Err Spent) = ServesAtAMoment e new (Err faults.Spent)
+abbrev pub ServeTurnAnswers : State → State → Result Turned ServeFault → Type 0
+ServeTurnAnswers e new (Ok turned) =
+    (turned.moment < END_OF_TIME) × TurnHadLinkNumbersLeft turned.reported
+    × EngineServesTurn turned.moment e new turned.reported
+ServeTurnAnswers e new (Err Socket) = new ≡ e
+ServeTurnAnswers e new (Err Clock) = new ≡ e
+ServeTurnAnswers e new (Err (Record fault)) = (reported : Result Report TurnFault)
+    × TurnIsServedAtAMoment e new reported
+ServeTurnAnswers e new (Err Spent) = TurnIsServedAtAMoment e new (Err faults.Spent)

@@ -6,38 +6,40 @@
 ghost use Rattle.std.specs.Prelude.{◌≡◌, ◌≤◌, ℕ, [], length, slice_get, option_map, Some, None, true, false, IfOk};
 ghost use Rattle.std.specs.Prelude.{IfErr};
 ghost use Rattle.std.specs.Bool.{OnFalse, OnTrue};
-ghost use Rattle.proxy_server.specs.Asked.{with_place, only_place, place_of, left_of, Falls, HasRoom, IsAmong};
-ghost use Rattle.proxy_server.specs.Asked.{IsGapFor, IsKept, KeepsOrder};
+ghost use Rattle.proxy_server.specs.Asked.{failed_origins_with, only_failed_origin, origin_of_next_reply};
+ghost use Rattle.proxy_server.specs.Asked.{failed_links_after, FailedLinkNumbersFall, HasRoomForFailedLink};
+ghost use Rattle.proxy_server.specs.Asked.{IsAmongFailedLinks};
+ghost use Rattle.proxy_server.specs.Asked.{IsGapForLink, FailedLinkIsKept, FailedLinkIsKeptOrOrderIsLost};
 
 use crate::limits::PLACES;
 use std::alloc::Global;
 
 /// The origins of links that have failed, by their places.
 #[derive(Clone, Copy, Debug, PartialEq, Eq)]
-enum Places {
+enum FailedOrigins {
     Nowhere,
     One(usize),
     Several,
 }
 
-impl Places {
+impl FailedOrigins {
     /// These, and one more.
-    fn with(self, place: usize) -> Places
-        ensures { result ≡ with_place self place }
+    fn with(self, place: usize) -> FailedOrigins
+        ensures { result ≡ failed_origins_with self place }
     {
         match self {
-            Places::Nowhere => Places::One(place),
-            Places::One(one) if one == place => self,
-            _ => Places::Several,
+            FailedOrigins::Nowhere => FailedOrigins::One(place),
+            FailedOrigins::One(one) if one == place => self,
+            _ => FailedOrigins::Several,
         }
     }
 
     /// The place, where it is one.
     fn only(self) -> Option<usize>
-        ensures { result ≡ only_place self }
+        ensures { result ≡ only_failed_origin self }
     {
         match self {
-            Places::One(place) => Some(place),
+            FailedOrigins::One(place) => Some(place),
             _ => None,
         }
     }
@@ -52,19 +54,19 @@ pub(crate) struct Asked {
     /// than can be open.
     failed: Vec<(u64, usize)>,
     /// The origins of all that have failed.
-    places: Places,
+    places: FailedOrigins,
     /// Some of what failed or was shut may have no reply.
     is_unsure: bool,
 }
 
 impl Asked {
     pub(crate) fn new(alloc: Global) -> Asked
-        ensures { Falls result.failed.items }
+        ensures { FailedLinkNumbersFall result.failed.items }
     {
         Asked {
             shut: None,
             failed: Vec::new(alloc),
-            places: Places::Nowhere,
+            places: FailedOrigins::Nowhere,
             is_unsure: false,
         }
     }
@@ -79,11 +81,11 @@ impl Asked {
     /// A link has failed. It is kept, unless as many are kept as can be open or memory is wanting for it: then the
     /// order of the others tells nothing.
     pub(crate) fn disconnect_link(&mut self, l: u64, place: usize)
-        ensures places { self.new.places ≡ with_place self.old.places place }
+        ensures places { self.new.places ≡ failed_origins_with self.old.places place }
         ensures shut { self.new.shut ≡ self.old.shut }
-        ensures order { KeepsOrder l place self.old self.new }
-        ensures kept { HasRoom self.old → IsKept l place self.old self.new }
-        ensures falls { Falls self.old.failed.items → Falls self.new.failed.items }
+        ensures order { FailedLinkIsKeptOrOrderIsLost l place self.old self.new }
+        ensures kept { HasRoomForFailedLink self.old → FailedLinkIsKept l place self.old self.new }
+        ensures falls { FailedLinkNumbersFall self.old.failed.items → FailedLinkNumbersFall self.new.failed.items }
     {
         self.places = self.places.with(place);
         if !self.keep(l, place) {
@@ -93,10 +95,10 @@ impl Asked {
 
     /// Keeps a link that has failed. Whether there was room and memory for it.
     fn keep(&mut self, l: u64, place: usize) -> bool
-        ensures kept { OnTrue result (IsAmong l place self.old.failed.items self.new.failed.items) }
+        ensures kept { OnTrue result (IsAmongFailedLinks l place self.old.failed.items self.new.failed.items) }
         ensures not_kept { OnFalse result (self.new.failed.items ≡ self.old.failed.items) }
-        ensures room { HasRoom self.old → result ≡ true }
-        ensures falls { Falls self.old.failed.items → Falls self.new.failed.items }
+        ensures room { HasRoomForFailedLink self.old → result ≡ true }
+        ensures falls { FailedLinkNumbersFall self.old.failed.items → FailedLinkNumbersFall self.new.failed.items }
         ensures unsure { self.new.is_unsure ≡ self.old.is_unsure }
         ensures places { self.new.places ≡ self.old.places }
         ensures shut { self.new.shut ≡ self.old.shut }
@@ -104,17 +106,18 @@ impl Asked {
         if self.failed.len() >= PLACES {
             return false;
         }
-        match self.spot(l) {
+        match self.spot_of_failed_link(l) {
             Ok(_) => true,
             Err(at) => self.failed.insert(at, (l, place)).is_ok(),
         }
     }
 
     /// Where a link stands among those that have failed, or would.
-    fn spot(&self, l: u64) -> Result<usize, usize>
+    fn spot_of_failed_link(&self, l: u64) -> Result<usize, usize>
         ensures found { IfOk result (λ at. option_map (λ (one : ℕ × ℕ). one.0) (slice_get self.now.failed.items at)
             ≡ Some l) }
-        ensures gap { Falls self.now.failed.items → IfErr result (IsGapFor self.now.failed.items l) }
+        ensures gap { FailedLinkNumbersFall self.now.failed.items → IfErr result
+            (IsGapForLink self.now.failed.items l) }
         ensures within { IfErr result (λ at. at ≤ length self.now.failed.items) }
     {
         self.failed.binary_search_by(|one| l.cmp(&one.0))
@@ -122,9 +125,9 @@ impl Asked {
 
     /// A link to an unknown origin has failed.
     pub(crate) fn disconnect_any(&mut self)
-        ensures { self.new ≡ record self.old { places = Places.Several; is_unsure = true } }
+        ensures { self.new ≡ record self.old { places = FailedOrigins.Several; is_unsure = true } }
     {
-        self.places = Places::Several;
+        self.places = FailedOrigins::Several;
         self.is_unsure = true;
     }
 
@@ -139,12 +142,12 @@ impl Asked {
     pub(crate) fn clear(&mut self)
         ensures shut { self.new.shut ≡ None }
         ensures failed { self.new.failed.items ≡ [] }
-        ensures places { self.new.places ≡ Places.Nowhere }
+        ensures places { self.new.places ≡ FailedOrigins.Nowhere }
         ensures sure { self.new.is_unsure ≡ false }
     {
         self.shut = None;
         self.failed.clear();
-        self.places = Places::Nowhere;
+        self.places = FailedOrigins::Nowhere;
         self.is_unsure = false;
     }
 
@@ -152,12 +155,12 @@ impl Asked {
     /// that origin answered, or failed.
     #[tactic(auto, using(crate::proofs::AskedLemmas::least_place_append))]
     pub(crate) fn next(&mut self, answered: bool) -> Option<usize>
-        ensures place { result ≡ place_of self.old answered }
+        ensures place { result ≡ origin_of_next_reply self.old answered }
         ensures shut { self.new.shut ≡ None }
-        ensures left { self.new.failed.items ≡ left_of self.old answered }
+        ensures left { self.new.failed.items ≡ failed_links_after self.old answered }
         ensures places { self.new.places ≡ self.old.places }
         ensures unsure { self.new.is_unsure ≡ self.old.is_unsure }
-        ensures falls { Falls self.old.failed.items → Falls self.new.failed.items }
+        ensures falls { FailedLinkNumbersFall self.old.failed.items → FailedLinkNumbersFall self.new.failed.items }
     {
         let shut = self.shut.take();
         if answered {

@@ -1,20 +1,20 @@
 //! A client's stream: where it stands, what it asks for, and what a log needs of it.
 ghost use Rattle.std.specs.Prelude.{◌≡◌, ◌<◌, ◌≤◌, length, false, Some, None, IfOk};
-ghost use Rattle.proxy_server.specs.Patience.{has_left, is_longer};
-ghost use Rattle.proxy_turn.specs.Received.{IsReceived};
-ghost use Rattle.proxy_server.specs.Logging.{IsAbout, has_log, address_of};
-ghost use Rattle.proxy_server.specs.Places.{IsOpened};
-ghost use Rattle.proxy_server.specs.Streams.{has_early, may_give};
+ghost use Rattle.proxy_server.specs.Patience.{client_has_left, has_lasted_longer};
+ghost use Rattle.proxy_turn.specs.Received.{FitsTheBuffer};
+ghost use Rattle.proxy_server.specs.Logging.{IsLineAboutReply, client_has_log, logged_address};
+ghost use Rattle.proxy_server.specs.ClientPlaces.{ClientHasPlace};
+ghost use Rattle.proxy_server.specs.Streams.{client_has_early_bytes, client_may_give};
 
-use crate::early::{Came, Early};
-use crate::lines::Line;
+use crate::early::{EarlyBytes, RequestWholeness};
 use crate::peer::Peer;
-use crate::pieces::{LEAST, head_end};
+use crate::pieces::{LEAST_HANDED_IN, head_end};
 use crate::reply_log::Reply;
 use crate::stream::Stream;
+use crate::stream_queues::StreamQueue;
 use hx_fields::Bytes;
 use mio::net::TcpStream;
-use proxy_log::{Asked, Seen, line_about};
+use proxy_log::{Asked, SeenOfReply, line_about};
 use proxy_turn::{PIECE, Received};
 use std::alloc::{AllocError, Global};
 use std::io;
@@ -26,12 +26,12 @@ pub(crate) enum Place {
     /// The engine knows it by this number.
     Open(u64),
     /// In a line, since it had this stamp.
-    In(Line, u64),
+    In(StreamQueue, u64),
 }
 
 /// What came of a read before a request has a place.
 #[derive(Clone, Copy, Debug, PartialEq, Eq)]
-pub(crate) enum Heard {
+pub(crate) enum EarlyReadOutcome {
     Nothing,
     /// More of a request, or its end.
     Something,
@@ -56,7 +56,7 @@ pub(crate) struct Client<S: Stream + Drop = TcpStream> {
     alloc: Global,
     pub(crate) place: Place,
     /// What came and wasn't handed in yet.
-    early: Option<Early>,
+    early: Option<EarlyBytes>,
     /// When the first byte of its request came, if its request is incomplete.
     pub(crate) asked: Option<u64>,
     /// Something of a request was handed in that wasn't answered yet.
@@ -76,7 +76,7 @@ impl<S: Stream + Drop> Client<S> {
         Client {
             peer,
             alloc,
-            place: Place::In(Line::Idle, stamp),
+            place: Place::In(StreamQueue::Idle, stamp),
             early: None,
             asked: None,
             is_begun: false,
@@ -89,7 +89,7 @@ impl<S: Stream + Drop> Client<S> {
 
     /// Who it is, for a log.
     pub(crate) fn keep_log(&mut self, address: SocketAddr)
-        ensures { address_of self.new.logged ≡ Some address }
+        ensures { logged_address self.new.logged ≡ Some address }
     {
         self.logged = Some(Logged {
             address,
@@ -99,7 +99,7 @@ impl<S: Stream + Drop> Client<S> {
 
     /// It has a place: what it asks for is read for a log too, where one is kept.
     pub(crate) fn open(&mut self, n: u64, max_body: u64)
-        ensures { IsOpened n max_body self.old self.new }
+        ensures { ClientHasPlace n max_body self.old self.new }
     {
         self.place = Place::Open(n);
         self.has_asked = true;
@@ -109,8 +109,8 @@ impl<S: Stream + Drop> Client<S> {
     }
 
     /// It has no place any more, between two requests.
-    pub(crate) fn rest(&mut self)
-        ensures { address_of self.new.logged ≡ address_of self.old.logged }
+    pub(crate) fn leave_place(&mut self)
+        ensures { logged_address self.new.logged ≡ logged_address self.old.logged }
     {
         self.answered();
         if let Some(logged) = &mut self.logged {
@@ -120,7 +120,7 @@ impl<S: Stream + Drop> Client<S> {
 
     /// Takes what came, for a log.
     pub(crate) fn read_piece(&mut self, piece: &[u8])
-        ensures { address_of self.new.logged ≡ address_of self.old.logged }
+        ensures { logged_address self.new.logged ≡ logged_address self.old.logged }
     {
         let alloc = self.alloc;
         if let Some(logged) = &mut self.logged {
@@ -132,7 +132,7 @@ impl<S: Stream + Drop> Client<S> {
     }
 
     /// Milliseconds since the first byte of the request came that is being answered.
-    pub(crate) fn took(&self, now: u64) -> u64 {
+    pub(crate) fn milliseconds_taken(&self, now: u64) -> u64 {
         match self.asked {
             Some(asked) => now.saturating_sub(asked),
             None => 0,
@@ -144,8 +144,8 @@ impl<S: Stream + Drop> Client<S> {
         &mut self,
         reply: &Reply<'_>,
     ) -> Result<Option<proxy_log::Line>, AllocError>
-        ensures about { IfOk result (IsAbout self.old.logged reply.now) }
-        ensures without { has_log self.old.logged ≡ false → result ≡ Ok None }
+        ensures about { IfOk result (IsLineAboutReply self.old.logged reply.now) }
+        ensures without { client_has_log self.old.logged ≡ false → result ≡ Ok None }
     {
         let alloc = self.alloc;
         let Some(logged) = &mut self.logged else {
@@ -156,7 +156,7 @@ impl<S: Stream + Drop> Client<S> {
         };
         let question = asked.next_question(alloc);
         let address = logged.address.to_string(alloc)?;
-        let seen = Seen {
+        let seen = SeenOfReply {
             moment: reply.moment,
             client: address.as_str().as_bytes(),
             took: reply.took,
@@ -166,10 +166,10 @@ impl<S: Stream + Drop> Client<S> {
     }
 
     /// Keeps what came and isn't handed in yet.
-    pub(crate) fn keep_early(&mut self, piece: &[u8]) -> Result<(), AllocError> {
+    pub(crate) fn keep_early_bytes(&mut self, piece: &[u8]) -> Result<(), AllocError> {
         let mut early = match self.early.take() {
             Some(early) => early,
-            None => Early::new(self.alloc),
+            None => EarlyBytes::new(self.alloc),
         };
         early.keep(piece)?;
         self.early = Some(early);
@@ -185,8 +185,8 @@ impl<S: Stream + Drop> Client<S> {
     }
 
     /// Whether something has come that wasn't handed in yet.
-    pub(crate) fn has_early(&self) -> bool
-        ensures { result ≡ has_early self.now.early }
+    pub(crate) fn has_early_bytes(&self) -> bool
+        ensures { result ≡ client_has_early_bytes self.now.early }
     {
         match &self.early {
             Some(early) => !early.is_empty(),
@@ -200,17 +200,20 @@ impl<S: Stream + Drop> Client<S> {
     }
 
     /// Whether its request has come whole, as far as what was kept tells.
-    pub(crate) fn look(&mut self, max_body: u64) -> Result<Came, AllocError> {
+    pub(crate) fn look_whether_whole(
+        &mut self,
+        max_body: u64,
+    ) -> Result<RequestWholeness, AllocError> {
         let alloc = self.alloc;
         match &mut self.early {
-            Some(early) => early.look(alloc, max_body),
-            None => Ok(Came::Part),
+            Some(early) => early.look_whether_whole(alloc, max_body),
+            None => Ok(RequestWholeness::Part),
         }
     }
 
     /// Whether its request has been incomplete for more than so many milliseconds.
     pub(crate) fn is_late(&self, now: u64, limit: u64) -> bool
-        ensures { result ≡ is_longer now self.now.asked limit }
+        ensures { result ≡ has_lasted_longer now self.now.asked limit }
     {
         match self.asked {
             Some(asked) => now.saturating_sub(asked) > limit,
@@ -221,7 +224,7 @@ impl<S: Stream + Drop> Client<S> {
     /// Whether it has sent its end, and for more than so many milliseconds nothing was written since; or at all, where
     /// places are short.
     pub(crate) fn has_left(&self, now: u64, limit: u64, short: bool) -> bool
-        ensures { result ≡ has_left now self.now.left self.now.peer.heard limit short }
+        ensures { result ≡ client_has_left now self.now.left self.now.peer.heard limit short }
     {
         match self.left {
             Some(left) => short || now.saturating_sub(left.max(self.peer.heard)) > limit,
@@ -231,13 +234,13 @@ impl<S: Stream + Drop> Client<S> {
 
     /// Whether there is something that a read would give, or may.
     pub(crate) fn may_give(&self) -> bool
-        ensures { result ≡ may_give self.now }
+        ensures { result ≡ client_may_give self.now }
     {
-        !self.peer.has_unsent() && (self.peer.readable || self.has_early())
+        !self.peer.has_unsent() && (self.peer.readable || self.has_early_bytes())
     }
 
     /// Something of a request is handed in.
-    fn ask(&mut self, now: u64) {
+    fn note_request_begun(&mut self, now: u64) {
         self.is_begun = true;
         if self.asked.is_none() {
             self.asked = Some(now);
@@ -254,7 +257,7 @@ impl<S: Stream + Drop> Client<S> {
 
     /// How many bytes are handed in at least, where so many have come.
     fn least(&self) -> usize {
-        if self.is_begun { LEAST } else { 0 }
+        if self.is_begun { LEAST_HANDED_IN } else { 0 }
     }
 
     /// Keeps what stands behind the head of a request for the next reads; answers how many bytes stand in front. Where
@@ -266,7 +269,7 @@ impl<S: Stream + Drop> Client<S> {
         if end == 0 || end == piece.len() {
             return piece.len();
         }
-        match self.keep_early(&piece[end..]) {
+        match self.keep_early_bytes(&piece[end..]) {
             Ok(()) => end,
             Err(_) => piece.len(),
         }
@@ -275,7 +278,7 @@ impl<S: Stream + Drop> Client<S> {
     /// Reads a piece of what has come, if anything may have, behind what was kept. From one that still has to take what
     /// was written nothing is read.
     pub(crate) fn read_on(&mut self, buf: &mut [u8], now: u64) -> io::Result<Received>
-        ensures within { IfOk result (IsReceived (length buf.old)) }
+        ensures within { IfOk result (FitsTheBuffer (length buf.old)) }
         ensures length { length buf.new ≡ length buf.old }
         ensures takes_first { 0 < length self.old.peer.unsent.bytes → (self.new ≡ self.old)
             × (result ≡ Ok Received.Nothing) }
@@ -288,35 +291,36 @@ impl<S: Stream + Drop> Client<S> {
 
     /// Reads a piece of what has come before its request has a place, and keeps it. Of one that still has to take what
     /// was written nothing is read.
-    pub(crate) fn read_early(&mut self, now: u64) -> Heard
-        ensures takes_first { 0 < length self.old.peer.unsent.bytes → (self.new ≡ self.old) × (result ≡ Heard.Nothing) }
+    pub(crate) fn read_early(&mut self, now: u64) -> EarlyReadOutcome
+        ensures takes_first { 0 < length self.old.peer.unsent.bytes → (self.new ≡ self.old)
+            × (result ≡ EarlyReadOutcome.Nothing) }
     {
         let mut buf = [0u8; PIECE];
         match self.read_on(&mut buf, now) {
-            Ok(Received::Nothing) => Heard::Nothing,
+            Ok(Received::Nothing) => EarlyReadOutcome::Nothing,
             Ok(Received::Bytes(n)) => {
-                if self.keep_early(&buf[..n]).is_err() {
-                    return Heard::NoMemory;
+                if self.keep_early_bytes(&buf[..n]).is_err() {
+                    return EarlyReadOutcome::NoMemory;
                 }
                 if self.asked.is_none() {
                     self.asked = Some(now);
                 }
-                Heard::Something
+                EarlyReadOutcome::Something
             }
-            Ok(Received::End) if self.has_early() => {
+            Ok(Received::End) if self.has_early_bytes() => {
                 // The engine is told of the end behind what came before it.
                 self.peer.readable = true;
-                Heard::Something
+                EarlyReadOutcome::Something
             }
-            Ok(Received::End) => Heard::Gone,
-            Err(_) => Heard::Gone,
+            Ok(Received::End) => EarlyReadOutcome::Gone,
+            Err(_) => EarlyReadOutcome::Gone,
         }
     }
 
     /// Reads what has come, if anything may have, as far as the head of one request: what was kept comes first. From
     /// one that still has to take what was written nothing is read.
     pub(crate) fn read(&mut self, buf: &mut [u8], now: u64) -> io::Result<Received>
-        ensures within { IfOk result (IsReceived (length buf.old)) }
+        ensures within { IfOk result (FitsTheBuffer (length buf.old)) }
         ensures length { length buf.new ≡ length buf.old }
         ensures takes_first { 0 < length self.old.peer.unsent.bytes → self.new ≡ self.old }
     {
@@ -330,13 +334,13 @@ impl<S: Stream + Drop> Client<S> {
                 self.early = None;
             }
             if n > 0 {
-                self.ask(now);
+                self.note_request_begun(now);
                 return Ok(Received::Bytes(n));
             }
         }
         match self.read_on(buf, now)? {
             Received::Bytes(n) => {
-                self.ask(now);
+                self.note_request_begun(now);
                 Ok(Received::Bytes(self.keep_rest(&buf[..n], least)))
             }
             received => Ok(received),

@@ -8,19 +8,20 @@ ghost use Rattle.std.specs.Bool.{OnTrue, OnFalse};
 ghost use Rattle.std.specs.Ordering.{nat_cmp};
 ghost use Rattle.std.specs.BTreeMap.{get};
 ghost use Rattle.slab.specs.Slab as slab;
-ghost use Rattle.proxy_turn.specs.Received.{IsReceived};
-ghost use Rattle.proxy_server.specs.Numbers.{OthersStay, OtherKeysStay, OnlyAt};
-ghost use Rattle.proxy_server.specs.Streams.{IsWritten, IsOnPeer, at_number, is_cut, may_be_left};
-ghost use Rattle.proxy_server.specs.Closing.{IsInLine, TakesPlace};
-ghost use Rattle.proxy_server.specs.Places.{IsOpenedAt};
+ghost use Rattle.proxy_turn.specs.Received.{FitsTheBuffer};
+ghost use Rattle.proxy_server.specs.OtherEntries.{OtherEntriesStay, OtherSlabKeysStay, ChangesOnlyAtNumber};
+ghost use Rattle.proxy_server.specs.Streams.{PeerIsWritten, IsDoneToClientsPeer, stream_at_number, client_is_cut};
+ghost use Rattle.proxy_server.specs.Streams.{client_may_have_more};
+ghost use Rattle.proxy_server.specs.Closing.{ClientStandsInQueue, ClientLeavesItsPlace};
+ghost use Rattle.proxy_server.specs.ClientPlaces.{ClientHasPlaceAt};
 
-use crate::client::{Client, Heard, Place};
-use crate::early::Came;
-use crate::endings::{Cut, Endings};
-use crate::limits::{Limits, PLACES, SHARED};
-use crate::lines::{Line, Lines};
+use crate::client::{Client, EarlyReadOutcome, Place};
+use crate::early::RequestWholeness;
+use crate::endings::{CutReason, Endings};
+use crate::limits::{Limits, PLACES, SHARED_PLACES};
 use crate::peer::Peer;
 use crate::stream::Stream;
+use crate::stream_queues::{StreamQueue, StreamQueues};
 use mio::event::Event;
 use mio::net::TcpStream;
 use proxy_turn::Received;
@@ -30,7 +31,7 @@ use std::collections::{BTreeMap, btree_map};
 use std::io;
 
 /// How many streams are looked at, at a time, for whether their request is whole.
-const LOOKS: usize = 64;
+const MOST_LOOKS: usize = 64;
 
 #[derive(Drop)]
 pub(crate) struct Clients<S: Stream + Drop = TcpStream> {
@@ -38,7 +39,7 @@ pub(crate) struct Clients<S: Stream + Drop = TcpStream> {
     pub(crate) streams: Slab<Client<S>>,
     /// The keys of those that have a place, by their numbers.
     pub(crate) open: BTreeMap<u64, usize>,
-    pub(crate) lines: Lines,
+    pub(crate) lines: StreamQueues,
     /// The numbers of those that failed since the last turn.
     lost: Vec<u64>,
     /// Bytes that are kept for clients.
@@ -55,7 +56,7 @@ impl<S: Stream + Drop> Clients<S> {
             alloc,
             streams: Slab::new(alloc),
             open: BTreeMap::new(alloc),
-            lines: Lines::new(alloc),
+            lines: StreamQueues::new(alloc),
             lost: Vec::new(alloc),
             unsent: 0,
             limits,
@@ -82,13 +83,13 @@ impl<S: Stream + Drop> Clients<S> {
     }
 
     pub(crate) fn get(&self, n: u64) -> Option<&Client<S>>
-        ensures { option_copied result ≡ at_number self.now.open self.now.streams n }
+        ensures { option_copied result ≡ stream_at_number self.now.open self.now.streams n }
     {
         self.streams.get(self.key_of(n)?)
     }
 
     pub(crate) fn get_mut(&mut self, n: u64) -> Option<&mut Client<S>>
-        ensures { option_copied_mut result ≡ at_number self.old.open self.old.streams n }
+        ensures { option_copied_mut result ≡ stream_at_number self.old.open self.old.streams n }
     {
         let key = self.key_of(n)?;
         self.streams.get_mut(key)
@@ -108,12 +109,14 @@ impl<S: Stream + Drop> Clients<S> {
 
     /// Reads from the client of a number, and tells whether more may be left; from one that isn't there nothing comes.
     pub(crate) fn read(&mut self, n: u64, buf: &mut [u8], now: u64) -> io::Result<(Received, bool)>
-        ensures within { IfOk result (λ reported. IsReceived (length buf.old) reported.0) }
+        ensures within { IfOk result (λ reported. FitsTheBuffer (length buf.old) reported.0) }
         ensures length { length buf.new ≡ length buf.old }
-        ensures left { IfOk result (λ reported. reported.1 ≡ may_be_left (at_number self.new.open self.new.streams n)) }
-        ensures nothing { at_number self.old.open self.old.streams n ≡ None → result ≡ Ok (Received.Nothing, false) }
+        ensures left { IfOk result (λ reported. reported.1 ≡ client_may_have_more
+            (stream_at_number self.new.open self.new.streams n)) }
+        ensures nothing { stream_at_number self.old.open self.old.streams n ≡ None → result ≡ Ok
+            (Received.Nothing, false) }
         ensures open { self.new.open ≡ self.old.open }
-        ensures others { OnlyAt self.old.open n self.old.streams self.new.streams }
+        ensures others { ChangesOnlyAtNumber self.old.open n self.old.streams self.new.streams }
     {
         let Some(key) = self.key_of(n) else {
             return Ok((Received::Nothing, false));
@@ -126,10 +129,10 @@ impl<S: Stream + Drop> Clients<S> {
     }
 
     /// Takes a number from those that have a place; its key.
-    pub(crate) fn take_number(&mut self, n: u64) -> Option<usize>
+    pub(crate) fn remove_number(&mut self, n: u64) -> Option<usize>
         ensures key { result ≡ get nat_cmp self.old.open n }
         ensures gone { get nat_cmp self.new.open n ≡ None }
-        ensures others { OthersStay n self.old.open self.new.open }
+        ensures others { OtherEntriesStay n self.old.open self.new.open }
         ensures streams { self.new.streams ≡ self.old.streams }
     {
         self.open.remove(&n)
@@ -146,7 +149,7 @@ impl<S: Stream + Drop> Clients<S> {
         let client = Client::new(self.alloc, peer, stamp);
         match self.streams.insert(client) {
             Ok(key) => {
-                if self.lines.put(Line::Idle, stamp, key) {
+                if self.lines.put(StreamQueue::Idle, stamp, key) {
                     Some(key)
                 } else {
                     let _ = self.streams.try_remove(key);
@@ -160,8 +163,8 @@ impl<S: Stream + Drop> Clients<S> {
     /// Drops a stream, wherever it stands. The engine is told before the next turn where it has a place.
     pub(crate) fn drop_stream(&mut self, key: usize)
         ensures gone { slab.get self.new.streams key ≡ None }
-        ensures open { TakesPlace (slab.get self.old.streams key) self.old.open self.new.open }
-        ensures others { OtherKeysStay key self.old.streams self.new.streams }
+        ensures open { ClientLeavesItsPlace (slab.get self.old.streams key) self.old.open self.new.open }
+        ensures others { OtherSlabKeysStay key self.old.streams self.new.streams }
     {
         let Some(client) = self.streams.try_remove(key) else {
             return;
@@ -170,7 +173,7 @@ impl<S: Stream + Drop> Clients<S> {
         self.endings.add_bytes(&client.peer);
         match client.place {
             Place::Open(n) => {
-                let _ = self.take_number(n);
+                let _ = self.remove_number(n);
                 // Where there is no memory for it, it counts as silent.
                 let _ = self.lost.push(n);
             }
@@ -181,11 +184,11 @@ impl<S: Stream + Drop> Clients<S> {
     /// Drops the stream of a number, of which the engine is told otherwise.
     pub(crate) fn forget(&mut self, n: u64)
         ensures gone { get nat_cmp self.new.open n ≡ None }
-        ensures dropped { at_number self.old.open self.new.streams n ≡ None }
-        ensures open { OthersStay n self.old.open self.new.open }
-        ensures others { OnlyAt self.old.open n self.old.streams self.new.streams }
+        ensures dropped { stream_at_number self.old.open self.new.streams n ≡ None }
+        ensures open { OtherEntriesStay n self.old.open self.new.open }
+        ensures others { ChangesOnlyAtNumber self.old.open n self.old.streams self.new.streams }
     {
-        if let Some(key) = self.take_number(n) {
+        if let Some(key) = self.remove_number(n) {
             if let Some(client) = self.streams.try_remove(key) {
                 self.unsent = self.unsent.saturating_sub(client.peer.unsent());
                 self.endings.add_bytes(&client.peer);
@@ -194,7 +197,7 @@ impl<S: Stream + Drop> Clients<S> {
     }
 
     /// Drops a stream for a reason that is counted.
-    pub(crate) fn cut(&mut self, key: usize, cut: Cut) {
+    pub(crate) fn cut_stream(&mut self, key: usize, cut: CutReason) {
         self.endings.count_cut(cut);
         self.drop_stream(key);
     }
@@ -225,16 +228,16 @@ impl<S: Stream + Drop> Clients<S> {
     }
 
     /// Puts a stream into a line, behind those that stand there. It had no place, or has left it.
-    pub(crate) fn join(&mut self, key: usize, line: Line)
-        ensures { OtherKeysStay key self.old.streams self.new.streams }
+    pub(crate) fn join_queue(&mut self, key: usize, line: StreamQueue)
+        ensures { OtherSlabKeysStay key self.old.streams self.new.streams }
     {
         let stamp = self.lines.next_stamp();
-        self.join_since(key, line, stamp);
+        self.join_queue_since(key, line, stamp);
     }
 
     /// Puts a stream into a line, by a stamp.
-    fn join_since(&mut self, key: usize, line: Line, stamp: u64)
-        ensures { OtherKeysStay key self.old.streams self.new.streams }
+    fn join_queue_since(&mut self, key: usize, line: StreamQueue, stamp: u64)
+        ensures { OtherSlabKeysStay key self.old.streams self.new.streams }
     {
         let Some(client) = self.streams.get_mut(key) else {
             return;
@@ -249,26 +252,26 @@ impl<S: Stream + Drop> Clients<S> {
     }
 
     /// Puts a stream into another line, where it stands by the stamp that it has.
-    pub(crate) fn move_to(&mut self, key: usize, line: Line)
-        ensures still { IsInLine line (slab.get self.old.streams key) → self.new ≡ self.old }
-        ensures others { OtherKeysStay key self.old.streams self.new.streams }
+    pub(crate) fn move_to_queue(&mut self, key: usize, line: StreamQueue)
+        ensures still { ClientStandsInQueue line (slab.get self.old.streams key) → self.new ≡ self.old }
+        ensures others { OtherSlabKeysStay key self.old.streams self.new.streams }
     {
         if let Some(client) = self.streams.get(key) {
             if let Place::In(before, _) = client.place {
                 if before != line {
-                    self.change_line(key, line);
+                    self.change_queue(key, line);
                 }
             }
         }
     }
 
     /// Puts a stream into a line by the stamp that it has.
-    fn change_line(&mut self, key: usize, line: Line)
-        ensures { OtherKeysStay key self.old.streams self.new.streams }
+    fn change_queue(&mut self, key: usize, line: StreamQueue)
+        ensures { OtherSlabKeysStay key self.old.streams self.new.streams }
     {
         if let Some(client) = self.streams.get(key) {
             if let Place::In(_, stamp) = client.place {
-                self.join_since(key, line, stamp);
+                self.join_queue_since(key, line, stamp);
             }
         }
     }
@@ -276,7 +279,7 @@ impl<S: Stream + Drop> Clients<S> {
     /// Writes what is kept for a client, as far as the system takes it. Whether that could be done.
     pub(crate) fn flush(&mut self, key: usize, now: u64) -> bool
         ensures open { self.new.open ≡ self.old.open }
-        ensures others { OtherKeysStay key self.old.streams self.new.streams }
+        ensures others { OtherSlabKeysStay key self.old.streams self.new.streams }
     {
         let Some(client) = self.streams.get_mut(key) else {
             return false;
@@ -290,14 +293,14 @@ impl<S: Stream + Drop> Clients<S> {
 
     /// Writes to a client, and keeps what the system doesn't take. Whether that could be done.
     pub(crate) fn write(&mut self, key: usize, bytes: &[u8], now: u64) -> bool
-        ensures written { IsOnPeer (IsWritten S.Passed bytes.now) (slab.get self.old.streams key)
+        ensures written { IsDoneToClientsPeer (PeerIsWritten S.Passed bytes.now) (slab.get self.old.streams key)
             (slab.get self.new.streams key) }
         ensures there { OnTrue result (IsSome (slab.get self.old.streams key)) }
-        ensures going { OnTrue result (is_cut (slab.get self.new.streams key)
-            ≡ is_cut (slab.get self.old.streams key)) }
-        ensures failed { OnFalse result (is_cut (slab.get self.new.streams key) ≡ true) }
+        ensures going { OnTrue result (client_is_cut (slab.get self.new.streams key)
+            ≡ client_is_cut (slab.get self.old.streams key)) }
+        ensures failed { OnFalse result (client_is_cut (slab.get self.new.streams key) ≡ true) }
         ensures open { self.new.open ≡ self.old.open }
-        ensures others { OtherKeysStay key self.old.streams self.new.streams }
+        ensures others { OtherSlabKeysStay key self.old.streams self.new.streams }
     {
         let Some(client) = self.streams.get_mut(key) else {
             return false;
@@ -313,14 +316,14 @@ impl<S: Stream + Drop> Clients<S> {
     /// turn. Whether it was there, and written to.
     pub(crate) fn write_to(&mut self, n: u64, bytes: &[u8], now: u64) -> bool
         ensures written { OnTrue result
-            (IsOnPeer (IsWritten S.Passed bytes.now) (at_number self.old.open self.old.streams n)
-            (at_number self.new.open self.new.streams n)) }
-        ensures there { OnTrue result (IsSome (at_number self.old.open self.old.streams n)) }
-        ensures going { OnTrue result (is_cut (at_number self.new.open self.new.streams n)
-            ≡ is_cut (at_number self.old.open self.old.streams n)) }
+            (IsDoneToClientsPeer (PeerIsWritten S.Passed bytes.now) (stream_at_number self.old.open self.old.streams n)
+            (stream_at_number self.new.open self.new.streams n)) }
+        ensures there { OnTrue result (IsSome (stream_at_number self.old.open self.old.streams n)) }
+        ensures going { OnTrue result (client_is_cut (stream_at_number self.new.open self.new.streams n)
+            ≡ client_is_cut (stream_at_number self.old.open self.old.streams n)) }
         ensures open { OnTrue result (self.new.open ≡ self.old.open) }
-        ensures gone { OnFalse result (at_number self.old.open self.new.streams n ≡ None) }
-        ensures others { OnlyAt self.old.open n self.old.streams self.new.streams }
+        ensures gone { OnFalse result (stream_at_number self.old.open self.new.streams n ≡ None) }
+        ensures others { ChangesOnlyAtNumber self.old.open n self.old.streams self.new.streams }
     {
         let Some(key) = self.key_of(n) else {
             return false;
@@ -337,7 +340,7 @@ impl<S: Stream + Drop> Clients<S> {
         let Some(client) = self.get_mut(n) else {
             return 0;
         };
-        let took = client.took(now);
+        let took = client.milliseconds_taken(now);
         client.answered();
         took
     }
@@ -356,14 +359,14 @@ impl<S: Stream + Drop> Clients<S> {
 
     /// Whether no client waits for anything.
     pub(crate) fn is_done(&self) -> bool {
-        self.streams.len() == self.lines.len(Line::Lingering)
+        self.streams.len() == self.lines.len(StreamQueue::Lingering)
     }
 
     /// Drops the client that has been idle for the longest. Whether there was one.
     pub(crate) fn drop_idle(&mut self) -> bool {
-        match self.lines.first(Line::Idle) {
+        match self.lines.first(StreamQueue::Idle) {
             Some(key) => {
-                self.cut(key, Cut::Room);
+                self.cut_stream(key, CutReason::Room);
                 true
             }
             None => false,
@@ -372,9 +375,9 @@ impl<S: Stream + Drop> Clients<S> {
 
     /// The same, unless that one came in this very millisecond: its request may be on its way.
     pub(crate) fn drop_quiet(&mut self, now: u64) -> bool {
-        match self.lines.first(Line::Idle) {
+        match self.lines.first(StreamQueue::Idle) {
             Some(key) if self.is_quiet(key, now) => {
-                self.cut(key, Cut::Room);
+                self.cut_stream(key, CutReason::Room);
                 true
             }
             _ => false,
@@ -398,7 +401,7 @@ impl<S: Stream + Drop> Clients<S> {
             let Some(key) = self.slowest() else {
                 return;
             };
-            self.cut(key, Cut::Unsent);
+            self.cut_stream(key, CutReason::Unsent);
         }
     }
 
@@ -426,8 +429,8 @@ impl<S: Stream + Drop> Clients<S> {
         }
         let place = client.place;
         let closed = match place {
-            Place::In(Line::Leaving, _) => true,
-            Place::In(Line::Lingering, _) => true,
+            Place::In(StreamQueue::Leaving, _) => true,
+            Place::In(StreamQueue::Lingering, _) => true,
             _ => false,
         };
         // A client that is being closed may still be read to its end.
@@ -438,7 +441,7 @@ impl<S: Stream + Drop> Clients<S> {
         }
         match place {
             Place::Open(_) => {}
-            Place::In(line, _) => self.go_on(key, line, now),
+            Place::In(line, _) => self.go_on_without_place(key, line, now),
         }
     }
 
@@ -448,51 +451,51 @@ impl<S: Stream + Drop> Clients<S> {
             Some(client) => client.left.is_some(),
             None => false,
         };
-        let gives_way = has_left && self.crowd() > 0;
+        let gives_way = has_left && self.waiting_count() > 0;
         if gives_way {
-            self.cut(key, Cut::Place);
+            self.cut_stream(key, CutReason::Place);
         }
         gives_way
     }
 
     /// A client that has taken everything waits for a place, where it has sent more, or else is idle.
-    fn take_up(&mut self, key: usize, now: u64) {
+    fn wait_or_idle(&mut self, key: usize, now: u64) {
         let Some(client) = self.streams.get_mut(key) else {
             return;
         };
         if client.peer.has_unsent() {
             return;
         }
-        if client.has_early() {
+        if client.has_early_bytes() {
             client.asked = Some(now);
-            self.join(key, Line::Fresh);
+            self.join_queue(key, StreamQueue::Fresh);
             return;
         }
-        self.join(key, Line::Idle);
+        self.join_queue(key, StreamQueue::Idle);
         self.read_early(key, now);
     }
 
     /// Goes on with a stream that has no place.
-    fn go_on(&mut self, key: usize, line: Line, now: u64) {
+    fn go_on_without_place(&mut self, key: usize, line: StreamQueue, now: u64) {
         match line {
-            Line::Idle => self.read_early(key, now),
-            Line::Taking => self.take_up(key, now),
-            Line::Fresh => {
+            StreamQueue::Idle => self.read_early(key, now),
+            StreamQueue::Taking => self.wait_or_idle(key, now),
+            StreamQueue::Fresh => {
                 let _ = self.drop_left(key);
             }
-            Line::Whole => {
+            StreamQueue::Whole => {
                 let _ = self.drop_left(key);
             }
-            Line::Long => {
+            StreamQueue::Long => {
                 let _ = self.drop_left(key);
             }
-            Line::Partial => {
+            StreamQueue::Partial => {
                 if !self.drop_left(key) {
                     self.read_more(key, now);
                 }
             }
-            Line::Leaving => self.end(key, now),
-            Line::Lingering => self.end(key, now),
+            StreamQueue::Leaving => self.end(key, now),
+            StreamQueue::Lingering => self.end(key, now),
         }
     }
 
@@ -502,14 +505,14 @@ impl<S: Stream + Drop> Clients<S> {
             return false;
         };
         match client.read_early(now) {
-            Heard::Nothing => false,
-            Heard::Something => true,
-            Heard::Gone => {
+            EarlyReadOutcome::Nothing => false,
+            EarlyReadOutcome::Something => true,
+            EarlyReadOutcome::Gone => {
                 self.drop_stream(key);
                 false
             }
-            Heard::NoMemory => {
-                self.cut(key, Cut::Memory);
+            EarlyReadOutcome::NoMemory => {
+                self.cut_stream(key, CutReason::Memory);
                 false
             }
         }
@@ -518,7 +521,7 @@ impl<S: Stream + Drop> Clients<S> {
     /// Reads the first bytes of a request. Then it waits for a place.
     pub(crate) fn read_early(&mut self, key: usize, now: u64) {
         if self.read_piece(key, now) {
-            self.join(key, Line::Fresh);
+            self.join_queue(key, StreamQueue::Fresh);
         }
     }
 
@@ -529,51 +532,51 @@ impl<S: Stream + Drop> Clients<S> {
                 return;
             };
             if client.peer.ended {
-                self.change_line(key, Line::Whole);
+                self.change_queue(key, StreamQueue::Whole);
                 return;
             }
             if !client.takes_early() {
-                self.change_line(key, Line::Long);
+                self.change_queue(key, StreamQueue::Long);
                 return;
             }
             if !client.peer.readable || !self.read_piece(key, now) {
                 return;
             }
-            if self.look(key) == Came::Whole {
-                self.change_line(key, Line::Whole);
+            if self.look_whether_whole(key) == RequestWholeness::Whole {
+                self.change_queue(key, StreamQueue::Whole);
                 return;
             }
         }
     }
 
     /// Whether the request of a stream has come whole. Where there is no memory to look, it is dropped.
-    fn look(&mut self, key: usize) -> Came {
+    fn look_whether_whole(&mut self, key: usize) -> RequestWholeness {
         let max_body = self.limits.max_body;
         let Some(client) = self.streams.get_mut(key) else {
-            return Came::Part;
+            return RequestWholeness::Part;
         };
-        match client.look(max_body) {
+        match client.look_whether_whole(max_body) {
             Ok(came) => came,
             Err(_) => {
-                self.cut(key, Cut::Memory);
-                Came::Part
+                self.cut_stream(key, CutReason::Memory);
+                RequestWholeness::Part
             }
         }
     }
 
     /// Tells requests that have come whole from others, where places are short.
-    pub(crate) fn sort(&mut self, now: u64) {
-        for _ in 0..LOOKS {
-            let Some(key) = self.lines.first(Line::Fresh) else {
+    pub(crate) fn sort_waiting_requests(&mut self, now: u64) {
+        for _ in 0..MOST_LOOKS {
+            let Some(key) = self.lines.first(StreamQueue::Fresh) else {
                 return;
             };
             if self.drop_left(key) {
                 continue;
             }
-            match self.look(key) {
-                Came::Whole => self.change_line(key, Line::Whole),
-                Came::Part => {
-                    self.change_line(key, Line::Partial);
+            match self.look_whether_whole(key) {
+                RequestWholeness::Whole => self.change_queue(key, StreamQueue::Whole),
+                RequestWholeness::Part => {
+                    self.change_queue(key, StreamQueue::Partial);
                     self.read_more(key, now);
                 }
             }
@@ -581,37 +584,40 @@ impl<S: Stream + Drop> Clients<S> {
     }
 
     /// Who is to have the next place, if one is free for it.
-    fn next_in(&self) -> Option<usize> {
+    fn next_for_a_place(&self) -> Option<usize> {
         if self.open.len() >= PLACES {
             return None;
         }
-        if let Some(key) = self.lines.first(Line::Whole) {
+        if let Some(key) = self.lines.first(StreamQueue::Whole) {
             return Some(key);
         }
-        if self.open.len() >= SHARED {
+        if self.open.len() >= SHARED_PLACES {
             return None;
         }
-        self.lines
-            .first_of(&[Line::Fresh, Line::Long, Line::Partial])
+        self.lines.first_of(&[StreamQueue::Fresh, StreamQueue::Long, StreamQueue::Partial])
     }
 
     /// Whether a place is free for who waits for one.
     pub(crate) fn may_open(&self) -> bool {
-        self.next_in().is_some()
+        self.next_for_a_place().is_some()
     }
 
     /// Whether somebody waits for a place with a request that may have come whole.
-    pub(crate) fn some_wait(&self) -> bool {
-        self.lines.len_of(&[Line::Fresh, Line::Whole]) > 0
+    pub(crate) fn some_request_waits(&self) -> bool {
+        self.lines.len_of(&[StreamQueue::Fresh, StreamQueue::Whole]) > 0
     }
 
     /// How many wait for a place that isn't free.
-    pub(crate) fn crowd(&self) -> usize {
-        let whole = self.lines.len(Line::Whole);
-        let others = self.lines.len_of(&[Line::Fresh, Line::Long, Line::Partial]);
+    pub(crate) fn waiting_count(&self) -> usize {
+        let whole = self.lines.len(StreamQueue::Whole);
+        let others = self.lines.len_of(&[
+            StreamQueue::Fresh,
+            StreamQueue::Long,
+            StreamQueue::Partial,
+        ]);
         if self.open.len() >= PLACES {
             whole.saturating_add(others)
-        } else if self.open.len() >= SHARED {
+        } else if self.open.len() >= SHARED_PLACES {
             others
         } else {
             0
@@ -621,11 +627,11 @@ impl<S: Stream + Drop> Clients<S> {
     /// Gives who waits a place, under this number. Whether somebody did.
     pub(crate) fn open(&mut self, n: u64) -> bool
         ensures opened { OnTrue result
-            (IsOpenedAt n self.old.limits.max_body self.old.streams self.new.open self.new.streams) }
+            (ClientHasPlaceAt n self.old.limits.max_body self.old.streams self.new.open self.new.streams) }
         ensures not_opened { OnFalse result (get nat_cmp self.new.open n ≡ get nat_cmp self.old.open n) }
-        ensures others { OthersStay n self.old.open self.new.open }
+        ensures others { OtherEntriesStay n self.old.open self.new.open }
     {
-        let Some(key) = self.next_in() else {
+        let Some(key) = self.next_for_a_place() else {
             return false;
         };
         if self.open.insert(n, key).is_err() {
@@ -642,19 +648,19 @@ impl<S: Stream + Drop> Clients<S> {
     }
 
     /// A client between two requests leaves its place.
-    pub(crate) fn park(&mut self, n: u64) {
-        let Some(key) = self.take_number(n) else {
+    pub(crate) fn leave_place_to_wait(&mut self, n: u64) {
+        let Some(key) = self.remove_number(n) else {
             return;
         };
         let Some(client) = self.streams.get_mut(key) else {
             return;
         };
-        client.rest();
+        client.leave_place();
         let line = if client.peer.has_unsent() {
-            Line::Taking
+            StreamQueue::Taking
         } else {
-            Line::Idle
+            StreamQueue::Idle
         };
-        self.join(key, line);
+        self.join_queue(key, line);
     }
 }

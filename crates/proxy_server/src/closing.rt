@@ -6,51 +6,52 @@ ghost use Rattle.std.specs.Prelude.{◌≡◌, ◌<◌, length};
 ghost use Rattle.std.specs.Ordering.{nat_cmp};
 ghost use Rattle.std.specs.BTreeMap.{get};
 ghost use Rattle.slab.specs.Slab as slab;
-ghost use Rattle.proxy_server.specs.Closing.{IsBounded, IsInLine, OneOtherGoes, ClosesAt};
+ghost use Rattle.proxy_server.specs.Closing.{ClosedStreamsAreBounded, ClientStandsInQueue, AtMostOneOtherStreamGoes};
+ghost use Rattle.proxy_server.specs.Closing.{StreamIsClosedByNumber};
 
 use crate::client::Client;
 use crate::clients::Clients;
-use crate::limits::LINGERING;
-use crate::lines::Line;
+use crate::limits::MOST_LINGERING;
 use crate::stream::Stream;
+use crate::stream_queues::StreamQueue;
 use proxy_turn::{PIECE, Received};
 
 /// How many pieces are read and dropped at a time.
-const PIECES: u8 = 16;
+const MOST_PIECES_DROPPED: u8 = 16;
 
 /// Whether there is still something to wait for.
 #[derive(Clone, Copy, Debug, PartialEq, Eq)]
-enum Stays {
+enum StillToWait {
     Yes,
     No,
 }
 
 /// Reads and drops what a client still sends.
-fn drop_input<S: Stream + Drop>(client: &mut Client<S>, now: u64) -> Stays {
+fn drop_input<S: Stream + Drop>(client: &mut Client<S>, now: u64) -> StillToWait {
     let mut buf = [0u8; PIECE];
-    for _piece in 0..PIECES {
+    for _piece in 0..MOST_PIECES_DROPPED {
         match client.read_on(&mut buf, now) {
             Ok(Received::Bytes(_)) => {}
-            Ok(Received::Nothing) => return Stays::Yes,
-            Ok(Received::End) => return Stays::No,
-            Err(_) => return Stays::No,
+            Ok(Received::Nothing) => return StillToWait::Yes,
+            Ok(Received::End) => return StillToWait::No,
+            Err(_) => return StillToWait::No,
         }
     }
-    Stays::Yes
+    StillToWait::Yes
 }
 
 /// Closes a connection by half, once its client has taken everything, and goes on with dropping what comes.
-fn advance<S: Stream + Drop>(client: &mut Client<S>, now: u64) -> Stays
-    ensures { 0 < length client.old.peer.unsent.bytes → (client.new ≡ client.old) × (result ≡ Stays.Yes) }
+fn advance<S: Stream + Drop>(client: &mut Client<S>, now: u64) -> StillToWait
+    ensures { 0 < length client.old.peer.unsent.bytes → (client.new ≡ client.old) × (result ≡ StillToWait.Yes) }
 {
     if client.peer.has_unsent() {
-        return Stays::Yes;
+        return StillToWait::Yes;
     }
     if client.peer.ended {
-        return Stays::No;
+        return StillToWait::No;
     }
     if client.peer.shut_down().is_err() {
-        return Stays::No;
+        return StillToWait::No;
     }
     drop_input(client, now)
 }
@@ -60,9 +61,9 @@ impl<S: Stream + Drop> Clients<S> {
     /// has.
     #[tactic(auto, using(crate::proofs::Closings::none_goes, crate::proofs::Closings::closes_at, crate::proofs::Closings::closes_none))]
     pub(crate) fn close(&mut self, n: u64, now: u64)
-        ensures { ClosesAt (get nat_cmp self.old.open n) self.old.streams self.new.streams }
+        ensures { StreamIsClosedByNumber (get nat_cmp self.old.open n) self.old.streams self.new.streams }
     {
-        let Some(key) = self.take_number(n) else {
+        let Some(key) = self.remove_number(n) else {
             return;
         };
         let Some(client) = self.streams.get_mut(key) else {
@@ -73,23 +74,23 @@ impl<S: Stream + Drop> Clients<S> {
         // What came before it had a place is dropped with what still comes.
         client.drop_early();
         let line = if client.peer.has_unsent() {
-            Line::Leaving
+            StreamQueue::Leaving
         } else {
-            Line::Lingering
+            StreamQueue::Lingering
         };
-        self.join(key, line);
+        self.join_queue(key, line);
         self.end(key, now);
     }
 
     /// Goes on with a connection that was closed, or lets it go.
     #[tactic(auto, using(crate::proofs::Closings::none_goes, crate::proofs::Closings::goes_behind))]
     pub(crate) fn end(&mut self, key: usize, now: u64)
-        ensures { OneOtherGoes key self.old.streams self.new.streams }
+        ensures { AtMostOneOtherStreamGoes key self.old.streams self.new.streams }
     {
         let Some(client) = self.streams.get_mut(key) else {
             return;
         };
-        if advance(client, now) == Stays::No {
+        if advance(client, now) == StillToWait::No {
             self.drop_stream(key);
             return;
         }
@@ -99,25 +100,25 @@ impl<S: Stream + Drop> Clients<S> {
         if !is_taken {
             return;
         }
-        self.linger(key);
+        self.linger_after_close(key);
     }
 
     /// A closed connection whose client has taken everything. Beyond the most of these the first is closed whole.
-    fn linger(&mut self, key: usize)
-        ensures bound { IsInLine Line.Lingering (slab.get self.old.streams key)
-            → IsBounded self.old.lines.lingering self.old.streams self.new.streams }
-        ensures others { OneOtherGoes key self.old.streams self.new.streams }
+    fn linger_after_close(&mut self, key: usize)
+        ensures bound { ClientStandsInQueue StreamQueue.Lingering (slab.get self.old.streams key)
+            → ClosedStreamsAreBounded self.old.lines.lingering self.old.streams self.new.streams }
+        ensures others { AtMostOneOtherStreamGoes key self.old.streams self.new.streams }
     {
-        self.move_to(key, Line::Lingering);
+        self.move_to_queue(key, StreamQueue::Lingering);
         self.drop_first();
     }
 
     /// Where more were closed than may be, the first of them is closed whole.
     fn drop_first(&mut self)
-        ensures { IsBounded self.old.lines.lingering self.old.streams self.new.streams }
+        ensures { ClosedStreamsAreBounded self.old.lines.lingering self.old.streams self.new.streams }
     {
-        if self.lines.len(Line::Lingering) > LINGERING {
-            if let Some(first) = self.lines.first(Line::Lingering) {
+        if self.lines.len(StreamQueue::Lingering) > MOST_LINGERING {
+            if let Some(first) = self.lines.first(StreamQueue::Lingering) {
                 self.drop_stream(first);
             }
         }
@@ -130,8 +131,8 @@ impl<S: Stream + Drop> Clients<S> {
         }
         self.more = false;
         let mut from = 0u64;
-        for _ in 0..self.lines.len(Line::Lingering) {
-            let Some((stamp, key)) = self.lines.next_from(Line::Lingering, from) else {
+        for _ in 0..self.lines.len(StreamQueue::Lingering) {
+            let Some((stamp, key)) = self.lines.next_from(StreamQueue::Lingering, from) else {
                 return;
             };
             from = stamp.saturating_add(1);

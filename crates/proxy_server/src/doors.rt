@@ -4,13 +4,13 @@ use std::io;
 use std::io::ErrorKind;
 
 /// Whether a call failed since the process, or the system, has no descriptor left (ENFILE and EMFILE).
-pub(crate) fn wants_descriptors(error: &io::Error) -> bool {
+pub(crate) fn is_out_of_descriptors(error: &io::Error) -> bool {
     matches!(error.raw_os_error(), Some(23 | 24))
 }
 
 /// How often connections were taken and begun, or couldn't be.
 #[derive(Clone, Copy, Debug)]
-pub(crate) struct Doors {
+pub(crate) struct AcceptCounts {
     pub(crate) accepted: u64,
     /// As many as may be are open, and none is idle.
     pub(crate) full: u64,
@@ -23,9 +23,9 @@ pub(crate) struct Doors {
     pub(crate) no_link: u64,
 }
 
-impl Doors {
-    pub(crate) fn new() -> Doors {
-        Doors {
+impl AcceptCounts {
+    pub(crate) fn new() -> AcceptCounts {
+        AcceptCounts {
             accepted: 0,
             full: 0,
             no_descriptor: 0,
@@ -37,7 +37,7 @@ impl Doors {
 
     /// Counts a connection that couldn't be taken.
     pub(crate) fn count_refused(&mut self, error: &io::Error) {
-        if wants_descriptors(error) {
+        if is_out_of_descriptors(error) {
             self.no_descriptor = self.no_descriptor.saturating_add(1);
         } else if error.kind() == ErrorKind::OutOfMemory {
             self.no_memory = self.no_memory.saturating_add(1);

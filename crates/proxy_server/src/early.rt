@@ -1,7 +1,7 @@
 //! What has come of a client and wasn't handed in yet: before its request has a place the first bytes of a connection,
 //! or those that come behind a rest; and what came in one read behind the head of a request.
 ghost use Rattle.std.specs.Prelude.{◌≡◌, ◌≤◌, not, length};
-ghost use Rattle.proxy_server.specs.Streams.{has_more};
+ghost use Rattle.proxy_server.specs.Streams.{early_bytes_are_left};
 
 use crate::pieces::head_end;
 use hx_framing::{Next, RequestReader};
@@ -12,7 +12,7 @@ pub(crate) const MOST_EARLY: usize = 16_384;
 
 /// What is known of a request that waits for a place.
 #[derive(Clone, Copy, Debug, PartialEq, Eq)]
-pub(crate) enum Came {
+pub(crate) enum RequestWholeness {
     /// All of it has come, or it will be refused.
     Whole,
     /// Some of it is to come yet.
@@ -21,7 +21,7 @@ pub(crate) enum Came {
 
 /// Bytes of a client that wait to be handed in.
 #[derive(Drop)]
-pub(crate) struct Early {
+pub(crate) struct EarlyBytes {
     bytes: Vec<u8>,
     /// So many of them were taken.
     taken: usize,
@@ -31,9 +31,9 @@ pub(crate) struct Early {
     reader: Option<RequestReader>,
 }
 
-impl Early {
-    pub(crate) fn new(alloc: Global) -> Early {
-        Early {
+impl EarlyBytes {
+    pub(crate) fn new(alloc: Global) -> EarlyBytes {
+        EarlyBytes {
             bytes: Vec::new(alloc),
             taken: 0,
             seen: 0,
@@ -43,7 +43,7 @@ impl Early {
 
     /// Whether nothing is left.
     pub(crate) fn is_empty(&self) -> bool
-        ensures { result ≡ not (has_more self.now) }
+        ensures { result ≡ not (early_bytes_are_left self.now) }
     {
         self.taken >= self.bytes.len()
     }
@@ -68,7 +68,11 @@ impl Early {
     }
 
     /// Looks at what has come since the last look. Each byte is looked at once.
-    pub(crate) fn look(&mut self, alloc: Global, max_body: u64) -> Result<Came, AllocError> {
+    pub(crate) fn look_whether_whole(
+        &mut self,
+        alloc: Global,
+        max_body: u64,
+    ) -> Result<RequestWholeness, AllocError> {
         let mut reader = match self.reader.take() {
             Some(reader) => reader,
             None => RequestReader::new(alloc, max_body),
@@ -80,15 +84,15 @@ impl Early {
         match reader.next(alloc)? {
             Next::More => {
                 self.reader = Some(reader);
-                Ok(Came::Part)
+                Ok(RequestWholeness::Part)
             }
             Next::NeedsContinue => {
                 self.reader = Some(reader);
-                Ok(Came::Part)
+                Ok(RequestWholeness::Part)
             }
-            Next::Message(_) => Ok(Came::Whole),
-            Next::Refused(_) => Ok(Came::Whole),
-            Next::End => Ok(Came::Whole),
+            Next::Message(_) => Ok(RequestWholeness::Whole),
+            Next::Refused(_) => Ok(RequestWholeness::Whole),
+            Next::End => Ok(RequestWholeness::Whole),
         }
     }
 

@@ -1,14 +1,15 @@
 //! How connections of clients ended that had not come to their end, and what had come and gone on those that are gone.
 ghost use Rattle.std.specs.Prelude.{◌≡◌};
-ghost use Rattle.proxy_server.specs.EndingCounts.{counted_cut, counted_late, counted_if_late};
+ghost use Rattle.proxy_server.specs.EndingCounts.{endings_with_cut, endings_with_lateness};
+ghost use Rattle.proxy_server.specs.EndingCounts.{endings_with_lateness_if_any};
 
-use crate::counts::one_more;
+use crate::counts::count_plus_one;
 use crate::peer::Peer;
 use crate::stream::Stream;
 
 /// Why a connection is closed early.
 #[derive(Clone, Copy, Debug, PartialEq, Eq)]
-pub(crate) enum Cut {
+pub(crate) enum CutReason {
     /// It was idle, and its room is wanted.
     Room,
     /// Its place is wanted.
@@ -59,29 +60,29 @@ impl Endings {
         }
     }
 
-    pub(crate) fn count_cut(&mut self, cut: Cut)
-        ensures { self.new ≡ counted_cut self.old cut }
+    pub(crate) fn count_cut(&mut self, cut: CutReason)
+        ensures { self.new ≡ endings_with_cut self.old cut }
     {
         match cut {
-            Cut::Room => self.for_room = one_more(self.for_room),
-            Cut::Place => self.for_place = one_more(self.for_place),
-            Cut::Unsent => self.for_unsent = one_more(self.for_unsent),
-            Cut::Memory => self.for_memory = one_more(self.for_memory),
+            CutReason::Room => self.for_room = count_plus_one(self.for_room),
+            CutReason::Place => self.for_place = count_plus_one(self.for_place),
+            CutReason::Unsent => self.for_unsent = count_plus_one(self.for_unsent),
+            CutReason::Memory => self.for_memory = count_plus_one(self.for_memory),
         }
     }
 
     pub(crate) fn count_lateness(&mut self, lateness: Lateness)
-        ensures { self.new ≡ counted_late self.old lateness }
+        ensures { self.new ≡ endings_with_lateness self.old lateness }
     {
         match lateness {
-            Lateness::Client => self.client_timeouts = one_more(self.client_timeouts),
-            Lateness::Request => self.request_timeouts = one_more(self.request_timeouts),
-            Lateness::Abandon => self.abandon_timeouts = one_more(self.abandon_timeouts),
+            Lateness::Client => self.client_timeouts = count_plus_one(self.client_timeouts),
+            Lateness::Request => self.request_timeouts = count_plus_one(self.request_timeouts),
+            Lateness::Abandon => self.abandon_timeouts = count_plus_one(self.abandon_timeouts),
         }
     }
 
     pub(crate) fn count_if_late(&mut self, lateness: Option<Lateness>)
-        ensures { self.new ≡ counted_if_late self.old lateness }
+        ensures { self.new ≡ endings_with_lateness_if_any self.old lateness }
     {
         if let Some(lateness) = lateness {
             self.count_lateness(lateness);

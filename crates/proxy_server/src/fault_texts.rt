@@ -1,14 +1,14 @@
 //! Why a server ends or nothing more is recorded, in words for the operator. No text takes memory.
 ghost use Rattle.std.specs.Prelude.{◌≡◌};
-ghost use Rattle.proxy_server.specs.FaultTexts.{record_text, serve_text};
+ghost use Rattle.proxy_server.specs.FaultTexts.{record_fault_text, serve_fault_text};
 
 use crate::recorder::RecordFault;
 use crate::server::ServeFault;
 use std::fmt;
 use std::fmt::Formatter;
 
-fn record_text(fault: RecordFault) -> &'static str
-    ensures { result.now ≡ record_text fault }
+fn record_fault_text(fault: RecordFault) -> &'static str
+    ensures { result.now ≡ record_fault_text fault }
 {
     match fault {
         RecordFault::Write =>
@@ -18,26 +18,26 @@ fn record_text(fault: RecordFault) -> &'static str
     }
 }
 
-fn serve_text(fault: ServeFault) -> &'static str
-    ensures { result.now ≡ serve_text fault }
+fn serve_fault_text(fault: ServeFault) -> &'static str
+    ensures { result.now ≡ serve_fault_text fault }
 {
     match fault {
         ServeFault::Socket =>
             "the system can't tell which sockets are ready; look at its journal, and start the proxy anew",
         ServeFault::Clock =>
             "the clock of the system can't be read; mend it, and start the proxy anew",
-        ServeFault::Record(fault) => record_text(fault),
+        ServeFault::Record(fault) => record_fault_text(fault),
         ServeFault::Spent => "no number of a link is left; start the proxy anew",
     }
 }
 
 impl fmt::Display for ServeFault {
     ghost use Rattle.std.specs.Prelude.{Some};
-    ghost use Rattle.proxy_server.specs.FaultTexts.{serve_text};
+    ghost use Rattle.proxy_server.specs.FaultTexts.{serve_fault_text};
 
-    ghost output = { λ fault. Some (serve_text fault) };
+    ghost output = { λ fault. Some (serve_fault_text fault) };
 
     fn fmt<W: fmt::Write>(&self, f: &mut Formatter<W>) -> fmt::Result {
-        f.write_str(serve_text(*self))
+        f.write_str(serve_fault_text(*self))
     }
 }

@@ -46,27 +46,27 @@ impl Limits {
 }
 
 /// Requests in progress, of any kind. The last of the engine's places are kept for requests that have come whole.
-pub(crate) const SHARED: usize = 192;
+pub(crate) const SHARED_PLACES: usize = 192;
 
 /// Requests in progress in all: as many as an engine has places.
 pub(crate) const PLACES: usize = 256;
 
 /// While others wait for a place, so many clients are read in a turn: a turn gives one of them a place.
-pub(crate) const SHARE: usize = 8;
+pub(crate) const CLIENTS_READ_A_TURN: usize = 8;
 
 /// A client that has been between two requests for so many milliseconds leaves its place.
-pub(crate) const IDLE: u64 = 1000;
+pub(crate) const IDLE_MILLISECONDS: u64 = 1000;
 
 /// A request that is incomplete for more milliseconds than this gives way where places are short.
-pub(crate) const HASTE: u64 = 1000;
+pub(crate) const HASTE_MILLISECONDS: u64 = 1000;
 
 /// Connections that were closed, and whose clients may still send. Beyond it the one that was closed first is closed
 /// whole.
-pub(crate) const LINGERING: usize = 256;
+pub(crate) const MOST_LINGERING: usize = 256;
 
 /// A closed connection whose client has taken everything and sends nothing more is given so many milliseconds.
-pub(crate) const QUIET: u64 = 5000;
+pub(crate) const QUIET_MILLISECONDS: u64 = 5000;
 
 /// One whose client goes on sending is given so many milliseconds in all, and one whose client has something to take so
 /// many without a byte taken.
-pub(crate) const PATIENCE: u64 = 30_000;
+pub(crate) const PATIENCE_MILLISECONDS: u64 = 30_000;

@@ -4,11 +4,12 @@ ghost use Rattle.std.specs.Prelude.{None};
 ghost use Rattle.std.specs.Ordering.{nat_cmp};
 ghost use Rattle.std.specs.BTreeMap.{get};
 ghost use Rattle.std.specs.Bool.{OnTrue, OnFalse};
-ghost use Rattle.proxy_turn.specs.Received.{IsReceived};
-ghost use Rattle.proxy_server.specs.Connecting.{is_connecting};
-ghost use Rattle.proxy_server.specs.Numbers.{OthersStay};
-ghost use Rattle.proxy_server.specs.Patience.{overtime, is_link_over};
-ghost use Rattle.proxy_server.specs.Streams.{IsRead, IsWritten, IsOnStream, stream_of, is_left, is_broken, is_lost};
+ghost use Rattle.proxy_turn.specs.Received.{FitsTheBuffer};
+ghost use Rattle.proxy_server.specs.Connecting.{link_is_connecting};
+ghost use Rattle.proxy_server.specs.OtherEntries.{OtherEntriesStay};
+ghost use Rattle.proxy_server.specs.Patience.{link_overtime, link_time_is_over};
+ghost use Rattle.proxy_server.specs.Streams.{PeerIsRead, PeerIsWritten, IsDoneToLinksPeer, peer_of_link};
+ghost use Rattle.proxy_server.specs.Streams.{link_may_have_more, peer_is_broken, peer_is_lost};
 
 use crate::limits::Limits;
 use crate::origins::Origins;
@@ -52,7 +53,7 @@ impl<S: Stream + Drop> Link<S> {
 
     /// Whether its connection, its silence or all of it has taken too long.
     fn overtime(&self, now: u64, limits: &Limits) -> Option<Overtime>
-        ensures { result ≡ overtime self.now limits.now now }
+        ensures { result ≡ link_overtime self.now limits.now now }
     {
         let Some(peer) = &self.peer else {
             return None;
@@ -105,7 +106,7 @@ pub(crate) struct Links<S: Stream + Drop = TcpStream> {
 impl Links {
     /// Takes what an event told of a link; the answer is an error where its connection couldn't be made.
     pub(crate) fn mark_ready(&mut self, number: u64, event: &Event, now: u64) -> io::Result<()>
-        ensures others { OthersStay number self.old.items self.new.items }
+        ensures others { OtherEntriesStay number self.old.items self.new.items }
     {
         if let Some(link) = self.items.get_mut(&number) {
             if let Some(peer) = &mut link.peer {
@@ -144,15 +145,18 @@ impl<S: Stream + Drop> Links<S> {
         buf: &mut [u8],
         now: u64,
     ) -> io::Result<(Received, bool)>
-        ensures within { IfOk result (λ reported. IsReceived (length buf.old) reported.0) }
+        ensures within { IfOk result (λ reported. FitsTheBuffer (length buf.old) reported.0) }
         ensures length { length buf.new ≡ length buf.old }
-        ensures read { IfOk result (λ reported. IsOnStream (IsRead S.Passed (length buf.old) (Ok reported.0) buf.new)
+        ensures read { IfOk result (λ reported. IsDoneToLinksPeer (PeerIsRead S.Passed (length buf.old)
+            (Ok reported.0) buf.new)
             (get nat_cmp self.old.items number) (get nat_cmp self.new.items number)) }
-        ensures failed { IfErr result (λ e. IsOnStream (IsRead S.Passed (length buf.old) (Err e) buf.new)
+        ensures failed { IfErr result (λ e. IsDoneToLinksPeer (PeerIsRead S.Passed (length buf.old) (Err e) buf.new)
             (get nat_cmp self.old.items number) (get nat_cmp self.new.items number)) }
-        ensures left { IfOk result (λ reported. reported.1 ≡ is_left (stream_of (get nat_cmp self.new.items number))) }
-        ensures nothing { stream_of (get nat_cmp self.old.items number) ≡ None → result ≡ Ok (Received.Nothing, false) }
-        ensures others { OthersStay number self.old.items self.new.items }
+        ensures left { IfOk result (λ reported. reported.1 ≡ link_may_have_more
+            (peer_of_link (get nat_cmp self.new.items number))) }
+        ensures nothing { peer_of_link (get nat_cmp self.old.items number) ≡ None → result ≡ Ok
+            (Received.Nothing, false) }
+        ensures others { OtherEntriesStay number self.old.items self.new.items }
     {
         if let Some(link) = self.items.get_mut(&number) {
             if let Some(peer) = &mut link.peer {
@@ -165,13 +169,13 @@ impl<S: Stream + Drop> Links<S> {
 
     /// Writes to a link. Whether that could be done, or its connection had been made before it failed.
     pub(crate) fn write(&mut self, number: u64, bytes: &[u8], now: u64) -> bool
-        ensures written { IsOnStream (IsWritten S.Passed bytes.now) (get nat_cmp self.old.items number)
+        ensures written { IsDoneToLinksPeer (PeerIsWritten S.Passed bytes.now) (get nat_cmp self.old.items number)
             (get nat_cmp self.new.items number) }
-        ensures lost { result ≡ false → is_lost (stream_of (get nat_cmp self.new.items number)) ≡ true }
-        ensures going { is_lost (stream_of (get nat_cmp self.new.items number)) ≡ true → result ≡ true
-            → is_broken (stream_of (get nat_cmp self.old.items number)) ≡ true }
-        ensures connected { is_connecting (get nat_cmp self.old.items number) ≡ false → result ≡ true }
-        ensures others { OthersStay number self.old.items self.new.items }
+        ensures lost { result ≡ false → peer_is_lost (peer_of_link (get nat_cmp self.new.items number)) ≡ true }
+        ensures going { peer_is_lost (peer_of_link (get nat_cmp self.new.items number)) ≡ true → result ≡ true
+            → peer_is_broken (peer_of_link (get nat_cmp self.old.items number)) ≡ true }
+        ensures connected { link_is_connecting (get nat_cmp self.old.items number) ≡ false → result ≡ true }
+        ensures others { OtherEntriesStay number self.old.items self.new.items }
     {
         if let Some(link) = self.items.get_mut(&number) {
             if let Some(peer) = &mut link.peer {
@@ -185,7 +189,7 @@ impl<S: Stream + Drop> Links<S> {
     pub(crate) fn put(&mut self, number: u64, link: Link<S>) -> bool
         ensures put { OnTrue result (get nat_cmp self.new.items number ≡ Some link) }
         ensures not_put { OnFalse result (get nat_cmp self.new.items number ≡ get nat_cmp self.old.items number) }
-        ensures others { OthersStay number self.old.items self.new.items }
+        ensures others { OtherEntriesStay number self.old.items self.new.items }
     {
         let origin = link.origin;
         let is_put = self.items.insert(number, link).is_ok();
@@ -197,8 +201,8 @@ impl<S: Stream + Drop> Links<S> {
 
     /// Drops the stream of a link. Its number stays until it is taken out.
     pub(crate) fn drop_stream(&mut self, number: u64)
-        ensures gone { stream_of (get nat_cmp self.new.items number) ≡ None }
-        ensures others { OthersStay number self.old.items self.new.items }
+        ensures gone { peer_of_link (get nat_cmp self.new.items number) ≡ None }
+        ensures others { OtherEntriesStay number self.old.items self.new.items }
     {
         if let Some(link) = self.items.get_mut(&number) {
             if let Some(peer) = link.peer.take() {
@@ -212,7 +216,7 @@ impl<S: Stream + Drop> Links<S> {
     pub(crate) fn remove(&mut self, number: u64, now: u64) -> Option<usize>
         ensures origin { result ≡ option_map (λ link. link.origin) (get nat_cmp self.old.items number) }
         ensures gone { get nat_cmp self.new.items number ≡ None }
-        ensures others { OthersStay number self.old.items self.new.items }
+        ensures others { OtherEntriesStay number self.old.items self.new.items }
     {
         let link = self.items.remove(&number)?;
         if let Some(peer) = &link.peer {
@@ -226,7 +230,7 @@ impl<S: Stream + Drop> Links<S> {
 
     /// Whether a link has taken too long. One that isn't there has, and one without a stream.
     pub(crate) fn is_over(&self, number: u64, now: u64, limits: &Limits) -> bool
-        ensures { result ≡ is_link_over (get nat_cmp self.now.items number) limits.now now }
+        ensures { result ≡ link_time_is_over (get nat_cmp self.now.items number) limits.now now }
     {
         match self.get(number) {
             Some(link) => link.peer.is_none() || link.overtime(now, limits).is_some(),

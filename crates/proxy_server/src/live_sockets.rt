@@ -1,23 +1,23 @@
 //! TCP sockets of the system, under the numbers of the engine.
 ghost use Rattle.std.specs.Prelude.{◌≡◌, ◌≤◌, length, false, IfOk, IsOk};
-ghost use Rattle.proxy_turn.specs.Counts.{IsRise, failed};
-ghost use Rattle.proxy_turn.specs.Received.{IsReceived};
+ghost use Rattle.proxy_turn.specs.Counts.{CountRisesBy, failed};
+ghost use Rattle.proxy_turn.specs.Received.{FitsTheBuffer};
 ghost use Rattle.std.specs.Ordering.{nat_cmp};
 ghost use Rattle.std.specs.BTreeMap.{get};
-ghost use Rattle.proxy_server.specs.Connecting.{is_connecting};
-ghost use Rattle.proxy_server.specs.Numbers.{OthersStay, OnlyAt};
-ghost use Rattle.proxy_server.specs.Forgetting.{ForgetsClient, ForgetsLink};
+ghost use Rattle.proxy_server.specs.Connecting.{link_is_connecting};
+ghost use Rattle.proxy_server.specs.OtherEntries.{OtherEntriesStay, ChangesOnlyAtNumber};
+ghost use Rattle.proxy_server.specs.Forgetting.{ClientIsForgotten, LinkIsForgotten};
 
 use crate::asked::Asked;
 use crate::clients::Clients;
-use crate::doors::{Doors, Troubles, wants_descriptors};
-use crate::limits::{Limits, PLACES, SHARE};
+use crate::doors::{AcceptCounts, Troubles, is_out_of_descriptors};
+use crate::limits::{CLIENTS_READ_A_TURN, Limits, PLACES};
 use crate::links::{Link, Links};
 use crate::peer::Peer;
-use crate::replies::Replies;
+use crate::reply_counts::ReplyCounts;
 use crate::send_buffer::bound_send_buffers;
-use crate::tokens::Holder;
-use crate::turns::Turns;
+use crate::socket_tokens::Holder;
+use crate::turn_counts::Turns;
 use hx_allow::Config;
 use hx_status::FailKind;
 use mio::net::{TcpListener, TcpStream};
@@ -34,7 +34,7 @@ use std::{io, str};
 const MOST_EVENTS: usize = 1024;
 
 /// The longest wait, in milliseconds: what has had its time is looked for once a second.
-const TICK: u64 = SECOND;
+const LONGEST_WAIT: u64 = SECOND;
 
 /// Milliseconds of a second.
 const SECOND: u64 = 1000;
@@ -65,8 +65,8 @@ pub struct LiveSockets<'a, R: Net> {
     /// Lines about replies, where a log is kept.
     pub(crate) log: Option<Lines>,
     /// Counts of replies, where they are kept.
-    pub(crate) replies: Option<Replies>,
-    pub(crate) doors: Doors,
+    pub(crate) replies: Option<ReplyCounts>,
+    pub(crate) doors: AcceptCounts,
     pub(crate) turns: Turns,
     /// Who was asked for what goes out next.
     pub(crate) asked: Asked,
@@ -119,9 +119,9 @@ fn read_link(
     now: u64,
     more: &mut bool,
 ) -> Result<Received, SocketFailed>
-    ensures within { IfOk result (IsReceived (length buf.old)) }
+    ensures within { IfOk result (FitsTheBuffer (length buf.old)) }
     ensures length { length buf.new ≡ length buf.old }
-    ensures others { OthersStay l links.old.items links.new.items }
+    ensures others { OtherEntriesStay l links.old.items links.new.items }
 {
     if let Ok((received, is_left)) = links.read(l, buf, now) {
         *more = *more || is_left;
@@ -139,10 +139,10 @@ fn read_client(
     now: u64,
     more: &mut bool,
 ) -> Result<Received, SocketFailed>
-    ensures within { IfOk result (IsReceived (length buf.old)) }
+    ensures within { IfOk result (FitsTheBuffer (length buf.old)) }
     ensures length { length buf.new ≡ length buf.old }
-    ensures open { OthersStay n clients.old.open clients.new.open }
-    ensures others { OnlyAt clients.old.open n clients.old.streams clients.new.streams }
+    ensures open { OtherEntriesStay n clients.old.open clients.new.open }
+    ensures others { ChangesOnlyAtNumber clients.old.open n clients.old.streams clients.new.streams }
 {
     if let Ok((received, is_left)) = clients.read(n, buf, now) {
         *more = *more || is_left;
@@ -199,7 +199,7 @@ impl<'a, R: Net> LiveSockets<'a, R> {
             limits,
             log: None,
             replies: None,
-            doors: Doors::new(),
+            doors: AcceptCounts::new(),
             turns: Turns::new(),
             asked: Asked::new(alloc),
             moment: 0,
@@ -232,7 +232,7 @@ impl<'a, R: Net> LiveSockets<'a, R> {
                 let _ = self.links.origins.place(origin)?;
             }
         }
-        self.replies = Some(Replies::new());
+        self.replies = Some(ReplyCounts::new());
         Ok(())
     }
 
@@ -284,7 +284,7 @@ impl<'a, R: Net> LiveSockets<'a, R> {
     /// Waits until something is ready, for a second at most, or not at all where something is left to be done.
     pub fn wait(&mut self, busy: bool) -> io::Result<()> {
         let none = busy || self.more || self.clients.more || self.lost_count() > 0;
-        let limit = if none { 0 } else { TICK };
+        let limit = if none { 0 } else { LONGEST_WAIT };
         self.more = false;
         self.poll
             .poll(&mut self.events, Some(Duration::from_millis(limit)))
@@ -296,7 +296,8 @@ impl<'a, R: Net> LiveSockets<'a, R> {
         self.poll
             .poll(&mut self.events, Some(Duration::from_millis(0)))?;
         self.take_events();
-        self.clients.sweep(self.now, self.listener.is_none());
+        self.clients
+            .drop_late_streams(self.now, self.listener.is_none());
         // After a pause an accept is tried again.
         self.acceptable = true;
         self.take_connections();
@@ -343,7 +344,7 @@ impl<'a, R: Net> LiveSockets<'a, R> {
 
     /// Takes a connection that waits. Whether another may wait, and be taken.
     fn take_connection(&mut self) -> bool {
-        if !self.clients.may_add() {
+        if !self.clients.has_room_for_stream() {
             self.doors.full = self.doors.full.saturating_add(1);
             self.acceptable = false;
             return false;
@@ -358,7 +359,7 @@ impl<'a, R: Net> LiveSockets<'a, R> {
             Err(e) => {
                 // Where descriptors have run out an idle client gives way, else it is tried again after a
                 // pause. The system says so too where no connection waits: who has just come stays.
-                let again = wants_descriptors(&e) && self.clients.drop_quiet(self.now);
+                let again = is_out_of_descriptors(&e) && self.clients.drop_quiet(self.now);
                 if !again {
                     self.doors.count_refused(&e);
                 }
@@ -375,7 +376,7 @@ impl<'a, R: Net> LiveSockets<'a, R> {
         };
         let (stream, address) = listener.accept()?;
         let peer = Peer::new(self.alloc, stream, self.now);
-        self.clients.make_room();
+        self.clients.make_room_for_waiting();
         let Some(key) = self.clients.add(peer) else {
             return Err(io::Error::from(ErrorKind::OutOfMemory));
         };
@@ -394,7 +395,7 @@ impl<'a, R: Net> LiveSockets<'a, R> {
 
     /// Whether something is left that the next turn can take, behind one that freed an end.
     pub fn has_unread(&self) -> bool {
-        self.clients.crowd() > 0 || self.clients.some_readable()
+        self.clients.waiting_count() > 0 || self.clients.some_readable()
     }
 
     /// Whether who waits for a place can have one in the next turn.
@@ -477,31 +478,35 @@ impl<'a, R: Net> LiveSockets<'a, R> {
             full: self.doors.full,
             no_descriptor: self.doors.no_descriptor,
             no_link: self.doors.no_link,
-            waiting: if is_crowded { self.clients.crowd() } else { 0 },
+            waiting: if is_crowded {
+                self.clients.waiting_count()
+            } else {
+                0
+            },
         }
     }
 
     /// How many clients wait for a place that isn't free.
-    pub fn crowd(&self) -> usize {
-        self.clients.crowd()
+    pub fn waiting_count(&self) -> usize {
+        self.clients.waiting_count()
     }
 
     /// Tells whose requests have come whole of those that wait for a place.
     pub fn sort_waiting(&mut self) {
-        self.clients.sort(self.now);
+        self.clients.sort_waiting_requests(self.now);
     }
 
     /// Whether nothing waits to be read from a client.
     pub fn may_park(&self, n: u64) -> bool {
-        self.clients.may_park(n) && !(self.is_draining() && self.clients.has_early(n))
+        self.clients.may_park(n) && !(self.is_draining() && self.clients.has_early_bytes(n))
     }
 
     /// A client between two requests leaves its place; its stream stays, unless no more connections are taken.
-    pub fn park(&mut self, n: u64) {
+    pub fn leave_place_to_wait(&mut self, n: u64) {
         if self.is_draining() {
             self.clients.close(n, self.now);
         } else {
-            self.clients.park(n);
+            self.clients.leave_place_to_wait(n);
         }
     }
 
@@ -519,8 +524,8 @@ impl<'a, R: Net> LiveSockets<'a, R> {
 
     /// Drops the stream of an end whose time is over, or who gives way.
     pub fn forget(&mut self, end: End)
-        ensures client { ForgetsClient end self.old.clients self.new.clients }
-        ensures link { ForgetsLink end self.old.links self.new.links }
+        ensures client { ClientIsForgotten end self.old.clients self.new.clients }
+        ensures link { LinkIsForgotten end self.old.links self.new.links }
     {
         match end {
             End::Listener => {}
@@ -538,13 +543,13 @@ impl<'a, R: Net> LiveSockets<'a, R> {
 
     /// Reads from a client, unless others are to be read first.
     fn read_client(&mut self, n: u64, buf: &mut [u8]) -> Result<Received, SocketFailed>
-        ensures within { IfOk result (IsReceived (length buf.old)) }
+        ensures within { IfOk result (FitsTheBuffer (length buf.old)) }
         ensures length { length buf.new ≡ length buf.old }
         ensures accepts { self.new.accepts ≡ self.old.accepts }
         ensures reads { self.new.reads ≡ self.old.reads }
         ensures failures { self.new.failures ≡ self.old.failures }
     {
-        if self.given >= SHARE && self.clients.some_wait() {
+        if self.given >= CLIENTS_READ_A_TURN && self.clients.some_request_waits() {
             self.more = true;
             return Ok(Received::Nothing);
         }
@@ -574,7 +579,7 @@ impl<'a, R: Net> LiveSockets<'a, R> {
     }
 
     fn write_link(&mut self, l: u64, bytes: &[u8]) -> Result<(), SocketFailed>
-        ensures connected { is_connecting (get nat_cmp self.old.links.items l) ≡ false → IsOk result
+        ensures connected { link_is_connecting (get nat_cmp self.old.links.items l) ≡ false → IsOk result
             × (self.new.lost ≡ self.old.lost) }
         ensures accepts { self.new.accepts ≡ self.old.accepts }
         ensures reads { self.new.reads ≡ self.old.reads }
@@ -608,7 +613,7 @@ impl<'a, R: Net> LiveSockets<'a, R> {
         ensures failures { self.new.failures ≡ self.old.failures }
     {
         match begin_link(self.net, self.alloc, &self.poll, l, address, self.now) {
-            Err(e) if wants_descriptors(&e) && self.clients.drop_idle() => {
+            Err(e) if is_out_of_descriptors(&e) && self.clients.drop_idle() => {
                 begin_link(self.net, self.alloc, &self.poll, l, address, self.now)
             }
             begun => begun,
@@ -628,7 +633,7 @@ impl<'a, R: Net> LiveSockets<'a, R> {
         };
         let begun = self.begin(l, address);
         if let Err(e) = &begun {
-            if wants_descriptors(e) {
+            if is_out_of_descriptors(e) {
                 self.doors.no_link = self.doors.no_link.saturating_add(1);
             }
         }
@@ -646,7 +651,7 @@ impl<'a, R: Net> LiveSockets<'a, R> {
 
     /// Reads from a link. That it has failed is kept until the next turn begins.
     fn read_from_link(&mut self, l: u64, buf: &mut [u8]) -> Result<Received, SocketFailed>
-        ensures within { IfOk result (IsReceived (length buf.old)) }
+        ensures within { IfOk result (FitsTheBuffer (length buf.old)) }
         ensures length { length buf.new ≡ length buf.old }
         ensures accepts { self.new.accepts ≡ self.old.accepts }
         ensures reads { self.new.reads ≡ self.old.reads }

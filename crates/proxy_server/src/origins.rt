@@ -1,7 +1,7 @@
 //! What was counted of each origin. Those of the operator's table are the only ones.
 
 use crate::counts::count;
-use crate::sorts::{Cause, Sort};
+use crate::sorts::{Cause, ReplySort};
 use hx_fields::Bytes;
 use std::alloc::{AllocError, Global};
 use std::str;
@@ -26,9 +26,9 @@ pub(crate) struct Origin {
 }
 
 /// The hundreds of statuses, and the kinds of failures, in the order of their counts.
-pub(crate) const CLASSES: [&str; 4] = ["2xx", "3xx", "4xx", "5xx"];
+pub(crate) const STATUS_CLASSES: [&str; 4] = ["2xx", "3xx", "4xx", "5xx"];
 
-pub(crate) const KINDS: [&str; 6] = [
+pub(crate) const FAILURE_KINDS: [&str; 6] = [
     "refused",
     "timed-out",
     "closed",
@@ -38,7 +38,7 @@ pub(crate) const KINDS: [&str; 6] = [
 ];
 
 /// Where failures are counted for which a stored response was sent.
-pub(crate) const COVERED: usize = 5;
+pub(crate) const COVERED_FAILURES: usize = 5;
 
 impl Origin {
     fn new(address: Bytes) -> Origin {
@@ -72,11 +72,11 @@ impl Origin {
     }
 
     /// Counts what the origin said or did, by the reply that was made of it.
-    fn answered(&mut self, status: u16, sort: &Sort) {
+    fn answered(&mut self, status: u16, sort: &ReplySort) {
         if let Some(cause) = sort.cause {
             self.count_failure(cause);
         } else if sort.is_covered() {
-            count(&mut self.failures, COVERED);
+            count(&mut self.failures, COVERED_FAILURES);
         } else {
             self.count_answer(sort.fwd_status.unwrap_or(status));
         }
@@ -151,7 +151,7 @@ impl Origins {
     }
 
     /// Counts what an origin said or did, by the reply that was made of it.
-    pub(crate) fn answered(&mut self, place: usize, status: u16, sort: &Sort) {
+    pub(crate) fn answered(&mut self, place: usize, status: u16, sort: &ReplySort) {
         if let Some(origin) = self.items.get_mut(place) {
             origin.answered(status, sort);
         }

@@ -1,6 +1,7 @@
 //! Whether the next turn waits, and what clocks tell.
 ghost use Rattle.std.specs.Prelude.{◌≡◌};
-ghost use Rattle.proxy_server.specs.Paces.{behind, has_freed, moment_of, milliseconds_of};
+ghost use Rattle.proxy_server.specs.Paces.{next_turn_must_not_wait, turn_has_freed_an_end, moment_and_milliseconds};
+ghost use Rattle.proxy_server.specs.Paces.{milliseconds_of_duration};
 
 use hx_fields::END_OF_TIME;
 use proxy_turn::{MOST_WORKS, Report, TurnFault};
@@ -24,12 +25,15 @@ impl Pace {
     /// Takes what a turn told. `unread` says that more may be read where the turn freed an end, `more`
     /// that there is something else to take.
     pub(crate) fn note(&mut self, reported: Result<Report, TurnFault>, unread: bool, more: bool)
-        ensures { self.new ≡ behind self.old reported unread more }
+        ensures { self.new ≡ next_turn_must_not_wait self.old reported unread more }
     {
         match reported {
             Ok(report) => {
                 self.settled = report.works < MOST_WORKS;
-                self.busy = !self.settled || has_freed(reported) && unread || self.sweeping || more;
+                self.busy = !self.settled
+                    || turn_has_freed_an_end(reported) && unread
+                    || self.sweeping
+                    || more;
             }
             // Memory may be there a little later.
             Err(TurnFault::NoMemory) => {
@@ -45,8 +49,8 @@ impl Pace {
 }
 
 /// Whether a turn may have freed an end.
-pub(crate) fn has_freed(reported: Result<Report, TurnFault>) -> bool
-    ensures { result ≡ has_freed reported }
+pub(crate) fn turn_has_freed_an_end(reported: Result<Report, TurnFault>) -> bool
+    ensures { result ≡ turn_has_freed_an_end reported }
 {
     match reported {
         Ok(report) => report.works > 0 || report.faults > 0,
@@ -55,15 +59,15 @@ pub(crate) fn has_freed(reported: Result<Report, TurnFault>) -> bool
 }
 
 /// A time since 1970 as a moment, and its milliseconds.
-pub(crate) fn moment_of(time: Duration) -> (u64, u64)
-    ensures { result ≡ moment_of time }
+pub(crate) fn moment_and_milliseconds(time: Duration) -> (u64, u64)
+    ensures { result ≡ moment_and_milliseconds time }
 {
     (time.as_secs().min(LATEST), u64::from(time.subsec_millis()))
 }
 
 /// A time in milliseconds.
-pub(crate) fn milliseconds_of(time: Duration) -> u64
-    ensures { result ≡ milliseconds_of time }
+pub(crate) fn milliseconds_of_duration(time: Duration) -> u64
+    ensures { result ≡ milliseconds_of_duration time }
 {
     let whole = time.as_secs().saturating_mul(1000);
     whole.saturating_add(u64::from(time.subsec_millis()))

@@ -3,8 +3,9 @@
 //! A name, a help text and a label's value have no backslash, quote or LF here: so none of them is escaped.
 ghost use Rattle.std.specs.Prelude.{◌≡◌, ◌++◌, [], decimal, codes, OnOk};
 ghost use Rattle.proxy_log.specs.Seconds.{seconds_text};
-ghost use Rattle.proxy_server.specs.Page.{kind_text, family_text, label_text, named_text, further_text, value_text};
-ghost use Rattle.proxy_server.specs.Page.{sample_text, labelled_text, pair_text};
+ghost use Rattle.proxy_server.specs.Page.{kind_text, family_text, label_text, sample_name_text, further_label_text};
+ghost use Rattle.proxy_server.specs.Page.{value_text};
+ghost use Rattle.proxy_server.specs.Page.{sample_text, sample_with_label_text, sample_with_two_labels_text};
 
 use itoa::Buffer;
 use proxy_log::push_seconds;
@@ -87,10 +88,10 @@ impl<'a> Page<'a> {
     }
 
     /// The name of a sample, and the label of its program.
-    fn named(&mut self, name: &str) -> Result<(), AllocError>
+    fn push_sample_name(&mut self, name: &str) -> Result<(), AllocError>
         ensures listen { self.new.listen ≡ self.old.listen }
         ensures text { OnOk result (self.new.text.items ≡ self.old.text.items
-            ++ named_text self.old.listen.now name.now) }
+            ++ sample_name_text self.old.listen.now name.now) }
     {
         let listen = self.listen;
         self.push(name)?;
@@ -99,9 +100,9 @@ impl<'a> Page<'a> {
     }
 
     /// A further label.
-    fn further(&mut self, key: &str, label: &str) -> Result<(), AllocError>
+    fn push_further_label(&mut self, key: &str, label: &str) -> Result<(), AllocError>
         ensures listen { self.new.listen ≡ self.old.listen }
-        ensures text { OnOk result (self.new.text.items ≡ self.old.text.items ++ further_text key.now label.now) }
+        ensures text { OnOk result (self.new.text.items ≡ self.old.text.items ++ further_label_text key.now label.now) }
     {
         self.push(",")?;
         self.label(key, label)
@@ -135,7 +136,7 @@ impl<'a> Page<'a> {
         ensures text { OnOk result (self.new.text.items ≡ self.old.text.items
             ++ sample_text self.old.listen.now name.now (decimal n)) }
     {
-        self.named(name)?;
+        self.push_sample_name(name)?;
         self.value(n)
     }
 
@@ -145,12 +146,12 @@ impl<'a> Page<'a> {
         ensures text { OnOk result (self.new.text.items ≡ self.old.text.items
             ++ sample_text self.old.listen.now name.now (seconds_text milliseconds)) }
     {
-        self.named(name)?;
+        self.push_sample_name(name)?;
         self.time_value(milliseconds)
     }
 
     /// A sample with a label.
-    pub(crate) fn sample_of(
+    pub(crate) fn sample_with_label(
         &mut self,
         name: &str,
         key: &str,
@@ -159,15 +160,15 @@ impl<'a> Page<'a> {
     ) -> Result<(), AllocError>
         ensures listen { self.new.listen ≡ self.old.listen }
         ensures text { OnOk result (self.new.text.items ≡ self.old.text.items
-            ++ labelled_text self.old.listen.now name.now key.now label.now (decimal n)) }
+            ++ sample_with_label_text self.old.listen.now name.now key.now label.now (decimal n)) }
     {
-        self.named(name)?;
-        self.further(key, label)?;
+        self.push_sample_name(name)?;
+        self.push_further_label(key, label)?;
         self.value(n)
     }
 
     /// A sample of milliseconds with a label.
-    pub(crate) fn time_of(
+    pub(crate) fn time_with_label(
         &mut self,
         name: &str,
         key: &str,
@@ -176,15 +177,15 @@ impl<'a> Page<'a> {
     ) -> Result<(), AllocError>
         ensures listen { self.new.listen ≡ self.old.listen }
         ensures text { OnOk result (self.new.text.items ≡ self.old.text.items
-            ++ labelled_text self.old.listen.now name.now key.now label.now (seconds_text milliseconds)) }
+            ++ sample_with_label_text self.old.listen.now name.now key.now label.now (seconds_text milliseconds)) }
     {
-        self.named(name)?;
-        self.further(key, label)?;
+        self.push_sample_name(name)?;
+        self.push_further_label(key, label)?;
         self.time_value(milliseconds)
     }
 
     /// A sample with two labels.
-    pub(crate) fn sample_of_both(
+    pub(crate) fn sample_with_two_labels(
         &mut self,
         name: &str,
         first: (&str, &str),
@@ -193,17 +194,17 @@ impl<'a> Page<'a> {
     ) -> Result<(), AllocError>
         ensures listen { self.new.listen ≡ self.old.listen }
         ensures text { OnOk result (self.new.text.items ≡ self.old.text.items
-            ++ pair_text self.old.listen.now name.now first.entry.0.now first.entry.1.now
+            ++ sample_with_two_labels_text self.old.listen.now name.now first.entry.0.now first.entry.1.now
             second.entry.0.now second.entry.1.now (decimal n)) }
     {
-        self.named(name)?;
-        self.further(first.0, first.1)?;
-        self.further(second.0, second.1)?;
+        self.push_sample_name(name)?;
+        self.push_further_label(first.0, first.1)?;
+        self.push_further_label(second.0, second.1)?;
         self.value(n)
     }
 
     /// A family of one sample.
-    pub(crate) fn single(
+    pub(crate) fn single_sample_family(
         &mut self,
         name: &str,
         kind: Kind,

@@ -1,65 +1,81 @@
 //! Whose time is over, and who gives way where places are short.
 ghost use Rattle.std.specs.Prelude.{◌≡◌, ◌<◌, ◌-◌, ◌⊎◌, true, false, [], Some, length};
-ghost use Rattle.proxy_server.specs.Patience.{is_over, lateness_of, is_longer, asked_since};
+ghost use Rattle.proxy_server.specs.Patience.{stream_time_is_over, lateness_of_stream, has_lasted_longer};
+ghost use Rattle.proxy_server.specs.Patience.{incomplete_since};
 
 use crate::client::Client;
 use crate::clients::Clients;
-use crate::endings::{Cut, Lateness};
-use crate::limits::{HASTE, IDLE, Limits, PATIENCE, QUIET};
-use crate::lines::Line;
+use crate::endings::{CutReason, Lateness};
+use crate::limits::{
+    HASTE_MILLISECONDS, IDLE_MILLISECONDS, Limits, PATIENCE_MILLISECONDS, QUIET_MILLISECONDS,
+};
+use crate::stream_queues::StreamQueue;
 use proxy_turn::End;
 
 /// Whether who stands in a line has had its time.
-fn is_over(client: &Client, line: Line, limits: &Limits, now: u64, draining: bool) -> bool
-    ensures { result ≡ is_over line limits.now draining client.now.has_asked now client.now.peer.heard client.now.closed
+fn stream_time_is_over(
+    client: &Client,
+    line: StreamQueue,
+    limits: &Limits,
+    now: u64,
+    draining: bool,
+) -> bool
+    ensures { result
+        ≡ stream_time_is_over line limits.now draining client.now.has_asked now client.now.peer.heard client.now.closed
         client.now.asked }
 {
     let quiet = now.saturating_sub(client.peer.heard);
     match line {
-        Line::Idle => {
-            let is_done = draining && (client.has_asked || quiet > IDLE);
+        StreamQueue::Idle => {
+            let is_done = draining && (client.has_asked || quiet > IDLE_MILLISECONDS);
             is_done || quiet > limits.client_timeout
         }
-        Line::Taking => quiet > limits.client_timeout,
+        StreamQueue::Taking => quiet > limits.client_timeout,
         // What has come may be whole.
-        Line::Fresh => false,
-        Line::Whole => false,
-        Line::Long => client.is_late(now, limits.request_timeout),
-        Line::Partial => client.is_late(now, limits.request_timeout),
-        Line::Leaving => quiet > limits.client_timeout.min(PATIENCE),
-        Line::Lingering => quiet > QUIET || now.saturating_sub(client.closed) > PATIENCE,
+        StreamQueue::Fresh => false,
+        StreamQueue::Whole => false,
+        StreamQueue::Long => client.is_late(now, limits.request_timeout),
+        StreamQueue::Partial => client.is_late(now, limits.request_timeout),
+        StreamQueue::Leaving => quiet > limits.client_timeout.min(PATIENCE_MILLISECONDS),
+        StreamQueue::Lingering => quiet > QUIET_MILLISECONDS
+            || now.saturating_sub(client.closed) > PATIENCE_MILLISECONDS,
     }
 }
 
 /// Which time is over of one that stands in a line and had its time; none of one that has nothing more to come.
-fn lateness_of(client: &Client, line: Line, limits: &Limits, now: u64) -> Option<Lateness>
-    ensures { result ≡ lateness_of line limits.now now client.now.peer.heard }
+fn lateness_of_stream(
+    client: &Client,
+    line: StreamQueue,
+    limits: &Limits,
+    now: u64,
+) -> Option<Lateness>
+    ensures { result ≡ lateness_of_stream line limits.now now client.now.peer.heard }
 {
     let is_silent = now.saturating_sub(client.peer.heard) > limits.client_timeout;
     match line {
-        Line::Idle => if is_silent {
+        StreamQueue::Idle => if is_silent {
             Some(Lateness::Client)
         } else {
             None
         },
-        Line::Taking => Some(Lateness::Client),
-        Line::Leaving => Some(Lateness::Client),
-        Line::Long => Some(Lateness::Request),
-        Line::Partial => Some(Lateness::Request),
+        StreamQueue::Taking => Some(Lateness::Client),
+        StreamQueue::Leaving => Some(Lateness::Client),
+        StreamQueue::Long => Some(Lateness::Request),
+        StreamQueue::Partial => Some(Lateness::Request),
         _ => None,
     }
 }
 
 /// Whether the request of a client, which is incomplete, has taken too long, or the client is silent.
 fn is_late(client: &mut Client, limits: &Limits, now: u64) -> bool
-    ensures asked { client.old.peer.unsent.bytes ≡ [] → client.new.asked ≡ asked_since now client.old.asked }
+    ensures asked { client.old.peer.unsent.bytes ≡ [] → client.new.asked ≡ incomplete_since now client.old.asked }
     ensures unread { 0 < length client.old.peer.unsent.bytes → client.new.asked ≡ Some now }
-    ensures over { is_longer now client.new.asked limits.now.request_timeout ≡ true → result ≡ true }
+    ensures over { has_lasted_longer now client.new.asked limits.now.request_timeout ≡ true → result ≡ true }
     ensures slow { 0 < length client.old.peer.unsent.bytes → limits.now.client_timeout < now - client.old.peer.heard
         → result ≡ true }
     ensures silent { client.old.peer.readable ≡ false → limits.now.client_timeout < now - client.old.peer.heard
         → result ≡ true }
-    ensures only { result ≡ true → (is_longer now client.new.asked limits.now.request_timeout ≡ true)
+    ensures only { result ≡ true → (has_lasted_longer now client.new.asked limits.now.request_timeout ≡ true)
         ⊎ (limits.now.client_timeout < now - client.old.peer.heard) }
 {
     if client.peer.has_unsent() {
@@ -72,27 +88,27 @@ fn is_late(client: &mut Client, limits: &Limits, now: u64) -> bool
 }
 
 /// Whether nobody behind the first whose time isn't over has had its time: they came later.
-fn is_in_order(line: Line, draining: bool) -> bool {
+fn is_queue_in_order(line: StreamQueue, draining: bool) -> bool {
     match line {
-        Line::Idle => !draining,
-        Line::Long => true,
-        Line::Partial => true,
+        StreamQueue::Idle => !draining,
+        StreamQueue::Long => true,
+        StreamQueue::Partial => true,
         _ => false,
     }
 }
 
 impl Clients {
     /// Drops the streams without a place that have had their time.
-    pub(crate) fn sweep(&mut self, now: u64, draining: bool) {
-        self.sweep_line(Line::Idle, now, draining);
-        self.sweep_line(Line::Taking, now, draining);
-        self.sweep_line(Line::Long, now, draining);
-        self.sweep_line(Line::Partial, now, draining);
-        self.sweep_line(Line::Leaving, now, draining);
-        self.sweep_line(Line::Lingering, now, draining);
+    pub(crate) fn drop_late_streams(&mut self, now: u64, draining: bool) {
+        self.drop_late_of_queue(StreamQueue::Idle, now, draining);
+        self.drop_late_of_queue(StreamQueue::Taking, now, draining);
+        self.drop_late_of_queue(StreamQueue::Long, now, draining);
+        self.drop_late_of_queue(StreamQueue::Partial, now, draining);
+        self.drop_late_of_queue(StreamQueue::Leaving, now, draining);
+        self.drop_late_of_queue(StreamQueue::Lingering, now, draining);
     }
 
-    fn sweep_line(&mut self, line: Line, now: u64, draining: bool) {
+    fn drop_late_of_queue(&mut self, line: StreamQueue, now: u64, draining: bool) {
         let mut from = 0u64;
         for _ in 0..self.lines.len(line) {
             let Some((stamp, key)) = self.lines.next_from(line, from) else {
@@ -102,33 +118,35 @@ impl Clients {
             let limits = self.limits;
             let (over, lateness) = match self.stream(key) {
                 Some(client) => (
-                    is_over(client, line, &limits, now, draining),
-                    lateness_of(client, line, &limits, now),
+                    stream_time_is_over(client, line, &limits, now, draining),
+                    lateness_of_stream(client, line, &limits, now),
                 ),
                 None => (true, None),
             };
             if over {
                 self.endings.count_if_late(lateness);
                 self.drop_stream(key);
-            } else if is_in_order(line, draining) {
+            } else if is_queue_in_order(line, draining) {
                 return;
             }
         }
     }
 
     /// Whether there is room for one more stream, or can be made.
-    pub(crate) fn may_add(&self) -> bool {
-        let spare = self.lines.len_of(&[Line::Lingering, Line::Idle]);
+    pub(crate) fn has_room_for_stream(&self) -> bool {
+        let spare = self
+            .lines
+            .len_of(&[StreamQueue::Lingering, StreamQueue::Idle]);
         self.len().saturating_sub(spare) < self.limits.connections
     }
 
     /// Makes room for one more stream, where there are as many as may be: of those that were closed, or else are idle,
     /// the first is dropped.
-    pub(crate) fn make_room(&mut self) {
+    pub(crate) fn make_room_for_waiting(&mut self) {
         if self.len() < self.limits.connections {
             return;
         }
-        if let Some(key) = self.lines.first(Line::Lingering) {
+        if let Some(key) = self.lines.first(StreamQueue::Lingering) {
             self.drop_stream(key);
         } else {
             let _ = self.drop_idle();
@@ -151,7 +169,7 @@ impl Clients {
         } else if client.peer.is_silent(now, limits.client_timeout) {
             self.endings.count_lateness(Lateness::Client);
         } else {
-            self.endings.count_cut(Cut::Place);
+            self.endings.count_cut(CutReason::Place);
         }
     }
 
@@ -169,9 +187,9 @@ impl Clients {
     /// it.
     pub(crate) fn idle_limit(&self, n: u64, draining: bool) -> Option<u64> {
         if !draining {
-            return Some(IDLE);
+            return Some(IDLE_MILLISECONDS);
         }
-        if self.has_early(n) {
+        if self.has_early_bytes(n) {
             Some(self.limits.client_timeout)
         } else {
             None
@@ -179,9 +197,9 @@ impl Clients {
     }
 
     /// Whether a client has sent more than was handed in.
-    pub(crate) fn has_early(&self, n: u64) -> bool {
+    pub(crate) fn has_early_bytes(&self, n: u64) -> bool {
         match self.get(n) {
-            Some(client) => client.has_early(),
+            Some(client) => client.has_early_bytes(),
             None => false,
         }
     }
@@ -220,7 +238,7 @@ impl Clients {
     /// Of the clients that may be read the one whose request has been incomplete for the longest, where it gives way to
     /// who waits.
     pub(crate) fn slowest_request(&self, reads: &[End], now: u64) -> Option<u64> {
-        let is_whole = self.lines.first(Line::Whole).is_some();
+        let is_whole = self.lines.first(StreamQueue::Whole).is_some();
         let mut first = self.waits_since(now)?;
         let mut slowest = None;
         for end in reads {
@@ -241,8 +259,9 @@ impl Clients {
     fn slow_since(&self, n: u64, now: u64, is_whole: bool) -> Option<u64> {
         let client = self.get(n)?;
         let asked = client.asked?;
-        let is_slow = now.saturating_sub(asked) > HASTE;
-        let rests = !client.may_give() && now.saturating_sub(client.peer.heard) > HASTE;
+        let is_slow = now.saturating_sub(asked) > HASTE_MILLISECONDS;
+        let rests = !client.may_give()
+            && now.saturating_sub(client.peer.heard) > HASTE_MILLISECONDS;
         if is_slow && (is_whole || rests) {
             Some(asked)
         } else {
@@ -253,12 +272,14 @@ impl Clients {
     /// Since when the request has been incomplete that waits for a place: no older one gives way for it. A whole one
     /// has been so since now.
     fn waits_since(&self, now: u64) -> Option<u64> {
-        if self.lines.first(Line::Whole).is_some() {
+        if self.lines.first(StreamQueue::Whole).is_some() {
             return Some(now);
         }
-        let key = self
-            .lines
-            .first_of(&[Line::Long, Line::Partial, Line::Fresh])?;
+        let key = self.lines.first_of(&[
+            StreamQueue::Long,
+            StreamQueue::Partial,
+            StreamQueue::Fresh,
+        ])?;
         self.stream(key)?.asked
     }
 }

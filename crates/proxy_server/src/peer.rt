@@ -1,13 +1,14 @@
 //! A stream of the system, and what is known of it. No call waits.
 ghost use Rattle.std.specs.Prelude.{◌≡◌, ◌<◌, ◌≤◌, ◌-◌, ◌||◌, true, false, [], ◌∷◌, ◌++◌, length, IfOk, OnOk, OnErr};
-ghost use Rattle.proxy_turn.specs.Received.{IsReceived};
-ghost use Rattle.proxy_server.specs.Patience.{is_silent};
-ghost use Rattle.proxy_server.specs.Peers.{gave, IsHanded, IsHandedInPart, IsLeft, shows_reading};
-ghost use Rattle.proxy_server.specs.Peers.{shows_an_end};
-ghost use Rattle.proxy_server.specs.Streams.{IsWritten};
+ghost use Rattle.proxy_turn.specs.Received.{FitsTheBuffer};
+ghost use Rattle.proxy_server.specs.Patience.{end_is_silent};
+ghost use Rattle.proxy_server.specs.Peers.{peer_read_outcome, BytesAreHandedOn, BytesAreHandedOnInPart, MoreMayBeLeft};
+ghost use Rattle.proxy_server.specs.Peers.{event_shows_reading};
+ghost use Rattle.proxy_server.specs.Peers.{event_shows_an_end};
+ghost use Rattle.proxy_server.specs.Streams.{PeerIsWritten};
 
+use crate::socket_tokens::Holder;
 use crate::stream::Stream;
-use crate::tokens::Holder;
 use crate::unsent::{Unsent, write_some};
 use mio::event::Event;
 use mio::net::TcpStream;
@@ -108,7 +109,7 @@ impl<S: Stream + Drop> Peer<S> {
 
     /// Whether no byte came or went for more than so many milliseconds. One that wasn't read yet has come.
     pub(crate) fn is_silent(&self, now: u64, limit: u64) -> bool
-        ensures is { result ≡ is_silent self.now.readable self.now.unsent.bytes now self.now.heard limit }
+        ensures is { result ≡ end_is_silent self.now.readable self.now.unsent.bytes now self.now.heard limit }
         ensures only { result ≡ true → limit < now - self.now.heard }
         ensures quiet { self.now.readable ≡ false → limit < now - self.now.heard → result ≡ true }
         ensures slow { 0 < length self.now.unsent.bytes → limit < now - self.now.heard → result ≡ true }
@@ -120,8 +121,8 @@ impl<S: Stream + Drop> Peer<S> {
     /// Marks what an event told of reading.
     pub(crate) fn mark_ready(&mut self, event: &Event)
         ensures { self.new ≡ record self.old {
-          readable = self.old.readable || shows_reading event.now;
-          hung = self.old.hung || shows_an_end event.now;
+          readable = self.old.readable || event_shows_reading event.now;
+          hung = self.old.hung || event_shows_an_end event.now;
         } }
     {
         if event.is_readable() || event.is_read_closed() || event.is_error() {
@@ -137,12 +138,12 @@ impl<S: Stream + Drop> Peer<S> {
     pub(crate) fn write(&mut self, bytes: &[u8], now: u64) -> io::Result<()>
         ensures connected { self.old.connecting ≡ false → self.new.connecting ≡ false }
         ensures handed { self.old.broken ≡ false
-            → OnOk result (IsHanded (λ took. S.Passed self.old.stream took [] self.new.stream)
+            → OnOk result (BytesAreHandedOn (λ took. S.Passed self.old.stream took [] self.new.stream)
             (self.old.unsent.bytes ++ bytes.now) self.new.unsent.bytes) }
         ensures in_part { OnErr result
-            (IsHandedInPart (λ took. S.Passed self.old.stream took [] self.new.stream)
+            (BytesAreHandedOnInPart (λ took. S.Passed self.old.stream took [] self.new.stream)
             (self.old.unsent.bytes ++ bytes.now)) }
-        ensures written { IsWritten S.Passed bytes.now self.old self.new }
+        ensures written { PeerIsWritten S.Passed bytes.now self.old self.new }
         ensures going { OnOk result (self.new.broken ≡ self.old.broken) }
         ensures failed { OnErr result (self.new.broken ≡ true) }
         ensures broken { self.old.broken ≡ true → (self.new.stream ≡ self.old.stream) × (self.new.broken ≡ true) }
@@ -165,10 +166,10 @@ impl<S: Stream + Drop> Peer<S> {
     fn write_or_keep(&mut self, bytes: &[u8], now: u64) -> io::Result<()>
         requires { self.old.broken ≡ false }
         ensures connected { self.old.connecting ≡ false → self.new.connecting ≡ false }
-        ensures handed { OnOk result (IsHanded (λ took. S.Passed self.old.stream took [] self.new.stream)
+        ensures handed { OnOk result (BytesAreHandedOn (λ took. S.Passed self.old.stream took [] self.new.stream)
             (self.old.unsent.bytes ++ bytes.now) self.new.unsent.bytes) }
         ensures in_part { OnErr result
-            (IsHandedInPart (λ took. S.Passed self.old.stream took [] self.new.stream)
+            (BytesAreHandedOnInPart (λ took. S.Passed self.old.stream took [] self.new.stream)
             (self.old.unsent.bytes ++ bytes.now)) }
         ensures going { OnOk result (self.new.broken ≡ false) }
         ensures readable { self.old.readable ≡ true → self.new.readable ≡ true }
@@ -204,10 +205,10 @@ impl<S: Stream + Drop> Peer<S> {
         ensures connecting { self.new.connecting ≡ self.old.connecting }
         ensures handed { self.old.broken ≡ false
             → OnOk result
-            (IsHanded (λ took. S.Passed self.old.stream took [] self.new.stream) self.old.unsent.bytes
+            (BytesAreHandedOn (λ took. S.Passed self.old.stream took [] self.new.stream) self.old.unsent.bytes
             self.new.unsent.bytes) }
         ensures in_part { OnErr result
-            (IsHandedInPart (λ took. S.Passed self.old.stream took [] self.new.stream) self.old.unsent.bytes) }
+            (BytesAreHandedOnInPart (λ took. S.Passed self.old.stream took [] self.new.stream) self.old.unsent.bytes) }
         ensures going { OnOk result (self.new.broken ≡ self.old.broken) }
         ensures failed { OnErr result (self.new.broken ≡ true) }
         ensures broken { self.old.broken ≡ true → (self.new.stream ≡ self.old.stream) × (self.new.broken ≡ true) }
@@ -235,11 +236,12 @@ impl<S: Stream + Drop> Peer<S> {
     /// stream said that nothing is, where its end was read, or where it gave fewer bytes than there was room for and no
     /// event told of its end.
     pub(crate) fn read(&mut self, buf: &mut [u8], now: u64) -> io::Result<Received>
-        ensures within { IfOk result (IsReceived (length buf.old)) }
+        ensures within { IfOk result (FitsTheBuffer (length buf.old)) }
         ensures length { length buf.new ≡ length buf.old }
         ensures passed { self.old.readable ≡ true
-            → S.Passed self.old.stream [] (gave self.new.readable result buf.new ∷ []) self.new.stream }
-        ensures left { self.old.readable ≡ true → IsLeft self.old.hung (length buf.old) result self.new.readable }
+            → S.Passed self.old.stream [] (peer_read_outcome self.new.readable result buf.new ∷ []) self.new.stream }
+        ensures left { self.old.readable ≡ true → MoreMayBeLeft self.old.hung
+            (length buf.old) result self.new.readable }
         ensures unread { self.old.readable ≡ false → (self.new ≡ self.old) × (result ≡ Ok Received.Nothing) }
         ensures hung { self.new.hung ≡ self.old.hung }
         ensures unsent { self.new.unsent ≡ self.old.unsent }

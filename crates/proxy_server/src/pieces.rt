@@ -14,7 +14,7 @@ const VERSION: usize = 8;
 
 /// A request that was begun goes on by so many bytes at least, where so many have come: no more than a dozen requests
 /// stand in them.
-pub(crate) const LEAST: usize = 256;
+pub(crate) const LEAST_HANDED_IN: usize = 256;
 
 /// Whether a line ends in a version, as a request line does that isn't refused (RFC 9112, section 3).
 fn ends_in_version(line: &[u8]) -> bool {

@@ -1,8 +1,9 @@
 //! A record of what happens, as a script: the operator's table, and then each happening at its moment.
 ghost use Rattle.std.specs.Prelude.{◌≡◌, IfOk, OnOk};
 ghost use Rattle.std.specs.Io.KnownBytes.{Appends};
-ghost use Rattle.proxy_script.specs.Happenings.{said};
-ghost use Rattle.proxy_server.specs.Records.{Adds, Begins, Notes, items_of, text_of};
+ghost use Rattle.proxy_script.specs.Happenings.{plain_happening};
+ghost use Rattle.proxy_server.specs.Records.{TextIsAdded, RecordBegins, HappeningIsNoted, items_of_happening};
+ghost use Rattle.proxy_server.specs.Records.{text_of_items};
 
 use proxy_script::{Happening, Item, MOST_SCRIPT_BYTES, item_text};
 use std::alloc::{AllocError, Global};
@@ -58,13 +59,14 @@ fn put<W: Write>(writer: &mut W, text: &[u8]) -> Result<(), RecordFault>
 }
 
 /// The text of a happening, behind its moment where that is another than the last.
-fn text_of(
+fn text_of_items(
     alloc: Global,
     last: u64,
     now: u64,
     happening: Happening<'_>,
 ) -> Result<Vec<u8>, AllocError>
-    ensures { IfOk result (λ text. text.items ≡ text_of (items_of last now (said happening.entry))) }
+    ensures { IfOk result (λ text. text.items ≡ text_of_items
+        (items_of_happening last now (plain_happening happening.entry))) }
 {
     let mut happens = item_text(alloc, Item::Happens(happening))?;
     if now == last {
@@ -78,7 +80,7 @@ fn text_of(
 impl<W: Write + Drop> Recorder<W> {
     /// Begins a record with the bytes of the operator's table.
     pub fn begin(alloc: Global, writer: W, table: &[u8]) -> Result<Recorder<W>, RecordFault>
-        ensures { IfOk result (Begins (W.contents writer) table.now) }
+        ensures { IfOk result (RecordBegins (W.contents writer) table.now) }
     {
         let text = item_text(alloc, Item::Config(table))?;
         let mut recorder = Recorder {
@@ -101,7 +103,7 @@ impl<W: Write + Drop> Recorder<W> {
 
     /// Adds a text whole, up to a moment, unless the record has ended or ends here.
     fn add(&mut self, text: &[u8], moment: u64) -> Result<(), RecordFault>
-        ensures { OnOk result (Adds self.old text.now moment self.new) }
+        ensures { OnOk result (TextIsAdded self.old text.now moment self.new) }
     {
         if self.over {
             return Ok(());
@@ -118,12 +120,12 @@ impl<W: Write + Drop> Recorder<W> {
 
     /// Records what happens at a moment, unless the record has ended or ends here.
     pub fn happens(&mut self, now: u64, happening: Happening<'_>) -> Result<(), RecordFault>
-        ensures { OnOk result (Notes self.old now (said happening.entry) self.new) }
+        ensures { OnOk result (HappeningIsNoted self.old now (plain_happening happening.entry) self.new) }
     {
         if self.over {
             return Ok(());
         }
-        let text = text_of(self.alloc, self.moment, now, happening)?;
+        let text = text_of_items(self.alloc, self.moment, now, happening)?;
         self.add(text.as_slice(), now)
     }
 }

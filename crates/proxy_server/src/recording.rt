@@ -6,18 +6,20 @@
 ghost use Rattle.std.specs.Prelude.{◌≡◌, ◌≤◌, List, [], ◌∷◌, ◌++◌, length, IfOk, true, false, refl, Some, None};
 ghost use Rattle.std.specs.Prelude.{is_some, is_ok, not, ◌||◌, cond, option_map};
 ghost use Rattle.proxy_server.specs.Records.{Record};
-ghost use Rattle.proxy_server.specs.Recorded.{PassedOn, passed_on, NotesIf, IsNoted, is_recording, may_arrive};
-ghost use Rattle.proxy_server.specs.Recorded.{noted_none, noted_on, unfailed};
-ghost use Rattle.proxy_script.specs.Happenings.{said};
-ghost use Rattle.proxy_turn.specs.Calls.{Call, given_of};
-ghost use Rattle.proxy_turn.specs.Turn.{said_by, lost};
-ghost use Rattle.proxy_turn.specs.Counts.{IsRise, failed};
-ghost use Rattle.proxy_turn.specs.Received.{IsReceived};
+ghost use Rattle.proxy_server.specs.Recorded.{CallsArePassedOn, passed_on_joined, HappeningIfAnyIsNoted, TurnIsNoted};
+ghost use Rattle.proxy_server.specs.Recorded.{is_recording, may_be_taken_while_recording};
+ghost use Rattle.proxy_server.specs.Recorded.{turn_is_noted_with_no_call, turn_is_noted_joined};
+ghost use Rattle.proxy_server.specs.Recorded.{recording_had_not_failed};
+ghost use Rattle.proxy_script.specs.Happenings.{plain_happening};
+ghost use Rattle.proxy_turn.specs.Calls.{Call, read_outcome_of};
+ghost use Rattle.proxy_turn.specs.Turn.{happening_of_read, happening_of_loss};
+ghost use Rattle.proxy_turn.specs.Counts.{CountRisesBy, failed};
+ghost use Rattle.proxy_turn.specs.Received.{FitsTheBuffer};
 
 use crate::recorder::{RecordFault, Recorder};
 use hx_status::FailKind;
 use proxy_script::Happening;
-use proxy_turn::{End, Received, SocketFailed, Sockets, happening_of, loss};
+use proxy_turn::{End, Received, SocketFailed, Sockets, happening_of_lost_end, happening_of_read};
 use std::io::Write;
 
 /// Sockets, and the record of what they give, where one is written.
@@ -57,7 +59,8 @@ fn note<W: Write + Drop>(
 ) -> bool
     ensures reported { result ≡ false → is_some fault.new ≡ true }
     ensures kept { is_some fault.old ≡ true → is_some fault.new ≡ true }
-    ensures noted { is_some fault.new ≡ false → NotesIf now (Some (said happening.entry)) recorder.old recorder.new }
+    ensures noted { is_some fault.new ≡ false → HappeningIfAnyIsNoted now
+        (Some (plain_happening happening.entry)) recorder.old recorder.new }
 {
     if let Some(recorder) = recorder {
         if let Err(e) = recorder.happens(now, happening) {
@@ -141,7 +144,8 @@ impl<K: Sockets + Drop, W: Write + Drop> Recording<K, W> {
 
     /// Whether something may still happen in this turn.
     pub fn may_happen(&self) -> bool
-        ensures { result ≡ may_arrive (is_some self.now.fault) self.now.taken (is_recording self.now.recorder) }
+        ensures { result ≡ may_be_taken_while_recording (is_some self.now.fault) self.now.taken
+            (is_recording self.now.recorder) }
     {
         self.fault.is_none() && (!self.taken || !self.is_recording())
     }
@@ -150,7 +154,8 @@ impl<K: Sockets + Drop, W: Write + Drop> Recording<K, W> {
     pub fn note_between(&mut self, happening: Happening<'_>) -> bool
         ensures reported { result ≡ false → is_some self.new.fault ≡ true }
         ensures noted { is_some self.new.fault ≡ false
-            → NotesIf self.old.moment (Some (said happening.entry)) self.old.recorder self.new.recorder }
+            → HappeningIfAnyIsNoted self.old.moment
+            (Some (plain_happening happening.entry)) self.old.recorder self.new.recorder }
         ensures now { self.new.moment ≡ self.old.moment }
         ensures taken { self.new.taken ≡ true }
     {
@@ -161,7 +166,8 @@ impl<K: Sockets + Drop, W: Write + Drop> Recording<K, W> {
     /// Whether an end has to wait for another turn.
     fn has_to_wait(&self, end: End) -> bool
         ensures { result ≡ false
-            → may_arrive (is_some self.now.fault) self.now.taken (is_recording self.now.recorder) ≡ true }
+            → may_be_taken_while_recording (is_some self.now.fault) self.now.taken (is_recording self.now.recorder)
+            ≡ true }
     {
         if !self.may_happen() {
             return true;
@@ -185,15 +191,16 @@ impl<K: Sockets + Drop, W: Write + Drop> Recording<K, W> {
         ensures fault { is_some self.old.fault ≡ true → is_some self.new.fault ≡ true }
         ensures accepts { self.new.accepts ≡ self.old.accepts }
         ensures reads { self.new.reads ≡ self.old.reads }
-        ensures failures { IsRise self.old.failures self.new.failures (failed done) }
+        ensures failures { CountRisesBy self.old.failures self.new.failures (failed done) }
         ensures noted { is_some self.new.fault ≡ false
-            → NotesIf self.old.moment (cond (is_ok done) None (lost end kind)) self.old.recorder self.new.recorder }
+            → HappeningIfAnyIsNoted self.old.moment
+            (cond (is_ok done) None (happening_of_loss end kind)) self.old.recorder self.new.recorder }
         ensures now { self.new.moment ≡ self.old.moment }
         ensures taken { self.new.taken ≡ self.old.taken }
     {
         if done.is_err() {
             self.failures = self.failures.saturating_add(1);
-            if let Some(happening) = loss(end, kind) {
+            if let Some(happening) = happening_of_lost_end(end, kind) {
                 let _ = note(&mut self.recorder, &mut self.fault, self.moment, happening);
             }
         }
@@ -203,8 +210,8 @@ impl<K: Sockets + Drop, W: Write + Drop> Recording<K, W> {
 
 impl<K: Sockets + Drop, W: Write + Drop> Sockets for Recording<K, W> {
     ghost Did = { λ s made t. (is_some s.fault ≡ true → is_some t.fault ≡ true) × (below : List Call)
-        × K.Did s.sockets below t.sockets × PassedOn (is_some t.fault) made below
-        × (is_some t.fault ≡ false → IsNoted s.moment s.recorder s.taken made t.moment t.recorder t.taken) };
+        × K.Did s.sockets below t.sockets × CallsArePassedOn (is_some t.fault) made below
+        × (is_some t.fault ≡ false → TurnIsNoted s.moment s.recorder s.taken made t.moment t.recorder t.taken) };
 
     ghost accepts = { λ s. s.accepts };
 
@@ -212,17 +219,23 @@ impl<K: Sockets + Drop, W: Write + Drop> Sockets for Recording<K, W> {
 
     ghost failures = { λ s. s.failures };
 
-    ghost none = { λ s. (λ failed. failed, [], K.none s.sockets, refl, λ ok. noted_none s.moment s.recorder s.taken) };
+    ghost none = { λ s. (
+      λ failed. failed,
+      [],
+      K.none s.sockets,
+      refl,
+      λ ok. turn_is_noted_with_no_call s.moment s.recorder s.taken,
+    ) };
 
     ghost joined = { λ s t u a b first then. (
       λ failed. then.0 (first.0 failed),
       first.1
           ++ then.1,
       K.joined s.sockets t.sockets u.sockets first.1 then.1 first.2 then.2,
-      passed_on (is_some t.fault)
+      passed_on_joined (is_some t.fault)
           (is_some u.fault) a b first.1 then.1 then.0 first.3 then.3,
-      λ ok. noted_on s.moment t.moment u.moment s.recorder t.recorder u.recorder s.taken t.taken u.taken a b
-          (first.4 (unfailed (is_some t.fault) (is_some u.fault) then.0 ok)) (then.4 ok),
+      λ ok. turn_is_noted_joined s.moment t.moment u.moment s.recorder t.recorder u.recorder s.taken t.taken u.taken a b
+          (first.4 (recording_had_not_failed (is_some t.fault) (is_some u.fault) then.0 ok)) (then.4 ok),
     ) };
 
     fn accept(&mut self, n: u64) -> Result<bool, SocketFailed> {
@@ -253,7 +266,7 @@ impl<K: Sockets + Drop, W: Write + Drop> Sockets for Recording<K, W> {
             return Ok(Received::Nothing);
         }
         let received = self.sockets.read(end, buf);
-        match happening_of(end, &received, buf) {
+        match happening_of_read(end, &received, buf) {
             Some(happening) => {
                 self.taken = true;
                 self.last = Some(end);

@@ -1,11 +1,11 @@
 //! What is told of each reply: its line in the log, and what it counts as.
 ghost use Rattle.std.specs.Prelude.{◌≡◌};
-ghost use Rattle.proxy_server.specs.Logging.{Logs};
+ghost use Rattle.proxy_server.specs.Logging.{LineAboutReplyIsAdded};
 
 use crate::client::Client;
 use crate::clients::Clients;
 use crate::live_sockets::LiveSockets;
-use crate::sorts::{Sort, Source, sort_of};
+use crate::sorts::{ReplySort, Source, sort_of};
 use proxy_log::{Lines, ReplyFacts, read_reply};
 use std::net::Net;
 
@@ -23,7 +23,7 @@ pub(crate) struct Reply<'a> {
 
 /// Adds the line about a reply to a client. Where there is no memory for it, it is lost, and counted.
 fn log_line(lines: &mut Lines, client: &mut Client, reply: &Reply<'_>)
-    ensures { Logs client.old.logged reply.now lines.old lines.new }
+    ensures { LineAboutReplyIsAdded client.old.logged reply.now lines.old lines.new }
 {
     match client.line_about(reply) {
         Ok(Some(line)) => lines.add(&line),
@@ -69,7 +69,7 @@ impl<'a, R: Net> LiveSockets<'a, R> {
 
     /// The place of the origin that was asked for a reply: what an engine makes of an answer goes out right behind the
     /// end of its link.
-    fn origin_of(&mut self, sort: Option<Sort>) -> Option<usize>
+    fn origin_of(&mut self, sort: Option<ReplySort>) -> Option<usize>
         ensures log { self.new.log ≡ self.old.log }
         ensures clients { self.new.clients ≡ self.old.clients }
         ensures moment { self.new.moment ≡ self.old.moment }
@@ -86,7 +86,13 @@ impl<'a, R: Net> LiveSockets<'a, R> {
         }
     }
 
-    fn count_reply(&mut self, status: u16, sort: Option<Sort>, took: u64, origin: Option<usize>)
+    fn count_reply(
+        &mut self,
+        status: u16,
+        sort: Option<ReplySort>,
+        took: u64,
+        origin: Option<usize>,
+    )
         ensures log { self.new.log ≡ self.old.log }
         ensures clients { self.new.clients ≡ self.old.clients }
         ensures moment { self.new.moment ≡ self.old.moment }

@@ -1,15 +1,17 @@
 //! A server: a wait, what failed or was silent since the last turn, and a turn, again and again.
 ghost use Rattle.std.specs.Prelude.{◌≡◌, ◌<◌, ◌||◌, Bool, [], Some, IfOk};
 ghost use Rattle.hx_fields.specs.declared.limits.TheConstants.{END_OF_TIME};
-ghost use Rattle.proxy_engine.specs.State.{Represents, begun};
-ghost use Rattle.proxy_turn.specs.Served.{IsServing, GoesOn, LosesOn, Serves};
-ghost use Rattle.proxy_server.specs.Losses.{LosesEnd};
-ghost use Rattle.proxy_server.specs.Paces.{behind};
-ghost use Rattle.proxy_server.specs.Serving.{Answers};
+ghost use Rattle.proxy_engine.specs.State.{EngineRepresents, new_engine_model};
+ghost use Rattle.proxy_turn.specs.Served.{EngineIsServing, EngineGoesOn, EngineTakesLosses, EngineServesTurn};
+ghost use Rattle.proxy_server.specs.Losses.{EndIsLost};
+ghost use Rattle.proxy_server.specs.Paces.{next_turn_must_not_wait};
+ghost use Rattle.proxy_server.specs.Serving.{ServeTurnAnswers};
 
 use crate::doors::Troubles;
 use crate::live_sockets::LiveSockets;
-use crate::pace::{LATEST, Pace, has_freed, milliseconds_of, moment_of};
+use crate::pace::{
+    LATEST, Pace, milliseconds_of_duration, moment_and_milliseconds, turn_has_freed_an_end,
+};
 use crate::recorder::{RecordFault, Recorder};
 use crate::recording::Recording;
 use hx_allow::Config;
@@ -19,8 +21,8 @@ use hx_store::Shelf;
 use proxy_engine::Engine;
 use proxy_log::Lines;
 use proxy_turn::{
-    End, PIECE, Report, TurnFault, a_turn_is_served_behind_losses, engines_live_on, loss,
-    turn_through,
+    End, PIECE, Report, TurnFault, a_turn_is_served_behind_losses, engines_go_on,
+    happening_of_lost_end, turn_through,
 };
 use std::alloc::Global;
 use std::io::{ErrorKind, Write};
@@ -67,13 +69,13 @@ pub struct Server<'a, S: Shelf + Drop, R: Net, W: Write + Drop> {
 
 impl<'a, S: Shelf + Drop, R: Net, W: Write + Drop> Model for Server<'a, S, R, W> {
     ghost use Rattle.proxy_engine.specs.State.{State};
-    ghost use Rattle.proxy_turn.specs.Served.{IsReachable};
+    ghost use Rattle.proxy_turn.specs.Served.{EngineIsReachable};
 
     ghost Value = { State };
 
     ghost view = { λ s. s.engine };
 
-    ghost invariant = { λ s. IsReachable s.engine };
+    ghost invariant = { λ s. EngineIsReachable s.engine };
 }
 
 /// The moment of a clock, in Unix seconds, and its milliseconds; 0 before 1970.
@@ -81,7 +83,7 @@ fn moment<C: Clock>(clock: &C) -> Result<(u64, u64), ServeFault>
     ensures { IfOk result (λ now. now.0 < END_OF_TIME) }
 {
     match clock.since_1970() {
-        Ok(now) => Ok(moment_of(now)),
+        Ok(now) => Ok(moment_and_milliseconds(now)),
         Err(e) if e.kind() == ErrorKind::InvalidData => Ok((0, 0)),
         Err(_) => Err(ServeFault::Clock),
     }
@@ -90,7 +92,7 @@ fn moment<C: Clock>(clock: &C) -> Result<(u64, u64), ServeFault>
 /// Milliseconds of the clock that never goes back.
 fn elapsed<C: Clock>(clock: &C) -> Result<u64, ServeFault> {
     match clock.monotonic() {
-        Ok(now) => Ok(milliseconds_of(now)),
+        Ok(now) => Ok(milliseconds_of_duration(now)),
         Err(_) => Err(ServeFault::Clock),
     }
 }
@@ -102,9 +104,10 @@ fn look_ahead<R: Net, W: Write + Drop>(
     ends: &Recording<LiveSockets<'_, R>, W>,
     reported: Result<Report, TurnFault>,
 )
-    ensures { (unread : Bool) × (free : Bool) × (pace.new ≡ behind pace.old reported unread (free || ends.now.passed)) }
+    ensures { (unread : Bool) × (free : Bool) × (pace.new ≡ next_turn_must_not_wait pace.old reported unread
+        (free || ends.now.passed)) }
 {
-    let unread = has_freed(reported) && ends.sockets.has_unread();
+    let unread = turn_has_freed_an_end(reported) && ends.sockets.has_unread();
     let free = ends.sockets.may_accept();
     pace.note(reported, unread, free || ends.has_passed());
 }
@@ -122,8 +125,8 @@ impl<'a, S: Shelf + Drop, R: Net, W: Write + Drop> Server<'a, S, R, W> {
         requires empty { S.entries shelf ≡ [] }
         requires capacity { S.limit shelf ≡ config.capacity }
         ensures table { result.core.table ≡ config }
-        ensures begins { Represents result
-            (begun (record {
+        ensures begins { EngineRepresents result
+            (new_engine_model (record {
               table = config;
               limit = config.capacity;
               entries = [];
@@ -131,7 +134,7 @@ impl<'a, S: Shelf + Drop, R: Net, W: Write + Drop> Server<'a, S, R, W> {
               next = Some 1;
             }) 1) }
     {
-        engines_live_on();
+        engines_go_on();
         Server {
             alloc,
             engine: Engine::new(alloc, config, shelf, 1, 1),
@@ -179,13 +182,13 @@ impl<'a, S: Shelf + Drop, R: Net, W: Write + Drop> Server<'a, S, R, W> {
     /// After it, also after an `Err`, what the engine had lived through has gone on by the steps of that turn and no
     /// others, and the steps of its core are a good run by its table, over a store of its capacity, with the headline.
     pub fn serve_turn<C: Clock>(&mut self, clock: &C) -> Result<Turned, ServeFault>
-        ensures served { Answers self.old self.new result }
-        ensures goes_on { GoesOn self.old self.new }
-        ensures serves { IsServing self.new }
+        ensures served { ServeTurnAnswers self.old self.new result }
+        ensures goes_on { EngineGoesOn self.old self.new }
+        ensures serves { EngineIsServing self.new }
         ensures table { self.new.core.table ≡ self.old.core.table }
         ensures limit { self.new.core.limit ≡ self.old.core.limit }
     {
-        engines_live_on();
+        engines_go_on();
         let _before = &self.engine;
         let served = self.serve_next(clock);
         let _engine = &self.engine;
@@ -194,7 +197,7 @@ impl<'a, S: Shelf + Drop, R: Net, W: Write + Drop> Server<'a, S, R, W> {
 
     /// Waits, and serves a turn.
     fn serve_next<C: Clock>(&mut self, clock: &C) -> Result<Turned, ServeFault>
-        ensures { Answers self.old self.new result }
+        ensures { ServeTurnAnswers self.old self.new result }
     {
         if self.ends.sockets.wait(self.pace.busy).is_err() {
             return Err(ServeFault::Socket);
@@ -211,7 +214,7 @@ impl<'a, S: Shelf + Drop, R: Net, W: Write + Drop> Server<'a, S, R, W> {
     /// Serves a turn at so many milliseconds of the clock that never goes back, and a moment with its milliseconds.
     fn serve_at(&mut self, elapsed: u64, now: u64, milliseconds: u64) -> Result<Turned, ServeFault>
         requires { now < END_OF_TIME }
-        ensures { Answers self.old self.new result }
+        ensures { ServeTurnAnswers self.old self.new result }
     {
         if self.ends.sockets.refresh(elapsed) {
             // What came before counts before an end is called silent, though the proxy was halted meanwhile.
@@ -238,9 +241,9 @@ impl<'a, S: Shelf + Drop, R: Net, W: Write + Drop> Server<'a, S, R, W> {
     /// Hands in what happened since the last turn, and then takes one at a moment.
     fn turn_at(&mut self, now: u64) -> Result<Report, TurnFault>
         requires { now < END_OF_TIME }
-        ensures { Serves now self.old self.new result }
+        ensures { EngineServesTurn now self.old self.new result }
     {
-        engines_live_on();
+        engines_go_on();
         a_turn_is_served_behind_losses();
         self.hand_in();
         turn_through(
@@ -263,12 +266,12 @@ impl<'a, S: Shelf + Drop, R: Net, W: Write + Drop> Server<'a, S, R, W> {
     /// The engine takes that an end is lost.
     #[tactic(auto, using(crate::proofs::Losing::not_lost))]
     fn disconnect(&mut self, end: End, kind: FailKind)
-        ensures loses { LosesEnd end kind self.old self.new }
-        ensures on { LosesOn self.old self.new }
+        ensures loses { EndIsLost end kind self.old self.new }
+        ensures on { EngineTakesLosses self.old self.new }
     {
-        engines_live_on();
+        engines_go_on();
         a_turn_is_served_behind_losses();
-        if let Some(happening) = loss(end, kind) {
+        if let Some(happening) = happening_of_lost_end(end, kind) {
             if self.ends.note_between(happening) {
                 self.ends.sockets.note_lost(end);
                 // It takes no memory, and the end was there.
@@ -279,7 +282,7 @@ impl<'a, S: Shelf + Drop, R: Net, W: Write + Drop> Server<'a, S, R, W> {
 
     /// Hands in the ends that failed since the last turn.
     fn hand_in_lost(&mut self)
-        ensures { LosesOn self.old self.new }
+        ensures { EngineTakesLosses self.old self.new }
     {
         a_turn_is_served_behind_losses();
         for _ in 0..self.ends.sockets.lost_count() {
@@ -294,12 +297,12 @@ impl<'a, S: Shelf + Drop, R: Net, W: Write + Drop> Server<'a, S, R, W> {
 
     /// Hands in what is lost, whose time is over, and who gives way where places are short.
     fn hand_in(&mut self)
-        ensures { LosesOn self.old self.new }
+        ensures { EngineTakesLosses self.old self.new }
     {
         a_turn_is_served_behind_losses();
         self.hand_in_lost();
-        self.hand_in_late();
-        self.make_room();
+        self.hand_in_overdue_ends();
+        self.make_room_for_waiting();
     }
 
     /// Whether the time of an end is over. That of a client between two requests is after a while.
@@ -322,19 +325,22 @@ impl<'a, S: Shelf + Drop, R: Net, W: Write + Drop> Server<'a, S, R, W> {
     /// Lets go of an end: the engine takes that it is lost. The stream of a client between two requests stays, and has
     /// another number when its next request comes; any other is closed.
     fn release(&mut self, end: End)
-        ensures loses { LosesEnd end FailKind.TimedOut self.old self.new }
-        ensures on { LosesOn self.old self.new }
+        ensures loses { EndIsLost end FailKind.TimedOut self.old self.new }
+        ensures on { EngineTakesLosses self.old self.new }
     {
         match end {
-            End::Client(n) if self.engine.is_between_requests(n) => self.ends.sockets.park(n),
+            End::Client(n) if self.engine.is_between_requests(n) => self
+                .ends
+                .sockets
+                .leave_place_to_wait(n),
             _ => self.ends.sockets.forget(end),
         }
         self.disconnect(end, FailKind::TimedOut);
     }
 
     /// Hands in the ends whose time is over: links as timed out, clients as gone.
-    fn hand_in_late(&mut self)
-        ensures { LosesOn self.old self.new }
+    fn hand_in_overdue_ends(&mut self)
+        ensures { EngineTakesLosses self.old self.new }
     {
         a_turn_is_served_behind_losses();
         if !self.pace.sweeping {
@@ -344,21 +350,21 @@ impl<'a, S: Shelf + Drop, R: Net, W: Write + Drop> Server<'a, S, R, W> {
         let Ok(reads) = self.engine.readable_ends(self.alloc) else {
             return;
         };
-        self.hand_in_over(&reads);
-        self.hand_in_left(&reads);
-        self.note_swept();
+        self.hand_in_overdue_readable(&reads);
+        self.hand_in_departed_clients(&reads);
+        self.note_overdue_handed_in();
     }
 
     /// All whose time was over were handed in, unless no more could be in this turn.
-    fn note_swept(&mut self)
+    fn note_overdue_handed_in(&mut self)
         ensures { self.new ≡ self.old }
     {
         self.pace.sweeping = !self.ends.may_happen();
     }
 
     /// Hands in those of the ends that may be read whose time is over.
-    fn hand_in_over(&mut self, reads: &[End])
-        ensures { LosesOn self.old self.new }
+    fn hand_in_overdue_readable(&mut self, reads: &[End])
+        ensures { EngineTakesLosses self.old self.new }
     {
         a_turn_is_served_behind_losses();
         for end in reads {
@@ -372,8 +378,8 @@ impl<'a, S: Shelf + Drop, R: Net, W: Write + Drop> Server<'a, S, R, W> {
     }
 
     /// Hands in the clients that have left for too long while they wait for their answers.
-    fn hand_in_left(&mut self, reads: &[End])
-        ensures { LosesOn self.old self.new }
+    fn hand_in_departed_clients(&mut self, reads: &[End])
+        ensures { EngineTakesLosses self.old self.new }
     {
         a_turn_is_served_behind_losses();
         for _ in 0..MOST_OPEN {
@@ -389,11 +395,11 @@ impl<'a, S: Shelf + Drop, R: Net, W: Write + Drop> Server<'a, S, R, W> {
 
     /// Makes room where somebody waits for a place that isn't free: clients between two requests leave theirs, then
     /// whoever has left, or else the one whose request has been incomplete for the longest, gives way.
-    fn make_room(&mut self)
-        ensures { LosesOn self.old self.new }
+    fn make_room_for_waiting(&mut self)
+        ensures { EngineTakesLosses self.old self.new }
     {
         a_turn_is_served_behind_losses();
-        if self.ends.sockets.crowd() == 0 {
+        if self.ends.sockets.waiting_count() == 0 {
             return;
         }
         // Where there is no memory for the list, it is tried again.
@@ -407,10 +413,10 @@ impl<'a, S: Shelf + Drop, R: Net, W: Write + Drop> Server<'a, S, R, W> {
 
     /// Clients between two requests leave their places for those that wait.
     fn park_idle(&mut self, reads: &[End])
-        ensures { LosesOn self.old self.new }
+        ensures { EngineTakesLosses self.old self.new }
     {
         a_turn_is_served_behind_losses();
-        let mut crowd = self.ends.sockets.crowd();
+        let mut crowd = self.ends.sockets.waiting_count();
         for end in reads {
             if crowd == 0 || !self.ends.may_happen() {
                 return;
@@ -432,11 +438,11 @@ impl<'a, S: Shelf + Drop, R: Net, W: Write + Drop> Server<'a, S, R, W> {
 
     /// Who has left gives way, or else the one whose request has been incomplete for the longest.
     fn give_way(&mut self, reads: &[End])
-        ensures { LosesOn self.old self.new }
+        ensures { EngineTakesLosses self.old self.new }
     {
         a_turn_is_served_behind_losses();
         for _ in 0..MOST_OPEN {
-            if self.ends.sockets.crowd() == 0 || !self.ends.may_happen() {
+            if self.ends.sockets.waiting_count() == 0 || !self.ends.may_happen() {
                 return;
             }
             match self.who_gives_way(reads) {

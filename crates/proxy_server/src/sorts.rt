@@ -2,7 +2,8 @@
 //!
 //! Each count has its place in a closed list: so nothing that a client or an origin sends makes a new one.
 ghost use Rattle.std.specs.Prelude.{◌≡◌, find, bytes_eq};
-ghost use Rattle.proxy_server.specs.Sorts.{reason_text, detail_text, cause_text, forwards, failures, failure_word};
+ghost use Rattle.proxy_server.specs.Sorts.{reason_name, detail_name, cause_name, forward_reasons, origin_failures};
+ghost use Rattle.proxy_server.specs.Sorts.{failure_name};
 
 use std::str;
 
@@ -74,7 +75,7 @@ pub(crate) enum Cause {
 }
 
 /// How many details there are.
-pub(crate) const DETAILS: usize = 16;
+pub(crate) const DETAIL_COUNT: usize = 16;
 
 pub(crate) const ALL_REASONS: [Reason; 11] = [
     Reason::Hit,
@@ -138,7 +139,7 @@ pub(crate) const ALL_CAUSES: [Cause; 24] = [
 
 impl Reason {
     pub(crate) fn name(self) -> &'static str
-        ensures { result.now ≡ reason_text self }
+        ensures { result.now ≡ reason_name self }
     {
         match self {
             Reason::Hit => "hit",
@@ -157,7 +158,7 @@ impl Reason {
 
     /// Why a request went forward, by the word of Cache-Status.
     fn of_forward(word: &[u8]) -> Option<Reason>
-        ensures { result ≡ find (λ reason. bytes_eq word.now (reason_text reason)) forwards }
+        ensures { result ≡ find (λ reason. bytes_eq word.now (reason_name reason)) forward_reasons }
     {
         if word == b"uri-miss".as_slice() {
             Some(Reason::UriMiss)
@@ -179,7 +180,7 @@ impl Reason {
 
 impl Detail {
     pub(crate) fn name(self) -> &'static str
-        ensures { result.now ≡ detail_text self }
+        ensures { result.now ≡ detail_name self }
     {
         match self {
             Detail::Nothing => "",
@@ -214,7 +215,7 @@ impl Detail {
 
 impl Cause {
     pub(crate) fn name(self) -> &'static str
-        ensures { result.now ≡ cause_text self }
+        ensures { result.now ≡ cause_name self }
     {
         match self {
             Cause::Denied => "denied",
@@ -246,7 +247,7 @@ impl Cause {
 
     /// How an origin failed, by the word behind `origin `.
     fn of_failure(word: &[u8]) -> Option<Cause>
-        ensures { result ≡ find (λ cause. bytes_eq word.now (failure_word cause)) failures }
+        ensures { result ≡ find (λ cause. bytes_eq word.now (failure_name cause)) origin_failures }
     {
         if word == b"refused".as_slice() {
             Some(Cause::OriginRefused)
@@ -277,7 +278,7 @@ impl Cause {
 
 /// What a reply counts as.
 #[derive(Clone, Copy, Debug, PartialEq, Eq)]
-pub(crate) struct Sort {
+pub(crate) struct ReplySort {
     pub(crate) reason: Reason,
     pub(crate) detail: Detail,
     /// Why, where the proxy answered by itself.
@@ -299,10 +300,10 @@ pub(crate) enum Source {
     Proxy,
 }
 
-impl Sort {
+impl ReplySort {
     /// A reply for this reason, of which nothing else is said.
-    fn plain(reason: Reason) -> Sort {
-        Sort {
+    fn plain(reason: Reason) -> ReplySort {
+        ReplySort {
             reason,
             detail: Detail::Nothing,
             cause: None,
@@ -313,8 +314,8 @@ impl Sort {
     }
 
     /// An answer of the proxy's own.
-    fn own(reason: Reason, cause: Cause) -> Sort {
-        let mut sort = Sort::plain(reason);
+    fn of_own_answer(reason: Reason, cause: Cause) -> ReplySort {
+        let mut sort = ReplySort::plain(reason);
         sort.cause = Some(cause);
         sort
     }
@@ -380,9 +381,9 @@ fn first_part(text: &[u8]) -> (&[u8], &[u8]) {
 }
 
 /// What Cache-Status says of a request that went forward, behind `fwd=`.
-fn forwarded(text: &[u8]) -> Option<Sort> {
+fn forwarded(text: &[u8]) -> Option<ReplySort> {
     let (word, mut rest) = first_part(text);
-    let mut sort = Sort::plain(Reason::of_forward(word)?);
+    let mut sort = ReplySort::plain(Reason::of_forward(word)?);
     for _part in 0..text.len() {
         if rest.is_empty() {
             break;
@@ -395,28 +396,28 @@ fn forwarded(text: &[u8]) -> Option<Sort> {
 }
 
 /// What Refusal says.
-fn refused(text: &[u8]) -> Option<Sort> {
+fn refused(text: &[u8]) -> Option<ReplySort> {
     if text.starts_with(b"denied by line ") {
-        return Some(Sort::own(Reason::Denied, Cause::Denied));
+        return Some(ReplySort::of_own_answer(Reason::Denied, Cause::Denied));
     }
     if text.starts_with(b"no line allows it") {
-        return Some(Sort::own(Reason::Denied, Cause::NoLine));
+        return Some(ReplySort::of_own_answer(Reason::Denied, Cause::NoLine));
     }
     if text.starts_with(b"only-if-cached") {
-        return Some(Sort::own(Reason::OnlyIfCached, Cause::OnlyIfCached));
+        return Some(ReplySort::of_own_answer(Reason::OnlyIfCached, Cause::OnlyIfCached));
     }
     if let Some(rest) = text.strip_prefix(b"origin ".as_slice()) {
         let cause = Cause::of_failure(first_part(rest).0)?;
-        return Some(Sort::own(Reason::OriginFailed, cause));
+        return Some(ReplySort::of_own_answer(Reason::OriginFailed, cause));
     }
     let word = text.strip_prefix(b"refused: ".as_slice())?;
-    Some(Sort::own(Reason::Refused, Cause::of_fault(word)?))
+    Some(ReplySort::of_own_answer(Reason::Refused, Cause::of_fault(word)?))
 }
 
 /// What a reply counts as, by what it says of itself.
-pub(crate) fn sort_of(text: &[u8]) -> Option<Sort> {
+pub(crate) fn sort_of(text: &[u8]) -> Option<ReplySort> {
     if let [b'h', b'i', b't', ..] = text {
-        return Some(Sort::plain(Reason::Hit));
+        return Some(ReplySort::plain(Reason::Hit));
     }
     match text.strip_prefix(b"fwd=".as_slice()) {
         Some(rest) => forwarded(rest),

@@ -5,14 +5,14 @@
 use crate::counted_shelf::StoreCounts;
 use crate::endings::Endings;
 use crate::limits::PLACES;
-use crate::lines::Line;
 use crate::links::Links;
 use crate::live_sockets::LiveSockets;
-use crate::origins::{CLASSES, KINDS, Origin};
+use crate::origins::{FAILURE_KINDS, Origin, STATUS_CLASSES};
 use crate::page::{Kind, Page};
-use crate::replies::{BOUNDS, FIRST_STATUS, Replies, STATUSES, Times};
+use crate::reply_counts::{FIRST_STATUS, ReplyCounts, ReplyTimes, STATUSES, TIME_BOUNDS};
 use crate::server::Server;
 use crate::sorts::{ALL_CAUSES, ALL_DETAILS, ALL_REASONS, Detail, Reason};
+use crate::stream_queues::StreamQueue;
 use hx_store::Shelf;
 use itoa::Buffer;
 use std::alloc::{AllocError, Global};
@@ -21,7 +21,7 @@ use std::net::Net;
 
 /// What a server can't know of itself.
 #[derive(Clone, Copy)]
-pub struct About<'a> {
+pub struct ServerFacts<'a> {
     pub version: &'a str,
     /// The commit that the program was built from; empty where that isn't known.
     pub commit: &'a str,
@@ -35,9 +35,13 @@ pub struct About<'a> {
     pub lost_lines: u64,
 }
 
-fn push_about(page: &mut Page<'_>, about: &About<'_>, now: u64) -> Result<(), AllocError> {
+fn push_server_facts(
+    page: &mut Page<'_>,
+    about: &ServerFacts<'_>,
+    now: u64,
+) -> Result<(), AllocError> {
     page.family("revcache_build_info", Kind::Gauge, "The program that runs.")?;
-    page.sample_of_both(
+    page.sample_with_two_labels(
         "revcache_build_info",
         ("version", about.version),
         ("commit", about.commit),
@@ -58,26 +62,26 @@ fn push_about(page: &mut Page<'_>, about: &About<'_>, now: u64) -> Result<(), Al
     push_store(page, about)
 }
 
-fn push_store(page: &mut Page<'_>, about: &About<'_>) -> Result<(), AllocError> {
-    page.single(
+fn push_store(page: &mut Page<'_>, about: &ServerFacts<'_>) -> Result<(), AllocError> {
+    page.single_sample_family(
         "revcache_store_capacity_responses",
         Kind::Gauge,
         "The most responses that are stored.",
         about.capacity,
     )?;
-    page.single(
+    page.single_sample_family(
         "revcache_store_responses",
         Kind::Gauge,
         "Responses that are stored.",
         about.store.held(),
     )?;
-    page.single(
+    page.single_sample_family(
         "revcache_store_evictions_total",
         Kind::Counter,
         "Stored responses that went since the store was full.",
         about.store.evicted(),
     )?;
-    page.single(
+    page.single_sample_family(
         "revcache_store_removals_total",
         Kind::Counter,
         "Stored responses that were replaced, invalidated, or not kept behind a 304.",
@@ -85,11 +89,15 @@ fn push_store(page: &mut Page<'_>, about: &About<'_>) -> Result<(), AllocError> 
     )
 }
 
-fn push_reason(page: &mut Page<'_>, replies: &Replies, reason: Reason) -> Result<(), AllocError> {
+fn push_reason(
+    page: &mut Page<'_>,
+    replies: &ReplyCounts,
+    reason: Reason,
+) -> Result<(), AllocError> {
     for detail in &ALL_DETAILS {
         let n = replies.with_reason(reason, *detail);
         if n > 0 || *detail == Detail::Nothing {
-            page.sample_of_both(
+            page.sample_with_two_labels(
                 "revcache_requests_total",
                 ("reason", reason.name()),
                 ("detail", detail.name()),
@@ -100,7 +108,7 @@ fn push_reason(page: &mut Page<'_>, replies: &Replies, reason: Reason) -> Result
     Ok(())
 }
 
-fn push_reasons(page: &mut Page<'_>, replies: &Replies) -> Result<(), AllocError> {
+fn push_reasons(page: &mut Page<'_>, replies: &ReplyCounts) -> Result<(), AllocError> {
     page.family(
         "revcache_requests_total",
         Kind::Counter,
@@ -109,13 +117,13 @@ fn push_reasons(page: &mut Page<'_>, replies: &Replies) -> Result<(), AllocError
     for reason in &ALL_REASONS {
         push_reason(page, replies, *reason)?;
     }
-    page.single(
+    page.single_sample_family(
         "revcache_collapsed_requests_total",
         Kind::Counter,
         "Requests that waited for the answer to another one and were sent what was stored of it.",
         replies.collapsed,
     )?;
-    page.single(
+    page.single_sample_family(
         "revcache_stored_responses_total",
         Kind::Counter,
         "Answers of origins that were stored.",
@@ -123,7 +131,7 @@ fn push_reasons(page: &mut Page<'_>, replies: &Replies) -> Result<(), AllocError
     )
 }
 
-fn push_statuses(page: &mut Page<'_>, replies: &Replies) -> Result<(), AllocError> {
+fn push_statuses(page: &mut Page<'_>, replies: &ReplyCounts) -> Result<(), AllocError> {
     page.family(
         "revcache_responses_total",
         Kind::Counter,
@@ -134,7 +142,7 @@ fn push_statuses(page: &mut Page<'_>, replies: &Replies) -> Result<(), AllocErro
         let n = replies.with_status(status);
         if n > 0 {
             let mut digits = Buffer::new();
-            page.sample_of("revcache_responses_total", "code", digits.format(status), n)?;
+            page.sample_with_label("revcache_responses_total", "code", digits.format(status), n)?;
         }
     }
     page.family(
@@ -144,36 +152,36 @@ fn push_statuses(page: &mut Page<'_>, replies: &Replies) -> Result<(), AllocErro
     )?;
     for cause in &ALL_CAUSES {
         let n = replies.with_cause(*cause);
-        page.sample_of("revcache_refusals_total", "cause", cause.name(), n)?;
+        page.sample_with_label("revcache_refusals_total", "cause", cause.name(), n)?;
     }
     Ok(())
 }
 
-fn push_times(page: &mut Page<'_>, source: &str, times: &Times) -> Result<(), AllocError> {
+fn push_times(page: &mut Page<'_>, source: &str, times: &ReplyTimes) -> Result<(), AllocError> {
     let mut sum = 0u64;
-    for i in 0..BOUNDS.len() {
+    for i in 0..TIME_BOUNDS.len() {
         sum = sum.saturating_add(times.buckets[i]);
-        page.sample_of_both(
+        page.sample_with_two_labels(
             "revcache_request_duration_seconds_bucket",
             ("source", source),
-            ("le", BOUNDS[i]),
+            ("le", TIME_BOUNDS[i]),
             sum,
         )?;
     }
-    sum = sum.saturating_add(times.buckets[BOUNDS.len()]);
-    page.sample_of_both(
+    sum = sum.saturating_add(times.buckets[TIME_BOUNDS.len()]);
+    page.sample_with_two_labels(
         "revcache_request_duration_seconds_bucket",
         ("source", source),
         ("le", "+Inf"),
         sum,
     )?;
-    page.time_of(
+    page.time_with_label(
         "revcache_request_duration_seconds_sum",
         "source",
         source,
         times.sum,
     )?;
-    page.sample_of(
+    page.sample_with_label(
         "revcache_request_duration_seconds_count",
         "source",
         source,
@@ -181,7 +189,7 @@ fn push_times(page: &mut Page<'_>, source: &str, times: &Times) -> Result<(), Al
     )
 }
 
-fn push_replies(page: &mut Page<'_>, replies: &Replies) -> Result<(), AllocError> {
+fn push_replies(page: &mut Page<'_>, replies: &ReplyCounts) -> Result<(), AllocError> {
     push_reasons(page, replies)?;
     push_statuses(page, replies)?;
     page.family(
@@ -201,10 +209,10 @@ fn push_endings(page: &mut Page<'_>, endings: &Endings) -> Result<(), AllocError
         Kind::Counter,
         "Connections of clients that were closed early, but for time-outs.",
     )?;
-    page.sample_of(name, "cause", "room", endings.for_room)?;
-    page.sample_of(name, "cause", "place", endings.for_place)?;
-    page.sample_of(name, "cause", "unsent-limit", endings.for_unsent)?;
-    page.sample_of(name, "cause", "memory", endings.for_memory)
+    page.sample_with_label(name, "cause", "room", endings.for_room)?;
+    page.sample_with_label(name, "cause", "place", endings.for_place)?;
+    page.sample_with_label(name, "cause", "unsent-limit", endings.for_unsent)?;
+    page.sample_with_label(name, "cause", "memory", endings.for_memory)
 }
 
 fn push_timeouts<R: Net>(
@@ -219,12 +227,12 @@ fn push_timeouts<R: Net>(
         Kind::Counter,
         "Time-outs, by the option that bounds them.",
     )?;
-    page.sample_of(name, "kind", "client", endings.client_timeouts)?;
-    page.sample_of(name, "kind", "request", endings.request_timeouts)?;
-    page.sample_of(name, "kind", "abandon", endings.abandon_timeouts)?;
-    page.sample_of(name, "kind", "connect", links.connect_timeouts)?;
-    page.sample_of(name, "kind", "origin", links.origin_timeouts)?;
-    page.sample_of(name, "kind", "exchange", links.exchange_timeouts)
+    page.sample_with_label(name, "kind", "client", endings.client_timeouts)?;
+    page.sample_with_label(name, "kind", "request", endings.request_timeouts)?;
+    page.sample_with_label(name, "kind", "abandon", endings.abandon_timeouts)?;
+    page.sample_with_label(name, "kind", "connect", links.connect_timeouts)?;
+    page.sample_with_label(name, "kind", "origin", links.origin_timeouts)?;
+    page.sample_with_label(name, "kind", "exchange", links.exchange_timeouts)
 }
 
 /// Connections of clients, by where they stand.
@@ -234,25 +242,30 @@ fn push_states<R: Net>(
 ) -> Result<(), AllocError> {
     let name = "revcache_connections";
     let lines = &sockets.clients.lines;
-    let parked = lines.len_of(&[Line::Idle, Line::Taking]);
-    let waiting = lines.len_of(&[Line::Fresh, Line::Whole, Line::Long, Line::Partial]);
-    let closing = lines.len_of(&[Line::Leaving, Line::Lingering]);
+    let parked = lines.len_of(&[StreamQueue::Idle, StreamQueue::Taking]);
+    let waiting = lines.len_of(&[
+        StreamQueue::Fresh,
+        StreamQueue::Whole,
+        StreamQueue::Long,
+        StreamQueue::Partial,
+    ]);
+    let closing = lines.len_of(&[StreamQueue::Leaving, StreamQueue::Lingering]);
     page.family(
         name,
         Kind::Gauge,
         "Connections of clients that are open, by what they do.",
     )?;
-    page.sample_of(name, "state", "open", sockets.clients.open_count() as u64)?;
-    page.sample_of(name, "state", "parked", parked as u64)?;
-    page.sample_of(name, "state", "waiting", waiting as u64)?;
-    page.sample_of(name, "state", "closing", closing as u64)?;
-    page.single(
+    page.sample_with_label(name, "state", "open", sockets.clients.open_count() as u64)?;
+    page.sample_with_label(name, "state", "parked", parked as u64)?;
+    page.sample_with_label(name, "state", "waiting", waiting as u64)?;
+    page.sample_with_label(name, "state", "closing", closing as u64)?;
+    page.single_sample_family(
         "revcache_connections_limit",
         Kind::Gauge,
         "The most connections of clients that are open.",
         sockets.limits.connections as u64,
     )?;
-    page.single(
+    page.single_sample_family(
         "revcache_places_limit",
         Kind::Gauge,
         "The most connections of clients with a request in progress.",
@@ -261,9 +274,12 @@ fn push_states<R: Net>(
 }
 
 /// How connections of clients were taken.
-fn push_doors<R: Net>(page: &mut Page<'_>, sockets: &LiveSockets<'_, R>) -> Result<(), AllocError> {
+fn push_accept_counts<R: Net>(
+    page: &mut Page<'_>,
+    sockets: &LiveSockets<'_, R>,
+) -> Result<(), AllocError> {
     let doors = &sockets.doors;
-    page.single(
+    page.single_sample_family(
         "revcache_connections_accepted_total",
         Kind::Counter,
         "Connections of clients that were taken.",
@@ -275,11 +291,11 @@ fn push_doors<R: Net>(page: &mut Page<'_>, sockets: &LiveSockets<'_, R>) -> Resu
         Kind::Counter,
         "Looks at the queue of the listener that could take nobody, by cause.",
     )?;
-    page.sample_of(name, "cause", "full", doors.full)?;
-    page.sample_of(name, "cause", "descriptors", doors.no_descriptor)?;
-    page.sample_of(name, "cause", "memory", doors.no_memory)?;
-    page.sample_of(name, "cause", "other", doors.failed)?;
-    page.single(
+    page.sample_with_label(name, "cause", "full", doors.full)?;
+    page.sample_with_label(name, "cause", "descriptors", doors.no_descriptor)?;
+    page.sample_with_label(name, "cause", "memory", doors.no_memory)?;
+    page.sample_with_label(name, "cause", "other", doors.failed)?;
+    page.single_sample_family(
         "revcache_links_without_descriptor_total",
         Kind::Counter,
         "Connections to origins that could not be begun since no descriptor was left.",
@@ -290,25 +306,25 @@ fn push_doors<R: Net>(page: &mut Page<'_>, sockets: &LiveSockets<'_, R>) -> Resu
 /// Bytes of clients.
 fn push_bytes<R: Net>(page: &mut Page<'_>, sockets: &LiveSockets<'_, R>) -> Result<(), AllocError> {
     let (received, written) = sockets.clients.bytes();
-    page.single(
+    page.single_sample_family(
         "revcache_client_received_bytes_total",
         Kind::Counter,
         "Bytes that were read from clients.",
         received,
     )?;
-    page.single(
+    page.single_sample_family(
         "revcache_client_sent_bytes_total",
         Kind::Counter,
         "Bytes for clients that the system took.",
         written,
     )?;
-    page.single(
+    page.single_sample_family(
         "revcache_client_unsent_bytes",
         Kind::Gauge,
         "Bytes of replies that wait for clients.",
         sockets.clients.unsent() as u64,
     )?;
-    page.single(
+    page.single_sample_family(
         "revcache_client_unsent_limit_bytes",
         Kind::Gauge,
         "The most bytes of replies that wait for clients.",
@@ -321,7 +337,7 @@ fn push_clients<R: Net>(
     sockets: &LiveSockets<'_, R>,
 ) -> Result<(), AllocError> {
     push_states(page, sockets)?;
-    push_doors(page, sockets)?;
+    push_accept_counts(page, sockets)?;
     push_endings(page, &sockets.clients.endings)?;
     push_timeouts(page, sockets)?;
     push_bytes(page, sockets)
@@ -357,7 +373,7 @@ fn push_count(
     let origins = links.origins.as_slice();
     for i in 0..origins.len() {
         let origin = &origins[i];
-        page.sample_of(
+        page.sample_with_label(
             name,
             "origin",
             origin.name(),
@@ -375,9 +391,9 @@ fn push_answers(page: &mut Page<'_>, links: &Links) -> Result<(), AllocError> {
         "Answers of an origin, by the hundred of their status.",
     )?;
     for origin in links.origins.as_slice() {
-        for i in 0..CLASSES.len() {
-            let code = ("code", CLASSES[i]);
-            page.sample_of_both(name, ("origin", origin.name()), code, origin.answers[i])?;
+        for i in 0..STATUS_CLASSES.len() {
+            let code = ("code", STATUS_CLASSES[i]);
+            page.sample_with_two_labels(name, ("origin", origin.name()), code, origin.answers[i])?;
         }
     }
     Ok(())
@@ -391,15 +407,15 @@ fn push_failures(page: &mut Page<'_>, links: &Links) -> Result<(), AllocError> {
         "Exchanges with an origin that failed, by kind.",
     )?;
     for origin in links.origins.as_slice() {
-        for i in 0..KINDS.len() {
-            let kind = ("kind", KINDS[i]);
-            page.sample_of_both(name, ("origin", origin.name()), kind, origin.failures[i])?;
+        for i in 0..FAILURE_KINDS.len() {
+            let kind = ("kind", FAILURE_KINDS[i]);
+            page.sample_with_two_labels(name, ("origin", origin.name()), kind, origin.failures[i])?;
         }
     }
     Ok(())
 }
 
-fn push_lasted(page: &mut Page<'_>, links: &Links) -> Result<(), AllocError> {
+fn push_exchange_times(page: &mut Page<'_>, links: &Links) -> Result<(), AllocError> {
     let name = "revcache_origin_exchange_seconds_total";
     page.family(
         name,
@@ -407,7 +423,7 @@ fn push_lasted(page: &mut Page<'_>, links: &Links) -> Result<(), AllocError> {
         "Seconds of the links to an origin that have ended.",
     )?;
     for origin in links.origins.as_slice() {
-        page.time_of(name, "origin", origin.name(), origin.lasted)?;
+        page.time_with_label(name, "origin", origin.name(), origin.lasted)?;
     }
     Ok(())
 }
@@ -433,7 +449,7 @@ fn push_origins(page: &mut Page<'_>, links: &Links) -> Result<(), AllocError> {
     )?;
     push_answers(page, links)?;
     push_failures(page, links)?;
-    push_lasted(page, links)?;
+    push_exchange_times(page, links)?;
     let name = "revcache_origin_received_bytes_total";
     let help = "Bytes that were read from an origin.";
     push_count(page, links, name, Kind::Counter, help, Count::Received)?;
@@ -446,9 +462,9 @@ fn push_origins(page: &mut Page<'_>, links: &Links) -> Result<(), AllocError> {
 fn push_record(page: &mut Page<'_>, writing: bool, ended: bool) -> Result<(), AllocError> {
     let name = "revcache_record_state";
     page.family(name, Kind::Gauge, "Whether what happens is recorded.")?;
-    page.sample_of(name, "state", "none", u64::from(!writing && !ended))?;
-    page.sample_of(name, "state", "writing", u64::from(writing))?;
-    page.sample_of(name, "state", "ended", u64::from(ended))
+    page.sample_with_label(name, "state", "none", u64::from(!writing && !ended))?;
+    page.sample_with_label(name, "state", "writing", u64::from(writing))?;
+    page.sample_with_label(name, "state", "ended", u64::from(ended))
 }
 
 fn push_log<R: Net>(
@@ -460,13 +476,13 @@ fn push_log<R: Net>(
         Some(lines) => lines.added(),
         None => 0,
     };
-    page.single(
+    page.single_sample_family(
         "revcache_log_lines_total",
         Kind::Counter,
         "Lines of the log that were made.",
         added,
     )?;
-    page.single(
+    page.single_sample_family(
         "revcache_log_lost_lines_total",
         Kind::Counter,
         "Lines of the log that could not be written, or had no memory.",
@@ -476,11 +492,11 @@ fn push_log<R: Net>(
 
 impl<'a, S: Shelf + Drop, R: Net, W: Write + Drop> Server<'a, S, R, W> {
     /// The page of figures. Its only error is out of memory. Replies are counted where the sockets keep counts.
-    pub fn stats(&self, alloc: Global, about: &About<'_>) -> Result<Vec<u8>, AllocError> {
+    pub fn stats(&self, alloc: Global, about: &ServerFacts<'_>) -> Result<Vec<u8>, AllocError> {
         let sockets = &self.ends.sockets;
         let listen = sockets.address().to_string(alloc)?;
         let mut page = Page::new(alloc, listen.as_str());
-        push_about(&mut page, about, sockets.moment.max(about.began))?;
+        push_server_facts(&mut page, about, sockets.moment.max(about.began))?;
         self.push_turns(&mut page)?;
         if let Some(replies) = &sockets.replies {
             push_replies(&mut page, replies)?;
@@ -503,7 +519,7 @@ impl<'a, S: Shelf + Drop, R: Net, W: Write + Drop> Server<'a, S, R, W> {
 
     fn push_turns(&self, page: &mut Page<'_>) -> Result<(), AllocError> {
         let turns = &self.ends.sockets.turns;
-        page.single(
+        page.single_sample_family(
             "revcache_turns_total",
             Kind::Counter,
             "Turns that were served.",
@@ -511,9 +527,9 @@ impl<'a, S: Shelf + Drop, R: Net, W: Write + Drop> Server<'a, S, R, W> {
         )?;
         let name = "revcache_turns_cut_total";
         page.family(name, Kind::Counter, "Turns that ended early, by cause.")?;
-        page.sample_of(name, "cause", "listener", turns.without_listener)?;
-        page.sample_of(name, "cause", "memory", turns.without_memory)?;
-        page.single(
+        page.sample_with_label(name, "cause", "listener", turns.without_listener)?;
+        page.sample_with_label(name, "cause", "memory", turns.without_memory)?;
+        page.single_sample_family(
             "revcache_draining",
             Kind::Gauge,
             "Whether the server is to end and takes no more connections.",

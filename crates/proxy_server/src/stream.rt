@@ -1,7 +1,7 @@
 //! A stream that never waits.
 ghost use Rattle.std.specs.Prelude.{◌≡◌, ℕ, List, [], ◌∷◌, ◌++◌, length};
 ghost use Rattle.std.specs.Io.{ReadsAtMost, WritesAtMost};
-ghost use Rattle.proxy_server.specs.Peers.{Gave, given_of, taken_of};
+ghost use Rattle.proxy_server.specs.Peers.{PeerReadOutcome, read_outcome_of_result, bytes_taken_by_write};
 
 use mio::net::TcpStream;
 use std::io;
@@ -11,7 +11,7 @@ use std::net::Shutdown;
 /// A stream to a client or an origin. No call waits.
 pub(crate) trait Stream {
     /// From one state to another the stream took these bytes, and each of its reads gave this, the oldest first.
-    ghost Passed: { Self → List ℕ → List Gave → Self → Type 0 };
+    ghost Passed: { Self → List ℕ → List PeerReadOutcome → Self → Type 0 };
 
     /// From one state to another nothing happened but that its peer was told that nothing more comes.
     ghost WasShut: { Self → Self → Type 0 };
@@ -19,12 +19,12 @@ pub(crate) trait Stream {
     /// Reads what has come, at most as many bytes as there is room for.
     fn read(&mut self, buf: &mut [u8]) -> io::Result<usize>
         ensures bound { ReadsAtMost result buf.new }
-        ensures passed { Passed self.old [] (given_of result buf.new ∷ []) self.new };
+        ensures passed { Passed self.old [] (read_outcome_of_result result buf.new ∷ []) self.new };
 
     /// Writes of the front of the bytes as many as it takes; answers how many.
     fn write(&mut self, bytes: &[u8]) -> io::Result<usize>
         ensures bound { WritesAtMost result bytes.now }
-        ensures passed { Passed self.old (taken_of result bytes.now) [] self.new };
+        ensures passed { Passed self.old (bytes_taken_by_write result bytes.now) [] self.new };
 
     /// Tells the peer that nothing more comes.
     fn shut_down(&mut self) -> io::Result<()>
@@ -33,7 +33,7 @@ pub(crate) trait Stream {
     /// With no call it stays the same state.
     ghost none: { (s : Self) → Passed s [] [] s };
 
-    ghost joined: { (s t u : Self) (a b : List ℕ) (c d : List Gave) → Passed s a c t → Passed t b d u
+    ghost joined: { (s t u : Self) (a b : List ℕ) (c d : List PeerReadOutcome) → Passed s a c t → Passed t b d u
         → Passed s (a ++ b) (c ++ d) u };
 }
 

@@ -1,7 +1,7 @@
 //! Bytes that a stream is still to take.
 ghost use Rattle.std.specs.Prelude.{◌≡◌, ◌<◌, ◌≤◌, ◌+◌, true, false, ℕ, List, [], ◌++◌, length, take, drop, vec_len};
 ghost use Rattle.std.specs.Prelude.{vec_capacity, IsOk, IfOk, OnOk, OnErr};
-ghost use Rattle.proxy_server.specs.Peers.{Keeping, IsHandedInPart};
+ghost use Rattle.proxy_server.specs.Peers.{UnsentBytes, BytesAreHandedOnInPart};
 
 use crate::stream::Stream;
 use std::alloc::Global;
@@ -22,7 +22,7 @@ pub(crate) struct Unsent {
 }
 
 impl Model for Unsent {
-    ghost Value = { Keeping };
+    ghost Value = { UnsentBytes };
 
     ghost view = { λ u. record {
       bytes = drop u.sent u.bytes.items;
@@ -37,7 +37,7 @@ impl Model for Unsent {
 pub(crate) fn write_some<S: Stream>(stream: &mut S, bytes: &[u8]) -> io::Result<usize>
     ensures bound { IfOk result (λ n. n ≤ length bytes.now) }
     ensures took { IfOk result (λ n. S.Passed stream.old (take n bytes.now) [] stream.new) }
-    ensures in_part { OnErr result (IsHandedInPart (λ took. S.Passed stream.old took [] stream.new) bytes.now) }
+    ensures in_part { OnErr result (BytesAreHandedOnInPart (λ took. S.Passed stream.old took [] stream.new) bytes.now) }
 {
     let mut at = 0usize;
     for _try in 0..u64::MAX {
@@ -127,7 +127,7 @@ impl Unsent {
         ensures took { IfOk result (λ n. S.Passed stream.old (take n self.old.bytes) [] stream.new) }
         ensures kept { IfOk result (λ n. self.new.bytes ≡ drop n self.old.bytes) }
         ensures in_part { OnErr result
-            (IsHandedInPart (λ took. S.Passed stream.old took [] stream.new) self.old.bytes) }
+            (BytesAreHandedOnInPart (λ took. S.Passed stream.old took [] stream.new) self.old.bytes) }
     {
         let n = write_some(stream, &self.bytes[self.sent..])?;
         let sent = self.sent + n;

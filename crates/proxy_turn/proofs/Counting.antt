@@ -1,11 +1,11 @@
 -- Counts that rise one after another.
 use Rattle.std.proofs.Common.{◌≡◌, ℕ, ◌+◌, refl, arith, Result, Ok, Err, OnErr}
-use Rattle.proxy_turn.specs.Counts.{IsRise, Calls, calls, Raises}
+use Rattle.proxy_turn.specs.Counts.{CountRisesBy, Calls, calls, CountsRiseBy}
 
-pub rise_none : (a b : ℕ) → b ≡ a → IsRise a b 0
+pub rise_none : (a b : ℕ) → b ≡ a → CountRisesBy a b 0
 rise_none a b same = record { no_less = omega (arith, same); exact = λ l. omega (arith, same) }
 
-pub rise_on : (a b c j k : ℕ) → IsRise a b j → IsRise b c k → IsRise a c (j + k)
+pub rise_on : (a b c j k : ℕ) → CountRisesBy a b j → CountRisesBy b c k → CountRisesBy a c (j + k)
 rise_on a b c j k f g =
     let less = f.no_less in
     let more = g.no_less in
@@ -14,17 +14,17 @@ rise_on a b c j k f g =
       exact = λ l. let second = g.exact l in let first = f.exact (omega (arith, more, l)) in omega (arith, first, second);
     }
 
-pub raises_none : (c : Calls) → Raises c c 0 0 0
+pub raises_none : (c : Calls) → CountsRiseBy c c 0 0 0
 raises_none c = record { asked = rise_none c.accepts c.accepts refl; read = rise_none c.reads c.reads refl; failed = rise_none c.failures c.failures refl }
 
-pub raises_on : (a b c : Calls) (i j k x y z : ℕ) → Raises a b i j k → Raises b c x y z → Raises a c (i + x) (j + y) (k + z)
+pub raises_on : (a b c : Calls) (i j k x y z : ℕ) → CountsRiseBy a b i j k → CountsRiseBy b c x y z → CountsRiseBy a c (i + x) (j + y) (k + z)
 raises_on a b c i j k x y z f g = record {
   asked = rise_on a.accepts b.accepts c.accepts i x f.asked g.asked;
   read = rise_on a.reads b.reads c.reads j y f.read g.read;
   failed = rise_on a.failures b.failures c.failures k z f.failed g.failed;
 }
 
-pub raises_failed : (accepts reads failures more_accepts more_reads more_failures k : ℕ) → more_accepts ≡ accepts → more_reads ≡ reads → IsRise failures more_failures k → Raises (calls accepts reads failures) (calls more_accepts more_reads more_failures) 0 0 k
+pub raises_failed : (accepts reads failures more_accepts more_reads more_failures k : ℕ) → more_accepts ≡ accepts → more_reads ≡ reads → CountRisesBy failures more_failures k → CountsRiseBy (calls accepts reads failures) (calls more_accepts more_reads more_failures) 0 0 k
 raises_failed accepts reads failures more_accepts more_reads more_failures k same_accepts same_reads rise =
     record { asked = rise_none accepts more_accepts same_accepts; read = rise_none reads more_reads same_reads; failed = rise }
 

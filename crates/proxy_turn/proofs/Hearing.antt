@@ -4,19 +4,19 @@ use Rattle.std.proofs.Math.Seq.{take-suc}
 use Rattle.std.proofs.lemmas.List.{map-append, length-append, length-map, append-nil, take_all, take-append-drop}
 use Rattle.hx_status.specs.declared.cause.FailKind.{FailKind}
 use Rattle.proxy_engine.specs.EngineModel.{EngineModel}
-use Rattle.proxy_engine.specs.Orderly.{TakesStay}
-use Rattle.proxy_engine.specs.Reading.{ends_read}
-use Rattle.proxy_engine.specs.Room.{IsRoomy, IsRoomyLink, HasRoom}
-use Rattle.proxy_engine.specs.State.{State, Represents}
+use Rattle.proxy_engine.specs.Orderly.{HappeningKeepsEnded}
+use Rattle.proxy_engine.specs.Reading.{readable_ends_of}
+use Rattle.proxy_engine.specs.Room.{ConnectionHasSpare, LinkHasSpare, NextHappeningFindsMemory}
+use Rattle.proxy_engine.specs.State.{State, EngineRepresents}
 use Rattle.proxy_engine.specs.declared.endpoints.ends.Connection.{Connection}
 use Rattle.proxy_engine.specs.declared.endpoints.ends.Link.{Link}
 use Rattle.proxy_engine.specs.declared.work.End.{End}
 use Rattle.proxy_engine.specs.declared.work.End.TheVariants as ends
 use Rattle.proxy_turn.specs.Calls as call
 use Rattle.proxy_turn.specs.Calls.{Call}
-use Rattle.proxy_turn.specs.Counts.{Calls, Raises}
-use Rattle.proxy_turn.specs.Turn.{arrived, ended, lost, given_failures, Read, ends_of, failed_reads, calls_read}
-use Rattle.proxy_turn.specs.Parts.{FindsIf, IsThere, AreThere, ReadsOne, ReadsNone, ReadsSome, ReadsAll}
+use Rattle.proxy_turn.specs.Counts.{Calls, CountsRiseBy}
+use Rattle.proxy_turn.specs.Turn.{happening_of_bytes, happening_of_end, happening_of_loss, count_of_failed_read, EndRead, ends_of_reads, count_of_failed_reads, calls_of_reads}
+use Rattle.proxy_turn.specs.Parts.{HappeningIfAnyFindsMemory, EndWasNumbered, EndsWereNumbered, OneEndIsRead, NoEndIsRead, SomeEndsAreRead, AllEndsAreRead}
 use Rattle.proxy_turn.specs.declared.report.TurnFault.{TurnFault}
 use Rattle.proxy_turn.specs.declared.report.TurnFault.TheVariants.{NoMemory}
 use Rattle.proxy_turn.proofs.Called.{Joins, read_more}
@@ -24,69 +24,69 @@ use Rattle.proxy_turn.proofs.Counting.{raises_none, raises_on}
 use Rattle.proxy_turn.proofs.There.{all_there_later, there_at}
 use Rattle.proxy_turn.proofs.Turning.{reads_more, reads_stay, sum_more}
 
-roomy_less : (o : Option Connection) (n m : ℕ) → m ≤ n → IsRoomy o n → IsRoomy o m
+roomy_less : (o : Option Connection) (n m : ℕ) → m ≤ n → ConnectionHasSpare o n → ConnectionHasSpare o m
 roomy_less None n m l room = tt
 roomy_less (Some c) n m l room = omega (arith, l, room)
 
-roomy_link_less : (o : Option Link) (n m : ℕ) → m ≤ n → IsRoomyLink o n → IsRoomyLink o m
+roomy_link_less : (o : Option Link) (n m : ℕ) → m ≤ n → LinkHasSpare o n → LinkHasSpare o m
 roomy_link_less None n m l room = tt
 roomy_link_less (Some k) n m l room = omega (arith, l, room)
 
-pub arrived_found : (e : State) (end : End) (bytes : List ℕ) → HasRoom e end → length bytes ≤ 4096 → FindsIf e (arrived end bytes)
+pub arrived_found : (e : State) (end : End) (bytes : List ℕ) → NextHappeningFindsMemory e end → length bytes ≤ 4096 → HappeningIfAnyFindsMemory e (happening_of_bytes end bytes)
 arrived_found e ends.Listener bytes room l = tt
 arrived_found e (ends.Client n) bytes room l = roomy_less (get_or e.connections (n - 1) None) 4096 (length bytes) l room
 arrived_found e (ends.Link k) bytes room l = roomy_link_less (get_or e.links (k - e.first) None) 4096 (length bytes) l room
 
-pub ended_found : (e : State) (end : End) → FindsIf e (ended end)
+pub ended_found : (e : State) (end : End) → HappeningIfAnyFindsMemory e (happening_of_end end)
 ended_found e ends.Listener = tt
 ended_found e (ends.Client n) = tt
 ended_found e (ends.Link k) = tt
 
-pub lost_found : (e : State) (end : End) (kind : FailKind) → FindsIf e (lost end kind)
+pub lost_found : (e : State) (end : End) (kind : FailKind) → HappeningIfAnyFindsMemory e (happening_of_loss end kind)
 lost_found e ends.Listener kind = tt
 lost_found e (ends.Client n) kind = tt
 lost_found e (ends.Link k) kind = tt
 
-pub reads_none : (s : EngineModel) (e : State) (did : List Call → Type 0) (here : Calls) → Represents e s → did [] → ReadsSome s [] e did here here
+pub reads_none : (s : EngineModel) (e : State) (did : List Call → Type 0) (here : Calls) → EngineRepresents e s → did [] → SomeEndsAreRead s [] e did here here
 reads_none s e did here represents none = record { last = s; are = refl; represents = represents; calls = none; raises = raises_none here }
 
 -- an end that was there is there behind the reads
-pub read_later : (stay : TakesStay) (s : EngineModel) (es : List End) (reads : List Read) (i : ℕ) (end : End) (e : State) (did : List Call → Type 0) (a b : Calls) → end ≡ get_or es i end → i < length es → AreThere s es → (done : ReadsSome s reads e did a b) → IsThere done.last end
+pub read_later : (stay : HappeningKeepsEnded) (s : EngineModel) (es : List End) (reads : List EndRead) (i : ℕ) (end : End) (e : State) (did : List Call → Type 0) (a b : Calls) → end ≡ get_or es i end → i < length es → EndsWereNumbered s es → (done : SomeEndsAreRead s reads e did a b) → EndWasNumbered done.last end
 read_later stay s es reads i end e did a b is l there done = there_at done.last es i end (all_there_later s done.last es (reads_stay stay reads s done.last done.are) there) l is
 
 -- one more
-pub reads_one : (s : EngineModel) (reads : List Read) (end : End) (e new : State) (did then all : List Call → Type 0) (a b c : Calls) (count : ℕ) → (done : ReadsSome s reads e did a b) → (one : ReadsOne done.last end new then b c count) → Joins did then all
-    → ReadsSome s (reads ++ record { end = end; given = one.given } ∷ []) new all a c
+pub reads_one : (s : EngineModel) (reads : List EndRead) (end : End) (e new : State) (did then all : List Call → Type 0) (a b c : Calls) (count : ℕ) → (done : SomeEndsAreRead s reads e did a b) → (one : OneEndIsRead done.last end new then b c count) → Joins did then all
+    → SomeEndsAreRead s (reads ++ record { end = end; given = one.given } ∷ []) new all a c
 reads_one s reads end e new did then all a b c count done one join =
-    let r : Read = record { end = end; given = one.given } in
+    let r : EndRead = record { end = end; given = one.given } in
     record {
       last = one.took.after;
       are = reads_more reads s done.last one.took.after r done.are one.took.takes one.piece;
       represents = one.took.represents;
-      calls = subst all (sym (read_more reads r)) (join (calls_read reads) (call.Read end one.given ∷ []) done.calls one.calls);
-      raises = subst (λ (n : ℕ). Raises a c 0 n (failed_reads (reads ++ r ∷ []))) (sym (length-append reads (r ∷ [])))
-          (subst (λ (n : ℕ). Raises a c 0 (length reads + 1) n) (sym (sum_more (λ (x : Read). given_failures x.given) reads r)) (raises_on a b c 0 (length reads) (failed_reads reads) 0 1 (given_failures one.given) done.raises one.raises));
+      calls = subst all (sym (read_more reads r)) (join (calls_of_reads reads) (call.Read end one.given ∷ []) done.calls one.calls);
+      raises = subst (λ (n : ℕ). CountsRiseBy a c 0 n (count_of_failed_reads (reads ++ r ∷ []))) (sym (length-append reads (r ∷ [])))
+          (subst (λ (n : ℕ). CountsRiseBy a c 0 (length reads + 1) n) (sym (sum_more (λ (x : EndRead). count_of_failed_read x.given) reads r)) (raises_on a b c 0 (length reads) (count_of_failed_reads reads) 0 1 (count_of_failed_read one.given) done.raises one.raises));
     }
 
 -- these ends were read
 pub record SoFar (s : EngineModel) (es : List End) (e : State) (did : List Call → Type 0) (a b : Calls) (faults : ℕ) : Type 0 where
-  pub reads : List Read
-  pub ends : ends_of reads ≡ es
-  pub some : ReadsSome s reads e did a b
-  pub counted : faults ≡ failed_reads reads
+  pub reads : List EndRead
+  pub ends : ends_of_reads reads ≡ es
+  pub some : SomeEndsAreRead s reads e did a b
+  pub counted : faults ≡ count_of_failed_reads reads
 
-pub so_far_none : (s : EngineModel) (e : State) (did : List Call → Type 0) (here : Calls) → Represents e s → did [] → SoFar s [] e did here here 0
+pub so_far_none : (s : EngineModel) (e : State) (did : List Call → Type 0) (here : Calls) → EngineRepresents e s → did [] → SoFar s [] e did here here 0
 so_far_none s e did here represents none = record { reads = []; ends = refl; some = reads_none s e did here represents none; counted = refl }
 
-pub so_far_more : (s : EngineModel) (es : List End) (i : ℕ) (end : End) (e new : State) (did then all : List Call → Type 0) (a b c : Calls) (faults count : ℕ) → end ≡ get_or es i end → i < length es → (done : SoFar s (take i es) e did a b faults) → ReadsOne done.some.last end new then b c count
+pub so_far_more : (s : EngineModel) (es : List End) (i : ℕ) (end : End) (e new : State) (did then all : List Call → Type 0) (a b c : Calls) (faults count : ℕ) → end ≡ get_or es i end → i < length es → (done : SoFar s (take i es) e did a b faults) → OneEndIsRead done.some.last end new then b c count
     → Joins did then all → SoFar s (take (i + 1) es) new all a c (faults + count)
 so_far_more s es i end e new did then all a b c faults count is l done one join =
-    let r : Read = record { end = end; given = one.given } in
+    let r : EndRead = record { end = end; given = one.given } in
     record {
       reads = done.reads ++ r ∷ [];
-      ends = map-append (λ (x : Read). x.end) done.reads (r ∷ []) ∙ (ap (λ (xs : List End). xs ++ end ∷ []) done.ends ∙ sym next);
+      ends = map-append (λ (x : EndRead). x.end) done.reads (r ∷ []) ∙ (ap (λ (xs : List End). xs ++ end ∷ []) done.ends ∙ sym next);
       some = reads_one s done.reads end e new did then all a b c count done.some one join;
-      counted = let before = done.counted in let here = one.counted in let sum = sum_more (λ (x : Read). given_failures x.given) done.reads r in omega (arith, before, here, sum);
+      counted = let before = done.counted in let here = one.counted in let sum = sum_more (λ (x : EndRead). count_of_failed_read x.given) done.reads r in omega (arith, before, here, sum);
     }
   where
     next : take (i + 1) es ≡ take i es ++ end ∷ []
@@ -94,31 +94,31 @@ so_far_more s es i end e new did then all a b c faults count is l done one join 
         let same : i + 1 ≡ suc i = omega arith in
         ap (λ (n : ℕ). take n es) same ∙ (take-suc es i end l ∙ ap (λ (x : End). take i es ++ x ∷ []) (sym is))
 
-pub so_far_later : (stay : TakesStay) (s : EngineModel) (es : List End) (i : ℕ) (end : End) (e : State) (did : List Call → Type 0) (a b : Calls) (faults : ℕ) → end ≡ get_or es i end → i < length es → AreThere s es → (done : SoFar s (take i es) e did a b faults) → IsThere done.some.last end
+pub so_far_later : (stay : HappeningKeepsEnded) (s : EngineModel) (es : List End) (i : ℕ) (end : End) (e : State) (did : List Call → Type 0) (a b : Calls) (faults : ℕ) → end ≡ get_or es i end → i < length es → EndsWereNumbered s es → (done : SoFar s (take i es) e did a b faults) → EndWasNumbered done.some.last end
 so_far_later stay s es i end e did a b faults is l there done = read_later stay s es done.reads i end e did a b is l there done.some
 
-pub read_whole : (s : EngineModel) (es : List End) (n : ℕ) (e : State) (did : List Call → Type 0) (a b : Calls) (faults : ℕ) (counts : ℕ × ℕ) → es ≡ ends_read s → length es ≤ n → SoFar s (take n es) e did a b faults → counts.0 ≡ length es → counts.1 ≡ faults → ReadsAll s e did a b (Ok counts)
+pub read_whole : (s : EngineModel) (es : List End) (n : ℕ) (e : State) (did : List Call → Type 0) (a b : Calls) (faults : ℕ) (counts : ℕ × ℕ) → es ≡ readable_ends_of s → length es ≤ n → SoFar s (take n es) e did a b faults → counts.0 ≡ length es → counts.1 ≡ faults → AllEndsAreRead s e did a b (Ok counts)
 read_whole s es n e did a b faults counts is l done number more =
     let all = done.ends ∙ take_all n es l in
     record {
       reads = done.reads;
       rest = [];
-      ends = append-nil (ends_of done.reads) ∙ (all ∙ is);
+      ends = append-nil (ends_of_reads done.reads) ∙ (all ∙ is);
       some = done.some;
-      reports = (refl, number ∙ (sym (ap length all) ∙ length-map done.reads (λ (x : Read). x.end)), more ∙ done.counted);
+      reports = (refl, number ∙ (sym (ap length all) ∙ length-map done.reads (λ (x : EndRead). x.end)), more ∙ done.counted);
     }
 
-pub read_partly : (s : EngineModel) (es : List End) (i : ℕ) (e new : State) (did then all : List Call → Type 0) (a b c : Calls) (faults : ℕ) (fault : TurnFault) → es ≡ ends_read s → (done : SoFar s (take i es) e did a b faults) → ReadsNone done.some.last new then b c fault → Joins did then all → ReadsAll s new all a c (Err fault)
+pub read_partly : (s : EngineModel) (es : List End) (i : ℕ) (e new : State) (did then all : List Call → Type 0) (a b c : Calls) (faults : ℕ) (fault : TurnFault) → es ≡ readable_ends_of s → (done : SoFar s (take i es) e did a b faults) → NoEndIsRead done.some.last new then b c fault → Joins did then all → AllEndsAreRead s new all a c (Err fault)
 read_partly s es i e new did then all a b c faults fault is done none join = record {
   reads = done.reads;
   rest = drop i es;
   ends = ap (λ (xs : List End). xs ++ drop i es) done.ends ∙ (take-append-drop i es ∙ is);
-  some = record { last = done.some.last; are = done.some.are; represents = none.represents; calls = subst all (append-nil (calls_read done.reads)) (join (calls_read done.reads) [] done.some.calls none.calls); raises = subst (λ (x : Calls). Raises a x 0 (length done.reads) (failed_reads done.reads)) none.same done.some.raises };
+  some = record { last = done.some.last; are = done.some.are; represents = none.represents; calls = subst all (append-nil (calls_of_reads done.reads)) (join (calls_of_reads done.reads) [] done.some.calls none.calls); raises = subst (λ (x : Calls). CountsRiseBy a x 0 (length done.reads) (count_of_failed_reads done.reads)) none.same done.some.raises };
   reports = none.fault_is;
 }
 
-pub read_not : (s : EngineModel) (e : State) (did : List Call → Type 0) (here : Calls) (fault : TurnFault) → fault ≡ NoMemory → Represents e s → did [] → ReadsAll s e did here here (Err fault)
-read_not s e did here fault is represents none = record { reads = []; rest = ends_read s; ends = refl; some = reads_none s e did here represents none; reports = is }
+pub read_not : (s : EngineModel) (e : State) (did : List Call → Type 0) (here : Calls) (fault : TurnFault) → fault ≡ NoMemory → EngineRepresents e s → did [] → AllEndsAreRead s e did here here (Err fault)
+read_not s e did here fault is represents none = record { reads = []; rest = readable_ends_of s; ends = refl; some = reads_none s e did here represents none; reports = is }
 
 -- an element is itself at its place
 pub read_at : {A : Type 0} (d : A) (xs : List A) (i : ℕ) → i < length xs → get_or xs i d ≡ get_or xs i (get_or xs i d)

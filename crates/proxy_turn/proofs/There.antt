@@ -3,7 +3,7 @@ use Rattle.std.proofs.Common.{◌≡◌, inl, inr, ℕ, zero, suc, ◌+◌, ◌-
 use Rattle.std.proofs.Math.ListN.{get_or-eq_default}
 use Rattle.std.proofs.lemmas.List.{length-set, length-append}
 use Rattle.std.proofs.lemmas.Bool.{cases_order}
-use Rattle.hx_framing.specs.declared.fault.FrameFault.TheVariants as frame
+use Rattle.hx_framing.specs.declared.frame_fault.FrameFault.TheVariants as frame
 use Rattle.hx_framing.specs.declared.messages.Next.{Next}
 use Rattle.hx_framing.specs.declared.messages.Next.TheVariants as next
 use Rattle.hx_framing.specs.declared.messages.Request.{Request}
@@ -13,19 +13,19 @@ use Rattle.proxy_core.specs.declared.event.Event.TheVariants as events
 use Rattle.proxy_script.specs.declared.effect_list.Effect.{Effect}
 use Rattle.proxy_script.specs.declared.effect_list.Effect.TheVariants as effects
 use Rattle.proxy_engine.specs.Admitted.{Refusal}
-use Rattle.proxy_engine.specs.EngineModel.{EngineModel, ConnectionModel, LinkModel, no_connection, no_link, opened, connection_at, link_at, with_connection, with_core, connection_fault, link_fault, keeps_answer}
+use Rattle.proxy_engine.specs.EngineModel.{EngineModel, ConnectionModel, LinkModel, no_connection, no_link, new_link_model, connection_at, link_at, with_connection, with_core, connection_fault, link_fault, keeps_answer}
 use Rattle.proxy_engine.specs.declared.endpoints.activities.Activity.TheVariants.{Free}
 use Rattle.proxy_engine.specs.Due.{Act, Abandons, Finishes, Wakes, Serves, Gives, Breaks}
-use Rattle.proxy_engine.specs.Acts.{Does, StepsOn, Refuses, Closes, Served, Arrives, Came, Replies, Forwards, Queues, Nothing, came, effects_on, after_on, next_number, freed, doing, dropping, passing}
-use Rattle.proxy_engine.specs.Orderly.{IsOpen, Drops, NamesOpen, Stays}
-use Rattle.proxy_engine.specs.Reading.{places_with, is_read, link_end, client_end, ends_read}
+use Rattle.proxy_engine.specs.Acts.{ActIsDone, CoreIsStepped, RequestIsRefused, ConnectionIsClosed, ConnectionIsServed, RequestArrives, OutcomeOnConnection, Replies, Forwards, Queues, Nothing, outcome_by_table, effects_of_outcome, model_after_outcome, next_link_number, model_after_link_freed, with_activity, with_dropped, with_next_passed}
+use Rattle.proxy_engine.specs.Orderly.{ConnectionIsOpen, LinkIsDropped, EffectsNameOpenEnds, EndedStaysEnded}
+use Rattle.proxy_engine.specs.Reading.{places_with_flag, connection_may_send_request, link_end_at, client_end_at, readable_ends_of}
 use Rattle.proxy_engine.specs.declared.work.EngineFault.TheVariants.{NotAccepted, WrongNumber}
 use Rattle.proxy_engine.specs.declared.work.End.{End}
 use Rattle.proxy_engine.specs.declared.work.End.TheVariants as ends
 use Rattle.hx_status.specs.declared.cause.Cause.{Cause}
 use Rattle.hx_status.specs.declared.cause.FailKind.{FailKind}
-use Rattle.proxy_turn.specs.Turn.{arrived, ended, lost, end_of}
-use Rattle.proxy_turn.specs.Parts.{IsThere, AreThere, IsFree}
+use Rattle.proxy_turn.specs.Turn.{happening_of_bytes, happening_of_end, happening_of_loss, end_of_effect}
+use Rattle.proxy_turn.specs.Parts.{EndWasNumbered, EndsWereNumbered, HappeningCanBeTaken}
 
 -- ---- numbers
 
@@ -77,7 +77,7 @@ link_within first count l free =
 
 -- ---- an end that is there stays so
 
-pub there_later : (s t : EngineModel) (end : End) → Stays s t → IsThere s end → IsThere t end
+pub there_later : (s t : EngineModel) (end : End) → EndedStaysEnded s t → EndWasNumbered s end → EndWasNumbered t end
 there_later s t ends.Listener stays there = tt
 there_later s t (ends.Client n) stays there =
     let within = client_within (length s.connections) n there in
@@ -93,23 +93,23 @@ there_later s t (ends.Link l) stays there =
     let below = within.1 in
     link_there t.first (length t.links) l (omega (arith, above, same)) (omega (arith, below, same, more))
 
-pub all_there_later : (s t : EngineModel) (es : List End) → Stays s t → AreThere s es → AreThere t es
+pub all_there_later : (s t : EngineModel) (es : List End) → EndedStaysEnded s t → EndsWereNumbered s es → EndsWereNumbered t es
 all_there_later s t [] stays there = tt
 all_there_later s t (end ∷ es) stays there = (there_later s t end stays there.0, all_there_later s t es stays there.1)
 
 -- ---- what comes of it can be taken
 
-pub arrived_free : (s : EngineModel) (end : End) (bytes : List ℕ) → IsThere s end → IsFree s (arrived end bytes)
+pub arrived_free : (s : EngineModel) (end : End) (bytes : List ℕ) → EndWasNumbered s end → HappeningCanBeTaken s (happening_of_bytes end bytes)
 arrived_free s ends.Listener bytes there = tt
 arrived_free s (ends.Client n) bytes there = there
 arrived_free s (ends.Link l) bytes there = there
 
-pub ended_free : (s : EngineModel) (end : End) → IsThere s end → IsFree s (ended end)
+pub ended_free : (s : EngineModel) (end : End) → EndWasNumbered s end → HappeningCanBeTaken s (happening_of_end end)
 ended_free s ends.Listener there = tt
 ended_free s (ends.Client n) there = there
 ended_free s (ends.Link l) there = there
 
-pub lost_free : (s : EngineModel) (end : End) (kind : FailKind) → IsThere s end → IsFree s (lost end kind)
+pub lost_free : (s : EngineModel) (end : End) (kind : FailKind) → EndWasNumbered s end → HappeningCanBeTaken s (happening_of_loss end kind)
 lost_free s ends.Listener kind there = tt
 lost_free s (ends.Client n) kind there = there
 lost_free s (ends.Link l) kind there = there
@@ -120,38 +120,38 @@ abbrev AllBelow : ℕ → List ℕ → Type 0
 AllBelow n [] = Unit {0}
 AllBelow n (i ∷ is) = (i < n) × AllBelow n is
 
-places_below : {A : Type 0} (flag : A → Bool) (i n : ℕ) (xs : List A) → i + length xs ≤ n → AllBelow n (places_with flag i xs)
+places_below : {A : Type 0} (flag : A → Bool) (i n : ℕ) (xs : List A) → i + length xs ≤ n → AllBelow n (places_with_flag flag i xs)
 places_below flag i n [] l = tt
 places_below flag i n (x ∷ xs) l = by (flag x) (places_below flag (i + 1) n xs (omega (arith, l)))
   where
-    by : (b : Bool) → AllBelow n (places_with flag (i + 1) xs) → AllBelow n (cond b (i ∷ places_with flag (i + 1) xs) (places_with flag (i + 1) xs))
+    by : (b : Bool) → AllBelow n (places_with_flag flag (i + 1) xs) → AllBelow n (cond b (i ∷ places_with_flag flag (i + 1) xs) (places_with_flag flag (i + 1) xs))
     by true rest = (omega (arith, l), rest)
     by false rest = rest
 
-links_there : (s : EngineModel) (js : List ℕ) → AllBelow (length s.links) js → AreThere s (map (link_end s.first) js)
+links_there : (s : EngineModel) (js : List ℕ) → AllBelow (length s.links) js → EndsWereNumbered s (map (link_end_at s.first) js)
 links_there s [] below = tt
 links_there s (j ∷ js) below =
     let here = below.0 in
     (link_there s.first (length s.links) (s.first + j) (omega arith) (omega (arith, here)), links_there s js below.1)
 
-clients_there : (s : EngineModel) (is : List ℕ) → AllBelow (length s.connections) is → AreThere s (map client_end is)
+clients_there : (s : EngineModel) (is : List ℕ) → AllBelow (length s.connections) is → EndsWereNumbered s (map client_end_at is)
 clients_there s [] below = tt
 clients_there s (i ∷ is) below =
     let here = below.0 in
     (client_there (length s.connections) (i + 1) (omega arith) (omega (arith, here)), clients_there s is below.1)
 
-both_there : (s : EngineModel) (es more : List End) → AreThere s es → AreThere s more → AreThere s (es ++ more)
+both_there : (s : EngineModel) (es more : List End) → EndsWereNumbered s es → EndsWereNumbered s more → EndsWereNumbered s (es ++ more)
 both_there s [] more f g = g
 both_there s (end ∷ es) more f g = (f.0, both_there s es more f.1 g)
 
-pub read_there : (s : EngineModel) → AreThere s (ends_read s)
-read_there s = both_there s (map (link_end s.first) (places_with keeps_answer 0 s.links)) (map client_end (places_with is_read 0 s.connections))
-    (links_there s (places_with keeps_answer 0 s.links) (places_below keeps_answer 0 (length s.links) s.links (omega arith)))
-    (clients_there s (places_with is_read 0 s.connections) (places_below is_read 0 (length s.connections) s.connections (omega arith)))
+pub read_there : (s : EngineModel) → EndsWereNumbered s (readable_ends_of s)
+read_there s = both_there s (map (link_end_at s.first) (places_with_flag keeps_answer 0 s.links)) (map client_end_at (places_with_flag connection_may_send_request 0 s.connections))
+    (links_there s (places_with_flag keeps_answer 0 s.links) (places_below keeps_answer 0 (length s.links) s.links (omega arith)))
+    (clients_there s (places_with_flag connection_may_send_request 0 s.connections) (places_below connection_may_send_request 0 (length s.connections) s.connections (omega arith)))
 
-pub there_at : (s : EngineModel) (es : List End) (i : ℕ) (end : End) → AreThere s es → i < length es → end ≡ get_or es i end → IsThere s end
+pub there_at : (s : EngineModel) (es : List End) (i : ℕ) (end : End) → EndsWereNumbered s es → i < length es → end ≡ get_or es i end → EndWasNumbered s end
 there_at s [] i end there l e = absurd (omega (arith, l))
-there_at s (e ∷ es) zero end there l is = subst (IsThere s) (sym is) there.0
+there_at s (e ∷ es) zero end there l is = subst (EndWasNumbered s) (sym is) there.0
 there_at s (e ∷ es) (suc i) end there l is = there_at s es i end there.1 (omega (arith, l)) is
 
 -- ---- the ends that the effects of an act name
@@ -168,44 +168,44 @@ not_both : {A : Type 0} (b : Bool) → b ≡ true → b ≡ false → A
 not_both true e f = absurd cc
 not_both false e f = absurd cc
 
-replies_none : (i number : ℕ) (bytes : List ℕ) (close : Bool) → forwards (effects_on i number (Replies bytes close)) ≡ false
+replies_none : (i number : ℕ) (bytes : List ℕ) (close : Bool) → forwards (effects_of_outcome i number (Replies bytes close)) ≡ false
 replies_none i number bytes true = refl
 replies_none i number bytes false = refl
 
 -- a step whose effects name a new link opens it
 steps_open : (s t : EngineModel) (i : ℕ) (to_head : Bool) (event : Event) (before emitted : List Effect) (after : EngineModel) → length t.links ≡ length s.links → ((more : List Effect) → forwards (before ++ more) ≡ forwards more)
-    → StepsOn s t i to_head event before emitted after → forwards emitted ≡ true → length s.links < length after.links
-steps_open s t i to_head event before emitted after same apart steps e = by (came s.core.table steps.outcome) steps.emitted_is steps.after_is
+    → CoreIsStepped s t i to_head event before emitted after → forwards emitted ≡ true → length s.links < length after.links
+steps_open s t i to_head event before emitted after same apart steps e = by (outcome_by_table s.core.table steps.outcome) steps.emitted_is steps.after_is
   where
-    by : (c : Came) → emitted ≡ before ++ effects_on i (next_number s) c → after ≡ after_on i to_head c (with_core t steps.core) → length s.links < length after.links
-    by (Replies bytes close) emitted_is after_is = not_both (forwards emitted) e (ap forwards emitted_is ∙ (apart (effects_on i (next_number s) (Replies bytes close)) ∙ replies_none i (next_number s) bytes close))
+    by : (c : OutcomeOnConnection) → emitted ≡ before ++ effects_of_outcome i (next_link_number s) c → after ≡ model_after_outcome i to_head c (with_core t steps.core) → length s.links < length after.links
+    by (Replies bytes close) emitted_is after_is = not_both (forwards emitted) e (ap forwards emitted_is ∙ (apart (effects_of_outcome i (next_link_number s) (Replies bytes close)) ∙ replies_none i (next_link_number s) bytes close))
     by (Forwards address bytes) emitted_is after_is =
-        let long = ap (λ (u : EngineModel). length u.links) after_is ∙ length-append t.links (opened steps.core.table.max_body to_head i ∷ []) in
+        let long = ap (λ (u : EngineModel). length u.links) after_is ∙ length-append t.links (new_link_model steps.core.table.max_body to_head i ∷ []) in
         omega (arith, same, long)
     by Queues emitted_is after_is = not_both (forwards emitted) e (ap forwards emitted_is ∙ apart [])
     by Nothing emitted_is after_is = not_both (forwards emitted) e (ap forwards emitted_is ∙ apart [])
 
 -- an act whose effects name a new link opens it
-opens : (s : EngineModel) (now : ℕ) (act : Act) (emitted : List Effect) (after : EngineModel) → Does s now act emitted after → forwards emitted ≡ true → length s.links < length after.links
+opens : (s : EngineModel) (now : ℕ) (act : Act) (emitted : List Effect) (after : EngineModel) → ActIsDone s now act emitted after → forwards emitted ≡ true → length s.links < length after.links
 opens s now (Abandons i (Some l)) emitted after done e =
-    steps_open s (freed s l i) i false (events.Abandon (i + 1)) (effects.Drop (s.first + l) ∷ []) emitted after (length-set s.links l (dropping (link_at s l))) (λ more. refl) done e
-opens s now (Abandons i None) emitted after done e = steps_open s (with_connection s i (doing Free)) i false (events.Abandon (i + 1)) [] emitted after refl (λ more. refl) done e
-opens s now (Finishes j (Gives r)) emitted after done e = steps_open s (freed s j (link_at s j).connection) _ _ _ (effects.Drop (s.first + j) ∷ []) emitted after (length-set s.links j (dropping (link_at s j))) (λ more. refl) done.1 e
-opens s now (Finishes j (Breaks kind)) emitted after done e = steps_open s (freed s j (link_at s j).connection) _ _ _ (effects.Drop (s.first + j) ∷ []) emitted after (length-set s.links j (dropping (link_at s j))) (λ more. refl) done e
-opens s now (Wakes i) emitted after done e = steps_open s (with_connection s i (doing Free)) i _ (events.Wake now (i + 1)) [] emitted after refl (λ more. refl) done.1 e
+    steps_open s (model_after_link_freed s l i) i false (events.Abandon (i + 1)) (effects.Drop (s.first + l) ∷ []) emitted after (length-set s.links l (with_dropped (link_at s l))) (λ more. refl) done e
+opens s now (Abandons i None) emitted after done e = steps_open s (with_connection s i (with_activity Free)) i false (events.Abandon (i + 1)) [] emitted after refl (λ more. refl) done e
+opens s now (Finishes j (Gives r)) emitted after done e = steps_open s (model_after_link_freed s j (link_at s j).connection) _ _ _ (effects.Drop (s.first + j) ∷ []) emitted after (length-set s.links j (with_dropped (link_at s j))) (λ more. refl) done.1 e
+opens s now (Finishes j (Breaks kind)) emitted after done e = steps_open s (model_after_link_freed s j (link_at s j).connection) _ _ _ (effects.Drop (s.first + j) ∷ []) emitted after (length-set s.links j (with_dropped (link_at s j))) (λ more. refl) done e
+opens s now (Wakes i) emitted after done e = steps_open s (with_connection s i (with_activity Free)) i _ (events.Wake now (i + 1)) [] emitted after refl (λ more. refl) done.1 e
 opens s now (Serves i action) emitted after done e = by_action action done
   where
-    refuses : (why : Cause) (head : Bool) → Refuses s now i why head emitted after → length s.links < length after.links
+    refuses : (why : Cause) (head : Bool) → RequestIsRefused s now i why head emitted after → length s.links < length after.links
     refuses why head d = not_both (forwards emitted) e (ap forwards d.emitted_is)
 
-    closes : Closes s i emitted after → length s.links < length after.links
+    closes : ConnectionIsClosed s i emitted after → length s.links < length after.links
     closes d = not_both (forwards emitted) e (ap forwards d.0)
 
-    arrives : (r : Request) (judged : Result Asked Refusal) → Arrives s now i r judged emitted after → length s.links < length after.links
-    arrives r (Ok asked) d = steps_open s (with_connection s i (passing (next.Message r))) _ _ _ [] emitted after refl (λ more. refl) d.1 e
+    arrives : (r : Request) (judged : Result Asked Refusal) → RequestArrives s now i r judged emitted after → length s.links < length after.links
+    arrives r (Ok asked) d = steps_open s (with_connection s i (with_next_passed (next.Message r))) _ _ _ [] emitted after refl (λ more. refl) d.1 e
     arrives r (Err refusal) d = refuses _ _ d
 
-    by_action : (w : Next Request) → Served s now i w emitted after → length s.links < length after.links
+    by_action : (w : Next Request) → ConnectionIsServed s now i w emitted after → length s.links < length after.links
     by_action next.More d = absurd d
     by_action next.NeedsContinue d = not_both (forwards emitted) e (ap forwards d.0)
     by_action (next.Message r) d = arrives r d.0 d.2
@@ -242,15 +242,15 @@ link_inside s j undropped = elim (cases_order j (length s.links)) [
     beyond : length s.links ≤ j → j < length s.links
     beyond l = not_both true refl (sym (ap (λ (k : LinkModel). k.dropped) (get_or-eq_default s.links no_link l)) ∙ undropped)
 
-module _ (s after : EngineModel) (stays : Stays s after) where
-  client_named : (n : ℕ) → IsOpen s n → IsThere after (ends.Client n)
+module _ (s after : EngineModel) (stays : EndedStaysEnded s after) where
+  client_named : (n : ℕ) → ConnectionIsOpen s n → EndWasNumbered after (ends.Client n)
   client_named n is =
       let inside = open_inside s is.place is.closed in
       let number = is.number in
       let more = stays.connections in
       client_there (length after.connections) n (omega (arith, number)) (omega (arith, number, inside, more))
 
-  dropped_named : (l : ℕ) → Drops s after l → IsThere after (ends.Link l)
+  dropped_named : (l : ℕ) → LinkIsDropped s after l → EndWasNumbered after (ends.Link l)
   dropped_named l is =
       let inside = link_inside s is.place is.still in
       let number = is.number in
@@ -258,22 +258,22 @@ module _ (s after : EngineModel) (stays : Stays s after) where
       let same = stays.first in
       link_there after.first (length after.links) l (omega (arith, number, same)) (omega (arith, number, same, inside, more))
 
-  opened_named : (l : ℕ) → l ≡ next_number s → length s.links < length after.links → IsThere after (ends.Link l)
+  opened_named : (l : ℕ) → l ≡ next_link_number s → length s.links < length after.links → EndWasNumbered after (ends.Link l)
   opened_named l number long =
       let same = stays.first in
       link_there after.first (length after.links) l (omega (arith, number, same)) (omega (arith, number, same, long))
 
-  named : (emitted : List Effect) → NamesOpen s after emitted → (forwards emitted ≡ true → length s.links < length after.links) → AreThere after (map end_of emitted)
+  named : (emitted : List Effect) → EffectsNameOpenEnds s after emitted → (forwards emitted ≡ true → length s.links < length after.links) → EndsWereNumbered after (map end_of_effect emitted)
   named [] names long = tt
   named (effects.Client n bytes ∷ rest) names long = (client_named n names.0, named rest names.1 long)
   named (effects.Close n ∷ rest) names long = (client_named n names.0, named_last rest names.2)
     where
-      named_last : (rest : List Effect) → rest ≡ [] → AreThere after (map end_of rest)
+      named_last : (rest : List Effect) → rest ≡ [] → EndsWereNumbered after (map end_of_effect rest)
       named_last [] e = tt
       named_last (x ∷ rest) e = absurd cc
   named (effects.Forward l address bytes ∷ rest) names long = (opened_named l names.0 (long refl), named rest names.1 (λ e. long refl))
   named (effects.Drop l ∷ rest) names long = (dropped_named l names.0, named rest names.1 long)
 
 -- what the effects of an act name is there behind it
-pub effects_there : (s : EngineModel) (now : ℕ) (act : Act) (emitted : List Effect) (after : EngineModel) → Stays s after → NamesOpen s after emitted → Does s now act emitted after → AreThere after (map end_of emitted)
+pub effects_there : (s : EngineModel) (now : ℕ) (act : Act) (emitted : List Effect) (after : EngineModel) → EndedStaysEnded s after → EffectsNameOpenEnds s after emitted → ActIsDone s now act emitted after → EndsWereNumbered after (map end_of_effect emitted)
 effects_there s now act emitted after stays names done = named s after stays emitted names (opens s now act emitted after done)

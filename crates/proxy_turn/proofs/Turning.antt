@@ -2,33 +2,33 @@
 use Rattle.std.proofs.Common.{◌≡◌, ℕ, ◌+◌, List, [], ◌∷◌, ◌++◌, refl, sym, ◌∙◌, subst, arith, Option, None, Some}
 use Rattle.std.proofs.lemmas.List.Sums.{sum_by-append}
 use Rattle.proxy_script.specs.declared.effect_list.Effect.{Effect}
-use Rattle.proxy_engine.specs.Happenings.{Said}
+use Rattle.proxy_engine.specs.Happenings.{PlainHappening}
 use Rattle.proxy_engine.specs.EngineModel.{EngineModel}
 use Rattle.proxy_engine.specs.Due.{IsDueFirst}
-use Rattle.proxy_engine.specs.Acts.{Does}
-use Rattle.proxy_engine.specs.Orderly.{IsOrderly, Stays, TakesInOrder, TakesStay, ActsInOrder}
+use Rattle.proxy_engine.specs.Acts.{ActIsDone}
+use Rattle.proxy_engine.specs.Orderly.{ModelIsOrderly, EndedStaysEnded, HappeningKeepsOrder, HappeningKeepsEnded, ActKeepsOrder}
 use Rattle.proxy_engine.specs.declared.work.End.{End}
-use Rattle.proxy_turn.specs.Turn.{TakesIf, said_by, IsPiece, Read, Reads, lost, end_of, Fate, Carried, Passed, Lost, CarriesOne, CarriesOut, Round, Works}
+use Rattle.proxy_turn.specs.Turn.{HappeningIfAnyIsTaken, happening_of_read, IsAtMostOnePiece, EndRead, ReadsAreTaken, happening_of_loss, end_of_effect, EffectFate, Carried, Passed, Lost, EffectIsCarriedOut, EffectsAreCarriedOut, ActRound, ActsAreCarriedOut}
 
 -- ---- one more
 
-pub reads_more : (rs : List Read) (s t u : EngineModel) (r : Read) → Reads s rs t → TakesIf t (said_by r.end r.given) u → IsPiece r.given → Reads s (rs ++ r ∷ []) u
-reads_more [] s t u r here takes piece = (u, subst (λ x. TakesIf x (said_by r.end r.given) u) here takes, refl, piece)
+pub reads_more : (rs : List EndRead) (s t u : EngineModel) (r : EndRead) → ReadsAreTaken s rs t → HappeningIfAnyIsTaken t (happening_of_read r.end r.given) u → IsAtMostOnePiece r.given → ReadsAreTaken s (rs ++ r ∷ []) u
+reads_more [] s t u r here takes piece = (u, subst (λ x. HappeningIfAnyIsTaken x (happening_of_read r.end r.given) u) here takes, refl, piece)
 reads_more (first ∷ rs) s t u r before takes piece = (before.0, before.1, reads_more rs before.0 t u r before.2 takes piece, before.3)
 
-pub carries_more : (es : List Effect) (fs : List Fate) (s : EngineModel) (gone : List End) (t : EngineModel) (mid : List End) (e : Effect) (f : Fate) (u : EngineModel) (more : List End) → CarriesOut s gone es fs t mid → CarriesOne t mid e f u more
-    → CarriesOut s gone (es ++ e ∷ []) (fs ++ f ∷ []) u more
+pub carries_more : (es : List Effect) (fs : List EffectFate) (s : EngineModel) (gone : List End) (t : EngineModel) (mid : List End) (e : Effect) (f : EffectFate) (u : EngineModel) (more : List End) → EffectsAreCarriedOut s gone es fs t mid → EffectIsCarriedOut t mid e f u more
+    → EffectsAreCarriedOut s gone (es ++ e ∷ []) (fs ++ f ∷ []) u more
 carries_more [] [] s gone t mid e f u more here one =
-    (u, more, subst (λ x. CarriesOne x gone e f u more) here.0 (subst (λ es. CarriesOne t es e f u more) here.1 one), (refl, refl))
+    (u, more, subst (λ x. EffectIsCarriedOut x gone e f u more) here.0 (subst (λ es. EffectIsCarriedOut t es e f u more) here.1 one), (refl, refl))
 carries_more [] (x ∷ fs) s gone t mid e f u more before one = absurd before
 carries_more (x ∷ es) [] s gone t mid e f u more before one = absurd before
 carries_more (x ∷ es) (y ∷ fs) s gone t mid e f u more before one =
     (before.0, before.1, before.2, carries_more es fs before.0 before.1 t mid e f u more before.3 one)
 
-pub works_more : (rs : List Round) (now : ℕ) (s : EngineModel) (gone : List End) (t : EngineModel) (mid : List End) (r : Round) (done u : EngineModel) (more : List End) → Works now s gone rs t mid
-    → IsDueFirst t (Some r.act) → Does t now r.act r.emitted done → CarriesOut done mid r.emitted r.fates u more → Works now s gone (rs ++ r ∷ []) u more
+pub works_more : (rs : List ActRound) (now : ℕ) (s : EngineModel) (gone : List End) (t : EngineModel) (mid : List End) (r : ActRound) (done u : EngineModel) (more : List End) → ActsAreCarriedOut now s gone rs t mid
+    → IsDueFirst t (Some r.act) → ActIsDone t now r.act r.emitted done → EffectsAreCarriedOut done mid r.emitted r.fates u more → ActsAreCarriedOut now s gone (rs ++ r ∷ []) u more
 works_more [] now s gone t mid r done u more here due does out =
-    (done, u, more, subst (λ x. IsDueFirst x (Some r.act)) here.0 due, subst (λ x. Does x now r.act r.emitted done) here.0 does, subst (λ es. CarriesOut done es r.emitted r.fates u more) here.1 out, (refl, refl))
+    (done, u, more, subst (λ x. IsDueFirst x (Some r.act)) here.0 due, subst (λ x. ActIsDone x now r.act r.emitted done) here.0 does, subst (λ es. EffectsAreCarriedOut done es r.emitted r.fates u more) here.1 out, (refl, refl))
 works_more (x ∷ rs) now s gone t mid r done u more before due does out =
     (before.0, before.1, before.2, before.3, before.4, before.5, works_more rs now before.1 before.2 t mid r done u more before.6 due does out)
 
@@ -37,10 +37,10 @@ sum_more f xs x = let both = sum_by-append f xs (x ∷ []) in omega (arith, both
 
 -- ---- what stays
 
-stays_same : (s : EngineModel) → Stays s s
+stays_same : (s : EngineModel) → EndedStaysEnded s s
 stays_same s = record { closed = λ i l e. e; gone = λ i l e. e; dropped = λ j l e. e; connections = omega arith; links = omega arith; first = refl }
 
-pub stays_on : (r s t : EngineModel) → Stays r s → Stays s t → Stays r t
+pub stays_on : (r s t : EngineModel) → EndedStaysEnded r s → EndedStaysEnded s t → EndedStaysEnded r t
 stays_on r s t f g =
     let connections = f.connections in
     let links = f.links in
@@ -55,47 +55,47 @@ stays_on r s t f g =
       first = g.first ∙ f.first;
     }
 
-module _ (stay : TakesStay) where
-  pub if_stays : (s : EngineModel) (o : Option Said) (t : EngineModel) → TakesIf s o t → Stays s t
-  if_stays s None t takes = subst (Stays s) (sym takes) (stays_same s)
-  if_stays s (Some h) t takes = subst (Stays s) (sym takes.1) (stay s h)
+module _ (stay : HappeningKeepsEnded) where
+  pub if_stays : (s : EngineModel) (o : Option PlainHappening) (t : EngineModel) → HappeningIfAnyIsTaken s o t → EndedStaysEnded s t
+  if_stays s None t takes = subst (EndedStaysEnded s) (sym takes) (stays_same s)
+  if_stays s (Some h) t takes = subst (EndedStaysEnded s) (sym takes.1) (stay s h)
 
-  pub reads_stay : (rs : List Read) (s t : EngineModel) → Reads s rs t → Stays s t
-  reads_stay [] s t here = subst (Stays s) (sym here) (stays_same s)
-  reads_stay (r ∷ rs) s t before = stays_on s before.0 t (if_stays s (said_by r.end r.given) before.0 before.1) (reads_stay rs before.0 t before.2)
+  pub reads_stay : (rs : List EndRead) (s t : EngineModel) → ReadsAreTaken s rs t → EndedStaysEnded s t
+  reads_stay [] s t here = subst (EndedStaysEnded s) (sym here) (stays_same s)
+  reads_stay (r ∷ rs) s t before = stays_on s before.0 t (if_stays s (happening_of_read r.end r.given) before.0 before.1) (reads_stay rs before.0 t before.2)
 
-  pub carries_stays : (es : List Effect) (fs : List Fate) (s : EngineModel) (gone : List End) (t : EngineModel) (more : List End) → CarriesOut s gone es fs t more → Stays s t
-  carries_stays [] [] s gone t more here = subst (Stays s) (sym here.0) (stays_same s)
+  pub carries_stays : (es : List Effect) (fs : List EffectFate) (s : EngineModel) (gone : List End) (t : EngineModel) (more : List End) → EffectsAreCarriedOut s gone es fs t more → EndedStaysEnded s t
+  carries_stays [] [] s gone t more here = subst (EndedStaysEnded s) (sym here.0) (stays_same s)
   carries_stays [] (f ∷ fs) s gone t more out = absurd out
   carries_stays (e ∷ es) [] s gone t more out = absurd out
   carries_stays (e ∷ es) (f ∷ fs) s gone t more out = stays_on s out.0 t (one f out.2) (carries_stays es fs out.0 out.1 t more out.3)
     where
-      one : (f : Fate) → CarriesOne s gone e f out.0 out.1 → Stays s out.0
-      one Carried c = subst (Stays s) (sym c.1) (stays_same s)
-      one Passed c = subst (Stays s) (sym c.1) (stays_same s)
-      one (Lost kind) c = if_stays s (lost (end_of e) kind) out.0 c.2
+      one : (f : EffectFate) → EffectIsCarriedOut s gone e f out.0 out.1 → EndedStaysEnded s out.0
+      one Carried c = subst (EndedStaysEnded s) (sym c.1) (stays_same s)
+      one Passed c = subst (EndedStaysEnded s) (sym c.1) (stays_same s)
+      one (Lost kind) c = if_stays s (happening_of_loss (end_of_effect e) kind) out.0 c.2
 
-module _ (takes_in_order : TakesInOrder) where
-  pub if_orderly : (s : EngineModel) (o : Option Said) (t : EngineModel) → TakesIf s o t → IsOrderly s → IsOrderly t
-  if_orderly s None t takes h = subst IsOrderly (sym takes) h
-  if_orderly s (Some said) t takes h = subst IsOrderly (sym takes.1) (takes_in_order s said h)
+module _ (takes_in_order : HappeningKeepsOrder) where
+  pub if_orderly : (s : EngineModel) (o : Option PlainHappening) (t : EngineModel) → HappeningIfAnyIsTaken s o t → ModelIsOrderly s → ModelIsOrderly t
+  if_orderly s None t takes h = subst ModelIsOrderly (sym takes) h
+  if_orderly s (Some said) t takes h = subst ModelIsOrderly (sym takes.1) (takes_in_order s said h)
 
-  pub reads_orderly : (rs : List Read) (s t : EngineModel) → Reads s rs t → IsOrderly s → IsOrderly t
-  reads_orderly [] s t here h = subst IsOrderly (sym here) h
-  reads_orderly (r ∷ rs) s t before h = reads_orderly rs before.0 t before.2 (if_orderly s (said_by r.end r.given) before.0 before.1 h)
+  pub reads_orderly : (rs : List EndRead) (s t : EngineModel) → ReadsAreTaken s rs t → ModelIsOrderly s → ModelIsOrderly t
+  reads_orderly [] s t here h = subst ModelIsOrderly (sym here) h
+  reads_orderly (r ∷ rs) s t before h = reads_orderly rs before.0 t before.2 (if_orderly s (happening_of_read r.end r.given) before.0 before.1 h)
 
-  pub carries_orderly : (es : List Effect) (fs : List Fate) (s : EngineModel) (gone : List End) (t : EngineModel) (more : List End) → CarriesOut s gone es fs t more → IsOrderly s → IsOrderly t
-  carries_orderly [] [] s gone t more here h = subst IsOrderly (sym here.0) h
+  pub carries_orderly : (es : List Effect) (fs : List EffectFate) (s : EngineModel) (gone : List End) (t : EngineModel) (more : List End) → EffectsAreCarriedOut s gone es fs t more → ModelIsOrderly s → ModelIsOrderly t
+  carries_orderly [] [] s gone t more here h = subst ModelIsOrderly (sym here.0) h
   carries_orderly [] (f ∷ fs) s gone t more out h = absurd out
   carries_orderly (e ∷ es) [] s gone t more out h = absurd out
   carries_orderly (e ∷ es) (f ∷ fs) s gone t more out h = carries_orderly es fs out.0 out.1 t more out.3 (one f out.2)
     where
-      one : (f : Fate) → CarriesOne s gone e f out.0 out.1 → IsOrderly out.0
-      one Carried c = subst IsOrderly (sym c.1) h
-      one Passed c = subst IsOrderly (sym c.1) h
-      one (Lost kind) c = if_orderly s (lost (end_of e) kind) out.0 c.2 h
+      one : (f : EffectFate) → EffectIsCarriedOut s gone e f out.0 out.1 → ModelIsOrderly out.0
+      one Carried c = subst ModelIsOrderly (sym c.1) h
+      one Passed c = subst ModelIsOrderly (sym c.1) h
+      one (Lost kind) c = if_orderly s (happening_of_loss (end_of_effect e) kind) out.0 c.2 h
 
-  pub works_orderly : ActsInOrder → (rs : List Round) (now : ℕ) (s : EngineModel) (gone : List End) (t : EngineModel) (more : List End) → Works now s gone rs t more → IsOrderly s → IsOrderly t
-  works_orderly acts [] now s gone t more here h = subst IsOrderly (sym here.0) h
+  pub works_orderly : ActKeepsOrder → (rs : List ActRound) (now : ℕ) (s : EngineModel) (gone : List End) (t : EngineModel) (more : List End) → ActsAreCarriedOut now s gone rs t more → ModelIsOrderly s → ModelIsOrderly t
+  works_orderly acts [] now s gone t more here h = subst ModelIsOrderly (sym here.0) h
   works_orderly acts (r ∷ rs) now s gone t more w h =
       works_orderly acts rs now w.1 w.2 t more w.6 (carries_orderly r.emitted r.fates w.0 gone w.1 w.2 w.5 ((acts s now r.act r.emitted w.0 h w.3 w.4).0))

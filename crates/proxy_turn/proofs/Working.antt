@@ -6,20 +6,20 @@ use Rattle.std.specs.declared.alloc.Global.{Global}
 use Rattle.proxy_script.specs.declared.effect_list.Effect.{Effect}
 use Rattle.proxy_engine.specs.EngineModel.{EngineModel}
 use Rattle.proxy_engine.specs.Due.{Act, IsDueFirst}
-use Rattle.proxy_engine.specs.Acts.{Does}
-use Rattle.proxy_engine.specs.Drops.{ActsAreShort}
-use Rattle.proxy_engine.specs.Orderly.{IsOrderly, TakesInOrder, ActsInOrder, ActsStay}
+use Rattle.proxy_engine.specs.Acts.{ActIsDone}
+use Rattle.proxy_engine.specs.Drops.{ActHasFewEffects}
+use Rattle.proxy_engine.specs.Orderly.{ModelIsOrderly, HappeningKeepsOrder, ActKeepsOrder, ActKeepsEnded}
 use Rattle.proxy_engine.specs.Reading.{failed_links}
-use Rattle.proxy_engine.specs.State.{State, Represents, Did, Failed}
+use Rattle.proxy_engine.specs.State.{State, EngineRepresents, FirstDueActWasDone, NoActWasDoneSince}
 use Rattle.proxy_engine.specs.declared.work.End.{End}
 use Rattle.proxy_engine.specs.declared.work.EngineFault.{EngineFault}
 use Rattle.proxy_engine.specs.declared.work.EngineFault.TheVariants as engine
 use Rattle.proxy_engine.specs.declared.work.Work.{Work}
 use Rattle.proxy_engine.specs.declared.work.Work.TheVariants as work
 use Rattle.proxy_turn.specs.Calls.{Call}
-use Rattle.proxy_turn.specs.Counts.{Calls, Raises}
-use Rattle.proxy_turn.specs.Turn.{Round, end_of, failed_fates, failed_rounds, calls_shown, calls_worked}
-use Rattle.proxy_turn.specs.Parts.{of_engine, AreThere, CarriedOut, WorksSome, WorkReports, WorksAll}
+use Rattle.proxy_turn.specs.Counts.{Calls, CountsRiseBy}
+use Rattle.proxy_turn.specs.Turn.{ActRound, end_of_effect, count_of_lost_effects, count_of_lost_in_rounds, calls_of_effects, calls_of_rounds}
+use Rattle.proxy_turn.specs.Parts.{turn_fault_of_engine_fault, EndsWereNumbered, EffectsWereCarriedOut, SomeActsAreDone, ActsReport, DueActsAreDone}
 use Rattle.proxy_turn.specs.declared.report.TurnFault.{TurnFault}
 use Rattle.proxy_turn.specs.declared.report.TurnFault.TheVariants.{NoMemory}
 use Rattle.proxy_turn.proofs.Called.{Joins, worked_one_more}
@@ -29,10 +29,10 @@ use Rattle.proxy_turn.proofs.Turning.{works_more, works_orderly, sum_more}
 
 -- so many acts were done
 pub record SoFar (now : ℕ) (s : EngineModel) (e : State) (gone : List End) (did : List Call → Type 0) (a b : Calls) (works faults : ℕ) : Type 0 where
-  pub rounds : List Round
-  pub some : WorksSome now s rounds e gone did a b
+  pub rounds : List ActRound
+  pub some : SomeActsAreDone now s rounds e gone did a b
   pub number : length rounds ≡ works
-  pub counted : faults ≡ failed_rounds rounds
+  pub counted : faults ≡ count_of_lost_in_rounds rounds
   pub few : faults ≤ 3 * works
 
 -- the first act that was due was done
@@ -40,15 +40,15 @@ pub record Acted (t : EngineModel) (now : ℕ) (emitted : List Effect) (e : Stat
   pub act : Act
   pub after : EngineModel
   pub due : IsDueFirst t (Some act)
-  pub does : Does t now act emitted after
-  pub represents : Represents e after
+  pub does : ActIsDone t now act emitted after
+  pub represents : EngineRepresents e after
 
-pub acted : (t : EngineModel) (now : ℕ) (w : Work) (effects : Vec Effect Global) (e : State) → w ≡ work.Did effects → Did t now w e → Acted t now effects.items e
+pub acted : (t : EngineModel) (now : ℕ) (w : Work) (effects : Vec Effect Global) (e : State) → w ≡ work.Did effects → FirstDueActWasDone t now w e → Acted t now effects.items e
 acted t now w effects e is did =
-    let one = subst (λ (w : Work). Did t now w e) is did in
+    let one = subst (λ (w : Work). FirstDueActWasDone t now w e) is did in
     record { act = one.0; after = one.2.after; due = one.1; does = one.2.does; represents = one.2.represents }
 
-pub worked_none : (now : ℕ) (s : EngineModel) (e : State) (gone : List End) (did : List Call → Type 0) (here : Calls) → gone ≡ failed_links s → Represents e s → did [] → SoFar now s e gone did here here 0 0
+pub worked_none : (now : ℕ) (s : EngineModel) (e : State) (gone : List End) (did : List Call → Type 0) (here : Calls) → gone ≡ failed_links s → EngineRepresents e s → did [] → SoFar now s e gone did here here 0 0
 worked_none now s e gone did here is represents none = record {
   rounds = [];
   some = record { last = s; works = (refl, is); represents = represents; calls = none; raises = raises_none here };
@@ -58,30 +58,30 @@ worked_none now s e gone did here is represents none = record {
 }
 
 module _ (now : ℕ) (s : EngineModel) (e : State) (gone : List End) (did : List Call → Type 0) (a b : Calls) (works faults : ℕ) (done : SoFar now s e gone did a b works faults) where
-  pub still_orderly : TakesInOrder → ActsInOrder → IsOrderly s → IsOrderly done.some.last
+  pub still_orderly : HappeningKeepsOrder → ActKeepsOrder → ModelIsOrderly s → ModelIsOrderly done.some.last
   still_orderly takes acts h = works_orderly takes acts done.rounds now s (failed_links s) done.some.last gone done.some.works h
 
   module _ (emitted : List Effect) (mid : State) (one : Acted done.some.last now emitted mid) where
-    pub emitted_there : TakesInOrder → ActsInOrder → ActsStay → IsOrderly s → AreThere one.after (map end_of emitted)
+    pub emitted_there : HappeningKeepsOrder → ActKeepsOrder → ActKeepsEnded → ModelIsOrderly s → EndsWereNumbered one.after (map end_of_effect emitted)
     emitted_there takes acts stay h =
         effects_there done.some.last now one.act emitted one.after (stay done.some.last now one.act emitted one.after one.does) (acts done.some.last now one.act emitted one.after (still_orderly takes acts h) one.due one.does).1 one.does
 
-    pub emitted_short : ActsAreShort → length emitted ≤ 3
+    pub emitted_short : ActHasFewEffects → length emitted ≤ 3
     emitted_short short = (short done.some.last now one.act emitted one.after one.does).0
 
-    pub worked_more : (new : State) (more : List End) (then all : List Call → Type 0) (c : Calls) (count sum : ℕ) → sum ≡ faults + count → count ≤ 3 → CarriedOut one.after gone emitted new more then b c count → Joins did then all
+    pub worked_more : (new : State) (more : List End) (then all : List Call → Type 0) (c : Calls) (count sum : ℕ) → sum ≡ faults + count → count ≤ 3 → EffectsWereCarriedOut one.after gone emitted new more then b c count → Joins did then all
         → SoFar now s new more all a c (works + 1) sum
     worked_more new more then all c count sum is small out join =
-        let r : Round = record { act = one.act; emitted = emitted; fates = out.fates } in
-        let total = sum_more (λ (x : Round). failed_fates x.fates) done.rounds r in
+        let r : ActRound = record { act = one.act; emitted = emitted; fates = out.fates } in
+        let total = sum_more (λ (x : ActRound). count_of_lost_effects x.fates) done.rounds r in
         record {
           rounds = done.rounds ++ r ∷ [];
           some = record {
             last = out.last;
             works = works_more done.rounds now s (failed_links s) done.some.last gone r one.after out.last more done.some.works one.due one.does out.carries;
             represents = out.represents;
-            calls = subst all (sym (worked_one_more done.rounds r)) (join (calls_worked done.rounds) (calls_shown emitted out.fates) done.some.calls out.calls);
-            raises = subst (λ (n : ℕ). Raises a c 0 0 n) (sym total) (raises_on a b c 0 0 (failed_rounds done.rounds) 0 0 (failed_fates out.fates) done.some.raises out.raises);
+            calls = subst all (sym (worked_one_more done.rounds r)) (join (calls_of_rounds done.rounds) (calls_of_effects emitted out.fates) done.some.calls out.calls);
+            raises = subst (λ (n : ℕ). CountsRiseBy a c 0 0 n) (sym total) (raises_on a b c 0 0 (count_of_lost_in_rounds done.rounds) 0 0 (count_of_lost_effects out.fates) done.some.raises out.raises);
           };
           number = length-append done.rounds (r ∷ []) ∙ ap (λ (n : ℕ). n + 1) done.number;
           counted = let before = done.counted in let here = out.counted in omega (arith, is, before, here, total);
@@ -92,13 +92,13 @@ module _ (now : ℕ) (s : EngineModel) (e : State) (gone : List End) (did : List
     bounded : length done.rounds ≤ 1000
     bounded = let n = done.number in omega (arith, n, bound)
 
-    small : failed_rounds done.rounds ≤ 3000
+    small : count_of_lost_in_rounds done.rounds ≤ 3000
     small = let n = done.counted in let few = done.few in omega (arith, n, few, bound)
 
   -- nothing is due
-  pub idle_by : (w : Work) (new : State) (counts : ℕ × ℕ) → w ≡ work.Idle → Did done.some.last now w new → counts.0 ≡ works → counts.1 ≡ faults → works ≤ 1000 → WorksAll now s new did a b (Ok counts)
+  pub idle_by : (w : Work) (new : State) (counts : ℕ × ℕ) → w ≡ work.Idle → FirstDueActWasDone done.some.last now w new → counts.0 ≡ works → counts.1 ≡ faults → works ≤ 1000 → DueActsAreDone now s new did a b (Ok counts)
   idle_by w new counts is did number more bound =
-      let idle = subst (λ (w : Work). Did done.some.last now w new) is did in
+      let idle = subst (λ (w : Work). FirstDueActWasDone done.some.last now w new) is did in
       record {
         rounds = done.rounds;
         gone = gone;
@@ -109,7 +109,7 @@ module _ (now : ℕ) (s : EngineModel) (e : State) (gone : List End) (did : List
       }
 
   -- as many as a turn does
-  pub full_by : (counts : ℕ × ℕ) → counts.0 ≡ works → counts.1 ≡ faults → works ≡ 1000 → WorksAll now s e did a b (Ok counts)
+  pub full_by : (counts : ℕ × ℕ) → counts.0 ≡ works → counts.1 ≡ faults → works ≡ 1000 → DueActsAreDone now s e did a b (Ok counts)
   full_by counts number more full = record {
     rounds = done.rounds;
     gone = gone;
@@ -120,11 +120,11 @@ module _ (now : ℕ) (s : EngineModel) (e : State) (gone : List End) (did : List
   }
 
   -- room was refused
-  pub stopped_by : works ≤ 1000 → WorksAll now s e did a b (Err NoMemory)
+  pub stopped_by : works ≤ 1000 → DueActsAreDone now s e did a b (Err NoMemory)
   stopped_by bound = record { rounds = done.rounds; gone = gone; some = done.some; bound = bounded bound; few = small bound; reports = tt }
 
   -- an act was refused
-  pub failed_by : (fault : EngineFault) (new : State) → Failed done.some.last fault → Represents new done.some.last → works ≤ 1000 → WorksAll now s new did a b (Err (of_engine fault))
+  pub failed_by : (fault : EngineFault) (new : State) → NoActWasDoneSince done.some.last fault → EngineRepresents new done.some.last → works ≤ 1000 → DueActsAreDone now s new did a b (Err (turn_fault_of_engine_fault fault))
   failed_by fault new failed represents bound = record {
     rounds = done.rounds;
     gone = gone;
@@ -134,7 +134,7 @@ module _ (now : ℕ) (s : EngineModel) (e : State) (gone : List End) (did : List
     reports = reports fault failed;
   }
     where
-      reports : (fault : EngineFault) → Failed done.some.last fault → WorkReports done.rounds done.some.last (Err (of_engine fault))
+      reports : (fault : EngineFault) → NoActWasDoneSince done.some.last fault → ActsReport done.rounds done.some.last (Err (turn_fault_of_engine_fault fault))
       reports engine.WrongNumber failed = absurd failed
       reports engine.NotAccepted failed = absurd failed
       reports engine.OutOfMemory failed = tt
@@ -144,8 +144,8 @@ module _ (now : ℕ) (s : EngineModel) (e : State) (gone : List End) (did : List
 pub same_gone : (now : ℕ) (s : EngineModel) (e : State) (gone more : List End) (did : List Call → Type 0) (a b : Calls) (works faults : ℕ) → more ≡ gone → SoFar now s e gone did a b works faults → SoFar now s e more did a b works faults
 same_gone now s e gone more did a b works faults is done = subst (λ (es : List End). SoFar now s e es did a b works faults) (sym is) done
 
-pub same_emitted : (s : EngineModel) (gone : List End) (emitted more : List Effect) (e : State) (later : List End) (did : List Call → Type 0) (a b : Calls) (count : ℕ) → more ≡ emitted → CarriedOut s gone more e later did a b count → CarriedOut s gone emitted e later did a b count
-same_emitted s gone emitted more e later did a b count is out = subst (λ (es : List Effect). CarriedOut s gone es e later did a b count) is out
+pub same_emitted : (s : EngineModel) (gone : List End) (emitted more : List Effect) (e : State) (later : List End) (did : List Call → Type 0) (a b : Calls) (count : ℕ) → more ≡ emitted → EffectsWereCarriedOut s gone more e later did a b count → EffectsWereCarriedOut s gone emitted e later did a b count
+same_emitted s gone emitted more e later did a b count is out = subst (λ (es : List Effect). EffectsWereCarriedOut s gone es e later did a b count) is out
 
-pub same_fault : (now : ℕ) (s : EngineModel) (e : State) (did : List Call → Type 0) (a b : Calls) (fault other : TurnFault) → other ≡ fault → WorksAll now s e did a b (Err fault) → WorksAll now s e did a b (Err other)
-same_fault now s e did a b fault other is all = subst (λ (f : TurnFault). WorksAll now s e did a b (Err f)) (sym is) all
+pub same_fault : (now : ℕ) (s : EngineModel) (e : State) (did : List Call → Type 0) (a b : Calls) (fault other : TurnFault) → other ≡ fault → DueActsAreDone now s e did a b (Err fault) → DueActsAreDone now s e did a b (Err other)
+same_fault now s e did a b fault other is all = subst (λ (f : TurnFault). DueActsAreDone now s e did a b (Err f)) (sym is) all

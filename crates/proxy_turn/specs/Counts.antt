@@ -1,11 +1,11 @@
 -- Counts of calls, which stop at the greatest number.
 --
--- IsRise: a count rises      Calls, Raises: the three counts of sockets, and how they rise
+-- CountRisesBy: a count rises      Calls, CountsRiseBy: the three counts of sockets, and how they rise
 -- failed: 1 for a call that failed
 use Rattle.std.specs.Prelude.{◌≡◌, ℕ, ◌+◌, ◌-◌, ◌^◌, ◌<◌, ◌≤◌, Result, Ok, Err}
 
 -- a count rises by k, as far as it ends below the greatest number
-pub record IsRise (old new k : ℕ) : Type 0 where
+pub record CountRisesBy (old new k : ℕ) : Type 0 where
   pub no_less : old ≤ new
   pub exact : new < 2 ^ 64 - 1 → new ≡ old + k
 
@@ -23,7 +23,7 @@ pub record Calls : Type 0 where
 abbrev pub calls : ℕ → ℕ → ℕ → Calls
 calls accepts reads failures = record { accepts = accepts; reads = reads; failures = failures }
 
-pub record Raises (old new : Calls) (accepts reads failures : ℕ) : Type 0 where
-  pub asked : IsRise old.accepts new.accepts accepts
-  pub read : IsRise old.reads new.reads reads
-  pub failed : IsRise old.failures new.failures failures
+pub record CountsRiseBy (old new : Calls) (accepts reads failures : ℕ) : Type 0 where
+  pub asked : CountRisesBy old.accepts new.accepts accepts
+  pub read : CountRisesBy old.reads new.reads reads
+  pub failed : CountRisesBy old.failures new.failures failures

@@ -1,41 +1,43 @@
 -- A log of calls, as it is kept at run time.
 --
--- given_in, call_in: what stands in it      Grew: it grew by these calls, with two laws
+-- logged_read_outcome, logged_call: what stands in it      LogGrewByCalls: it grew by these calls, with two laws
 use Rattle.std.proofs.Common.{sym, ap, ◌∙◌}
 use Rattle.std.proofs.lemmas.List.{append-nil, append_assoc}
 use Rattle.std.specs.Prelude.{◌≡◌, List, [], ◌++◌, map, Bool, false}
 use Rattle.proxy_turn.specs.Calls as call
-use Rattle.proxy_turn.specs.Calls.{Given, Call, answer_of}
-use Rattle.proxy_turn.specs.declared.logged.Gave.{Gave}
-use Rattle.proxy_turn.specs.declared.logged.Gave.TheVariants as gave
+use Rattle.proxy_turn.specs.Calls.{ReadOutcome, Call, accept_outcome_of}
+use Rattle.proxy_turn.specs.declared.logged.LoggedReadOutcome.{LoggedReadOutcome}
+use Rattle.proxy_turn.specs.declared.logged.LoggedReadOutcome.TheVariants as gave
 use Rattle.proxy_turn.specs.declared.logged.LoggedCall.{LoggedCall}
 use Rattle.proxy_turn.specs.declared.logged.LoggedCall.TheVariants as logged
 
-abbrev pub given_in : Gave → Given
-given_in gave.Nothing = call.Nothing
-given_in (gave.Bytes bytes) = call.Bytes bytes
-given_in gave.End = call.Ended
-given_in gave.Failed = call.Broken
+abbrev pub logged_read_outcome : LoggedReadOutcome → ReadOutcome
+logged_read_outcome gave.Nothing = call.Nothing
+logged_read_outcome (gave.Bytes bytes) = call.Bytes bytes
+logged_read_outcome gave.End = call.Ended
+logged_read_outcome gave.Failed = call.Broken
 
-abbrev pub call_in : LoggedCall → Call
-call_in (logged.Accept n came) = call.Accept n (answer_of came)
-call_in (logged.Read end it) = call.Read end (given_in it)
-call_in (logged.Write end bytes done) = call.Write end bytes done
-call_in (logged.Connect link address done) = call.Connect link address done
-call_in (logged.Shut end done) = call.Shut end done
+abbrev pub logged_call : LoggedCall → Call
+logged_call (logged.Accept n came) = call.Accept n (accept_outcome_of came)
+logged_call (logged.Read end it) = call.Read end (logged_read_outcome it)
+logged_call (logged.Write end bytes done) = call.Write end bytes done
+logged_call (logged.Connect link address done) = call.Connect link address done
+logged_call (logged.Shut end done) = call.Shut end done
 
 -- It grew by these calls, unless memory was wanting for one.
-abbrev pub Grew : Bool → List LoggedCall → Bool → List LoggedCall → List Call → Type 0
-Grew was_lost log lost later made = lost ≡ false → (was_lost ≡ false) × (map call_in later ≡ map call_in log ++ made)
+abbrev pub LogGrewByCalls : Bool → List LoggedCall → Bool → List LoggedCall → List Call → Type 0
+LogGrewByCalls was_lost log lost later made = lost ≡ false → (was_lost ≡ false) ×
+    (map logged_call later ≡ map logged_call log ++ made)
 
 -- with no call, and one after another
-pub grew_none : (lost : Bool) (log : List LoggedCall) → Grew lost log lost log []
-grew_none lost log kept = (kept, sym (append-nil (map call_in log)))
+pub log_grew_by_no_call : (lost : Bool) (log : List LoggedCall) → LogGrewByCalls lost log lost log []
+log_grew_by_no_call lost log kept = (kept, sym (append-nil (map logged_call log)))
 
-pub grew_joined : (first : Bool) (log : List LoggedCall) (then : Bool) (mid : List LoggedCall) (last : Bool)
-    (later : List LoggedCall) (a b : List Call) → Grew first log then mid a → Grew then mid last later b
-    → Grew first log last later (a ++ b)
-grew_joined first log then mid last later a b one two kept =
+pub log_growth_joined : (first : Bool) (log : List LoggedCall) (then : Bool) (mid : List LoggedCall) (last : Bool)
+    (later : List LoggedCall) (a b : List Call) → LogGrewByCalls first log then mid a → LogGrewByCalls
+    then mid last later b
+    → LogGrewByCalls first log last later (a ++ b)
+log_growth_joined first log then mid last later a b one two kept =
     let second = two kept in
     let start = one second.0 in
-    (start.0, second.1 ∙ (ap (λ (xs : List Call). xs ++ b) start.1 ∙ append_assoc (map call_in log) a b))
+    (start.0, second.1 ∙ (ap (λ (xs : List Call). xs ++ b) start.1 ∙ append_assoc (map logged_call log) a b))

@@ -1,23 +1,23 @@
 -- What serves: an engine that takes happenings and turns, one after another.
 --
--- beginning, ExecutesBy: what an engine has lived through, by these steps
--- IsReachable: the same by some steps      IsServing: they are a good run, with the headline
--- Reaches, GoesOn: what it lived through since
--- take_steps, IsLoss, TakesLosses, LosesOn: ends that were lost
--- ServedTurn, served_steps: a turn behind them, and its steps
+-- initial_model_of, EngineExecuted: what an engine has lived through, by these steps
+-- EngineIsReachable: the same by some steps      EngineIsServing: they are a good run, with the headline
+-- ModelReaches, EngineGoesOn: what it lived through since
+-- steps_of_taking, IsLostEnd, LossesAreTaken, EngineTakesLosses: ends that were lost
+-- TurnIsServedBehindLosses, steps_of_served_turn: a turn behind them, and its steps
 -- BeginsReachable and what follows it: the laws
 use Rattle.std.specs.Prelude.{◌≡◌, ℕ, List, [], ◌∷◌, Result}
 use Rattle.std.specs.List.{AllByRecursion}
-use Rattle.hx_allow.specs.Lines.{Table}
-use Rattle.proxy_core.specs.Traces.{begun as core_begun}
-use Rattle.proxy_engine.specs.Happenings.{Said, Accepts, Sends, Hears, Ends, Leaves, Shuts, Fails}
+use Rattle.hx_allow.specs.TableLines.{Table}
+use Rattle.proxy_core.specs.Traces.{initial_state as core_begun}
+use Rattle.proxy_engine.specs.Happenings.{PlainHappening, Accepts, Sends, Hears, Ends, Leaves, Shuts, Fails}
 use Rattle.proxy_engine.specs.EngineModel.{EngineModel}
-use Rattle.proxy_engine.specs.Orderly.{IsOrderly}
-use Rattle.proxy_engine.specs.Executions.{Step, Took, Executes, IsRun}
-use Rattle.proxy_engine.specs.State.{State, Represents, Takes, begun}
+use Rattle.proxy_engine.specs.Orderly.{ModelIsOrderly}
+use Rattle.proxy_engine.specs.Executions.{ExecutionStep, Took, StepsLead, StepsAreAGoodRun}
+use Rattle.proxy_engine.specs.State.{State, EngineRepresents, EngineTakesHappening, new_engine_model}
 use Rattle.proxy_turn.specs.Counts.{Calls}
-use Rattle.proxy_turn.specs.Turn.{Turns}
-use Rattle.proxy_turn.specs.TurnSteps.{steps_of}
+use Rattle.proxy_turn.specs.Turn.{EngineTurns}
+use Rattle.proxy_turn.specs.TurnSteps.{steps_of_turn}
 use Rattle.proxy_turn.specs.declared.report.Report.{Report}
 use Rattle.proxy_turn.specs.declared.report.TurnFault.{TurnFault}
 
@@ -25,167 +25,178 @@ use Rattle.proxy_turn.specs.declared.report.TurnFault.{TurnFault}
 
 -- an engine to which nothing has happened, by the table of this one, with room for as many responses as that table has
 -- it
-abbrev pub beginning : State → ℕ → ℕ → EngineModel
-beginning e first link = begun (core_begun e.core.table e.core.table.capacity first) link
+abbrev pub initial_model_of : State → ℕ → ℕ → EngineModel
+initial_model_of e first link = new_engine_model (core_begun e.core.table e.core.table.capacity first) link
 
 -- by its table and capacity, these steps led from an engine to which nothing had happened to this model, for which it
 -- stands
-pub record ExecutesBy (e : State) (first link : ℕ) (steps : List Step) (last : EngineModel) : Type 0 where
-  pub executes : Executes (beginning e first link) steps last
-  pub represents : Represents e last
+pub record EngineExecuted (e : State) (first link : ℕ) (steps : List ExecutionStep) (last : EngineModel) : Type 0 where
+  pub executes : StepsLead (initial_model_of e first link) steps last
+  pub represents : EngineRepresents e last
 
 -- some steps did
-pub record IsReachable (e : State) : Type 0 where
+pub record EngineIsReachable (e : State) : Type 0 where
   pub first : ℕ
   pub link : ℕ
-  pub steps : List Step
+  pub steps : List ExecutionStep
   pub last : EngineModel
-  pub executed : ExecutesBy e first link steps last
+  pub executed : EngineExecuted e first link steps last
 
 -- The steps of its core are a good run by its table, over a store of its capacity, with the headline: of the requests
 -- that its clients' bytes spell, the responses that its origins' bytes spell, the failures and the moments, in the
 -- order in which they were taken; and the effects of its acts are what they gave. Which bytes were taken and which
--- effects were carried out is in the steps: those of a turn are `served_steps`.
-pub record IsServing (e : State) : Type 0 where
+-- effects were carried out is in the steps: those of a turn are `steps_of_served_turn`.
+pub record EngineIsServing (e : State) : Type 0 where
   pub first : ℕ
   pub link : ℕ
-  pub steps : List Step
+  pub steps : List ExecutionStep
   pub last : EngineModel
-  pub run : IsRun e.core.table e.core.table.capacity first (beginning e first link) steps last
-  pub represents : Represents e last
+  pub run : StepsAreAGoodRun e.core.table e.core.table.capacity first (initial_model_of e first link) steps last
+  pub represents : EngineRepresents e last
   pub limit : e.core.limit ≡ e.core.table.capacity
 
 -- ---- what it lived through since
 
 -- steps led from this model to one that it stands for
-pub record Reaches (s : EngineModel) (e : State) : Type 0 where
-  pub steps : List Step
+pub record ModelReaches (s : EngineModel) (e : State) : Type 0 where
+  pub steps : List ExecutionStep
   pub last : EngineModel
-  pub executes : Executes s steps last
-  pub represents : Represents e last
+  pub executes : StepsLead s steps last
+  pub represents : EngineRepresents e last
 
 -- What the engine had lived through goes on from there: each orderly model that it stood for leads to one that it
 -- stands for now.
-abbrev pub GoesOn : State → State → Type 0
-GoesOn e new = (s : EngineModel) → Represents e s → IsOrderly s → Reaches s new
+abbrev pub EngineGoesOn : State → State → Type 0
+EngineGoesOn e new = (s : EngineModel) → EngineRepresents e s → ModelIsOrderly s → ModelReaches s new
 
 -- ---- a turn of a server
 
 -- a client went away, or a link failed
-abbrev pub IsLoss : Said → Type 0
-IsLoss (Accepts n) = ⊥
-IsLoss (Sends n bytes) = ⊥
-IsLoss (Hears l bytes) = ⊥
-IsLoss (Ends n) = ⊥
-IsLoss (Leaves n) = Unit {0}
-IsLoss (Shuts l) = ⊥
-IsLoss (Fails l kind) = Unit {0}
+abbrev pub IsLostEnd : PlainHappening → Type 0
+IsLostEnd (Accepts n) = ⊥
+IsLostEnd (Sends n bytes) = ⊥
+IsLostEnd (Hears l bytes) = ⊥
+IsLostEnd (Ends n) = ⊥
+IsLostEnd (Leaves n) = Unit {0}
+IsLostEnd (Shuts l) = ⊥
+IsLostEnd (Fails l kind) = Unit {0}
 
 -- these happenings are taken, one after another
-abbrev pub take_steps : List Said → List Step → List Step
-take_steps [] past = past
-take_steps (h ∷ hs) past = take_steps hs (Took h ∷ past)
+abbrev pub steps_of_taking : List PlainHappening → List ExecutionStep → List ExecutionStep
+steps_of_taking [] past = past
+steps_of_taking (h ∷ hs) past = steps_of_taking hs (Took h ∷ past)
 
 -- clients that went away and links that failed were taken, one after another, and nothing else was taken or done
-pub record TakesLosses (s : EngineModel) (e : State) : Type 0 where
-  pub lost : List Said
-  pub are_losses : AllByRecursion IsLoss lost
+pub record LossesAreTaken (s : EngineModel) (e : State) : Type 0 where
+  pub lost : List PlainHappening
+  pub are_losses : AllByRecursion IsLostEnd lost
   pub after : EngineModel
-  pub takes : Executes s (take_steps lost []) after
-  pub represents : Represents e after
+  pub takes : StepsLead s (steps_of_taking lost []) after
+  pub represents : EngineRepresents e after
 
 -- from each model that the engine stood for
-abbrev pub LosesOn : State → State → Type 0
-LosesOn e new = (s : EngineModel) → Represents e s → TakesLosses s new
+abbrev pub EngineTakesLosses : State → State → Type 0
+EngineTakesLosses e new = (s : EngineModel) → EngineRepresents e s → LossesAreTaken s new
 
 -- Ends that were lost were taken as such, and then one turn was served at this moment, which told this. Nothing else
 -- was taken or done.
-pub record ServedTurn (now : ℕ) (s : EngineModel) (e : State) (reported : Result Report TurnFault) : Type 0 where
-  pub lost : List Said
-  pub are_losses : AllByRecursion IsLoss lost
+pub record TurnIsServedBehindLosses (now : ℕ) (s : EngineModel) (e : State)
+    (reported : Result Report TurnFault) : Type 0 where
+  pub lost : List PlainHappening
+  pub are_losses : AllByRecursion IsLostEnd lost
   pub mid : EngineModel
-  pub takes : Executes s (take_steps lost []) mid
+  pub takes : StepsLead s (steps_of_taking lost []) mid
   pub before : Calls
   pub after : Calls
-  pub turn : Turns now mid e before after reported
+  pub turn : EngineTurns now mid e before after reported
 
 -- its steps, behind those before it
-abbrev pub served_steps : {now : ℕ} {s : EngineModel} {e : State} {reported : Result Report TurnFault}
-    → ServedTurn now s e reported → List Step → List Step
-served_steps {now} served past =
-    steps_of now served.mid served.turn.asked served.turn.reads served.turn.rounds (take_steps served.lost past)
+abbrev pub steps_of_served_turn : {now : ℕ} {s : EngineModel} {e : State} {reported : Result Report TurnFault}
+    → TurnIsServedBehindLosses now s e reported → List ExecutionStep → List ExecutionStep
+steps_of_served_turn {now} served past =
+    steps_of_turn now served.mid served.turn.asked served.turn.reads served.turn.rounds
+    (steps_of_taking served.lost past)
 
 -- each orderly model that the engine stood for leads by such a turn to one that it stands for now
-abbrev pub Serves : ℕ → State → State → Result Report TurnFault → Type 0
-Serves now e new reported = (s : EngineModel) → Represents e s → IsOrderly s → ServedTurn now s new reported
+abbrev pub EngineServesTurn : ℕ → State → State → Result Report TurnFault → Type 0
+EngineServesTurn now e new reported = (s : EngineModel) → EngineRepresents e s → ModelIsOrderly s
+    → TurnIsServedBehindLosses now s new reported
 
 -- ---- the laws
 
 -- an engine to which nothing has happened, with room for as many responses as its table has it
-abbrev pub BeginsReachable : Type 0
-BeginsReachable =
-    (e : State) (table : Table) (first link : ℕ) → Represents e (begun (core_begun table table.capacity first) link)
-    → IsReachable e
+abbrev pub NewEngineIsReachable : Type 0
+NewEngineIsReachable =
+    (e : State) (table : Table) (first link : ℕ) → EngineRepresents e
+    (new_engine_model (core_begun table table.capacity first) link)
+    → EngineIsReachable e
 
 -- nothing is done
-abbrev pub StaysOn : Type 0
-StaysOn = (e : State) → GoesOn e e
+abbrev pub EngineGoesOnByNothing : Type 0
+EngineGoesOnByNothing = (e : State) → EngineGoesOn e e
 
 -- one after another
-abbrev pub GoesOnAndOn : Type 0
-GoesOnAndOn = (e mid new : State) → GoesOn e mid → GoesOn mid new → GoesOn e new
+abbrev pub EngineGoesOnTransitively : Type 0
+EngineGoesOnTransitively = (e mid new : State) → EngineGoesOn e mid → EngineGoesOn mid new → EngineGoesOn e new
 
 -- it takes what happened
-abbrev pub TakesGoOn : Type 0
-TakesGoOn = (e new : State) (h : Said) → ((s : EngineModel) → Represents e s → Takes s h new) → GoesOn e new
+abbrev pub EngineGoesOnByHappening : Type 0
+EngineGoesOnByHappening = (e new : State) (h : PlainHappening) → ((s : EngineModel) → EngineRepresents e s
+    → EngineTakesHappening s h new) → EngineGoesOn e new
 
 -- it serves a turn, whole or as far as it came, behind what was lost
-abbrev pub TurnsGoOn : Type 0
-TurnsGoOn = (e new : State) (now : ℕ) (reported : Result Report TurnFault) → Serves now e new reported → GoesOn e new
+abbrev pub EngineGoesOnByTurn : Type 0
+EngineGoesOnByTurn = (e new : State) (now : ℕ) (reported : Result Report TurnFault)
+    → EngineServesTurn now e new reported → EngineGoesOn e new
 
 -- what it has lived through since it began, under one table
-abbrev pub ReachableGoesOn : Type 0
-ReachableGoesOn = (e new : State) → GoesOn e new → IsReachable e → IsReachable new
+abbrev pub ReachableEngineStaysReachable : Type 0
+ReachableEngineStaysReachable = (e new : State) → EngineGoesOn e new → EngineIsReachable e → EngineIsReachable new
 
-abbrev pub ReachableAreServing : Type 0
-ReachableAreServing = (e : State) → IsReachable e → IsServing e
+abbrev pub ReachableEngineIsServing : Type 0
+ReachableEngineIsServing = (e : State) → EngineIsReachable e → EngineIsServing e
 
 -- nothing was lost, one end was, or some and then others
-abbrev pub NothingIsLost : Type 0
-NothingIsLost = (e : State) → LosesOn e e
+abbrev pub NoLossIsALossList : Type 0
+NoLossIsALossList = (e : State) → EngineTakesLosses e e
 
-abbrev pub OneIsLost : Type 0
-OneIsLost = (e new : State) (h : Said) → IsLoss h → ((s : EngineModel) → Represents e s → Takes s h new) → LosesOn e new
+abbrev pub OneLossIsTaken : Type 0
+OneLossIsTaken = (e new : State) (h : PlainHappening) → IsLostEnd h → ((s : EngineModel) → EngineRepresents e s
+    → EngineTakesHappening s h new) → EngineTakesLosses e new
 
-abbrev pub MoreAreLost : Type 0
-MoreAreLost = (e mid new : State) → LosesOn e mid → LosesOn mid new → LosesOn e new
+abbrev pub LossesAreTakenTransitively : Type 0
+LossesAreTakenTransitively = (e mid new : State) → EngineTakesLosses e mid → EngineTakesLosses mid new
+    → EngineTakesLosses e new
 
 -- it lives on
-abbrev pub LossesGoOn : Type 0
-LossesGoOn = (e new : State) → LosesOn e new → GoesOn e new
+abbrev pub EngineGoesOnByLosses : Type 0
+EngineGoesOnByLosses = (e new : State) → EngineTakesLosses e new → EngineGoesOn e new
 
 -- behind them a turn is served
-abbrev pub TurnsAreServed : Type 0
-TurnsAreServed =
-    (e mid new : State) (now : ℕ) (before after : Calls) (reported : Result Report TurnFault) → LosesOn e mid
-    → ((s : EngineModel) → Represents mid s → IsOrderly s → Turns now s new before after reported)
-    → Serves now e new reported
+abbrev pub TurnIsServedByLossesAndTurn : Type 0
+TurnIsServedByLossesAndTurn =
+    (e mid new : State) (now : ℕ) (before after : Calls) (reported : Result Report TurnFault) → EngineTakesLosses e mid
+    → ((s : EngineModel) → EngineRepresents mid s → ModelIsOrderly s → EngineTurns now s new before after reported)
+    → EngineServesTurn now e new reported
 
 -- Where an engine has lived by these steps, it has lived behind a turn by those of the turn behind them, and no others.
-abbrev pub TurnsLiveOn : Type 0
-TurnsLiveOn =
-    (e new : State) (first link : ℕ) (steps : List Step) (s : EngineModel) (now : ℕ)
+abbrev pub TurnExecutesItsSteps : Type 0
+TurnExecutesItsSteps =
+    (e new : State) (first link : ℕ) (steps : List ExecutionStep) (s : EngineModel) (now : ℕ)
     (reported : Result Report TurnFault)
-    → ExecutesBy e first link steps s → (served : ServedTurn now s new reported)
-    → ExecutesBy new first link (served_steps served steps) served.turn.last
+    → EngineExecuted e first link steps s → (served : TurnIsServedBehindLosses now s new reported)
+    → EngineExecuted new first link (steps_of_served_turn served steps) served.turn.last
 
 -- What an engine has lived through is in order, and the steps of its core are a good run: whichever its steps are.
-abbrev pub ExecutionsAreServing : Type 0
-ExecutionsAreServing =
-    (e : State) (first link : ℕ) (steps : List Step) (last : EngineModel) → ExecutesBy e first link steps last
-    → IsOrderly last × IsRun e.core.table e.core.table.capacity first (beginning e first link) steps last
+abbrev pub ExecutedEngineIsServing : Type 0
+ExecutedEngineIsServing =
+    (e : State) (first link : ℕ) (steps : List ExecutionStep) (last : EngineModel)
+    → EngineExecuted e first link steps last
+    → ModelIsOrderly last × StepsAreAGoodRun e.core.table e.core.table.capacity first
+    (initial_model_of e first link) steps last
 
 -- as it goes on, it keeps the operator's table, and the room of its store
-abbrev pub KeepsItsTable : Type 0
-KeepsItsTable =
-    (e new : State) → GoesOn e new → IsReachable e → (new.core.table ≡ e.core.table) × (new.core.limit ≡ e.core.limit)
+abbrev pub EngineKeepsItsTable : Type 0
+EngineKeepsItsTable =
+    (e new : State) → EngineGoesOn e new → EngineIsReachable e → (new.core.table ≡ e.core.table) ×
+    (new.core.limit ≡ e.core.limit)

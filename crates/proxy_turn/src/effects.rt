@@ -4,14 +4,16 @@ ghost use Rattle.std.specs.Prelude.{◌≡◌, ◌<◌, ◌≤◌, ◌+◌, ◌�
 ghost use Rattle.std.specs.Prelude.{vec_len, vec_capacity};
 ghost use Rattle.hx_status.specs.declared.cause.FailKind.TheVariants.{Refused, Closed};
 ghost use Rattle.proxy_script.specs.declared.effect_list.Effect.TheVariants.{Forward};
-ghost use Rattle.proxy_engine.specs.Happenings.{said};
+ghost use Rattle.proxy_engine.specs.Happenings.{plain_happening};
 ghost use Rattle.proxy_engine.specs.EngineModel.{EngineModel};
-ghost use Rattle.proxy_engine.specs.State.{Represents};
-ghost use Rattle.proxy_turn.specs.Counts.{IsRise, calls, failed};
-ghost use Rattle.proxy_turn.specs.Turn.{end_of, is_lost, FailsAs, calls_carried};
-ghost use Rattle.proxy_turn.specs.Parts.{TookIf, IsFree, FindsIf, IsThere, AreThere, fate_of, CarriedOne, CarriedOut};
+ghost use Rattle.proxy_engine.specs.State.{EngineRepresents};
+ghost use Rattle.proxy_turn.specs.Counts.{CountRisesBy, calls, failed};
+ghost use Rattle.proxy_turn.specs.Turn.{end_of_effect, end_is_lost, EffectFailsAs, calls_of_effect};
+ghost use Rattle.proxy_turn.specs.Parts.{HappeningIfAnyWasTaken, HappeningCanBeTaken, HappeningIfAnyFindsMemory};
+ghost use Rattle.proxy_turn.specs.Parts.{EndWasNumbered, EndsWereNumbered, fate_of, EffectWasCarriedOut};
+ghost use Rattle.proxy_turn.specs.Parts.{EffectsWereCarriedOut};
 
-use crate::happenings::loss;
+use crate::happenings::happening_of_lost_end;
 use crate::report::TurnFault;
 use crate::sockets::Sockets;
 use hx_status::FailKind;
@@ -26,10 +28,11 @@ pub(crate) fn take<S: Shelf>(
     alloc: Global,
     happening: Option<Happening<'_>>,
 ) -> Result<(), TurnFault>
-    ensures ok { OnOk result ((s : EngineModel) → Represents engine.old s
-        → TookIf s (option_map said happening.entry) engine.new) }
-    ensures never { OnErr result ((s : EngineModel) → Represents engine.old s
-        → IsFree s (option_map said happening.entry) → FindsIf engine.old (option_map said happening.entry) → ⊥) }
+    ensures ok { OnOk result ((s : EngineModel) → EngineRepresents engine.old s
+        → HappeningIfAnyWasTaken s (option_map plain_happening happening.entry) engine.new) }
+    ensures never { OnErr result ((s : EngineModel) → EngineRepresents engine.old s
+        → HappeningCanBeTaken s (option_map plain_happening happening.entry) → HappeningIfAnyFindsMemory engine.old
+        (option_map plain_happening happening.entry) → ⊥) }
 {
     if let Some(happening) = happening {
         engine.take(alloc, happening)?;
@@ -38,8 +41,8 @@ pub(crate) fn take<S: Shelf>(
 }
 
 /// The end that an effect speaks of.
-fn end_of(effect: &Effect) -> End
-    ensures { result ≡ end_of effect.now }
+fn end_of_effect(effect: &Effect) -> End
+    ensures { result ≡ end_of_effect effect.now }
 {
     match effect {
         Effect::Client(n, _) => End::Client(*n),
@@ -50,8 +53,8 @@ fn end_of(effect: &Effect) -> End
 }
 
 /// Whether a call on that end has failed.
-fn is_lost(failed: &[End], end: End) -> bool
-    ensures { result ≡ is_lost failed.now end }
+fn end_is_lost(failed: &[End], end: End) -> bool
+    ensures { result ≡ end_is_lost failed.now end }
 {
     failed.contains(&end)
 }
@@ -63,11 +66,12 @@ fn open<K: Sockets>(
     address: &[u8],
     bytes: &[u8],
 ) -> Result<(), FailKind>
-    ensures did { K.Did sockets.old (calls_carried (Forward link address.now bytes.now) (fate_of result)) sockets.new }
+    ensures did { K.Did sockets.old (calls_of_effect (Forward link address.now bytes.now)
+        (fate_of result)) sockets.new }
     ensures kinds { IfErr result (λ kind. (kind ≡ Refused) ⊎ (kind ≡ Closed)) }
     ensures accepts { K.accepts sockets.new ≡ K.accepts sockets.old }
     ensures reads { K.reads sockets.new ≡ K.reads sockets.old }
-    ensures failures { IsRise (K.failures sockets.old) (K.failures sockets.new) (failed result) }
+    ensures failures { CountRisesBy (K.failures sockets.old) (K.failures sockets.new) (failed result) }
 {
     if sockets.connect(link, address).is_err() {
         return Err(FailKind::Refused);
@@ -80,11 +84,11 @@ fn open<K: Sockets>(
 
 /// Makes the calls of an effect. The error says as what a failed call on a link counts.
 fn call<K: Sockets>(sockets: &mut K, effect: &Effect) -> Result<(), FailKind>
-    ensures did { K.Did sockets.old (calls_carried effect.now (fate_of result)) sockets.new }
-    ensures kinds { IfErr result (FailsAs effect.now) }
+    ensures did { K.Did sockets.old (calls_of_effect effect.now (fate_of result)) sockets.new }
+    ensures kinds { IfErr result (EffectFailsAs effect.now) }
     ensures accepts { K.accepts sockets.new ≡ K.accepts sockets.old }
     ensures reads { K.reads sockets.new ≡ K.reads sockets.old }
-    ensures failures { IsRise (K.failures sockets.old) (K.failures sockets.new) (failed result) }
+    ensures failures { CountRisesBy (K.failures sockets.old) (K.failures sockets.new) (failed result) }
 {
     let done = match effect {
         Effect::Client(n, bytes) => sockets.write(End::Client(*n), bytes.as_slice()),
@@ -109,25 +113,26 @@ fn carry_out_one<S: Shelf, K: Sockets>(
     effect: &Effect,
     failed: &mut Vec<End>,
 ) -> Result<u64, TurnFault>
-    ensures ok { IfOk result (λ count. (s : EngineModel) → Represents engine.old s → IsThere s (end_of effect.now)
-        → CarriedOne s failed.old.items effect.now engine.new failed.new.items
+    ensures ok { IfOk result (λ count. (s : EngineModel) → EngineRepresents engine.old s → EndWasNumbered s
+        (end_of_effect effect.now)
+        → EffectWasCarriedOut s failed.old.items effect.now engine.new failed.new.items
         (λ made. K.Did sockets.old made sockets.new)
         (calls (K.accepts sockets.old) (K.reads sockets.old) (K.failures sockets.old))
         (calls (K.accepts sockets.new) (K.reads sockets.new) (K.failures sockets.new)) count) }
     ensures never { OnErr result (vec_len failed.old < vec_capacity failed.old → (s : EngineModel)
-        → Represents engine.old s → IsThere s (end_of effect.now) → ⊥) }
+        → EngineRepresents engine.old s → EndWasNumbered s (end_of_effect effect.now) → ⊥) }
     ensures room { vec_capacity failed.old ≤ vec_capacity failed.new }
     ensures one { vec_len failed.new ≤ vec_len failed.old + 1 }
     ensures few { IfOk result (λ count. count ≤ 1) }
 {
-    let end = end_of(effect);
-    if is_lost(failed, end) {
+    let end = end_of_effect(effect);
+    if end_is_lost(failed, end) {
         return Ok(0);
     }
     let Err(kind) = call(sockets, effect) else {
         return Ok(0);
     };
-    take(engine, alloc, loss(end, kind))?;
+    take(engine, alloc, happening_of_lost_end(end, kind))?;
     match failed.push(end) {
         Ok(()) => Ok(1),
         Err(_) => Err(TurnFault::NoMemory),
@@ -143,13 +148,14 @@ pub(crate) fn carry_out<S: Shelf, K: Sockets>(
     effects: &[Effect],
     failed: &mut Vec<End>,
 ) -> Result<u64, TurnFault>
-    ensures ok { IfOk result (λ count. (s : EngineModel) → Represents engine.old s → AreThere s (map end_of effects.now)
-        → CarriedOut s failed.old.items effects.now engine.new failed.new.items
+    ensures ok { IfOk result (λ count. (s : EngineModel) → EngineRepresents engine.old s → EndsWereNumbered s
+        (map end_of_effect effects.now)
+        → EffectsWereCarriedOut s failed.old.items effects.now engine.new failed.new.items
         (λ made. K.Did sockets.old made sockets.new)
         (calls (K.accepts sockets.old) (K.reads sockets.old) (K.failures sockets.old))
         (calls (K.accepts sockets.new) (K.reads sockets.new) (K.failures sockets.new)) count) }
     ensures never { OnErr result (vec_len failed.old + length effects.now ≤ vec_capacity failed.old → (s : EngineModel)
-        → Represents engine.old s → AreThere s (map end_of effects.now) → ⊥) }
+        → EngineRepresents engine.old s → EndsWereNumbered s (map end_of_effect effects.now) → ⊥) }
     ensures few { IfOk result (λ count. count ≤ length effects.now) }
 {
     what_ends_stays_ended();

@@ -1,17 +1,17 @@
 //! What the calls on an end come to, as what happened. Nothing of it happens at the listener.
 
 ghost use Rattle.std.specs.Prelude.{◌≡◌, option_map};
-ghost use Rattle.proxy_engine.specs.Happenings.{said};
-ghost use Rattle.proxy_turn.specs.Calls.{given_of};
-ghost use Rattle.proxy_turn.specs.Turn.{arrived, ended, lost, said_by};
+ghost use Rattle.proxy_engine.specs.Happenings.{plain_happening};
+ghost use Rattle.proxy_turn.specs.Calls.{read_outcome_of};
+ghost use Rattle.proxy_turn.specs.Turn.{happening_of_bytes, happening_of_end, happening_of_loss, happening_of_read};
 
 use crate::sockets::{Received, SocketFailed};
 use hx_status::FailKind;
 use proxy_engine::{End, Happening};
 
 /// Bytes came from an end.
-pub fn arrival(end: End, bytes: &[u8]) -> Option<Happening<'_>>
-    ensures { option_map said result ≡ arrived end bytes.now }
+pub fn happening_of_bytes_from(end: End, bytes: &[u8]) -> Option<Happening<'_>>
+    ensures { option_map plain_happening result ≡ happening_of_bytes end bytes.now }
 {
     match end {
         End::Listener => None,
@@ -21,8 +21,8 @@ pub fn arrival(end: End, bytes: &[u8]) -> Option<Happening<'_>>
 }
 
 /// No more comes from an end.
-pub fn ending(end: End) -> Option<Happening<'static>>
-    ensures { option_map said result ≡ ended end }
+pub fn happening_of_end_of_input(end: End) -> Option<Happening<'static>>
+    ensures { option_map plain_happening result ≡ happening_of_end end }
 {
     match end {
         End::Listener => None,
@@ -32,8 +32,8 @@ pub fn ending(end: End) -> Option<Happening<'static>>
 }
 
 /// An end is lost; a link by a failure of this kind.
-pub fn loss(end: End, kind: FailKind) -> Option<Happening<'static>>
-    ensures { option_map said result ≡ lost end kind }
+pub fn happening_of_lost_end(end: End, kind: FailKind) -> Option<Happening<'static>>
+    ensures { option_map plain_happening result ≡ happening_of_loss end kind }
 {
     match end {
         End::Listener => None,
@@ -43,17 +43,17 @@ pub fn loss(end: End, kind: FailKind) -> Option<Happening<'static>>
 }
 
 /// What a read of an end comes to: the bytes are those at the front of the buffer. A failed read loses the end.
-pub fn happening_of<'a>(
+pub fn happening_of_read<'a>(
     end: End,
     received: &Result<Received, SocketFailed>,
     buf: &'a [u8],
 ) -> Option<Happening<'a>>
-    ensures { option_map said result ≡ said_by end (given_of received.now buf.now) }
+    ensures { option_map plain_happening result ≡ happening_of_read end (read_outcome_of received.now buf.now) }
 {
     match received {
         Ok(Received::Nothing) => None,
-        Ok(Received::Bytes(n)) => arrival(end, buf.get(..*n).unwrap_or(buf)),
-        Ok(Received::End) => ending(end),
-        Err(_) => loss(end, FailKind::Closed),
+        Ok(Received::Bytes(n)) => happening_of_bytes_from(end, buf.get(..*n).unwrap_or(buf)),
+        Ok(Received::End) => happening_of_end_of_input(end),
+        Err(_) => happening_of_lost_end(end, FailKind::Closed),
     }
 }

@@ -1,8 +1,11 @@
 //! Laws on the definitions that the contracts cite.
-ghost use Rattle.proxy_turn.specs.TurnSteps.{TurnsAreExecuted, TurnsEmitTheirEffects};
-ghost use Rattle.proxy_turn.specs.Served.{NothingIsLost, OneIsLost, MoreAreLost, LossesGoOn, TurnsAreServed};
-ghost use Rattle.proxy_turn.specs.Served.{BeginsReachable, StaysOn, GoesOnAndOn, TakesGoOn, TurnsGoOn, ReachableGoesOn};
-ghost use Rattle.proxy_turn.specs.Served.{ReachableAreServing, TurnsLiveOn, ExecutionsAreServing, KeepsItsTable};
+ghost use Rattle.proxy_turn.specs.TurnSteps.{TurnStepsAreExecuted, TurnStepsEmitTheirEffects};
+ghost use Rattle.proxy_turn.specs.Served.{NoLossIsALossList, OneLossIsTaken, LossesAreTakenTransitively};
+ghost use Rattle.proxy_turn.specs.Served.{EngineGoesOnByLosses, TurnIsServedByLossesAndTurn};
+ghost use Rattle.proxy_turn.specs.Served.{NewEngineIsReachable, EngineGoesOnByNothing, EngineGoesOnTransitively};
+ghost use Rattle.proxy_turn.specs.Served.{EngineGoesOnByHappening, EngineGoesOnByTurn, ReachableEngineStaysReachable};
+ghost use Rattle.proxy_turn.specs.Served.{ReachableEngineIsServing, TurnExecutesItsSteps, ExecutedEngineIsServing};
+ghost use Rattle.proxy_turn.specs.Served.{EngineKeepsItsTable};
 
 use proxy_engine::{effects_name_open_ends, executions_are_runs};
 
@@ -11,17 +14,17 @@ use proxy_engine::{effects_name_open_ends, executions_are_runs};
 /// are those that it carried out. So what `proxy_engine::executions_are_runs` says of whatever an engine lives through,
 /// it says of turns over sockets.
 pub fn turns_are_executed()
-    ensures executed { TurnsAreExecuted }
-    ensures reports { TurnsEmitTheirEffects }
+    ensures executed { TurnStepsAreExecuted }
+    ensures reports { TurnStepsEmitTheirEffects }
 {}
 
 /// Ends that are lost between two turns are taken, one after another; behind them a turn is served.
 pub fn a_turn_is_served_behind_losses()
-    ensures none { NothingIsLost }
-    ensures one { OneIsLost }
-    ensures more { MoreAreLost }
-    ensures on { LossesGoOn }
-    ensures served { TurnsAreServed }
+    ensures none { NoLossIsALossList }
+    ensures one { OneLossIsTaken }
+    ensures more { LossesAreTakenTransitively }
+    ensures on { EngineGoesOnByLosses }
+    ensures served { TurnIsServedByLossesAndTurn }
 {
     effects_name_open_ends();
 }
@@ -31,17 +34,17 @@ pub fn a_turn_is_served_behind_losses()
 ///
 /// Its steps behind a turn of a server are those of the turn, behind those before it. Its table and the room of its
 /// store stay.
-pub fn engines_live_on()
-    ensures begins { BeginsReachable }
-    ensures stays { StaysOn }
-    ensures on { GoesOnAndOn }
-    ensures takes { TakesGoOn }
-    ensures turns { TurnsGoOn }
-    ensures executed { ReachableGoesOn }
-    ensures serves { ReachableAreServing }
-    ensures by_steps { TurnsLiveOn }
-    ensures runs { ExecutionsAreServing }
-    ensures table { KeepsItsTable }
+pub fn engines_go_on()
+    ensures begins { NewEngineIsReachable }
+    ensures stays { EngineGoesOnByNothing }
+    ensures on { EngineGoesOnTransitively }
+    ensures takes { EngineGoesOnByHappening }
+    ensures turns { EngineGoesOnByTurn }
+    ensures executed { ReachableEngineStaysReachable }
+    ensures serves { ReachableEngineIsServing }
+    ensures by_steps { TurnExecutesItsSteps }
+    ensures runs { ExecutedEngineIsServing }
+    ensures table { EngineKeepsItsTable }
 {
     turns_are_executed();
     effects_name_open_ends();

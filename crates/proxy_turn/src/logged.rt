@@ -2,13 +2,13 @@
 ghost use Rattle.std.specs.Prelude.{◌≡◌, ◌<◌, [], ◌∷◌, ◌++◌, map, false};
 ghost use Rattle.hx_fields.specs.declared.limits.TheConstants.{END_OF_TIME};
 ghost use Rattle.proxy_engine.specs.EngineModel.{EngineModel};
-ghost use Rattle.proxy_engine.specs.State.{Represents};
-ghost use Rattle.proxy_engine.specs.Orderly.{IsOrderly};
+ghost use Rattle.proxy_engine.specs.State.{EngineRepresents};
+ghost use Rattle.proxy_engine.specs.Orderly.{ModelIsOrderly};
 ghost use Rattle.proxy_turn.specs.Calls as call;
-ghost use Rattle.proxy_turn.specs.Calls.{given_of};
-ghost use Rattle.proxy_turn.specs.Logs.{call_in, Grew, grew_none, grew_joined};
+ghost use Rattle.proxy_turn.specs.Calls.{read_outcome_of};
+ghost use Rattle.proxy_turn.specs.Logs.{logged_call, LogGrewByCalls, log_grew_by_no_call, log_growth_joined};
 ghost use Rattle.proxy_turn.specs.Counts.{calls};
-ghost use Rattle.proxy_turn.specs.Turn.{TurnsAndCalls};
+ghost use Rattle.proxy_turn.specs.Turn.{EngineTurnsWithCalls};
 
 use crate::report::{Report, TurnFault};
 use crate::sockets::{Received, SocketFailed, Sockets};
@@ -20,7 +20,7 @@ use std::alloc::Global;
 
 /// What a read gave.
 #[derive(Debug, Drop)]
-pub enum Gave {
+pub enum LoggedReadOutcome {
     Nothing,
     Bytes(Bytes),
     End,
@@ -31,7 +31,7 @@ pub enum Gave {
 #[derive(Debug, Drop)]
 pub enum LoggedCall {
     Accept(u64, Result<bool, SocketFailed>),
-    Read(End, Gave),
+    Read(End, LoggedReadOutcome),
     Write(End, Bytes, bool),
     Connect(u64, Bytes, bool),
     Shut(End, bool),
@@ -39,19 +39,19 @@ pub enum LoggedCall {
 
 /// Sockets, and a log of the calls that were made on them.
 #[derive(Drop)]
-pub struct Logged<K: Sockets + Drop> {
+pub struct LoggedSockets<K: Sockets + Drop> {
     sockets: K,
     alloc: Global,
     calls: Vec<LoggedCall>,
     lost: bool,
 }
 
-impl<K: Sockets + Drop> Logged<K> {
-    pub fn new(sockets: K, alloc: Global) -> Logged<K>
+impl<K: Sockets + Drop> LoggedSockets<K> {
+    pub fn new(sockets: K, alloc: Global) -> LoggedSockets<K>
         ensures log { result.calls.items ≡ [] }
         ensures lost { result.lost ≡ false }
     {
-        Logged {
+        LoggedSockets {
             sockets,
             alloc,
             calls: Vec::new(alloc),
@@ -73,9 +73,10 @@ impl<K: Sockets + Drop> Logged<K> {
         self.lost
     }
 
-    fn keep(&mut self, it: LoggedCall)
+    fn keep_call(&mut self, it: LoggedCall)
         ensures sockets { self.new.sockets ≡ self.old.sockets }
-        ensures kept { Grew self.old.lost self.old.calls.items self.new.lost self.new.calls.items (call_in it ∷ []) }
+        ensures kept { LogGrewByCalls self.old.lost self.old.calls.items self.new.lost self.new.calls.items
+            (logged_call it ∷ []) }
     {
         if self.calls.push(it).is_err() {
             self.lost = true;
@@ -84,52 +85,52 @@ impl<K: Sockets + Drop> Logged<K> {
 
     fn keep_read(&mut self, end: End, received: &Result<Received, SocketFailed>, buf: &[u8])
         ensures sockets { self.new.sockets ≡ self.old.sockets }
-        ensures kept { Grew self.old.lost self.old.calls.items self.new.lost self.new.calls.items
-            (call.Read end (given_of received.now buf.now) ∷ []) }
+        ensures kept { LogGrewByCalls self.old.lost self.old.calls.items self.new.lost self.new.calls.items
+            (call.Read end (read_outcome_of received.now buf.now) ∷ []) }
     {
         let gave = match received {
-            Ok(Received::Nothing) => Gave::Nothing,
+            Ok(Received::Nothing) => LoggedReadOutcome::Nothing,
             Ok(Received::Bytes(n)) => match Bytes::copy_of(
                 self.alloc,
                 buf.get(..*n).unwrap_or(buf),
             ) {
-                Ok(bytes) => Gave::Bytes(bytes),
+                Ok(bytes) => LoggedReadOutcome::Bytes(bytes),
                 Err(_) => {
                     self.lost = true;
                     return;
                 }
             },
-            Ok(Received::End) => Gave::End,
-            Err(_) => Gave::Failed,
+            Ok(Received::End) => LoggedReadOutcome::End,
+            Err(_) => LoggedReadOutcome::Failed,
         };
-        self.keep(LoggedCall::Read(end, gave));
+        self.keep_call(LoggedCall::Read(end, gave));
     }
 
     fn keep_write(&mut self, end: End, bytes: &[u8], done: bool)
         ensures sockets { self.new.sockets ≡ self.old.sockets }
-        ensures kept { Grew self.old.lost self.old.calls.items self.new.lost self.new.calls.items
+        ensures kept { LogGrewByCalls self.old.lost self.old.calls.items self.new.lost self.new.calls.items
             (call.Write end bytes.now done ∷ []) }
     {
         match Bytes::copy_of(self.alloc, bytes) {
-            Ok(bytes) => self.keep(LoggedCall::Write(end, bytes, done)),
+            Ok(bytes) => self.keep_call(LoggedCall::Write(end, bytes, done)),
             Err(_) => self.lost = true,
         }
     }
 
     fn keep_connect(&mut self, link: u64, address: &[u8], done: bool)
         ensures sockets { self.new.sockets ≡ self.old.sockets }
-        ensures kept { Grew self.old.lost self.old.calls.items self.new.lost self.new.calls.items
+        ensures kept { LogGrewByCalls self.old.lost self.old.calls.items self.new.lost self.new.calls.items
             (call.Connect link address.now done ∷ []) }
     {
         match Bytes::copy_of(self.alloc, address) {
-            Ok(address) => self.keep(LoggedCall::Connect(link, address, done)),
+            Ok(address) => self.keep_call(LoggedCall::Connect(link, address, done)),
             Err(_) => self.lost = true,
         }
     }
 }
 
-impl<K: Sockets + Drop> Sockets for Logged<K> {
-    ghost Did = { λ s made t. Grew s.lost s.calls.items t.lost t.calls.items made };
+impl<K: Sockets + Drop> Sockets for LoggedSockets<K> {
+    ghost Did = { λ s made t. LogGrewByCalls s.lost s.calls.items t.lost t.calls.items made };
 
     ghost accepts = { λ s. K.accepts s.sockets };
 
@@ -137,14 +138,14 @@ impl<K: Sockets + Drop> Sockets for Logged<K> {
 
     ghost failures = { λ s. K.failures s.sockets };
 
-    ghost none = { λ s. grew_none s.lost s.calls.items };
+    ghost none = { λ s. log_grew_by_no_call s.lost s.calls.items };
 
     ghost joined = { λ s t u a b first then.
-        grew_joined s.lost s.calls.items t.lost t.calls.items u.lost u.calls.items a b first then };
+        log_growth_joined s.lost s.calls.items t.lost t.calls.items u.lost u.calls.items a b first then };
 
     fn accept(&mut self, n: u64) -> Result<bool, SocketFailed> {
         let came = self.sockets.accept(n);
-        self.keep(LoggedCall::Accept(n, came));
+        self.keep_call(LoggedCall::Accept(n, came));
         came
     }
 
@@ -168,7 +169,7 @@ impl<K: Sockets + Drop> Sockets for Logged<K> {
 
     fn shut(&mut self, end: End) -> Result<(), SocketFailed> {
         let shut = self.sockets.shut(end);
-        self.keep(LoggedCall::Shut(end, shut.is_ok()));
+        self.keep_call(LoggedCall::Shut(end, shut.is_ok()));
         shut
     }
 }
@@ -176,14 +177,14 @@ impl<K: Sockets + Drop> Sockets for Logged<K> {
 /// Serves one turn, as `turn` does. The log grows by its calls, each with its bytes, in order.
 pub fn turn_with_log<S: Shelf, K: Sockets + Drop>(
     engine: &mut Engine<S>,
-    sockets: &mut Logged<K>,
+    sockets: &mut LoggedSockets<K>,
     alloc: Global,
     now: u64,
 ) -> Result<Report, TurnFault>
     requires { now < END_OF_TIME }
-    ensures { (s : EngineModel) → Represents engine.old s → IsOrderly s
-        → TurnsAndCalls now s engine.new
-        (λ made. Grew sockets.old.lost sockets.old.calls.items sockets.new.lost sockets.new.calls.items made)
+    ensures { (s : EngineModel) → EngineRepresents engine.old s → ModelIsOrderly s
+        → EngineTurnsWithCalls now s engine.new
+        (λ made. LogGrewByCalls sockets.old.lost sockets.old.calls.items sockets.new.lost sockets.new.calls.items made)
         (calls (K.accepts sockets.old.sockets) (K.reads sockets.old.sockets) (K.failures sockets.old.sockets))
         (calls (K.accepts sockets.new.sockets) (K.reads sockets.new.sockets) (K.failures sockets.new.sockets)) result }
 {

@@ -1,6 +1,6 @@
 //! What a turn tells of itself.
 ghost use Rattle.std.specs.Prelude.{◌≡◌};
-ghost use Rattle.proxy_turn.specs.Parts.{of_engine};
+ghost use Rattle.proxy_turn.specs.Parts.{turn_fault_of_engine_fault};
 ghost use Rattle.proxy_turn.specs.declared.report.TurnFault.TheVariants.{NoMemory};
 
 use proxy_engine::EngineFault;
@@ -34,7 +34,7 @@ pub enum TurnFault {
 
 /// A turn names connections and links that are there, so what the engine refuses it for is memory or a spent number.
 impl From<EngineFault> for TurnFault {
-    ghost from_gives = { λ given fault. fault ≡ of_engine given };
+    ghost from_gives = { λ given fault. fault ≡ turn_fault_of_engine_fault given };
 
     fn from(fault: EngineFault) -> TurnFault {
         match fault {

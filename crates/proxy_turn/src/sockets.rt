@@ -1,8 +1,8 @@
 //! The ends of a proxy as calls that may fail.
 ghost use Rattle.std.specs.Prelude.{◌≡◌, ℕ, List, [], ◌∷◌, ◌++◌, length, IfOk, is_ok};
-ghost use Rattle.proxy_turn.specs.Calls.{Call, Accept, Read, Write, Connect, Shut, answer_of, given_of};
-ghost use Rattle.proxy_turn.specs.Counts.{IsRise, failed};
-ghost use Rattle.proxy_turn.specs.Received.{IsReceived};
+ghost use Rattle.proxy_turn.specs.Calls.{Call, Accept, Read, Write, Connect, Shut, accept_outcome_of, read_outcome_of};
+ghost use Rattle.proxy_turn.specs.Counts.{CountRisesBy, failed};
+ghost use Rattle.proxy_turn.specs.Received.{FitsTheBuffer};
 
 use proxy_engine::End;
 
@@ -37,40 +37,40 @@ pub trait Sockets {
 
     /// Accepts a connection under this number, if one waits.
     fn accept(&mut self, n: u64) -> Result<bool, SocketFailed>
-        ensures did { Did self.old (Accept n (answer_of result) ∷ []) self.new }
-        ensures accepts { IsRise (accepts self.old) (accepts self.new) 1 }
+        ensures did { Did self.old (Accept n (accept_outcome_of result) ∷ []) self.new }
+        ensures accepts { CountRisesBy (accepts self.old) (accepts self.new) 1 }
         ensures reads { reads self.new ≡ reads self.old }
-        ensures failures { IsRise (failures self.old) (failures self.new) (failed result) };
+        ensures failures { CountRisesBy (failures self.old) (failures self.new) (failed result) };
 
     /// Reads what has come from a client or on a link, at most as many bytes as there is room for.
     fn read(&mut self, end: End, buf: &mut [u8]) -> Result<Received, SocketFailed>
-        ensures did { Did self.old (Read end (given_of result buf.new) ∷ []) self.new }
-        ensures within { IfOk result (IsReceived (length buf.old)) }
+        ensures did { Did self.old (Read end (read_outcome_of result buf.new) ∷ []) self.new }
+        ensures within { IfOk result (FitsTheBuffer (length buf.old)) }
         ensures length { length buf.new ≡ length buf.old }
         ensures accepts { accepts self.new ≡ accepts self.old }
-        ensures reads { IsRise (reads self.old) (reads self.new) 1 }
-        ensures failures { IsRise (failures self.old) (failures self.new) (failed result) };
+        ensures reads { CountRisesBy (reads self.old) (reads self.new) 1 }
+        ensures failures { CountRisesBy (failures self.old) (failures self.new) (failed result) };
 
     /// Writes all of the bytes to a client or on a link, or fails.
     fn write(&mut self, end: End, bytes: &[u8]) -> Result<(), SocketFailed>
         ensures did { Did self.old (Write end bytes.now (is_ok result) ∷ []) self.new }
         ensures accepts { accepts self.new ≡ accepts self.old }
         ensures reads { reads self.new ≡ reads self.old }
-        ensures failures { IsRise (failures self.old) (failures self.new) (failed result) };
+        ensures failures { CountRisesBy (failures self.old) (failures self.new) (failed result) };
 
     /// Opens the link of this number to an address, four numbers and a port.
     fn connect(&mut self, link: u64, address: &[u8]) -> Result<(), SocketFailed>
         ensures did { Did self.old (Connect link address.now (is_ok result) ∷ []) self.new }
         ensures accepts { accepts self.new ≡ accepts self.old }
         ensures reads { reads self.new ≡ reads self.old }
-        ensures failures { IsRise (failures self.old) (failures self.new) (failed result) };
+        ensures failures { CountRisesBy (failures self.old) (failures self.new) (failed result) };
 
     /// Closes a client's connection or a link.
     fn shut(&mut self, end: End) -> Result<(), SocketFailed>
         ensures did { Did self.old (Shut end (is_ok result) ∷ []) self.new }
         ensures accepts { accepts self.new ≡ accepts self.old }
         ensures reads { reads self.new ≡ reads self.old }
-        ensures failures { IsRise (failures self.old) (failures self.new) (failed result) };
+        ensures failures { CountRisesBy (failures self.old) (failures self.new) (failed result) };
 
     /// With no call it stays the same state.
     ghost none: { (s : Self) → Did s [] s };

@@ -10,65 +10,68 @@ ghost use Rattle.proxy_engine.specs.Executions.{Took, Worked};
 ghost use Rattle.proxy_engine.specs.declared.work.End.TheVariants as ends;
 ghost use Rattle.proxy_turn.specs.Calls as call;
 ghost use Rattle.proxy_turn.specs.Calls.{Nothing, Ended, Broken, Bytes};
-ghost use Rattle.proxy_turn.specs.Turn.{Carried, Passed, Lost, calls_carried, calls_shown, is_lost, lost, said_by};
-ghost use Rattle.proxy_turn.specs.TurnSteps.{loss_steps, read_steps, round_steps};
-ghost use Rattle.proxy_turn.specs.Served.{IsLoss, take_steps};
-ghost use Rattle.proxy_turn.specs.TurnCases.{NoMoreThanAThousand, NotAskedInVain, NoOtherEndIsRead};
-ghost use Rattle.proxy_turn.specs.TurnCases.{NoActBeforeTheReads, NoLargerPiece, NothingIsLeftOut, NothingIsInvented};
-ghost use Rattle.proxy_turn.specs.TurnCases.{TheListenerFailed, NoCallOnALostEnd, NoneIsPassedOver, NoClientRefuses};
+ghost use Rattle.proxy_turn.specs.Turn.{Carried, Passed, Lost, calls_of_effect, calls_of_effects, end_is_lost};
+ghost use Rattle.proxy_turn.specs.Turn.{happening_of_loss, happening_of_read};
+ghost use Rattle.proxy_turn.specs.TurnSteps.{steps_of_losses, steps_of_reads, steps_of_rounds};
+ghost use Rattle.proxy_turn.specs.Served.{IsLostEnd, steps_of_taking};
+ghost use Rattle.proxy_turn.specs.TurnCases.{TurnHasAtMostAThousandActs, ListenerIsNotAskedInVain, NoOtherEndIsRead};
+ghost use Rattle.proxy_turn.specs.TurnCases.{NoActBeforeTheReads, NoReadGivesMoreThanAPiece};
+ghost use Rattle.proxy_turn.specs.TurnCases.{ReportedTurnLeavesNoEndOut, ReportedTurnCountsWhatWasDone};
+ghost use Rattle.proxy_turn.specs.TurnCases.{ListenerFaultNeedsAFailedAccept, NoCallOnALostEnd};
+ghost use Rattle.proxy_turn.specs.TurnCases.{NoEffectIsPassedOverWithoutLoss, NoClientWriteCountsAsRefused};
 
 /// The calls of an effect: its bytes go to its end, whole and once, and behind a failed call none is made. Of a forward
 /// that failed as refused the connect failed, of any other the write.
-pub fn what_is_called()
-    ensures reply { calls_carried (effects.Client 1 (codes "x")) Carried ≡ call.Write (ends.Client 1) (codes "x") true
+pub fn worked_calls_of_effects()
+    ensures reply { calls_of_effect (effects.Client 1 (codes "x")) Carried ≡ call.Write (ends.Client 1) (codes "x") true
         ∷ [] }
-    ensures failed_reply { calls_carried (effects.Client 1 (codes "x")) (Lost kinds.Closed)
+    ensures failed_reply { calls_of_effect (effects.Client 1 (codes "x")) (Lost kinds.Closed)
         ≡ call.Write (ends.Client 1) (codes "x") false ∷ [] }
-    ensures close { calls_carried (effects.Close 1) Carried ≡ call.Shut (ends.Client 1) true ∷ [] }
-    ensures forward { calls_carried (effects.Forward 5 (codes "o") (codes "x")) Carried
+    ensures close { calls_of_effect (effects.Close 1) Carried ≡ call.Shut (ends.Client 1) true ∷ [] }
+    ensures forward { calls_of_effect (effects.Forward 5 (codes "o") (codes "x")) Carried
         ≡ call.Connect 5 (codes "o") true ∷ call.Write (ends.Link 5) (codes "x") true ∷ [] }
-    ensures refused { calls_carried (effects.Forward 5 (codes "o") (codes "x")) (Lost kinds.Refused)
+    ensures refused { calls_of_effect (effects.Forward 5 (codes "o") (codes "x")) (Lost kinds.Refused)
         ≡ call.Connect 5 (codes "o") false ∷ [] }
-    ensures cut { calls_carried (effects.Forward 5 (codes "o") (codes "x")) (Lost kinds.Closed)
+    ensures cut { calls_of_effect (effects.Forward 5 (codes "o") (codes "x")) (Lost kinds.Closed)
         ≡ call.Connect 5 (codes "o") true ∷ call.Write (ends.Link 5) (codes "x") false ∷ [] }
-    ensures drop { calls_carried (effects.Drop 5) Carried ≡ call.Shut (ends.Link 5) true ∷ [] }
-    ensures passed { calls_carried (effects.Client 1 (codes "x")) Passed ≡ [] }
-    ensures in_order { calls_shown (effects.Client 1 (codes "x") ∷ effects.Close 1 ∷ []) (Carried ∷ Carried ∷ [])
+    ensures drop { calls_of_effect (effects.Drop 5) Carried ≡ call.Shut (ends.Link 5) true ∷ [] }
+    ensures passed { calls_of_effect (effects.Client 1 (codes "x")) Passed ≡ [] }
+    ensures in_order { calls_of_effects (effects.Client 1 (codes "x") ∷ effects.Close 1 ∷ []) (Carried ∷ Carried ∷ [])
         ≡ call.Write (ends.Client 1) (codes "x") true ∷ call.Shut (ends.Client 1) true ∷ [] }
-    ensures none_behind { calls_shown (effects.Client 1 (codes "x") ∷ effects.Close 1 ∷ [])
+    ensures none_behind { calls_of_effects (effects.Client 1 (codes "x") ∷ effects.Close 1 ∷ [])
         (Lost kinds.Closed ∷ Passed ∷ []) ≡ call.Write (ends.Client 1) (codes "x") false ∷ [] }
-    ensures one_is_lost { is_lost (ends.Client 1 ∷ []) (ends.Client 1) ≡ true }
-    ensures another_is_not { is_lost (ends.Client 1 ∷ []) (ends.Client 2) ≡ false }
-    ensures a_link_is_no_client { is_lost (ends.Client 1 ∷ []) (ends.Link 1) ≡ false }
+    ensures one_is_lost { end_is_lost (ends.Client 1 ∷ []) (ends.Client 1) ≡ true }
+    ensures another_is_not { end_is_lost (ends.Client 1 ∷ []) (ends.Client 2) ≡ false }
+    ensures a_link_is_no_client { end_is_lost (ends.Client 1 ∷ []) (ends.Link 1) ≡ false }
 {}
 
 /// What a read gave, and a failed call, as happenings.
-pub fn what_reads_are_taken_as()
-    ensures bytes { said_by (ends.Client 1) (Bytes (codes "x")) ≡ Some (Sends 1 (codes "x")) }
-    ensures answer { said_by (ends.Link 5) (Bytes (codes "x")) ≡ Some (Hears 5 (codes "x")) }
-    ensures end { said_by (ends.Client 1) Ended ≡ Some (Ends 1) }
-    ensures end_of_a_link { said_by (ends.Link 5) Ended ≡ Some (Shuts 5) }
-    ensures broken { said_by (ends.Client 1) Broken ≡ Some (Leaves 1) }
-    ensures broken_link { said_by (ends.Link 5) Broken ≡ Some (Fails 5 kinds.Closed) }
-    ensures nothing { said_by (ends.Client 1) Nothing ≡ None }
-    ensures refused { lost (ends.Link 5) kinds.Refused ≡ Some (Fails 5 kinds.Refused) }
-    ensures left { lost (ends.Client 1) kinds.Closed ≡ Some (Leaves 1) }
+pub fn worked_happenings_of_reads()
+    ensures bytes { happening_of_read (ends.Client 1) (Bytes (codes "x")) ≡ Some (Sends 1 (codes "x")) }
+    ensures answer { happening_of_read (ends.Link 5) (Bytes (codes "x")) ≡ Some (Hears 5 (codes "x")) }
+    ensures end { happening_of_read (ends.Client 1) Ended ≡ Some (Ends 1) }
+    ensures end_of_a_link { happening_of_read (ends.Link 5) Ended ≡ Some (Shuts 5) }
+    ensures broken { happening_of_read (ends.Client 1) Broken ≡ Some (Leaves 1) }
+    ensures broken_link { happening_of_read (ends.Link 5) Broken ≡ Some (Fails 5 kinds.Closed) }
+    ensures nothing { happening_of_read (ends.Client 1) Nothing ≡ None }
+    ensures refused { happening_of_loss (ends.Link 5) kinds.Refused ≡ Some (Fails 5 kinds.Refused) }
+    ensures left { happening_of_loss (ends.Client 1) kinds.Closed ≡ Some (Leaves 1) }
 {}
 
 /// The steps of a turn, the latest first: each read's happening, each act at the moment of the turn, and behind it what
 /// its failed calls lost.
-pub fn in_which_order_steps_come()
-    ensures reads { read_steps (record { end = ends.Client 1; given = Bytes (codes "x") }
+pub fn worked_order_of_steps()
+    ensures reads { steps_of_reads (record { end = ends.Client 1; given = Bytes (codes "x") }
         ∷ record { end = ends.Client 2; given = Ended } ∷ []) [] ≡ Took (Ends 2) ∷ Took (Sends 1 (codes "x")) ∷ [] }
-    ensures nothing_read { read_steps (record { end = ends.Client 1; given = Nothing } ∷ []) [] ≡ [] }
-    ensures acts { round_steps 9 (record { act = Wakes 0; emitted = effects.Close 1 ∷ []; fates = Carried ∷ [] }
+    ensures nothing_read { steps_of_reads (record { end = ends.Client 1; given = Nothing } ∷ []) [] ≡ [] }
+    ensures acts { steps_of_rounds 9 (record { act = Wakes 0; emitted = effects.Close 1 ∷ []; fates = Carried ∷ [] }
         ∷ record { act = Wakes 1; emitted = []; fates = [] } ∷ []) [] ≡ Worked 9 (Wakes 1) []
         ∷ Worked 9 (Wakes 0) (effects.Close 1 ∷ []) ∷ [] }
-    ensures losses { round_steps 9
+    ensures losses { steps_of_rounds 9
         (record { act = Wakes 0; emitted = effects.Close 1 ∷ []; fates = Lost kinds.Closed ∷ [] } ∷ []) []
         ≡ Took (Leaves 1) ∷ Worked 9 (Wakes 0) (effects.Close 1 ∷ []) ∷ [] }
-    ensures passed { loss_steps (effects.Close 1 ∷ []) (Passed ∷ []) [] ≡ [] }
-    ensures taken { take_steps (Leaves 1 ∷ Leaves 2 ∷ []) [] ≡ Took (Leaves 2) ∷ Took (Leaves 1) ∷ [] }
+    ensures passed { steps_of_losses (effects.Close 1 ∷ []) (Passed ∷ []) [] ≡ [] }
+    ensures taken { steps_of_taking (Leaves 1 ∷ Leaves 2 ∷ []) [] ≡ Took (Leaves 2) ∷ Took (Leaves 1) ∷ [] }
 {}
 
 /// No turn does more than a thousand acts, asks the listener in vain, reads another end, takes a piece that is too
@@ -76,20 +79,20 @@ pub fn in_which_order_steps_come()
 /// made on an end that is lost, no effect is passed over to one that isn't, and between turns nothing is taken but
 /// losses.
 pub fn a_turn_refuses_what_is_not_done()
-    ensures acts { NoMoreThanAThousand }
-    ensures listener { NotAskedInVain }
+    ensures acts { TurnHasAtMostAThousandActs }
+    ensures listener { ListenerIsNotAskedInVain }
     ensures ends { NoOtherEndIsRead }
     ensures order { NoActBeforeTheReads }
-    ensures pieces { NoLargerPiece }
-    ensures whole { NothingIsLeftOut }
-    ensures counts { NothingIsInvented }
-    ensures failure { TheListenerFailed }
+    ensures pieces { NoReadGivesMoreThanAPiece }
+    ensures whole { ReportedTurnLeavesNoEndOut }
+    ensures counts { ReportedTurnCountsWhatWasDone }
+    ensures failure { ListenerFaultNeedsAFailedAccept }
     ensures lost { NoCallOnALostEnd }
-    ensures passed { NoneIsPassedOver }
-    ensures refused { NoClientRefuses }
-    ensures bytes_are_no_loss { IsLoss (Sends 1 (codes "x")) → ⊥ }
-    ensures answers_are_no_loss { IsLoss (Hears 5 (codes "x")) → ⊥ }
-    ensures a_connection_is_no_loss { IsLoss (Accepts 1) → ⊥ }
-    ensures an_end_is_no_loss { IsLoss (Ends 1) → ⊥ }
-    ensures a_shut_link_is_no_loss { IsLoss (Shuts 5) → ⊥ }
+    ensures passed { NoEffectIsPassedOverWithoutLoss }
+    ensures refused { NoClientWriteCountsAsRefused }
+    ensures bytes_are_no_loss { IsLostEnd (Sends 1 (codes "x")) → ⊥ }
+    ensures answers_are_no_loss { IsLostEnd (Hears 5 (codes "x")) → ⊥ }
+    ensures a_connection_is_no_loss { IsLostEnd (Accepts 1) → ⊥ }
+    ensures an_end_is_no_loss { IsLostEnd (Ends 1) → ⊥ }
+    ensures a_shut_link_is_no_loss { IsLostEnd (Shuts 5) → ⊥ }
 {}

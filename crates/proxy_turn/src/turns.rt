@@ -3,14 +3,15 @@
 ghost use Rattle.std.specs.Prelude.{◌<◌, ◌≤◌, ◌≡◌, ◌^◌, length, IfOk, IfErr};
 ghost use Rattle.hx_fields.specs.declared.limits.TheConstants.{END_OF_TIME};
 ghost use Rattle.proxy_engine.specs.EngineModel.{EngineModel};
-ghost use Rattle.proxy_engine.specs.State.{Represents};
-ghost use Rattle.proxy_engine.specs.Orderly.{IsOrderly};
+ghost use Rattle.proxy_engine.specs.State.{EngineRepresents};
+ghost use Rattle.proxy_engine.specs.Orderly.{ModelIsOrderly};
 ghost use Rattle.proxy_turn.specs.Counts.{calls};
-ghost use Rattle.proxy_turn.specs.Turn.{TurnsAndCalls};
-ghost use Rattle.proxy_turn.specs.Parts.{Asks, IsThere, ReadsOne, ReadsNone, ReadsAll, WorksAll};
+ghost use Rattle.proxy_turn.specs.Turn.{EngineTurnsWithCalls};
+ghost use Rattle.proxy_turn.specs.Parts.{ListenerIsAsked, EndWasNumbered, OneEndIsRead, NoEndIsRead, AllEndsAreRead};
+ghost use Rattle.proxy_turn.specs.Parts.{DueActsAreDone};
 
 use crate::effects::{carry_out, take};
-use crate::happenings::happening_of;
+use crate::happenings::happening_of_read;
 use crate::limits::{MOST_EFFECTS, MOST_OPEN, MOST_WORKS, PIECE};
 use crate::report::{Report, TurnFault};
 use crate::sockets::Sockets;
@@ -27,8 +28,8 @@ fn accept<S: Shelf, K: Sockets>(
     sockets: &mut K,
     alloc: Global,
 ) -> Result<u64, TurnFault>
-    ensures { (s : EngineModel) → Represents engine.old s
-        → Asks s engine.new (λ made. K.Did sockets.old made sockets.new)
+    ensures { (s : EngineModel) → EngineRepresents engine.old s
+        → ListenerIsAsked s engine.new (λ made. K.Did sockets.old made sockets.new)
         (calls (K.accepts sockets.old) (K.reads sockets.old) (K.failures sockets.old))
         (calls (K.accepts sockets.new) (K.reads sockets.new) (K.failures sockets.new)) result }
 {
@@ -61,18 +62,18 @@ fn read_one<S: Shelf, K: Sockets>(
     requires { length buf.old ≡ 4096 }
     ensures length { length buf.new ≡ length buf.old }
     ensures few { IfOk result (λ count. count ≤ 1) }
-    ensures ok { IfOk result (λ count. (s : EngineModel) → Represents engine.old s → IsThere s end
-        → ReadsOne s end engine.new (λ made. K.Did sockets.old made sockets.new)
+    ensures ok { IfOk result (λ count. (s : EngineModel) → EngineRepresents engine.old s → EndWasNumbered s end
+        → OneEndIsRead s end engine.new (λ made. K.Did sockets.old made sockets.new)
         (calls (K.accepts sockets.old) (K.reads sockets.old) (K.failures sockets.old))
         (calls (K.accepts sockets.new) (K.reads sockets.new) (K.failures sockets.new)) count) }
-    ensures err { IfErr result (λ fault. (s : EngineModel) → Represents engine.old s → IsThere s end
-        → ReadsNone s engine.new (λ made. K.Did sockets.old made sockets.new)
+    ensures err { IfErr result (λ fault. (s : EngineModel) → EngineRepresents engine.old s → EndWasNumbered s end
+        → NoEndIsRead s engine.new (λ made. K.Did sockets.old made sockets.new)
         (calls (K.accepts sockets.old) (K.reads sockets.old) (K.failures sockets.old))
         (calls (K.accepts sockets.new) (K.reads sockets.new) (K.failures sockets.new)) fault) }
 {
     engine.reserve(alloc, end)?;
     let received = sockets.read(end, buf);
-    take(engine, alloc, happening_of(end, &received, buf))?;
+    take(engine, alloc, happening_of_read(end, &received, buf))?;
     Ok(u64::from(received.is_err()))
 }
 
@@ -86,8 +87,8 @@ fn read_all<S: Shelf, K: Sockets>(
     requires { length buf.old ≡ 4096 }
     ensures length { length buf.new ≡ length buf.old }
     ensures few { IfOk result (λ counts. counts.1 < 2 ^ 63) }
-    ensures reads { (s : EngineModel) → Represents engine.old s
-        → ReadsAll s engine.new (λ made. K.Did sockets.old made sockets.new)
+    ensures reads { (s : EngineModel) → EngineRepresents engine.old s
+        → AllEndsAreRead s engine.new (λ made. K.Did sockets.old made sockets.new)
         (calls (K.accepts sockets.old) (K.reads sockets.old) (K.failures sockets.old))
         (calls (K.accepts sockets.new) (K.reads sockets.new) (K.failures sockets.new)) result }
 {
@@ -113,8 +114,8 @@ fn work_all<S: Shelf, K: Sockets>(
     now: u64,
 ) -> Result<(u64, u64), TurnFault>
     requires { now < END_OF_TIME }
-    ensures { (s : EngineModel) → Represents engine.old s → IsOrderly s
-        → WorksAll now s engine.new (λ made. K.Did sockets.old made sockets.new)
+    ensures { (s : EngineModel) → EngineRepresents engine.old s → ModelIsOrderly s
+        → DueActsAreDone now s engine.new (λ made. K.Did sockets.old made sockets.new)
         (calls (K.accepts sockets.old) (K.reads sockets.old) (K.failures sockets.old))
         (calls (K.accepts sockets.new) (K.reads sockets.new) (K.failures sockets.new)) result }
 {
@@ -150,7 +151,7 @@ fn work_all<S: Shelf, K: Sockets>(
 /// link as its closing. After a fault the engine stands where the whole takes and works of the turn left it.
 ///
 /// What each read gave is what the engine takes, and each effect's bytes go to its end, whole, once and in order: the
-/// calls on the sockets are those of the turn (`calls_of`), and no others.
+/// calls on the sockets are those of the turn (`calls_of_turn`), and no others.
 pub fn turn<S: Shelf, K: Sockets>(
     engine: &mut Engine<S>,
     sockets: &mut K,
@@ -158,8 +159,8 @@ pub fn turn<S: Shelf, K: Sockets>(
     now: u64,
 ) -> Result<Report, TurnFault>
     requires { now < END_OF_TIME }
-    ensures { (s : EngineModel) → Represents engine.old s → IsOrderly s
-        → TurnsAndCalls now s engine.new (λ made. K.Did sockets.old made sockets.new)
+    ensures { (s : EngineModel) → EngineRepresents engine.old s → ModelIsOrderly s
+        → EngineTurnsWithCalls now s engine.new (λ made. K.Did sockets.old made sockets.new)
         (calls (K.accepts sockets.old) (K.reads sockets.old) (K.failures sockets.old))
         (calls (K.accepts sockets.new) (K.reads sockets.new) (K.failures sockets.new)) result }
 {
@@ -178,8 +179,8 @@ pub fn turn_through<S: Shelf, K: Sockets>(
     requires early { now < END_OF_TIME }
     requires piece { length buf.old ≡ 4096 }
     ensures length { length buf.new ≡ length buf.old }
-    ensures turns { (s : EngineModel) → Represents engine.old s → IsOrderly s
-        → TurnsAndCalls now s engine.new (λ made. K.Did sockets.old made sockets.new)
+    ensures turns { (s : EngineModel) → EngineRepresents engine.old s → ModelIsOrderly s
+        → EngineTurnsWithCalls now s engine.new (λ made. K.Did sockets.old made sockets.new)
         (calls (K.accepts sockets.old) (K.reads sockets.old) (K.failures sockets.old))
         (calls (K.accepts sockets.new) (K.reads sockets.new) (K.failures sockets.new)) result }
 {

@@ -121,7 +121,7 @@ fn push_echo(echo: &mut String, head: &[u8], name: &str) -> Result<(), AllocErro
 impl Question {
     /// What a forwarded request asks.
     pub fn read(alloc: Global, request: &[u8]) -> Result<Question, AllocError> {
-        let head = match fields::parts(request) {
+        let head = match fields::head_and_content(request) {
             Some((head, _)) => head,
             None => request,
         };

@@ -16,18 +16,18 @@
 //!   for nobody. No other request goes there, and no other answer says so.
 //! - An answer is as the words of its line have it: `words.rt` says how.
 
-use crate::clients::{Client, clients_of, place};
+use crate::clients::{Client, clients_of, index_of_number};
 use crate::counts::Counts;
 use crate::fields::{id_of, id_of_request};
 use crate::log::{Log, Occurred, Step};
-use crate::past_store::{is_claimed, is_shown};
+use crate::past_store::{claims_past_store, shows_past_store};
 use crate::replies::{
-    Reason, Source, has_target, read_reply, reason_shown, seconds_left, went_well,
+    Reason, Source, has_successful_status, has_target, read_reply, reason_shown, seconds_left,
 };
 use crate::requests::Asked;
 use crate::tables::{Table, is_address, is_past_the_store, lets_wait_for_stale};
 use crate::waiting::{Arrival, Exchange, Now, Suspect, Waiter, Woken, beside, found, reason_of};
-use crate::words::{Said, said_of};
+use crate::words::{Said, word_of_answer};
 use case_text::{Effect, read_effect};
 use std::alloc::{AllocError, Global};
 
@@ -91,7 +91,7 @@ impl Drop for Check<'_> {
 
 const CONTINUE: &[u8] = b"HTTP/1.1 100 Continue\r\n\r\n";
 
-fn one_more(count: &mut u64) {
+fn count_plus_one(count: &mut u64) {
     *count = count.saturating_add(1);
 }
 
@@ -100,7 +100,7 @@ impl<'a> Check<'a> {
     fn new(alloc: Global, log: &'a Log) -> Result<Self, Wrong> {
         let mut clients = clients_of(alloc, log)?;
         for asked in &log.asked {
-            if let Some(client) = clients.get_mut(place(asked.connection)) {
+            if let Some(client) = clients.get_mut(index_of_number(asked.connection)) {
                 client.asked.push(asked).map_err(AllocError::from)?;
             }
         }
@@ -124,7 +124,7 @@ impl<'a> Check<'a> {
 
     /// The client of a connection to which something may go.
     fn client(&mut self, number: u64) -> Result<&mut Client<'a>, Wrong> {
-        match self.clients.get_mut(place(number)) {
+        match self.clients.get_mut(index_of_number(number)) {
             Some(client) if client.is_accepted && !client.is_over => Ok(client),
             _ => Err(Wrong::Rule("an effect is on a connection that isn't open", number)),
         }
@@ -132,12 +132,15 @@ impl<'a> Check<'a> {
 
     /// The exchange of the link of this number.
     fn exchange_on(&self, number: u64) -> usize {
-        self.links.get(place(number)).copied().unwrap_or(usize::MAX)
+        self.links
+            .get(index_of_number(number))
+            .copied()
+            .unwrap_or(usize::MAX)
     }
 
     /// What is known of a happening before its effects.
     fn note_event(&mut self, occurred: Occurred) {
-        one_more(&mut self.happenings);
+        count_plus_one(&mut self.happenings);
         self.woken.clear();
         self.happening = Now::default();
         self.happening.about = match occurred {
@@ -156,7 +159,7 @@ impl<'a> Check<'a> {
     }
 
     fn note_client(&mut self, number: u64, occurred: Occurred) {
-        if let Some(client) = self.clients.get_mut(place(number)) {
+        if let Some(client) = self.clients.get_mut(index_of_number(number)) {
             match occurred {
                 Occurred::Accepted(_) => client.is_accepted = true,
                 Occurred::Client(_, whole) => client.whole = whole,
@@ -175,7 +178,7 @@ impl<'a> Check<'a> {
         self.waiters
             .retain(|waiter| waiter.arrived.connection != number);
         if self.waiters.len() < before {
-            one_more(&mut self.counts.waiters_gone);
+            count_plus_one(&mut self.counts.waiters_gone);
         }
     }
 
@@ -213,7 +216,7 @@ impl<'a> Check<'a> {
     /// A request waits no longer.
     fn wake(&mut self, arrived: Arrival) -> Result<(), Wrong> {
         if self.woken.is_empty() {
-            one_more(&mut self.counts.wakings);
+            count_plus_one(&mut self.counts.wakings);
         }
         self.happening.last_woken = Some(arrived);
         self.waiters.retain(|waiter| waiter.arrived != arrived);
@@ -226,7 +229,7 @@ impl<'a> Check<'a> {
 
     /// There may be an effect on a connection to which the happening happened, or which it wakes. Gives what it wakes
     /// now.
-    fn touch(&mut self, number: u64) -> Result<Option<Woken>, Wrong> {
+    fn note_possible_effect(&mut self, number: u64) -> Result<Option<Woken>, Wrong> {
         if let Some(woken) = self.wakes(number)? {
             return Ok(Some(woken));
         }
@@ -241,8 +244,8 @@ impl<'a> Check<'a> {
     }
 
     /// The same of what is no answer and no forward, which wakes nobody.
-    fn touch_only(&mut self, number: u64) -> Result<(), Wrong> {
-        if self.touch(number)?.is_some() {
+    fn note_effect_without_wake(&mut self, number: u64) -> Result<(), Wrong> {
+        if self.note_possible_effect(number)?.is_some() {
             return Err(Wrong::Rule("a request that waits gets something else", number));
         }
         Ok(())
@@ -264,7 +267,7 @@ impl<'a> Check<'a> {
             lets_wait,
             beside,
         };
-        one_more(&mut self.counts.waited);
+        count_plus_one(&mut self.counts.waited);
         Ok(self.waiters.push(waiter).map_err(AllocError::from)?)
     }
 
@@ -283,7 +286,7 @@ impl<'a> Check<'a> {
     }
 
     /// The request of a connection that has come whole, got nothing, and isn't known to wait.
-    fn silent(&self, connection: u64) -> Option<Asked> {
+    fn request_without_reply(&self, connection: u64) -> Option<Asked> {
         if self
             .waiters
             .iter()
@@ -291,7 +294,9 @@ impl<'a> Check<'a> {
         {
             return None;
         }
-        self.clients.get(place(connection))?.silent()
+        self.clients
+            .get(index_of_number(connection))?
+            .request_without_reply()
     }
 
     /// Who is served is served by now, the least connection first; so what has come whole and got nothing waits.
@@ -302,7 +307,7 @@ impl<'a> Check<'a> {
                 break;
             };
             last = connection;
-            if let Some(asked) = self.silent(connection) {
+            if let Some(asked) = self.request_without_reply(connection) {
                 self.begin_to_wait(asked)?;
             }
         }
@@ -318,9 +323,9 @@ impl<'a> Check<'a> {
     }
 
     /// What must hold behind the effects of a happening.
-    fn ask(&self, occurred: Occurred) -> Result<(), Wrong> {
+    fn check_after_happening(&self, occurred: Occurred) -> Result<(), Wrong> {
         if let Occurred::Gone(number) = occurred {
-            if let Some(client) = self.clients.get(place(number)) {
+            if let Some(client) = self.clients.get(index_of_number(number)) {
                 if client.link.is_some() {
                     return Err(Wrong::Rule("a client that is gone keeps its link", number));
                 }
@@ -361,13 +366,13 @@ impl<'a> Check<'a> {
 
     /// The request of a connection that has no reply.
     fn unanswered(&self, connection: u64) -> Option<Asked> {
-        let client = self.clients.get(place(connection))?;
+        let client = self.clients.get(index_of_number(connection))?;
         let asked = client.asked.get(client.replies)?;
         Some(**asked)
     }
 
     /// A request goes forward to an address of the table.
-    fn send_on(&mut self, asked: &Asked, number: u64, address: &[u8]) -> Result<(), Wrong> {
+    fn check_forward(&mut self, asked: &Asked, number: u64, address: &[u8]) -> Result<(), Wrong> {
         let is_past = self.is_past(asked);
         if !is_address(address, is_past) {
             return Err(Wrong::Rule(
@@ -375,11 +380,11 @@ impl<'a> Check<'a> {
                 number,
             ));
         }
-        one_more(&mut self.counts.forwards);
+        count_plus_one(&mut self.counts.forwards);
         if is_past {
-            one_more(&mut self.counts.past);
+            count_plus_one(&mut self.counts.past);
             if !asked.is_unsafe() && self.is_fresh(asked) {
-                one_more(&mut self.counts.past_fresh);
+                count_plus_one(&mut self.counts.past_fresh);
             }
         }
         Ok(())
@@ -396,7 +401,7 @@ impl<'a> Check<'a> {
         if client.link.is_some() {
             return Err(Wrong::Rule("two requests of a connection are at origins", connection));
         }
-        if place(ordinal) != client.replies {
+        if index_of_number(ordinal) != client.replies {
             return Err(Wrong::Rule(
                 "a forward isn't of the first request without reply",
                 connection,
@@ -427,23 +432,27 @@ impl<'a> Check<'a> {
     }
 
     /// When a request came that goes forward for the first time.
-    fn came_at(&mut self, asked: &Asked, woken: Option<Woken>) -> Result<Arrival, Wrong> {
+    fn arrival_of_forwarded(
+        &mut self,
+        asked: &Asked,
+        woken: Option<Woken>,
+    ) -> Result<Arrival, Wrong> {
         let Some(woken) = woken else {
             self.begin_at_once(asked)?;
             return Ok(self.arrival(asked.connection));
         };
-        one_more(&mut self.counts.woken_forward);
+        count_plus_one(&mut self.counts.woken_forward);
         if woken.reason == Some(Reason::Expired) {
-            one_more(&mut self.counts.waited_for_stale);
+            count_plus_one(&mut self.counts.waited_for_stale);
         }
         Ok(woken.arrived)
     }
 
     /// A request goes forward for the first time.
     fn open(&mut self, asked: Asked, number: u64, woken: Option<Woken>) -> Result<(), Wrong> {
-        let arrived = self.came_at(&asked, woken)?;
+        let arrived = self.arrival_of_forwarded(&asked, woken)?;
         let exchange = self.exchanges.len();
-        if let Some(client) = self.clients.get_mut(place(asked.connection)) {
+        if let Some(client) = self.clients.get_mut(index_of_number(asked.connection)) {
             client.exchange = Some(exchange);
         }
         let opened = Exchange {
@@ -466,18 +475,18 @@ impl<'a> Check<'a> {
     }
 
     fn forward(&mut self, number: u64, address: &[u8], request: &[u8]) -> Result<(), Wrong> {
-        if place(number) != self.links.len() {
+        if index_of_number(number) != self.links.len() {
             return Err(Wrong::Rule("a forward is on a link that isn't the next", number));
         }
         let Some((connection, ordinal)) = id_of_request(request) else {
             return Err(Wrong::Rule("a forward is of no request", number));
         };
-        let woken = self.touch(connection)?;
+        let woken = self.note_possible_effect(connection)?;
         let exchange = self.begin(connection, ordinal, number)?;
         let Some(asked) = self.unanswered(connection) else {
             return Err(Wrong::Rule("a forward is of no request", number));
         };
-        self.send_on(&asked, number, address)?;
+        self.check_forward(&asked, number, address)?;
         match exchange {
             Some(exchange) => self.go_on(exchange, number),
             None => self.open(asked, number, woken),
@@ -497,15 +506,15 @@ impl<'a> Check<'a> {
             return Err(Wrong::Rule("a link is dropped to which nothing happened", number));
         }
         self.happening.ended = Some(exchange);
-        if let Some(client) = self.clients.get_mut(place(connection)) {
+        if let Some(client) = self.clients.get_mut(index_of_number(connection)) {
             client.link = None;
         }
-        one_more(&mut self.counts.drops);
+        count_plus_one(&mut self.counts.drops);
         Ok(())
     }
 
     fn close(&mut self, number: u64) -> Result<(), Wrong> {
-        self.touch_only(number)?;
+        self.note_effect_without_wake(number)?;
         let client = self.client(number)?;
         if client.link.is_some() {
             return Err(Wrong::Rule("a close leaves a link", number));
@@ -536,19 +545,19 @@ impl<'a> Check<'a> {
     }
 
     fn count(&mut self, source: Source) {
-        one_more(&mut self.counts.replies);
+        count_plus_one(&mut self.counts.replies);
         match source {
-            Source::Own => one_more(&mut self.counts.refused),
-            Source::Stored => one_more(&mut self.counts.stored),
-            Source::Hit => one_more(&mut self.counts.hits),
-            Source::Validated => one_more(&mut self.counts.validated),
-            Source::Collapsed => one_more(&mut self.counts.collapsed),
+            Source::Own => count_plus_one(&mut self.counts.refused),
+            Source::Stored => count_plus_one(&mut self.counts.stored),
+            Source::Hit => count_plus_one(&mut self.counts.hits),
+            Source::Validated => count_plus_one(&mut self.counts.validated),
+            Source::Collapsed => count_plus_one(&mut self.counts.collapsed),
             Source::Origin | Source::Store => {}
         }
     }
 
     /// The client of a connection to which bytes may go.
-    fn listener(&mut self, number: u64) -> Result<&mut Client<'a>, Wrong> {
+    fn receiving_client(&mut self, number: u64) -> Result<&mut Client<'a>, Wrong> {
         let client = self.client(number)?;
         if client.link.is_some() {
             Err(Wrong::Rule("a client gets something while its link is open", number))
@@ -559,7 +568,7 @@ impl<'a> Check<'a> {
 
     /// The request of a connection that is replied to now.
     fn next_asked(&mut self, number: u64) -> Result<Asked, Wrong> {
-        let client = self.listener(number)?;
+        let client = self.receiving_client(number)?;
         match client.asked.get(client.replies) {
             Some(asked) => {
                 client.replies = client.replies.saturating_add(1);
@@ -578,12 +587,12 @@ impl<'a> Check<'a> {
     }
 
     /// An unsafe request went well: what was stored for its target is sent no more.
-    fn take_away(&mut self, asked: &Asked) {
+    fn forget_stored_target(&mut self, asked: &Asked) {
         let before = self.kept.len();
         self.kept.retain(|kept| !kept.has_target_of(asked));
         self.fresh.retain(|(known, _)| !known.has_target_of(asked));
         if self.is_past(asked) && self.kept.len() < before {
-            one_more(&mut self.counts.past_taking);
+            count_plus_one(&mut self.counts.past_taking);
         }
     }
 
@@ -593,26 +602,26 @@ impl<'a> Check<'a> {
             let until = self.now.saturating_add(seconds);
             self.fresh.push((*asked, until)).map_err(AllocError::from)?;
         }
-        if matches!(source, Source::Origin) && asked.is_unsafe() && went_well(head) {
-            self.take_away(asked);
+        if matches!(source, Source::Origin) && asked.is_unsafe() && has_successful_status(head) {
+            self.forget_stored_target(asked);
         }
         Ok(())
     }
 
     /// An answer is told to be one past the store where its request went there, and nowhere else.
-    fn ask_past(&self, number: u64, head: &[u8], asked: &Asked) -> Result<(), Wrong> {
+    fn check_past_store(&self, number: u64, head: &[u8], asked: &Asked) -> Result<(), Wrong> {
         if !self.is_past(asked) {
-            if is_claimed(head) {
+            if claims_past_store(head) {
                 return Err(Wrong::Rule("an answer claims to be past the store", number));
             }
-        } else if !is_shown(head) {
+        } else if !shows_past_store(head) {
             return Err(Wrong::Rule("an answer past the store doesn't say so", number));
         }
         Ok(())
     }
 
     /// An answer is as the words of its line have it.
-    fn ask_words(
+    fn check_line_words(
         &mut self,
         number: u64,
         head: &[u8],
@@ -622,13 +631,13 @@ impl<'a> Check<'a> {
         if self.table != Table::WithWords {
             return Ok(());
         }
-        match said_of(head, source, asked.host) {
+        match word_of_answer(head, source, asked.host) {
             Said::Nothing => {}
-            Said::Given => one_more(&mut self.counts.given),
-            Said::Explained => one_more(&mut self.counts.explained),
+            Said::Given => count_plus_one(&mut self.counts.given),
+            Said::Explained => count_plus_one(&mut self.counts.explained),
             Said::Cookie => {
-                one_more(&mut self.counts.explained);
-                one_more(&mut self.counts.cookies_unstored);
+                count_plus_one(&mut self.counts.explained);
+                count_plus_one(&mut self.counts.cookies_unstored);
             }
             Said::Wrong(rule) => return Err(Wrong::Rule(rule, number)),
         }
@@ -637,7 +646,7 @@ impl<'a> Check<'a> {
 
     /// What an answer says of why its request went forward, if it did.
     fn note_reason(&mut self, number: u64, head: &[u8]) {
-        let Some(client) = self.clients.get_mut(place(number)) else {
+        let Some(client) = self.clients.get_mut(index_of_number(number)) else {
             return;
         };
         let Some(exchange) = client.exchange else {
@@ -652,7 +661,7 @@ impl<'a> Check<'a> {
 
     /// A stored response is sent to a request that waited: it tells for what, and that is what the one went forward
     /// for.
-    fn ask_woken(
+    fn check_woken_reply(
         &mut self,
         number: u64,
         head: &[u8],
@@ -669,29 +678,29 @@ impl<'a> Check<'a> {
             return Err(Wrong::Rule("a request tells wrongly for what it waited", number));
         }
         if occurred == Some(Reason::Expired) {
-            one_more(&mut self.counts.waited_for_stale);
-            one_more(&mut self.counts.collapsed_stale);
+            count_plus_one(&mut self.counts.waited_for_stale);
+            count_plus_one(&mut self.counts.collapsed_stale);
         }
         Ok(())
     }
 
     /// A reply to the first request of a client that has none.
     fn reply(&mut self, number: u64, bytes: &[u8]) -> Result<(), Wrong> {
-        let woken = self.touch(number)?;
+        let woken = self.note_possible_effect(number)?;
         let asked = self.next_asked(number)?;
         let (head, source) = read_reply(number, bytes)?;
         if woken.is_some() != matches!(source, Source::Collapsed) {
             return Err(Wrong::Rule("a reply says wrongly whether its request waited", number));
         }
         match woken {
-            Some(woken) => self.ask_woken(number, head, &asked, woken)?,
+            Some(woken) => self.check_woken_reply(number, head, &asked, woken)?,
             None => self.note_reason(number, head),
         }
         if !self.answers(head, source, &asked)? {
             return Err(Wrong::Rule("a reply is to another request", number));
         }
-        self.ask_past(number, head, &asked)?;
-        self.ask_words(number, head, source, &asked)?;
+        self.check_past_store(number, head, &asked)?;
+        self.check_line_words(number, head, source, &asked)?;
         self.count(source);
         self.note(head, source, &asked)?;
         self.keep(source, asked)
@@ -700,15 +709,15 @@ impl<'a> Check<'a> {
     /// Bytes to a client: a continue or a reply.
     fn send(&mut self, number: u64, bytes: &[u8]) -> Result<(), Wrong> {
         if bytes == CONTINUE {
-            self.touch_only(number)?;
-            self.listener(number)?;
+            self.note_effect_without_wake(number)?;
+            self.receiving_client(number)?;
             return Ok(());
         }
         self.reply(number, bytes)
     }
 
     fn take(&mut self, effect: Effect<'_>) -> Result<(), Wrong> {
-        one_more(&mut self.counts.effects);
+        count_plus_one(&mut self.counts.effects);
         match effect {
             Effect::Client(number, bytes) => self.send(number, bytes),
             Effect::Forward(number, address, request) => self.forward(number, address, request),
@@ -753,7 +762,7 @@ impl<'a> Check<'a> {
         };
         self.note_event(occurred);
         self.see(own)?;
-        self.ask(occurred)?;
+        self.check_after_happening(occurred)?;
         self.note_waiting()?;
         Ok(rest)
     }

@@ -5,7 +5,7 @@ use crate::requests::Asked;
 use std::alloc::{AllocError, Global};
 
 /// Where the end of this number, counted from 1, stands in a list.
-pub fn place(number: u64) -> usize {
+pub fn index_of_number(number: u64) -> usize {
     match number.checked_sub(1) {
         Some(before) => before as usize,
         None => usize::MAX,
@@ -42,7 +42,7 @@ impl Drop for Client<'_> {
 
 impl Client<'_> {
     /// The request that has come whole, and has neither a reply nor a link.
-    pub fn silent(&self) -> Option<Asked> {
+    pub fn request_without_reply(&self) -> Option<Asked> {
         let is_open = self.is_accepted && !self.is_over && self.link.is_none();
         if is_open && (self.replies as u64) < self.whole {
             return Some(**self.asked.get(self.replies)?);

@@ -4,7 +4,7 @@ use bstr::ByteSlice;
 use case_text::number_of;
 
 /// The head of a message with its start line, and its content, where an empty line stands.
-pub fn parts(message: &[u8]) -> Option<(&[u8], &[u8])> {
+pub fn head_and_content(message: &[u8]) -> Option<(&[u8], &[u8])> {
     message.split_once_str(b"\r\n\r\n")
 }
 
@@ -29,7 +29,7 @@ pub fn id_of(head: &[u8]) -> Option<(u64, u64)> {
 
 /// The same of a request that goes forward.
 pub fn id_of_request(request: &[u8]) -> Option<(u64, u64)> {
-    match parts(request) {
+    match head_and_content(request) {
         Some((head, _)) => id_of(head),
         None => None,
     }

@@ -5,10 +5,10 @@ use crate::fields::last_value;
 use bstr::ByteSlice;
 
 /// What Cache-Status says of each answer of an origin to such a request.
-const MEMBER: &[u8] = b"edge;fwd=bypass;detail=operator";
+const CACHE_STATUS_PAST_STORE: &[u8] = b"edge;fwd=bypass;detail=operator";
 
 /// How the proxy's own answers to such a request begin: a fault of the request, or one of the two causes below.
-const FAULT: &[u8] = b"refused: ";
+const REQUEST_FAULT_PREFIX: &[u8] = b"refused: ";
 
 const ONLY_IF_CACHED: &[u8] = b"only-if-cached;fwd=bypass;detail=operator";
 
@@ -20,17 +20,17 @@ const FAILURES: [&[u8]; 5] = [
     b"origin too-large;fwd=bypass;detail=operator",
 ];
 
-fn is_own(refusal: &[u8]) -> bool {
-    refusal.starts_with(FAULT)
+fn is_proxys_own_answer(refusal: &[u8]) -> bool {
+    refusal.starts_with(REQUEST_FAULT_PREFIX)
         || refusal == ONLY_IF_CACHED
         || FAILURES.iter().any(|failure| *failure == refusal)
 }
 
 /// Whether the head of an answer is that of one past the store.
-pub fn is_shown(head: &[u8]) -> bool {
+pub fn shows_past_store(head: &[u8]) -> bool {
     match last_value(head, b"Refusal") {
-        Some(refusal) => is_own(refusal),
-        None => last_value(head, b"Cache-Status") == Some(MEMBER),
+        Some(refusal) => is_proxys_own_answer(refusal),
+        None => last_value(head, b"Cache-Status") == Some(CACHE_STATUS_PAST_STORE),
     }
 }
 
@@ -42,7 +42,7 @@ fn names_operator(value: Option<&[u8]>) -> bool {
 }
 
 /// Whether the head of an answer says that the request went past the store.
-pub fn is_claimed(head: &[u8]) -> bool {
+pub fn claims_past_store(head: &[u8]) -> bool {
     names_operator(last_value(head, b"Refusal"))
         || names_operator(last_value(head, b"Cache-Status"))
 }

@@ -1,14 +1,14 @@
 //! What a reply says of itself.
 
 use crate::check::Wrong;
-use crate::fields::{last_value, parts};
+use crate::fields::{head_and_content, last_value};
 use crate::requests::Asked;
 use bstr::ByteSlice;
 use case_text::number_of;
 use std::alloc::{AllocError, Global};
 
 /// Whether the head of an answer has a status from 200 to 399.
-pub fn went_well(head: &[u8]) -> bool {
+pub fn has_successful_status(head: &[u8]) -> bool {
     head.starts_with(b"HTTP/1.1 2") || head.starts_with(b"HTTP/1.1 3")
 }
 
@@ -23,7 +23,7 @@ pub fn seconds_left(head: &[u8]) -> Option<u64> {
 }
 
 /// Whether a content has the length that its head states; to a HEAD there is none.
-fn fits(head: &[u8], content: &[u8]) -> bool {
+fn content_fits_length(head: &[u8], content: &[u8]) -> bool {
     match last_value(head, b"Content-Length") {
         Some(length) => content.is_empty() || number_of(length) == Some(content.len() as u64),
         None => content.is_empty(),
@@ -152,13 +152,13 @@ pub fn has_target(alloc: Global, head: &[u8], asked: &Asked) -> Result<bool, All
 
 /// The head of a reply, which is to be a whole message, and where it says that it comes from.
 pub fn read_reply(number: u64, bytes: &[u8]) -> Result<(&[u8], Source), Wrong> {
-    let Some((head, content)) = parts(bytes) else {
+    let Some((head, content)) = head_and_content(bytes) else {
         return Err(Wrong::Rule("a reply is no message", number));
     };
     if !has_status_line(head) {
         return Err(Wrong::Rule("a reply has no status line", number));
     }
-    if !fits(head, content) {
+    if !content_fits_length(head, content) {
         return Err(Wrong::Rule("a reply has another length than it says", number));
     }
     match source_of(head) {

@@ -10,12 +10,12 @@ use std::alloc::Global;
 use std::io;
 
 /// Where the choices begin: another number makes another script.
-const BEGINNING: u64 = 20_261_123;
+const FIRST_CHOICE: u64 = 20_261_123;
 
 const HAPPENINGS: usize = 10_000;
 
 fn make(alloc: Global, table: Table) -> Result<Log, Stopped> {
-    let mut world = World::new(alloc, table, BEGINNING)?;
+    let mut world = World::new(alloc, table, FIRST_CHOICE)?;
     for _ in 0..HAPPENINGS {
         world.step()?;
     }

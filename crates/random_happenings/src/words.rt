@@ -12,7 +12,7 @@ use crate::replies::{Source, seconds_left};
 use bstr::ByteSlice;
 
 /// The lifetime that the line of the host i gives, in seconds.
-const GIVEN: u64 = 30;
+const GIVEN_LIFETIME: u64 = 30;
 
 /// What an answer over such a line says.
 pub enum Said {
@@ -27,13 +27,13 @@ pub enum Said {
     Wrong(&'static str),
 }
 
-fn member(head: &[u8]) -> &[u8] {
+fn cache_status_member(head: &[u8]) -> &[u8] {
     last_value(head, b"Cache-Status").unwrap_or(b"")
 }
 
 /// Whether a wish of the request is named: no-cache, max-age or min-fresh.
-fn names_a_wish(head: &[u8]) -> bool {
-    let shown = member(head);
+fn names_a_request_directive(head: &[u8]) -> bool {
+    let shown = cache_status_member(head);
     let refusal = last_value(head, b"Refusal").unwrap_or(b"");
     [
         b"fwd=request".as_slice(),
@@ -53,16 +53,16 @@ fn states_a_lifetime(head: &[u8]) -> bool {
         || last_value(head, b"Expires").is_some()
 }
 
-fn said_over_the_first(head: &[u8], source: Source) -> Said {
-    if names_a_wish(head) {
+fn word_of_first_line(head: &[u8], source: Source) -> Said {
+    if names_a_request_directive(head) {
         return Said::Wrong("an answer names a wish that its line ignores");
     }
-    if member(head).contains_str(b"not-stored-") {
+    if cache_status_member(head).contains_str(b"not-stored-") {
         return Said::Wrong("an answer says why it isn't stored, and its line doesn't");
     }
     match source {
         Source::Stored if !states_a_lifetime(head) => match seconds_left(head) {
-            Some(left) if left <= GIVEN => Said::Given,
+            Some(left) if left <= GIVEN_LIFETIME => Said::Given,
             _ => Said::Wrong("an answer lasts longer than its line gives"),
         },
         _ => Said::Nothing,
@@ -83,17 +83,19 @@ fn is_error(head: &[u8]) -> bool {
     head.starts_with(b"HTTP/1.1 500 ") || head.starts_with(b"HTTP/1.1 503 ")
 }
 
-fn said_over_the_other(head: &[u8], source: Source) -> Said {
+fn word_of_other_line(head: &[u8], source: Source) -> Said {
     let is_kept_out = has_cookie_for_one(head) || is_error(head);
     match source {
         Source::Stored | Source::Hit | Source::Store | Source::Collapsed if is_kept_out => {
             Said::Wrong("an answer is of the store that its line keeps out")
         }
-        Source::Origin if member(head).contains_str(b";detail=not-stored-set-cookie") => {
+        Source::Origin
+            if cache_status_member(head).contains_str(b";detail=not-stored-set-cookie") => {
             Said::Cookie
         }
-        Source::Origin if member(head).contains_str(b";detail=not-stored-") => Said::Explained,
-        Source::Origin if !member(head).contains_str(b";detail=") => {
+        Source::Origin if cache_status_member(head).contains_str(b";detail=not-stored-") =>
+            Said::Explained,
+        Source::Origin if !cache_status_member(head).contains_str(b";detail=") => {
             Said::Wrong("an answer doesn't say why it isn't stored")
         }
         _ => Said::Nothing,
@@ -101,10 +103,10 @@ fn said_over_the_other(head: &[u8], source: Source) -> Said {
 }
 
 /// What an answer to a request for this host says.
-pub fn said_of(head: &[u8], source: Source, host: &str) -> Said {
+pub fn word_of_answer(head: &[u8], source: Source, host: &str) -> Said {
     if host == "i" {
-        said_over_the_first(head, source)
+        word_of_first_line(head, source)
     } else {
-        said_over_the_other(head, source)
+        word_of_other_line(head, source)
     }
 }

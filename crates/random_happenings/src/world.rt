@@ -193,7 +193,7 @@ fn cut_piece(dice: &mut Dice, rest: &mut Vec<u8>) -> Result<Vec<u8>, AllocError>
 }
 
 /// What happens at a connection or a link that is over, where they are.
-fn late(
+fn happening_at_an_ended_end(
     roll: usize,
     n: u64,
     l: u64,
@@ -389,7 +389,7 @@ impl World {
         let l = (self.dice.below(self.forwarded as usize) as u64).saturating_add(1);
         let is_open = self.callers.iter().any(|caller| caller.number == n);
         let is_linked = self.forwarded == 0 || self.links.iter().any(|link| link.number == l);
-        match late(self.dice.below(6), n, l, is_open, is_linked) {
+        match happening_at_an_ended_end(self.dice.below(6), n, l, is_open, is_linked) {
             Some((happening, occurred)) => self.happen(happening, occurred),
             None => self.client_sends(),
         }
@@ -431,12 +431,12 @@ impl World {
         let text = effects_text(self.alloc, effects)?;
         self.log.effects.extend_from_slice(text.as_slice())?;
         for effect in effects {
-            self.learn(effect)?;
+            self.note_effect(effect)?;
         }
         Ok(())
     }
 
-    fn learn(&mut self, effect: &Effect) -> Result<(), Stopped> {
+    fn note_effect(&mut self, effect: &Effect) -> Result<(), Stopped> {
         match effect {
             Effect::Client(_, _) => {}
             Effect::Forward(number, _, bytes) => self.open(*number, bytes.as_slice())?,

@@ -26,11 +26,11 @@ origin = \"127.0.0.1:8081\"
 ";
 
 /// What is so, or the call was wrong.
-fn expect(holds: bool) -> Result<(), Stop> {
+fn expect_that(holds: bool) -> Result<(), Stop> {
     if holds { Ok(()) } else { Err(Stop::Wrong) }
 }
 
-fn put<S: Shelf>(shelf: &mut S, entry: Entry) -> Result<(), Stop> {
+fn put_entry<S: Shelf>(shelf: &mut S, entry: Entry) -> Result<(), Stop> {
     if shelf.contains(entry.serial) {
         return Err(Stop::Wrong);
     }
@@ -40,11 +40,11 @@ fn put<S: Shelf>(shelf: &mut S, entry: Entry) -> Result<(), Stop> {
     }
 }
 
-fn fill<S: Shelf>(alloc: Global, shelf: &mut S) -> Result<(), Stop> {
-    put(shelf, entry(alloc, 1, "/a")?)?;
-    put(shelf, entry(alloc, 2, "/b")?)?;
-    put(shelf, entry(alloc, 3, "/a")?)?;
-    put(shelf, entry(alloc, 4, "/c")?)
+fn fill_shelf<S: Shelf>(alloc: Global, shelf: &mut S) -> Result<(), Stop> {
+    put_entry(shelf, entry(alloc, 1, "/a")?)?;
+    put_entry(shelf, entry(alloc, 2, "/b")?)?;
+    put_entry(shelf, entry(alloc, 3, "/a")?)?;
+    put_entry(shelf, entry(alloc, 4, "/c")?)
 }
 
 /// Puts a new form of a held response in its place, and tells the serial of the old one.
@@ -64,15 +64,15 @@ fn freshen<S: Shelf>(shelf: &mut S, entry: Entry) -> Result<u64, Stop> {
 }
 
 fn call_shelf<S: Shelf>(shelf: &mut S, fresh: Entry, path: &Key) -> Result<(), Stop> {
-    expect(shelf.promote(1))?;
-    expect(!shelf.promote(9))?;
-    expect(freshen(shelf, fresh)? == 2)?;
-    expect(shelf.remove(4).is_some())?;
-    expect(shelf.remove(4).is_none())?;
-    expect(shelf.has_key(path))?;
-    expect(shelf.invalidate(path) == 2)?;
-    expect(!shelf.has_key(path))?;
-    expect(shelf.len() == 1 && shelf.contains(2))
+    expect_that(shelf.promote(1))?;
+    expect_that(!shelf.promote(9))?;
+    expect_that(freshen(shelf, fresh)? == 2)?;
+    expect_that(shelf.remove(4).is_some())?;
+    expect_that(shelf.remove(4).is_none())?;
+    expect_that(shelf.has_key(path))?;
+    expect_that(shelf.invalidate(path) == 2)?;
+    expect_that(!shelf.has_key(path))?;
+    expect_that(shelf.len() == 1 && shelf.contains(2))
 }
 
 fn request(alloc: Global) -> Result<Asked, Stop> {
@@ -107,17 +107,17 @@ fn core(alloc: Global, asked: &Asked) -> Result<Core<ListShelf>, Stop> {
 
 fn call_core(core: &mut Core<ListShelf>, asked: &Asked) -> Result<(), Stop> {
     let verdict = core.config().judge(&asked.method, &asked.target);
-    expect(verdict == Verdict::Allowed(1))?;
-    expect(matches!(core.abandon(1), Ok(Outcome::Ended)))?;
-    expect(matches!(core.abandon(1), Err(CoreFault::UnknownId)))
+    expect_that(verdict == Verdict::Allowed(1))?;
+    expect_that(matches!(core.abandon(1), Ok(Outcome::Ended)))?;
+    expect_that(matches!(core.abandon(1), Err(CoreFault::UnknownId)))
 }
 
 /// Prepares all, and then makes the calls.
 pub fn run(alloc: Global) -> Result<(), Stop> {
     let mut listed = ListShelf::new(alloc, 4);
-    fill(alloc, &mut listed)?;
+    fill_shelf(alloc, &mut listed)?;
     let mut indexed = IndexedShelf::new(alloc, 4)?;
-    fill(alloc, &mut indexed)?;
+    fill_shelf(alloc, &mut indexed)?;
     let path = key(alloc, "/a")?;
     let (first, second) = (entry(alloc, 2, "/b")?, entry(alloc, 2, "/b")?);
     let asked = request(alloc)?;

@@ -5,7 +5,7 @@ use crate::stop::Stop;
 use hx_allow::{Config, ConfigFault};
 use hx_store::IndexedShelf;
 use proxy_engine::{Engine, EngineFault, Work};
-use proxy_script::{Effect, Front, Happening, Item, effects_text, read_item};
+use proxy_script::{Effect, FrontItem, Happening, Item, effects_text, read_item};
 use std::alloc::Global;
 use std::io;
 use std::io::{Read, Write};
@@ -17,11 +17,11 @@ const TRIES: u8 = 2;
 const PIECE: usize = 4096;
 
 /// The end of the moments that a script may tell.
-const END: u64 = 253_402_300_800;
+const END_OF_MOMENTS: u64 = 253_402_300_800;
 
 type Proxy = Engine<IndexedShelf>;
 
-fn append(script: &mut Vec<u8>, bytes: &[u8]) -> Result<(), Stop> {
+fn append_bytes(script: &mut Vec<u8>, bytes: &[u8]) -> Result<(), Stop> {
     for _ in 0..TRIES {
         if script.extend_from_slice(bytes).is_ok() {
             return Ok(());
@@ -38,7 +38,7 @@ fn script<R: Input + AllocGlobal>(rt: &R) -> Result<Vec<u8>, Stop> {
     for _ in 0..u64::MAX {
         match reader.read(&mut buffer) {
             Ok(0) => return Ok(script),
-            Ok(n) => append(&mut script, &buffer[..n])?,
+            Ok(n) => append_bytes(&mut script, &buffer[..n])?,
             Err(_) => return Err(Stop::Script),
         }
     }
@@ -120,7 +120,11 @@ fn text_of(alloc: Global, effects: &[Effect]) -> Result<Vec<u8>, Stop> {
 fn moment(now: u64) -> u64
     ensures { result < 253402300800 }
 {
-    if now < END { now } else { END - 1 }
+    if now < END_OF_MOMENTS {
+        now
+    } else {
+        END_OF_MOMENTS - 1
+    }
 }
 
 /// Does all that is due, and writes the effects of each act.
@@ -144,7 +148,7 @@ fn play<R: Print + AllocGlobal>(rt: &R, proxy: &mut Proxy, items: &[u8]) -> Resu
     let mut rest = items;
     // Each item has a byte at least.
     for _ in 0..items.len() {
-        let Front::Found(item, more) = read_item(false, rest) else {
+        let FrontItem::Found(item, more) = read_item(false, rest) else {
             break;
         };
         match item {
@@ -168,7 +172,7 @@ fn play<R: Print + AllocGlobal>(rt: &R, proxy: &mut Proxy, items: &[u8]) -> Resu
 pub fn run<R: Input + Print + AllocGlobal>(rt: &R) -> Result<(), Stop> {
     let script = script(rt)?;
     match read_item(true, script.as_slice()) {
-        Front::Found(Item::Config(table), items) => {
+        FrontItem::Found(Item::Config(table), items) => {
             let mut proxy = proxy(rt.alloc(), table)?;
             play(rt, &mut proxy, items)
         }

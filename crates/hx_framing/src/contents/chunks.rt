@@ -5,7 +5,7 @@
 //! here; it stays with the caller.
 ghost use Rattle.std.specs.Prelude.{◌≡◌, ◌≤◌, IfOk, OnErr, true, length, take};
 
-use crate::contents::tokens::{ChunkProgress, ChunkState, Phase, take_tokens};
+use crate::contents::chunk_tokens::{ChunkProgress, ChunkState, Phase, take_tokens};
 use hx_fields::Bytes;
 use std::alloc::{AllocError, Global};
 use std::marker::Model;
@@ -19,23 +19,23 @@ pub(crate) struct Chunks {
 }
 
 impl Model for Chunks {
-    ghost use Rattle.hx_framing.specs.Chunking.{Chunking, NeedsData, chunking_of};
+    ghost use Rattle.hx_framing.specs.Chunking.{Chunking, StillNeedsData, chunking_of_state};
 
     ghost Value = { Chunking };
 
-    ghost view = { λ s. chunking_of s.place s.content.items };
+    ghost view = { λ s. chunking_of_state s.place s.content.items };
 
-    ghost invariant = { λ s. NeedsData s.place.phase s.place.need };
+    ghost invariant = { λ s. StillNeedsData s.place.phase s.place.need };
 }
 
 impl Chunks {
-    ghost use Rattle.hx_framing.specs.Chunks.{start};
+    ghost use Rattle.hx_framing.specs.Chunks.{first_chunking};
     ghost use Rattle.hx_framing.specs.ChunkGrammar.{has_no_lf};
-    ghost use Rattle.hx_framing.specs.Decoding.{Decodes};
+    ghost use Rattle.hx_framing.specs.Decoding.{ChunksAreDecoded};
 
     /// Before the first chunk of a content of at most `max_body` bytes.
     pub(crate) fn start(alloc: Global, max_body: u64) -> Chunks
-        ensures { result ≡ start max_body }
+        ensures { result ≡ first_chunking max_body }
     {
         Chunks {
             place: ChunkState {
@@ -57,7 +57,7 @@ impl Chunks {
     ) -> Result<ChunkProgress, AllocError>
         requires within { searched ≤ length bytes.now }
         requires none { has_no_lf (take searched bytes.now) ≡ true }
-        ensures decodes { IfOk result (Decodes self.old bytes.now self.new) }
+        ensures decodes { IfOk result (ChunksAreDecoded self.old bytes.now self.new) }
         ensures err { OnErr result (self.new ≡ self.old) }
     {
         self.content.reserve(bytes.len())?;

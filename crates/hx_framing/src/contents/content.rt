@@ -2,13 +2,13 @@
 ghost use Rattle.std.specs.Prelude.{◌≡◌, ◌≤◌, IfOk, OnErr, Bool, true, length, take};
 ghost use Rattle.hx_framing.specs.declared.contents.content.Content.TheVariants as content;
 ghost use Rattle.hx_framing.specs.ChunkGrammar.{has_no_lf};
-ghost use Rattle.hx_framing.specs.Contents.{begun, Advances};
-ghost use Rattle.hx_framing.specs.ContentReading.{ReadsOn, behind};
+ghost use Rattle.hx_framing.specs.Contents.{content_begun, ContentAdvances};
+ghost use Rattle.hx_framing.specs.ContentReading.{ContentGoesOn, bytes_behind_content};
 
+use crate::contents::chunk_tokens::ChunkProgress;
 use crate::contents::chunks::Chunks;
 use crate::contents::plain::Plain;
-use crate::contents::tokens::ChunkProgress;
-use crate::fault::FrameFault;
+use crate::frame_fault::FrameFault;
 use crate::lengths::framing::Framing;
 use hx_fields::Bytes;
 use std::alloc::{AllocError, Global};
@@ -48,7 +48,7 @@ impl Drop for Content {
 impl Content {
     /// A content of which nothing was taken.
     pub(crate) fn begun(alloc: Global, max_body: u64, framing: Framing) -> Content
-        ensures { result ≡ begun max_body framing }
+        ensures { result ≡ content_begun max_body framing }
     {
         match framing {
             Framing::Nothing => Content::Nothing,
@@ -69,7 +69,7 @@ impl Content {
     ) -> Result<ContentProgress, AllocError>
         requires within { searched ≤ length bytes.now }
         requires none { has_no_lf (take searched bytes.now) ≡ true }
-        ensures ok { IfOk result (λ progress. Advances ended bytes.now self.old progress self.new) }
+        ensures ok { IfOk result (λ progress. ContentAdvances ended bytes.now self.old progress self.new) }
         ensures err { OnErr result (self.new ≡ self.old) }
     {
         match self {
@@ -94,7 +94,7 @@ impl Content {
         requires within { searched ≤ length bytes.now }
         requires none { has_no_lf (take searched bytes.now) ≡ true }
         ensures reads { IfOk result (λ progress.
-            ReadsOn ended closed bytes.now self.old progress self.new (behind progress bytes.now)) }
+            ContentGoesOn ended closed bytes.now self.old progress self.new (bytes_behind_content progress bytes.now)) }
         ensures err { OnErr result (self.new ≡ self.old) }
     {
         match self.advance(alloc, closed, bytes, searched)? {
@@ -116,7 +116,7 @@ fn decode_chunks(
     requires within { searched ≤ length bytes.now }
     requires none { has_no_lf (take searched bytes.now) ≡ true }
     ensures ok { IfOk result (λ progress. (ended : Bool)
-        → Advances ended bytes.now (content.Chunked chunks.old) progress (content.Chunked chunks.new)) }
+        → ContentAdvances ended bytes.now (content.Chunked chunks.old) progress (content.Chunked chunks.new)) }
     ensures err { OnErr result (chunks.new ≡ chunks.old) }
 {
     match chunks.decode(bytes, searched)? {

@@ -2,7 +2,7 @@
 ghost use Rattle.std.specs.Prelude.{◌≡◌, ◌≤◌, Bool, IfOk, OnOk, OnErr, length};
 
 use crate::contents::content::ContentProgress;
-use crate::fault::FrameFault;
+use crate::frame_fault::FrameFault;
 use hx_fields::Bytes;
 use std::alloc::{AllocError, Global};
 use std::marker::Model;
@@ -25,13 +25,13 @@ impl Model for Plain {
 }
 
 impl Plain {
-    ghost use Rattle.hx_framing.specs.PlainContent.{plain_start, grown};
+    ghost use Rattle.hx_framing.specs.PlainContent.{no_plain_content, plain_content_with};
     ghost use Rattle.hx_framing.specs.declared.contents.content.Content.TheVariants as content;
-    ghost use Rattle.hx_framing.specs.Contents.{Advances};
+    ghost use Rattle.hx_framing.specs.Contents.{ContentAdvances};
 
     /// A content of which nothing has come.
     pub(crate) fn start(alloc: Global, left: u64) -> Plain
-        ensures { result ≡ plain_start left }
+        ensures { result ≡ no_plain_content left }
     {
         Plain {
             left,
@@ -42,7 +42,7 @@ impl Plain {
     /// Takes a run of its bytes. An `Err` changes nothing.
     fn extend(&mut self, run: &[u8]) -> Result<(), AllocError>
         requires { length run.now ≤ self.old.left }
-        ensures ok { OnOk result (self.new ≡ grown self.old run.now) }
+        ensures ok { OnOk result (self.new ≡ plain_content_with self.old run.now) }
         ensures err { OnErr result (self.new ≡ self.old) }
     {
         if self.content.capacity() - self.content.len() < run.len() {
@@ -68,7 +68,7 @@ impl Plain {
         bytes: &[u8],
     ) -> Result<ContentProgress, AllocError>
         ensures ok { IfOk result (λ progress. (ended : Bool)
-            → Advances ended bytes.now (content.Announced self.old) progress (content.Announced self.new)) }
+            → ContentAdvances ended bytes.now (content.Announced self.old) progress (content.Announced self.new)) }
         ensures err { OnErr result (self.new ≡ self.old) }
     {
         let n = self.left.min(bytes.len() as u64) as usize;
@@ -89,7 +89,7 @@ impl Plain {
         bytes: &[u8],
     ) -> Result<ContentProgress, AllocError>
         ensures ok { IfOk result (λ taken.
-            Advances ended bytes.now (content.UntilClose self.old) taken (content.UntilClose self.new)) }
+            ContentAdvances ended bytes.now (content.UntilClose self.old) taken (content.UntilClose self.new)) }
         ensures err { OnErr result (self.new ≡ self.old) }
     {
         if bytes.len() as u64 > self.left {

@@ -2,10 +2,11 @@
 ghost use Rattle.std.specs.Prelude.{◌≡◌, ◌≤◌, length};
 ghost use Rattle.std.specs.List.{list_all};
 ghost use Rattle.std.specs.Str.Parse.{digits_value};
-ghost use Rattle.hx_framing.specs.SizeLine.{starts_well, is_line_byte, is_extension, hex_length, is_size, ends_in_cr};
-ghost use Rattle.hx_framing.specs.SizeLine.{but_last, capped, size_at};
+ghost use Rattle.hx_framing.specs.SizeLine.{begins_with_extension, is_line_byte, is_extension, hex_length, is_size};
+ghost use Rattle.hx_framing.specs.SizeLine.{ends_in_cr};
+ghost use Rattle.hx_framing.specs.SizeLine.{without_last_byte, number_at_most, size_of_line};
 
-use crate::fault::FrameFault;
+use crate::frame_fault::FrameFault;
 use crate::limits::{MOST_EXTENSION_BYTES, MOST_SIZE_DIGITS};
 use hx_fields::number_up_to;
 
@@ -21,8 +22,8 @@ fn are_line_bytes(text: &[u8]) -> bool
     text.iter().all(|b| is_line_byte(*b))
 }
 
-fn starts_well(text: &[u8]) -> bool
-    ensures { result ≡ starts_well text.now }
+fn begins_with_extension(text: &[u8]) -> bool
+    ensures { result ≡ begins_with_extension text.now }
 {
     for b in text {
         if *b != b' ' && *b != b'\t' {
@@ -35,7 +36,7 @@ fn starts_well(text: &[u8]) -> bool
 fn is_extension(text: &[u8]) -> bool
     ensures { result ≡ is_extension text.now }
 {
-    text.len() <= MOST_EXTENSION_BYTES && are_line_bytes(text) && starts_well(text)
+    text.len() <= MOST_EXTENSION_BYTES && are_line_bytes(text) && begins_with_extension(text)
 }
 
 /// How many hexadecimal digits stand at the front.
@@ -69,8 +70,8 @@ pub(crate) fn ends_in_cr(line: &[u8]) -> bool
     }
 }
 
-fn but_last(line: &[u8]) -> &[u8]
-    ensures { result.now ≡ but_last line.now }
+fn without_last_byte(line: &[u8]) -> &[u8]
+    ensures { result.now ≡ without_last_byte line.now }
 {
     match line {
         [front @ .., _] => front,
@@ -79,10 +80,10 @@ fn but_last(line: &[u8]) -> &[u8]
 }
 
 /// The size that a line without its LF spells, or its fault, where `left` bytes of content may still come.
-pub(crate) fn size_at(line: &[u8], left: u64) -> Result<u64, FrameFault>
-    ensures { result ≡ size_at line.now left }
+pub(crate) fn size_of_line(line: &[u8], left: u64) -> Result<u64, FrameFault>
+    ensures { result ≡ size_of_line line.now left }
 {
-    let text = but_last(line);
+    let text = without_last_byte(line);
     if !ends_in_cr(line) || !is_size(text) {
         return Err(FrameFault::Chunk);
     }

@@ -1,10 +1,10 @@
-//! Where the head of a message ends. The definitions are in `specs/Places.antt` and `specs/Searching.antt`.
+//! Where the head of a message ends. The definitions are in `specs/HeadEnd.antt` and `specs/Searching.antt`.
 ghost use Rattle.std.specs.Prelude.{◌≡◌, ◌≤◌, ◌<◌, ◌+◌, ◌++◌, ℕ, List, length, drop, take, slice_index, IfSome};
-ghost use Rattle.hx_framing.specs.Places.{empty_line_at, empty_lines_from, head_end_at, empty_lines_length};
-ghost use Rattle.hx_framing.specs.Places.{head_end_from, head_length};
-ghost use Rattle.hx_framing.specs.Searching.{Reaches, IsSearched};
+ghost use Rattle.hx_framing.specs.HeadEnd.{empty_line_at, empty_lines_from, head_end_at, empty_lines_length};
+ghost use Rattle.hx_framing.specs.HeadEnd.{head_end_from, head_length};
+ghost use Rattle.hx_framing.specs.Searching.{SearchReaches, IsSearchResult};
 
-use crate::slices::{first, rest_from};
+use crate::slices::{first_bytes, rest_from};
 use memchr::memchr;
 
 /// A search goes on from here when more bytes come.
@@ -104,7 +104,7 @@ fn search_lines(bytes: &[u8], from: usize) -> Searched
     requires room { from + 2 ≤ length bytes.now }
     requires lines { (more : List ℕ) → head_length (bytes.now ++ more)
         ≡ head_end_from from (drop from (bytes.now ++ more)) }
-    ensures { IsSearched bytes.now result }
+    ensures { IsSearchResult bytes.now result }
 {
     match head_end_from(bytes, from) {
         Some(end) => Searched::Ended(end),
@@ -118,8 +118,8 @@ fn search_lines(bytes: &[u8], from: usize) -> Searched
 
 /// Goes on with a search for the end of a head.
 pub(crate) fn search_head(bytes: &[u8], search: HeadSearch) -> Searched
-    requires { Reaches bytes.now search }
-    ensures { IsSearched bytes.now result }
+    requires { SearchReaches bytes.now search }
+    ensures { IsSearchResult bytes.now result }
 {
     if search.in_lines {
         return search_lines(bytes, search.at);
@@ -144,10 +144,10 @@ fn head_length(bytes: &[u8]) -> Option<usize>
 }
 
 /// How many bytes a head takes, if it ends within the limit.
-pub(crate) fn head_within(bytes: &[u8], limit: usize) -> Option<usize>
+pub(crate) fn head_length_within(bytes: &[u8], limit: usize) -> Option<usize>
     ensures size { result ≡ head_length (take limit bytes.now) }
     ensures within { IfSome result (λ end. end ≤ length bytes.now) }
     ensures some { IfSome result (λ end. 0 < end) }
 {
-    head_length(first(bytes, limit))
+    head_length(first_bytes(bytes, limit))
 }

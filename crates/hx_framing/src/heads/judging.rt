@@ -1,7 +1,7 @@
 //! How the bytes of a whole head are judged, of whichever kind it is.
 ghost use Rattle.std.specs.Prelude.{ℕ, List, ◌≤◌, length, IfOk, IfSome, IfNone, OnErr};
 ghost use Rattle.httparse.specs.declared.spans.HeaderSpan.{HeaderSpan};
-ghost use Rattle.hx_framing.specs.Places.{most_field_lines};
+ghost use Rattle.hx_framing.specs.HeadEnd.{most_field_lines};
 
 use crate::limits::{FEW_FIELD_LINES, MOST_FIELD_LINES, SHORT_HEAD_BYTES};
 use httparse::spans::{EMPTY_HEADER_SPAN, HeaderSpan};

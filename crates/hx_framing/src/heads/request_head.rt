@@ -3,13 +3,13 @@ ghost use Rattle.std.specs.Prelude.{◌≡◌, ◌<◌, [], length, IfOk, Ok};
 ghost use Rattle.http_header.specs.Token.{IsToken};
 ghost use Rattle.httparse.specs.Grammar.{RequestHead, ReadsRequest};
 ghost use Rattle.httparse.specs.Spans.{IsRequestAt, IsRequestWithin, span_bytes};
-ghost use Rattle.hx_framing.specs.Head.{IsHead, head_at, head_fault};
+ghost use Rattle.hx_framing.specs.Head.{IsHeadOfRequest, head_at_spans, request_head_fault};
 ghost use Rattle.hx_framing.specs.declared.heads.request_head.Head.{Head};
-ghost use Rattle.hx_framing.specs.RequestReading.{request_of};
+ghost use Rattle.hx_framing.specs.RequestReading.{request_of_head};
 
-use crate::fault::FrameFault;
+use crate::frame_fault::FrameFault;
+use crate::heads::head_fields::{fields_at, part_at};
 use crate::heads::judging::HeadSpans;
-use crate::heads::lines::{fields_at, part_at};
 use crate::heads::version::request_has_other_version;
 use crate::lengths::framing::without_lengths;
 use crate::messages::Request;
@@ -43,7 +43,7 @@ impl Drop for Head {
 impl Head {
     /// A head with its content, without its length fields.
     pub(crate) fn into_request(self, content: Option<Bytes>) -> Request
-        ensures { result ≡ request_of self content }
+        ensures { result ≡ request_of_head self content }
     {
         let Head {
             method,
@@ -81,7 +81,7 @@ fn copy_head(
 ) -> Result<Head, AllocError>
     requires within { IsRequestWithin bytes.now spans.now found }
     requires method { IsToken (span_bytes bytes.now found.method) }
-    ensures { IfOk result (λ head. head ≡ head_at bytes.now spans.now found) }
+    ensures { IfOk result (λ head. head ≡ head_at_spans bytes.now spans.now found) }
 {
     let method = copy_method(alloc, found.method.of(bytes))?;
     let head = Bytes::shared_copy_of(alloc, bytes)?;
@@ -94,8 +94,8 @@ fn copy_head(
 }
 
 /// The fault of bytes that are no head.
-fn head_fault(bytes: &[u8]) -> FrameFault
-    ensures { result ≡ head_fault bytes.now }
+fn request_head_fault(bytes: &[u8]) -> FrameFault
+    ensures { result ≡ request_head_fault bytes.now }
 {
     if request_has_other_version(bytes) {
         FrameFault::Version
@@ -105,12 +105,12 @@ fn head_fault(bytes: &[u8]) -> FrameFault
 }
 
 impl HeadSpans for RequestSpans {
-    ghost use Rattle.hx_framing.specs.Head.{Judges as RequestJudges};
+    ghost use Rattle.hx_framing.specs.Head.{RequestHeadIsJudged as RequestJudges};
 
     type Judged = Result<Head, FrameFault>;
 
     ghost Covers = { λ found bytes spans. IsRequestWithin bytes spans found
-        × ((h : RequestHead) × IsHead bytes h × IsRequestAt bytes spans found h) };
+        × ((h : RequestHead) × IsHeadOfRequest bytes h × IsRequestAt bytes spans found h) };
 
     ghost Exceeds = { λ bytes most. (h : RequestHead) → ReadsRequest bytes h [] → most < length h.fields };
 
@@ -135,6 +135,6 @@ impl HeadSpans for RequestSpans {
     }
 
     fn refuse(bytes: &[u8]) -> Result<Head, FrameFault> {
-        Err(head_fault(bytes))
+        Err(request_head_fault(bytes))
     }
 }

@@ -6,9 +6,9 @@ ghost use Rattle.hx_framing.specs.declared.heads.status_head.StatusHead.{StatusH
 ghost use Rattle.hx_framing.specs.declared.heads.status_head.Judged.TheVariants as judged;
 ghost use Rattle.hx_framing.specs.StatusHead.{IsStatusHead, status_head_at, status_head_fault};
 
-use crate::fault::FrameFault;
+use crate::frame_fault::FrameFault;
+use crate::heads::head_fields::fields_at;
 use crate::heads::judging::HeadSpans;
-use crate::heads::lines::fields_at;
 use crate::heads::version::response_has_other_version;
 use crate::lengths::framing::is_interim;
 use httparse::Status;
@@ -63,7 +63,7 @@ fn status_head_fault(bytes: &[u8]) -> FrameFault
 }
 
 impl HeadSpans for ResponseSpans {
-    ghost use Rattle.hx_framing.specs.StatusHead.{JudgesAs};
+    ghost use Rattle.hx_framing.specs.StatusHead.{ResponseHeadIsJudgedAs};
 
     type Judged = Judged;
 
@@ -72,9 +72,9 @@ impl HeadSpans for ResponseSpans {
 
     ghost Exceeds = { λ bytes most. (h : ResponseHead) → ReadsResponse bytes h [] → most < length h.fields };
 
-    ghost Judges = { JudgesAs };
+    ghost Judges = { ResponseHeadIsJudgedAs };
 
-    ghost HasHead = { λ bytes. (head : StatusHead) × JudgesAs bytes (judged.Final head) };
+    ghost HasHead = { λ bytes. (head : StatusHead) × ResponseHeadIsJudgedAs bytes (judged.Final head) };
 
     fn find(bytes: &[u8], spans: &mut [HeaderSpan]) -> Option<ResponseSpans> {
         match parse_response(bytes, spans) {

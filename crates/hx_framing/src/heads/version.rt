@@ -4,7 +4,7 @@ ghost use Rattle.hx_framing.specs.Version.{start_line, without_return, is_other_
 ghost use Rattle.hx_framing.specs.Version.{begins_with_other_version};
 
 use crate::heads::head_end::empty_lines_length;
-use crate::slices::{before_byte, first, rest_from};
+use crate::slices::{before_byte, first_bytes, rest_from};
 
 /// The start line of a head, without its LF.
 fn start_line(bytes: &[u8]) -> &[u8]
@@ -53,5 +53,5 @@ pub(crate) fn request_has_other_version(bytes: &[u8]) -> bool
 pub(crate) fn response_has_other_version(bytes: &[u8]) -> bool
     ensures { result ≡ begins_with_other_version (start_line bytes.now) }
 {
-    is_other_version(first(start_line(bytes), 8))
+    is_other_version(first_bytes(start_line(bytes), 8))
 }

@@ -1,11 +1,11 @@
 //! Laws on the limits of heads and contents, and on versions. They hold of the definitions, so each body is empty.
 ghost use Rattle.std.specs.Prelude.{◌≡◌, ◌<◌, ◌≤◌, ℕ, Bool, List, [], None, Ok, Err, length, take, true, false};
 ghost use Rattle.httparse.specs.Grammar.{RequestHead, ResponseHead, ReadsRequest, ReadsResponse};
-ghost use Rattle.hx_framing.specs.declared.fault.FrameFault.TheVariants as fault;
+ghost use Rattle.hx_framing.specs.declared.frame_fault.FrameFault.TheVariants as fault;
 ghost use Rattle.hx_framing.specs.Chunks.{most_trailer_bytes};
 ghost use Rattle.hx_framing.specs.Head as requests;
-ghost use Rattle.hx_framing.specs.Head.{head_of, head_fault};
-ghost use Rattle.hx_framing.specs.Places.{head_length, most_field_lines, most_head_bytes};
+ghost use Rattle.hx_framing.specs.Head.{head_of_grammar, request_head_fault};
+ghost use Rattle.hx_framing.specs.HeadEnd.{head_length, most_field_lines, most_head_bytes};
 ghost use Rattle.hx_framing.specs.Reading.{Incomplete, Faulty};
 ghost use Rattle.hx_framing.specs.RequestReading as request;
 ghost use Rattle.hx_framing.specs.ResponseReading as response;
@@ -16,7 +16,7 @@ ghost use Rattle.hx_framing.specs.Version.{start_line, without_return, begins_wi
 ghost use Rattle.hx_framing.specs.Version.{ends_with_other_version};
 
 /// The numbers of the limits.
-pub fn limits()
+pub fn worked_limits()
     ensures head_bytes { most_head_bytes ≡ 32768 }
     ensures field_lines { most_field_lines ≡ 100 }
     ensures trailer_bytes { most_trailer_bytes ≡ 32768 }
@@ -44,21 +44,21 @@ pub fn long_heads_are_refused()
 /// A head of the grammar is taken with up to 100 field lines, and refused with more.
 pub fn heads_have_at_most_100_lines()
     ensures request { (bytes : List ℕ) → (head : RequestHead) → ReadsRequest bytes head [] → length head.fields ≤ 100
-        → requests.Judges bytes (Ok (head_of head)) }
+        → requests.RequestHeadIsJudged bytes (Ok (head_of_grammar head)) }
     ensures long_request { (bytes : List ℕ) → (head : RequestHead) → ReadsRequest bytes head []
         → 100 < length head.fields
-        → requests.Judges bytes (Err (head_fault bytes)) }
+        → requests.RequestHeadIsJudged bytes (Err (request_head_fault bytes)) }
     ensures response { (bytes : List ℕ) → (head : ResponseHead) → ReadsResponse bytes head [] → length head.fields ≤ 100
-        → responses.Judges bytes (Ok (status_head_of head)) }
+        → responses.ResponseHeadIsJudged bytes (Ok (status_head_of head)) }
     ensures long_response { (bytes : List ℕ) → (head : ResponseHead) → ReadsResponse bytes head []
         → 100 < length head.fields
-        → responses.Judges bytes (Err (status_head_fault bytes)) }
+        → responses.ResponseHeadIsJudged bytes (Err (status_head_fault bytes)) }
 {}
 
 /// A message of another version is refused as that, whatever its lines.
 pub fn other_versions_are_refused()
     ensures request { (bytes : List ℕ) → ends_with_other_version (without_return (start_line bytes)) ≡ true
-        → requests.Judges bytes (Err fault.Version) }
+        → requests.RequestHeadIsJudged bytes (Err fault.Version) }
     ensures response { (bytes : List ℕ) → begins_with_other_version (start_line bytes) ≡ true
-        → responses.Judges bytes (Err fault.Version) }
+        → responses.ResponseHeadIsJudged bytes (Err fault.Version) }
 {}

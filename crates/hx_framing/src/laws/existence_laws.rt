@@ -7,11 +7,11 @@ ghost use Rattle.hx_framing.specs.declared.heads.status_head.StatusHead.{StatusH
 ghost use Rattle.hx_framing.specs.declared.messages.Request.{Request};
 ghost use Rattle.hx_framing.specs.declared.messages.Response.{Response};
 ghost use Rattle.hx_framing.specs.declared.messages.Next.{Next};
-ghost use Rattle.hx_framing.specs.declared.fault.FrameFault.{FrameFault};
+ghost use Rattle.hx_framing.specs.declared.frame_fault.FrameFault.{FrameFault};
 ghost use Rattle.hx_framing.specs.Head as requests;
 ghost use Rattle.hx_framing.specs.StatusHead as responses;
 ghost use Rattle.hx_framing.specs.Progress.{Progress};
-ghost use Rattle.hx_framing.specs.Reading.{Reading};
+ghost use Rattle.hx_framing.specs.Reading.{StreamReading};
 ghost use Rattle.hx_framing.specs.RequestReading as request;
 ghost use Rattle.hx_framing.specs.RequestStream as request_stream;
 ghost use Rattle.hx_framing.specs.ResponseReading as response;
@@ -19,14 +19,16 @@ ghost use Rattle.hx_framing.specs.ResponseStream as response_stream;
 
 /// All bytes are a head of a request or have a fault, and so of a response.
 pub fn all_bytes_are_judged()
-    ensures requests { (bytes : List ℕ) → (judged : Result Head FrameFault) × requests.Judges bytes judged }
-    ensures responses { (bytes : List ℕ) → (judged : Result StatusHead FrameFault) × responses.Judges bytes judged }
+    ensures requests { (bytes : List ℕ) → (judged : Result Head FrameFault)
+        × requests.RequestHeadIsJudged bytes judged }
+    ensures responses { (bytes : List ℕ) → (judged : Result StatusHead FrameFault)
+        × responses.ResponseHeadIsJudged bytes judged }
 {}
 
 /// Each request stream has a reading, and each that spells the requests given an answer.
 pub fn each_request_stream_is_read()
     ensures reading { (max_body : ℕ) → (ended : Bool) → (continue_sent : Bool) → (bytes : List ℕ)
-        → (reading : Reading Request) × request.Reads max_body ended continue_sent bytes reading }
+        → (reading : StreamReading Request) × request.Reads max_body ended continue_sent bytes reading }
     ensures answer { (p : Progress Request) → (rest : List ℕ)
         → request_stream.StreamSpells p.max_body p.stream p.given rest
         → (answer : Next Request) × request_stream.Answers p answer }
@@ -35,7 +37,7 @@ pub fn each_request_stream_is_read()
 /// Each response stream has a reading, and each that spells the response given an answer.
 pub fn each_response_stream_is_read()
     ensures reading { (max_body : ℕ) → (to_head : Bool) → (ended : Bool) → (bytes : List ℕ)
-        → (reading : Reading Response) × response.Reads max_body to_head ended bytes reading }
-    ensures answer { (p : Progress Response) → response_stream.IsGiven p p.given
+        → (reading : StreamReading Response) × response.Reads max_body to_head ended bytes reading }
+    ensures answer { (p : Progress Response) → response_stream.OneResponseIsGiven p p.given
         → (answer : Next Response) × response_stream.Answers p answer }
 {}

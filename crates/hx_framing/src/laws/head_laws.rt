@@ -1,35 +1,35 @@
 //! What is true of each head that is taken, and the faults of bytes that are none.
 ghost use Rattle.std.specs.Prelude.{◌≡◌, ℕ, ◌+◌, ◌≤◌, ◌∷◌, ◌++◌, [], List, true, false, Ok, codes};
 ghost use Rattle.std.specs.List.{list_all};
-ghost use Rattle.hx_framing.specs.declared.fault.FrameFault.TheVariants as fault;
+ghost use Rattle.hx_framing.specs.declared.frame_fault.FrameFault.TheVariants as fault;
 ghost use Rattle.hx_framing.specs.declared.heads.request_head.Head.{Head};
 ghost use Rattle.hx_framing.specs.declared.heads.status_head.StatusHead.{StatusHead};
 ghost use Rattle.hx_framing.specs.Head as requests;
-ghost use Rattle.hx_framing.specs.Head.{head_fault};
+ghost use Rattle.hx_framing.specs.Head.{request_head_fault};
 ghost use Rattle.hx_framing.specs.StatusHead as responses;
 ghost use Rattle.hx_framing.specs.StatusHead.{status_head_fault};
 ghost use Rattle.hx_framing.specs.Version.{is_other_version};
-ghost use Rattle.hx_framing.specs.HeadLines.{is_field_line, HasFieldLines, is_sound};
+ghost use Rattle.hx_framing.specs.HeadLines.{is_field_line, HasFieldLines, is_sound_field};
 
 /// Version takes the place of Head where the request line ends with another version.
-pub fn versions_of_requests()
-    ensures letter_in_front { head_fault (codes "xHTTP/9.9\r\n\r\n") ≡ fault.Version }
-    ensures preface { head_fault (codes "PRI * HTTP/2.0\r\n\r\n") ≡ fault.Version }
-    ensures line_feed_alone { head_fault (codes "PRI * HTTP/2.0\n\n") ≡ fault.Version }
-    ensures empty_lines { head_fault (codes "\r\n\nGET / HTTP/1.2\r\n\r\n") ≡ fault.Version }
-    ensures folded { head_fault (codes "GET / HTTP/0.9\r\na: b\r\n c\r\n\r\n") ≡ fault.Version }
-    ensures space_behind { head_fault (codes "GET / HTTP/2.0 \r\n\r\n") ≡ fault.Head }
-    ensures space_behind_alone { head_fault (codes "GET / HTTP/2.0 \n\n") ≡ fault.Head }
-    ensures two_returns { head_fault (codes "GET / HTTP/2.0\r\r\n\r\n") ≡ fault.Head }
-    ensures two_digits { head_fault (codes "GET / HTTP/1.10\r\n\r\n") ≡ fault.Head }
-    ensures two_digits_alone { head_fault (codes "GET / HTTP/1.10\n\n") ≡ fault.Head }
-    ensures two_digits_in_front { head_fault (codes "GET / HTTP/11.1\r\n\r\n") ≡ fault.Head }
-    ensures one_digit { head_fault (codes "GET / HTTP/2\r\n\r\n") ≡ fault.Head }
-    ensures lower_case { head_fault (codes "GET / http/2.0\r\n\r\n") ≡ fault.Head }
-    ensures known { head_fault (codes "GET  / HTTP/1.1\r\n\r\n") ≡ fault.Head }
-    ensures known_old { head_fault (codes "GET  / HTTP/1.0\n\n") ≡ fault.Head }
-    ensures second_line { head_fault (codes "GET\r\nHTTP/2.0\r\n\r\n") ≡ fault.Head }
-    ensures empty { head_fault (codes "\r\n") ≡ fault.Head }
+pub fn worked_versions_of_requests()
+    ensures letter_in_front { request_head_fault (codes "xHTTP/9.9\r\n\r\n") ≡ fault.Version }
+    ensures preface { request_head_fault (codes "PRI * HTTP/2.0\r\n\r\n") ≡ fault.Version }
+    ensures line_feed_alone { request_head_fault (codes "PRI * HTTP/2.0\n\n") ≡ fault.Version }
+    ensures empty_lines { request_head_fault (codes "\r\n\nGET / HTTP/1.2\r\n\r\n") ≡ fault.Version }
+    ensures folded { request_head_fault (codes "GET / HTTP/0.9\r\na: b\r\n c\r\n\r\n") ≡ fault.Version }
+    ensures space_behind { request_head_fault (codes "GET / HTTP/2.0 \r\n\r\n") ≡ fault.Head }
+    ensures space_behind_alone { request_head_fault (codes "GET / HTTP/2.0 \n\n") ≡ fault.Head }
+    ensures two_returns { request_head_fault (codes "GET / HTTP/2.0\r\r\n\r\n") ≡ fault.Head }
+    ensures two_digits { request_head_fault (codes "GET / HTTP/1.10\r\n\r\n") ≡ fault.Head }
+    ensures two_digits_alone { request_head_fault (codes "GET / HTTP/1.10\n\n") ≡ fault.Head }
+    ensures two_digits_in_front { request_head_fault (codes "GET / HTTP/11.1\r\n\r\n") ≡ fault.Head }
+    ensures one_digit { request_head_fault (codes "GET / HTTP/2\r\n\r\n") ≡ fault.Head }
+    ensures lower_case { request_head_fault (codes "GET / http/2.0\r\n\r\n") ≡ fault.Head }
+    ensures known { request_head_fault (codes "GET  / HTTP/1.1\r\n\r\n") ≡ fault.Head }
+    ensures known_old { request_head_fault (codes "GET  / HTTP/1.0\n\n") ≡ fault.Head }
+    ensures second_line { request_head_fault (codes "GET\r\nHTTP/2.0\r\n\r\n") ≡ fault.Head }
+    ensures empty { request_head_fault (codes "\r\n") ≡ fault.Head }
 {}
 
 /// HTTP-version = "HTTP/" DIGIT "." DIGIT (RFC 9112, section 2.3): what is another version than 1.0
@@ -44,7 +44,7 @@ pub fn versions_have_two_digits()
 {}
 
 /// Version takes the place of Head where the status line begins with another version.
-pub fn versions_of_responses()
+pub fn worked_versions_of_responses()
     ensures other { status_head_fault (codes "HTTP/2.0 200 \r\n\r\n") ≡ fault.Version }
     ensures later { status_head_fault (codes "HTTP/1.2 200 \r\n\r\n") ≡ fault.Version }
     ensures without_space { status_head_fault (codes "HTTP/0.9x\n\n") ≡ fault.Version }
@@ -63,18 +63,18 @@ pub fn versions_of_responses()
 /// Behind the start line of a request that is taken stand its field lines, each with a token before
 /// its first colon and no line end inside, and an empty line.
 pub fn request_heads_are_lines()
-    ensures lines { (bytes : List ℕ) → (head : Head) → requests.Judges bytes (Ok head)
+    ensures lines { (bytes : List ℕ) → (head : Head) → requests.RequestHeadIsJudged bytes (Ok head)
         → HasFieldLines bytes head.fields }
-    ensures sound { (bytes : List ℕ) → (head : Head) → requests.Judges bytes (Ok head)
-        → list_all is_sound head.fields ≡ true }
+    ensures sound { (bytes : List ℕ) → (head : Head) → requests.RequestHeadIsJudged bytes (Ok head)
+        → list_all is_sound_field head.fields ≡ true }
 {}
 
 /// The same of a response.
 pub fn response_heads_are_lines()
-    ensures lines { (bytes : List ℕ) → (head : StatusHead) → responses.Judges bytes (Ok head)
+    ensures lines { (bytes : List ℕ) → (head : StatusHead) → responses.ResponseHeadIsJudged bytes (Ok head)
         → HasFieldLines bytes head.fields }
-    ensures sound { (bytes : List ℕ) → (head : StatusHead) → responses.Judges bytes (Ok head)
-        → list_all is_sound head.fields ≡ true }
+    ensures sound { (bytes : List ℕ) → (head : StatusHead) → responses.ResponseHeadIsJudged bytes (Ok head)
+        → list_all is_sound_field head.fields ≡ true }
 {}
 
 /// A folded line, one with a space before its colon and one without a name are no field lines.

@@ -6,70 +6,70 @@ ghost use Rattle.hx_framing.specs.declared.heads.request_head.Head.{Head};
 ghost use Rattle.hx_framing.specs.declared.readers.request_reader.RequestPhase.TheVariants as phase;
 ghost use Rattle.hx_framing.specs.declared.messages.Request.{Request};
 ghost use Rattle.hx_framing.specs.declared.messages.Next.{Next};
-ghost use Rattle.hx_framing.specs.declared.fault.FrameFault.{FrameFault};
+ghost use Rattle.hx_framing.specs.declared.frame_fault.FrameFault.{FrameFault};
 ghost use Rattle.hx_framing.specs.ChunkGrammar.{has_no_lf};
 ghost use Rattle.hx_framing.specs.Chunking.{Chunking};
-ghost use Rattle.hx_framing.specs.Chunks.{state_after};
-ghost use Rattle.hx_framing.specs.Places.{head_length};
+ghost use Rattle.hx_framing.specs.Chunks.{chunking_after_bytes};
+ghost use Rattle.hx_framing.specs.HeadEnd.{head_length};
 ghost use Rattle.hx_framing.specs.PlainContent.{PlainContent};
-ghost use Rattle.hx_framing.specs.Reading.{Reading, Faulty, IsSettled, extended};
+ghost use Rattle.hx_framing.specs.Reading.{StreamReading, Faulty, ReadingIsSettled, reading_with_more};
 ghost use Rattle.hx_framing.specs.RequestReading.{Reads};
 ghost use Rattle.hx_framing.specs.RequestStream.{StreamSpells, Answers};
-ghost use Rattle.hx_framing.specs.Progress.{Progress, IsDue, fed, finished};
+ghost use Rattle.hx_framing.specs.Progress.{Progress, AnswerIsDue, stream_with_piece, stream_finished};
 ghost use Rattle.hx_framing.specs.RequestState.{State, RepresentsStream, IsUnfinished, weight};
 
 /// One thing stands at the front of the unread bytes.
-pub fn read_once()
-    ensures { (max_body : ℕ) → (ended continue_sent : Bool) → (bytes : List ℕ) → (a b : Reading Request)
+pub fn one_reading_stands_in_front()
+    ensures { (max_body : ℕ) → (ended continue_sent : Bool) → (bytes : List ℕ) → (a b : StreamReading Request)
         → Reads max_body ended continue_sent bytes a → Reads max_body ended continue_sent bytes b → a ≡ b }
 {}
 
 /// What is due stays due, whatever comes behind it: so it doesn't matter how the stream is cut.
-pub fn read_stays()
-    ensures { (max_body : ℕ) → (continue_sent : Bool) → (bytes more : List ℕ) → (reading : Reading Request)
-        → IsSettled reading → Reads max_body false continue_sent bytes reading
-        → Reads max_body false continue_sent (bytes ++ more) (extended reading more) }
+pub fn due_readings_stay()
+    ensures { (max_body : ℕ) → (continue_sent : Bool) → (bytes more : List ℕ) → (reading : StreamReading Request)
+        → ReadingIsSettled reading → Reads max_body false continue_sent bytes reading
+        → Reads max_body false continue_sent (bytes ++ more) (reading_with_more reading more) }
 {}
 
 /// A stream has one fault at most behind the same requests: where one of its beginnings is at fault, so is every
 /// longer one, by the same fault. So the fault of a stream is the one at its earliest place.
-pub fn one_fault()
+pub fn a_stream_has_one_fault()
     ensures { (max_body : ℕ) → (continue_sent : Bool) → (bytes more : List ℕ) → (f g : FrameFault)
         → Reads max_body false continue_sent bytes (Faulty f)
         → Reads max_body false continue_sent (bytes ++ more) (Faulty g) → f ≡ g }
 {}
 
 /// What a stream spells it spells however it goes on: the requests given never change.
-pub fn spelled_stays()
+pub fn spelled_requests_stay()
     ensures { (max_body : ℕ) → (stream more : List ℕ) → (ms : List Request) → (rest : List ℕ)
         → StreamSpells max_body stream ms rest
         → StreamSpells max_body (stream ++ more) ms (rest ++ more) }
 {}
 
 /// A stream begins with one list of so many requests.
-pub fn spelled_once()
+pub fn a_stream_spells_one_list()
     ensures { (max_body : ℕ) → (stream : List ℕ) → (ms ns : List Request) → (r q : List ℕ)
         → length ms ≡ length ns → StreamSpells max_body stream ms r
         → StreamSpells max_body stream ns q → (ms ≡ ns) × (r ≡ q) }
 {}
 
 /// The requests given are those that the stream spells.
-pub fn given_are_spelled()
+pub fn given_messages_are_spelled()
     ensures { (reader : State) → (p : Progress Request) → RepresentsStream reader p → (rest : List ℕ)
         × StreamSpells p.max_body p.stream p.given rest }
 {}
 
 /// One answer is right.
-pub fn answered_once()
+pub fn one_answer_is_right()
     ensures { (p : Progress Request) → (a b : Next Request) → Answers p a → Answers p b → a ≡ b }
 {}
 
 /// An answer that is due stays the right one, whatever comes and where the stream ends.
-pub fn due_stays()
+pub fn due_answers_stay()
     ensures piece { (p : Progress Request) → (answer : Next Request) → (piece : List ℕ)
-        → p.ended ≡ false → IsDue answer → Answers p answer → Answers (fed p piece) answer }
-    ensures end { (p : Progress Request) → (answer : Next Request) → IsDue answer → Answers p answer
-        → Answers (finished p) answer }
+        → p.ended ≡ false → AnswerIsDue answer → Answers p answer → Answers (stream_with_piece p piece) answer }
+    ensures end { (p : Progress Request) → (answer : Next Request) → AnswerIsDue answer → Answers p answer
+        → Answers (stream_finished p) answer }
 {}
 
 /// What a reader keeps where nothing is due is begun and not whole: at most 32,768 bytes, in which
@@ -86,7 +86,7 @@ pub fn no_reader_keeps_what_is_whole()
     ensures line { (s : State) → (head : Head) → (c : Chunking)
         → s.phase ≡ phase.InContent head (content.Chunked c) → IsUnfinished s → has_no_lf s.unread ≡ true }
     ensures begun { (s : State) → (head : Head) → (c : Chunking) → s.phase ≡ phase.InContent head (content.Chunked c)
-        → IsUnfinished s → state_after s.unread c ≡ Some (record c { line = s.unread }) }
+        → IsUnfinished s → chunking_after_bytes s.unread c ≡ Some (record c { line = s.unread }) }
     ensures fault { (s : State) → (f : FrameFault) → s.phase ≡ phase.Faulty f → ¬ (IsUnfinished s) }
 {}
 

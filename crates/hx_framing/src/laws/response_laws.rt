@@ -7,17 +7,17 @@ ghost use Rattle.hx_framing.specs.declared.readers.response_reader.ResponsePhase
 ghost use Rattle.hx_framing.specs.declared.messages.Response.{Response};
 ghost use Rattle.hx_framing.specs.declared.heads.status_head.StatusHead.{StatusHead};
 ghost use Rattle.hx_framing.specs.declared.messages.Next.{Next};
-ghost use Rattle.hx_framing.specs.declared.fault.FrameFault.{FrameFault};
+ghost use Rattle.hx_framing.specs.declared.frame_fault.FrameFault.{FrameFault};
 ghost use Rattle.hx_framing.specs.ChunkGrammar.{has_no_lf};
 ghost use Rattle.hx_framing.specs.Chunking.{Chunking};
-ghost use Rattle.hx_framing.specs.Chunks.{state_after};
+ghost use Rattle.hx_framing.specs.Chunks.{chunking_after_bytes};
 ghost use Rattle.hx_framing.specs.Lengths.{without_lengths};
-ghost use Rattle.hx_framing.specs.Places.{head_length};
+ghost use Rattle.hx_framing.specs.HeadEnd.{head_length};
 ghost use Rattle.hx_framing.specs.PlainContent.{PlainContent};
-ghost use Rattle.hx_framing.specs.Reading.{Reading, Faulty, IsSettled, Spelled, extended};
+ghost use Rattle.hx_framing.specs.Reading.{StreamReading, Faulty, ReadingIsSettled, Spelled, reading_with_more};
 ghost use Rattle.hx_framing.specs.ResponseReading.{Reads};
-ghost use Rattle.hx_framing.specs.ResponseStream.{SpellsResponse, IsGiven, Answers};
-ghost use Rattle.hx_framing.specs.Progress.{Progress, IsDue, fed, finished};
+ghost use Rattle.hx_framing.specs.ResponseStream.{SpellsResponse, OneResponseIsGiven, Answers};
+ghost use Rattle.hx_framing.specs.Progress.{Progress, AnswerIsDue, stream_with_piece, stream_finished};
 ghost use Rattle.hx_framing.specs.ResponseState.{State, RepresentsStream, IsUnfinished, weight};
 
 /// A stream has one response: behind it nothing is given but the end.
@@ -26,49 +26,49 @@ pub fn one_response_is_given()
 {}
 
 /// One thing stands at the front of the stream.
-pub fn read_once()
-    ensures { (max_body : ℕ) → (to_head ended : Bool) → (bytes : List ℕ) → (a b : Reading Response)
+pub fn one_reading_stands_in_front()
+    ensures { (max_body : ℕ) → (to_head ended : Bool) → (bytes : List ℕ) → (a b : StreamReading Response)
         → Reads max_body to_head ended bytes a → Reads max_body to_head ended bytes b → a ≡ b }
 {}
 
 /// What is due stays due, whatever comes behind it: so it doesn't matter how the stream is cut.
-pub fn read_stays()
+pub fn due_readings_stay()
     ensures { (max_body : ℕ) → (to_head : Bool) → (bytes more : List ℕ)
-        → (reading : Reading Response) → IsSettled reading
+        → (reading : StreamReading Response) → ReadingIsSettled reading
         → Reads max_body to_head false bytes reading
-        → Reads max_body to_head false (bytes ++ more) (extended reading more) }
+        → Reads max_body to_head false (bytes ++ more) (reading_with_more reading more) }
 {}
 
 /// A stream has one fault at most: where one of its beginnings is at fault, so is every longer one, by the same fault.
-pub fn one_fault()
+pub fn a_stream_has_one_fault()
     ensures { (max_body : ℕ) → (to_head : Bool) → (bytes more : List ℕ) → (f g : FrameFault)
         → Reads max_body to_head false bytes (Faulty f)
         → Reads max_body to_head false (bytes ++ more) (Faulty g) → f ≡ g }
 {}
 
 /// A stream begins with one response.
-pub fn spelled_once()
+pub fn a_stream_spells_one_list()
     ensures { (max_body : ℕ) → (to_head ended : Bool) → (stream : List ℕ) → (m n : Response)
         → (r q : List ℕ) → SpellsResponse max_body to_head ended stream m r
         → SpellsResponse max_body to_head ended stream n q → (m ≡ n) × (r ≡ q) }
 {}
 
 /// No response was given, or the one that the stream spells.
-pub fn given_are_spelled()
-    ensures { (reader : State) → (p : Progress Response) → RepresentsStream reader p → IsGiven p p.given }
+pub fn given_messages_are_spelled()
+    ensures { (reader : State) → (p : Progress Response) → RepresentsStream reader p → OneResponseIsGiven p p.given }
 {}
 
 /// One answer is right.
-pub fn answered_once()
+pub fn one_answer_is_right()
     ensures { (p : Progress Response) → (a b : Next Response) → Answers p a → Answers p b → a ≡ b }
 {}
 
 /// An answer that is due stays the right one, whatever comes and where the stream ends.
-pub fn due_stays()
+pub fn due_answers_stay()
     ensures piece { (p : Progress Response) → (answer : Next Response) → (piece : List ℕ)
-        → p.ended ≡ false → IsDue answer → Answers p answer → Answers (fed p piece) answer }
-    ensures end { (p : Progress Response) → (answer : Next Response) → IsDue answer
-        → Answers p answer → Answers (finished p) answer }
+        → p.ended ≡ false → AnswerIsDue answer → Answers p answer → Answers (stream_with_piece p piece) answer }
+    ensures end { (p : Progress Response) → (answer : Next Response) → AnswerIsDue answer
+        → Answers p answer → Answers (stream_finished p) answer }
 {}
 
 /// What is read has a final status, from 200 to 599: interim responses are passed over, and others
@@ -103,7 +103,7 @@ pub fn no_reader_keeps_what_is_whole()
         → s.phase ≡ phase.InContent head (content.Chunked c) → IsUnfinished s → has_no_lf s.unread ≡ true }
     ensures begun { (s : State) → (head : StatusHead) → (c : Chunking)
         → s.phase ≡ phase.InContent head (content.Chunked c)
-        → IsUnfinished s → state_after s.unread c ≡ Some (record c { line = s.unread }) }
+        → IsUnfinished s → chunking_after_bytes s.unread c ≡ Some (record c { line = s.unread }) }
     ensures given { (s : State) → s.phase ≡ phase.Given → ¬ (IsUnfinished s) }
     ensures fault { (s : State) → (f : FrameFault) → s.phase ≡ phase.Faulty f → ¬ (IsUnfinished s) }
 {}

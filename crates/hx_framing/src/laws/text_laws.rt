@@ -2,21 +2,21 @@
 ghost use Rattle.std.specs.Prelude.{◌≡◌, ◌∷◌, [], codes, length, Some, None, true, false};
 ghost use Rattle.hx_fields.specs.Examples.{line};
 ghost use Rattle.hx_framing.specs.declared.writing.AddedLine.{AddedLine};
-ghost use Rattle.hx_framing.specs.Examples.{get_request, first_forward, stored_fields, hit_fields};
-ghost use Rattle.hx_framing.specs.Places.{empty_lines_length, head_length};
-ghost use Rattle.hx_framing.specs.Text.{line_of, request_text, response_text};
+ghost use Rattle.hx_framing.specs.Examples.{get_request, first_forwarded_request, stored_fields, hit_fields};
+ghost use Rattle.hx_framing.specs.HeadEnd.{empty_lines_length, head_length};
+ghost use Rattle.hx_framing.specs.Text.{field_of_added_line, request_text, response_text};
 
 /// The request that goes to the origin in the first run.
-pub fn forwarded_text()
-    ensures text { request_text first_forward
+pub fn worked_forwarded_text()
+    ensures text { request_text first_forwarded_request
         ≡ codes "GET /a HTTP/1.1\r\nHost: h\r\nVia: 1.1 edge\r\nConnection: close\r\n\r\n" }
-    ensures size { length (request_text first_forward) ≡ 62 }
-    ensures content { request_text (record first_forward { content = Some (codes "hi") })
+    ensures size { length (request_text first_forwarded_request) ≡ 62 }
+    ensures content { request_text (record first_forwarded_request { content = Some (codes "hi") })
         ≡ codes "GET /a HTTP/1.1\r\nHost: h\r\nVia: 1.1 edge\r\nContent-Length: 2\r\nConnection: close\r\n\r\nhi" }
 {}
 
 /// The two replies of the first run.
-pub fn reply_texts()
+pub fn worked_reply_texts()
     ensures stored { response_text 200 stored_fields (Some 2) false (codes "hi")
         ≡ codes "HTTP/1.1 200 \r\nDate: Thu, 01 Jan 1970 00:01:41 GMT\r\nCache-Control: max-age=60\r\nETag: \"v1\"\r\nCache-Status: edge;fwd=uri-miss;ttl=59;stored\r\nContent-Length: 2\r\n\r\nhi" }
     ensures stored_size { length (response_text 200 stored_fields (Some 2) false (codes "hi"))
@@ -30,7 +30,7 @@ pub fn reply_texts()
 {}
 
 /// A head ends behind its first empty line; empty lines in front belong to it.
-pub fn head_lengths()
+pub fn worked_head_lengths()
     ensures whole { head_length get_request ≡ Some 28 }
     ensures bare { head_length (codes "A\n\nB") ≡ Some 3 }
     ensures mixed { head_length (codes "A\n\r\nB") ≡ Some 4 }
@@ -51,6 +51,6 @@ pub fn empty_lines_in_front()
 {}
 
 /// A line that is added has its name and its value.
-pub fn added_lines()
-    ensures { (added : AddedLine) → line_of added ≡ line added.name.now added.value.now }
+pub fn worked_added_lines()
+    ensures { (added : AddedLine) → field_of_added_line added ≡ line added.name.now added.value.now }
 {}

@@ -2,16 +2,17 @@
 //! definitions, so each body is empty.
 ghost use Rattle.std.specs.Prelude.{◌≡◌, ◌≤◌, ℕ, Bool, List, Some, Ok, take, false, codes};
 ghost use Rattle.hx_fields.specs.declared.field_line.Field.{Field};
-ghost use Rattle.hx_fields.specs.Lines.{has};
+ghost use Rattle.hx_fields.specs.FieldLines.{has_field};
 ghost use Rattle.hx_framing.specs.declared.heads.request_head.Head.{Head};
 ghost use Rattle.hx_framing.specs.declared.heads.status_head.StatusHead.{StatusHead};
 ghost use Rattle.hx_framing.specs.declared.messages.Request.{Request};
 ghost use Rattle.hx_framing.specs.declared.messages.Response.{Response};
-ghost use Rattle.hx_framing.specs.GivenFields.{SpellsField, GivesFields, SpellsRequestLine, SpellsStatusLine};
+ghost use Rattle.hx_framing.specs.GivenFields.{LineSpellsField, HeadGivesFields, LineSpellsRequestLine};
+ghost use Rattle.hx_framing.specs.GivenFields.{LineSpellsStatusLine};
 ghost use Rattle.hx_framing.specs.Head as requests;
 ghost use Rattle.hx_framing.specs.StatusHead as responses;
 ghost use Rattle.hx_framing.specs.Lengths.{without_lengths};
-ghost use Rattle.hx_framing.specs.Places.{head_length, most_head_bytes};
+ghost use Rattle.hx_framing.specs.HeadEnd.{head_length, most_head_bytes};
 ghost use Rattle.hx_framing.specs.Version.{start_line};
 ghost use Rattle.hx_framing.specs.Reading.{Spelled};
 ghost use Rattle.hx_framing.specs.RequestReading as request;
@@ -20,18 +21,18 @@ ghost use Rattle.hx_framing.specs.ResponseReading as response;
 /// The fields of a request's head are its lines, in order, each a name, a colon and a value with
 /// white space around it; its first line is the method, the target and the version.
 pub fn request_heads_give_their_lines()
-    ensures fields { (bytes : List ℕ) → (head : Head) → requests.Judges bytes (Ok head)
-        → GivesFields bytes head.fields }
-    ensures first { (bytes : List ℕ) → (head : Head) → requests.Judges bytes (Ok head)
-        → SpellsRequestLine (start_line bytes) head }
+    ensures fields { (bytes : List ℕ) → (head : Head) → requests.RequestHeadIsJudged bytes (Ok head)
+        → HeadGivesFields bytes head.fields }
+    ensures first { (bytes : List ℕ) → (head : Head) → requests.RequestHeadIsJudged bytes (Ok head)
+        → LineSpellsRequestLine (start_line bytes) head }
 {}
 
 /// The same of a response, whose first line is the version and the status.
 pub fn response_heads_give_their_lines()
-    ensures fields { (bytes : List ℕ) → (head : StatusHead) → responses.Judges bytes (Ok head)
-        → GivesFields bytes head.fields }
-    ensures first { (bytes : List ℕ) → (head : StatusHead) → responses.Judges bytes (Ok head)
-        → SpellsStatusLine (start_line bytes) head }
+    ensures fields { (bytes : List ℕ) → (head : StatusHead) → responses.ResponseHeadIsJudged bytes (Ok head)
+        → HeadGivesFields bytes head.fields }
+    ensures first { (bytes : List ℕ) → (head : StatusHead) → responses.ResponseHeadIsJudged bytes (Ok head)
+        → LineSpellsStatusLine (start_line bytes) head }
 {}
 
 /// What a reader gives of a head are the fields that its lines spell, but for the length fields: of
@@ -41,13 +42,13 @@ pub fn readers_give_the_lines_of_heads()
         → (rest : List ℕ)
         → request.Reads max_body ended continue_sent bytes (Spelled given rest)
         → (n : ℕ) × (head_length (take most_head_bytes bytes) ≡ Some n)
-        × ((fields : List Field) × GivesFields (take n bytes) fields × (given.fields ≡ without_lengths fields)) }
+        × ((fields : List Field) × HeadGivesFields (take n bytes) fields × (given.fields ≡ without_lengths fields)) }
     ensures responses { (max_body : ℕ) → (to_head : Bool) → (ended : Bool) → (bytes : List ℕ) → (given : Response)
         → (rest : List ℕ)
         → response.Reads max_body to_head ended bytes (Spelled given rest)
-        → (sizes : List ℕ) × (front : List ℕ) × response.Passes bytes sizes front
+        → (sizes : List ℕ) × (front : List ℕ) × response.PassesInterimResponses bytes sizes front
         × ((n : ℕ) × (head_length (take most_head_bytes front) ≡ Some n)
-        × ((fields : List Field) × GivesFields (take n front) fields × (given.fields ≡ without_lengths fields))) }
+        × ((fields : List Field) × HeadGivesFields (take n front) fields × (given.fields ≡ without_lengths fields))) }
 {}
 
 /// A request that is read is of HTTP/1.0 or HTTP/1.1, and no line of a message speaks of its content's length.
@@ -58,17 +59,18 @@ pub fn what_is_read_is_plain()
     ensures request { (max_body : ℕ) → (ended : Bool) → (continue_sent : Bool) → (bytes : List ℕ) → (given : Request)
         → (rest : List ℕ)
         → request.Reads max_body ended continue_sent bytes (Spelled given rest)
-        → (has given.fields (codes "content-length") ≡ false) × (has given.fields (codes "transfer-encoding") ≡ false) }
+        → (has_field given.fields (codes "content-length") ≡ false) × (has_field given.fields (codes "transfer-encoding") ≡ false) }
     ensures response { (max_body : ℕ) → (to_head : Bool) → (ended : Bool) → (bytes : List ℕ) → (given : Response)
         → (rest : List ℕ)
         → response.Reads max_body to_head ended bytes (Spelled given rest)
-        → (has given.fields (codes "content-length") ≡ false) × (has given.fields (codes "transfer-encoding") ≡ false) }
+        → (has_field given.fields (codes "content-length") ≡ false) × (has_field given.fields (codes "transfer-encoding") ≡ false) }
 {}
 
 /// A line spells one field at most, and the lines of a head give one list of fields.
 pub fn lines_give_one_list()
-    ensures line { (line : List ℕ) → (f : Field) → (g : Field) → SpellsField line f → SpellsField line g → f ≡ g }
-    ensures head { (bytes : List ℕ) → (fs : List Field) → (gs : List Field) → GivesFields bytes fs
-        → GivesFields bytes gs
+    ensures line { (line : List ℕ) → (f : Field) → (g : Field) → LineSpellsField line f → LineSpellsField line g → f
+        ≡ g }
+    ensures head { (bytes : List ℕ) → (fs : List Field) → (gs : List Field) → HeadGivesFields bytes fs
+        → HeadGivesFields bytes gs
         → fs ≡ gs }
 {}

@@ -6,11 +6,12 @@ ghost use Rattle.std.specs.Prelude.{◌≡◌, ◌<◌, MatchOption, IfSome, Som
 ghost use Rattle.std.specs.List.{list_all};
 ghost use Rattle.std.specs.Char.{is_ascii_digit};
 ghost use Rattle.std.specs.Str.Parse.{digits_value};
-ghost use Rattle.hx_fields.specs.Lines.{is_named};
-ghost use Rattle.hx_framing.specs.ContentLength.{comma_pieces, is_digits, significant, is_number, length_shown};
-ghost use Rattle.hx_framing.specs.ContentLength.{length_up_to, content_length};
+ghost use Rattle.hx_fields.specs.FieldLines.{is_named};
+ghost use Rattle.hx_framing.specs.ContentLength.{comma_pieces, is_digits, without_leading_zeros, is_number};
+ghost use Rattle.hx_framing.specs.ContentLength.{announced_length};
+ghost use Rattle.hx_framing.specs.ContentLength.{length_up_to, content_length_name};
 
-use crate::fault::FrameFault;
+use crate::frame_fault::FrameFault;
 use crate::slices::{before_byte, rest_from};
 use hx_fields::{Field, Fields, is_same_name, number_up_to};
 
@@ -27,8 +28,8 @@ fn is_digits(text: &[u8]) -> bool
 }
 
 /// A number without the zeros in front.
-fn significant(text: &[u8]) -> &[u8]
-    ensures { result.now ≡ significant text.now }
+fn without_leading_zeros(text: &[u8]) -> &[u8]
+    ensures { result.now ≡ without_leading_zeros text.now }
 {
     let mut at = 0;
     while at < text.len() && text[at] == b'0' {
@@ -41,11 +42,11 @@ fn significant(text: &[u8]) -> &[u8]
 fn is_number(digits: &[u8], text: &[u8]) -> bool
     ensures { result ≡ is_number digits.now text.now }
 {
-    is_digits(text) && significant(text) == digits
+    is_digits(text) && without_leading_zeros(text) == digits
 }
 
 /// Whether each part of a value between commas is the number of these digits.
-fn are_pieces(digits: &[u8], value: &[u8]) -> bool
+fn are_all_this_number(digits: &[u8], value: &[u8]) -> bool
     ensures { result ≡ list_all (is_number digits.now) (comma_pieces value.now) }
 {
     value
@@ -54,28 +55,28 @@ fn are_pieces(digits: &[u8], value: &[u8]) -> bool
 }
 
 /// Whether each part between commas of each Content-Length line is the number of these digits.
-fn are_all_pieces(digits: &[u8], lines: &[Field]) -> bool
+fn are_all_lengths_this_number(digits: &[u8], lines: &[Field]) -> bool
     ensures { result ≡ list_all (λ (line : Field). list_all (is_number digits.now) (comma_pieces line.value))
-        (filter (is_named content_length) lines.now) }
+        (filter (is_named content_length_name) lines.now) }
 {
     lines
         .iter()
         .filter(|line| is_same_name(line.name.as_slice(), b"content-length"))
-        .all(|line| are_pieces(digits, line.value.as_slice()))
+        .all(|line| are_all_this_number(digits, line.value.as_slice()))
 }
 
 /// The digits of the length that the lines tell, without zeros in front.
-fn digits_shown(fields: &Fields) -> Option<&[u8]>
+fn announced_digits(fields: &Fields) -> Option<&[u8]>
     ensures digits { IfSome result (λ digits. list_all is_ascii_digit digits.now ≡ true) }
-    ensures shown { MatchOption result (length_shown fields.now ≡ None)
-        (λ digits. length_shown fields.now ≡ Some (digits_value 10 digits.now)) }
+    ensures shown { MatchOption result (announced_length fields.now ≡ None)
+        (λ digits. announced_length fields.now ≡ Some (digits_value 10 digits.now)) }
 {
     let text = before_byte(fields.value(b"content-length")?, b',');
     if !is_digits(text) {
         return None;
     }
-    let digits = significant(text);
-    if are_all_pieces(digits, fields.as_slice()) {
+    let digits = without_leading_zeros(text);
+    if are_all_lengths_this_number(digits, fields.as_slice()) {
         Some(digits)
     } else {
         None
@@ -92,9 +93,9 @@ fn value_up_to(most: u64, digits: &[u8]) -> Result<u64, FrameFault>
 
 /// The length that the lines tell, in bytes, if it is at most so much.
 pub(crate) fn length_up_to(most: u64, fields: &Fields) -> Result<u64, FrameFault>
-    ensures { result ≡ length_up_to most (length_shown fields.now) }
+    ensures { result ≡ length_up_to most (announced_length fields.now) }
 {
-    match digits_shown(fields) {
+    match announced_digits(fields) {
         Some(digits) => value_up_to(most, digits),
         None => Err(FrameFault::Length),
     }

@@ -1,14 +1,18 @@
 //! How long the content behind a head is, by its fields (RFC 9112, section 6). The definitions are
 //! in `specs/Lengths.antt`.
 ghost use Rattle.std.specs.Prelude.{◌≡◌, ◌&&◌, IfOk};
-ghost use Rattle.hx_framing.specs.Lengths.{announced_or, is_chunked, ends_in_chunks, is_only_chunked};
-ghost use Rattle.hx_framing.specs.Lengths.{framing_of_codings, has_both, uncoded, has_endless_coding};
+ghost use Rattle.hx_framing.specs.Lengths.{framing_by_content_length, is_chunked, last_coding_is_chunked};
+ghost use Rattle.hx_framing.specs.Lengths.{is_only_chunked};
+ghost use Rattle.hx_framing.specs.Lengths.{framing_of_codings, has_both_lengths, framing_without_codings};
+ghost use Rattle.hx_framing.specs.Lengths.{has_endless_coding};
 ghost use Rattle.hx_framing.specs.Lengths.{framing_of_lengths};
-ghost use Rattle.hx_framing.specs.Lengths.{framing_of_request, expectation, has_content, request_body_of, is_interim};
-ghost use Rattle.hx_framing.specs.Lengths.{is_without_content, framing_of_final, with_status, framing_of_response};
-ghost use Rattle.hx_framing.specs.Lengths.{announced_of, without_lengths};
+ghost use Rattle.hx_framing.specs.Lengths.{framing_of_request, expected_of_server, framing_has_content};
+ghost use Rattle.hx_framing.specs.Lengths.{request_body_of, is_interim};
+ghost use Rattle.hx_framing.specs.Lengths.{response_has_no_content, framing_of_final, framing_if_accepted_status};
+ghost use Rattle.hx_framing.specs.Lengths.{framing_of_response};
+ghost use Rattle.hx_framing.specs.Lengths.{announced_length_to_head, without_lengths};
 
-use crate::fault::FrameFault;
+use crate::frame_fault::FrameFault;
 use crate::heads::request_head::Head;
 use crate::heads::status_head::StatusHead;
 use crate::lengths::content_length::length_up_to;
@@ -38,8 +42,12 @@ pub(crate) struct RequestBody {
 }
 
 /// What Content-Length announces, or what holds without it.
-fn announced_or(max_body: u64, neither: Framing, fields: &Fields) -> Result<Framing, FrameFault>
-    ensures { result ≡ announced_or max_body neither fields.now }
+fn framing_by_content_length(
+    max_body: u64,
+    neither: Framing,
+    fields: &Fields,
+) -> Result<Framing, FrameFault>
+    ensures { result ≡ framing_by_content_length max_body neither fields.now }
 {
     if !fields.has(b"content-length") {
         return Ok(neither);
@@ -57,8 +65,8 @@ fn is_chunked(coding: &Bytes) -> bool
 }
 
 /// Whether the last coding is chunked, and no other is.
-fn ends_in_chunks(codings: &[Bytes]) -> bool
-    ensures { result ≡ ends_in_chunks codings.now }
+fn last_coding_is_chunked(codings: &[Bytes]) -> bool
+    ensures { result ≡ last_coding_is_chunked codings.now }
 {
     match codings {
         [.., last] => is_chunked(last) && codings.iter().filter(|c| is_chunked(c)).count() == 1,
@@ -79,7 +87,7 @@ fn is_only_chunked(codings: &[Bytes]) -> bool
 fn framing_of_codings(must_end: bool, codings: &[Bytes]) -> Result<Framing, FrameFault>
     ensures { result ≡ framing_of_codings must_end codings.now }
 {
-    if must_end && !ends_in_chunks(codings) {
+    if must_end && !last_coding_is_chunked(codings) {
         Err(FrameFault::Length)
     } else if is_only_chunked(codings) {
         Ok(Framing::Chunked)
@@ -88,25 +96,25 @@ fn framing_of_codings(must_end: bool, codings: &[Bytes]) -> Result<Framing, Fram
     }
 }
 
-fn has_both(fields: &Fields) -> bool
-    ensures { result ≡ has_both fields.now }
+fn has_both_lengths(fields: &Fields) -> bool
+    ensures { result ≡ has_both_lengths fields.now }
 {
     fields.has(b"transfer-encoding") && fields.has(b"content-length")
 }
 
 /// What is judged of the length fields without their codings, where that is enough.
-fn uncoded(
+fn framing_without_codings(
     max_body: u64,
     minor: u8,
     neither: Framing,
     fields: &Fields,
 ) -> Option<Result<Framing, FrameFault>>
-    ensures { result ≡ uncoded max_body minor neither fields.now }
+    ensures { result ≡ framing_without_codings max_body minor neither fields.now }
 {
-    if has_both(fields) {
+    if has_both_lengths(fields) {
         Some(Err(FrameFault::BothLengths))
     } else if !fields.has(b"transfer-encoding") {
-        Some(announced_or(max_body, neither, fields))
+        Some(framing_by_content_length(max_body, neither, fields))
     } else if minor == 0 {
         Some(Err(FrameFault::Length))
     } else {
@@ -127,7 +135,7 @@ fn framing_of_lengths(
     ensures { IfOk result
         (λ r. r ≡ framing_of_lengths max_body minor neither (must_end && has_endless_coding fields.now) fields.now) }
 {
-    match uncoded(max_body, minor, neither, fields) {
+    match framing_without_codings(max_body, minor, neither, fields) {
         Some(judged) => Ok(judged),
         None => {
             let codings = fields.members(alloc, b"transfer-encoding")?;
@@ -155,8 +163,8 @@ fn framing_of_request(
 }
 
 /// What is expected of a server.
-fn expectation(alloc: Global, head: &Head) -> Result<Option<Bytes>, AllocError>
-    ensures { IfOk result (λ r. r ≡ expectation head.now) }
+fn expected_of_server(alloc: Global, head: &Head) -> Result<Option<Bytes>, AllocError>
+    ensures { IfOk result (λ r. r ≡ expected_of_server head.now) }
 {
     if head.minor == 1 {
         head.fields.combined(alloc, b"expect")
@@ -165,8 +173,8 @@ fn expectation(alloc: Global, head: &Head) -> Result<Option<Bytes>, AllocError>
     }
 }
 
-fn has_content(framing: Framing) -> bool
-    ensures { result ≡ has_content framing }
+fn framing_has_content(framing: Framing) -> bool
+    ensures { result ≡ framing_has_content framing }
 {
     match framing {
         Framing::Nothing => false,
@@ -187,7 +195,7 @@ pub(crate) fn request_body_of(
         Ok(framing) => framing,
         Err(fault) => return Ok(Err(fault)),
     };
-    match expectation(alloc, head)? {
+    match expected_of_server(alloc, head)? {
         None => Ok(Ok(RequestBody {
             framing,
             wants_continue: false,
@@ -196,7 +204,7 @@ pub(crate) fn request_body_of(
             if is_same_name(value.as_slice(), b"100-continue") {
                 Ok(Ok(RequestBody {
                     framing,
-                    wants_continue: has_content(framing),
+                    wants_continue: framing_has_content(framing),
                 }))
             } else {
                 Ok(Err(FrameFault::Expect))
@@ -212,8 +220,8 @@ pub(crate) fn is_interim(status: u16) -> bool
     matches!(status, 100 | 102..=199)
 }
 
-fn is_without_content(to_head: bool, status: u16) -> bool
-    ensures { result ≡ is_without_content to_head status }
+fn response_has_no_content(to_head: bool, status: u16) -> bool
+    ensures { result ≡ response_has_no_content to_head status }
 {
     to_head || is_interim(status) || status == 204 || status == 304
 }
@@ -237,8 +245,11 @@ fn framing_of_final(
 }
 
 /// What was judged, where a response may have this status.
-fn with_status(status: u16, judged: Result<Framing, FrameFault>) -> Result<Framing, FrameFault>
-    ensures { result ≡ with_status status judged }
+fn framing_if_accepted_status(
+    status: u16,
+    judged: Result<Framing, FrameFault>,
+) -> Result<Framing, FrameFault>
+    ensures { result ≡ framing_if_accepted_status status judged }
 {
     match judged {
         Ok(_) if status < 100 || status >= 600 || status == 101 => Err(FrameFault::Status),
@@ -255,16 +266,16 @@ pub(crate) fn framing_of_response(
 ) -> Result<Result<Framing, FrameFault>, AllocError>
     ensures { IfOk result (λ r. r ≡ framing_of_response max_body to_head head.now) }
 {
-    if head.status == 101 || is_without_content(to_head, head.status) {
-        return Ok(with_status(head.status, Ok(Framing::Nothing)));
+    if head.status == 101 || response_has_no_content(to_head, head.status) {
+        return Ok(framing_if_accepted_status(head.status, Ok(Framing::Nothing)));
     }
     let judged = framing_of_final(alloc, max_body, head)?;
-    Ok(with_status(head.status, judged))
+    Ok(framing_if_accepted_status(head.status, judged))
 }
 
 /// The length that an answer to HEAD announces, in bytes.
-pub(crate) fn announced_of(to_head: bool, head: &StatusHead) -> Option<u64>
-    ensures { result ≡ announced_of to_head head.now }
+pub(crate) fn announced_length_to_head(to_head: bool, head: &StatusHead) -> Option<u64>
+    ensures { result ≡ announced_length_to_head to_head head.now }
 {
     if !to_head || head.fields.has(b"transfer-encoding") {
         return None;

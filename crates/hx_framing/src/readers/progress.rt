@@ -1,7 +1,7 @@
 //! What a reader finds in its unread bytes.
 
 use crate::contents::content::Content;
-use crate::fault::FrameFault;
+use crate::frame_fault::FrameFault;
 
 /// The bytes of a stream that no message has taken, and what they are read by.
 #[derive(Clone, Copy)]

@@ -2,11 +2,12 @@
 //! stream that it stands for (`specs/RequestState.antt`).
 ghost use Rattle.std.specs.Prelude.{◌≡◌, ◌+◌, ◌*◌, ◌≤◌, [], true, false, IsOk, IfOk, OnOk, OnErr, length};
 ghost use Rattle.hx_framing.specs.declared.messages.Request.{Request};
-ghost use Rattle.hx_framing.specs.Progress.{Progress, start, fed, finished, moved, cost};
+ghost use Rattle.hx_framing.specs.Progress.{Progress, no_stream, stream_with_piece, stream_finished};
+ghost use Rattle.hx_framing.specs.Progress.{stream_after_answer, cost_of_answer};
 ghost use Rattle.hx_framing.specs.RequestStream.{Answers, NeedsMemory, StreamSpells};
 
 use crate::contents::content::{Content, ContentProgress};
-use crate::fault::FrameFault;
+use crate::frame_fault::FrameFault;
 use crate::heads::request_head::Head;
 use crate::messages::{Next, Request};
 use crate::readers::progress::{HeadProgress, Rest};
@@ -69,13 +70,13 @@ impl Debug for RequestReader {
 
 impl RequestReader {
     ghost use Rattle.hx_framing.specs.declared.readers.request_reader.RequestPhase.TheVariants as phase;
-    ghost use Rattle.hx_framing.specs.declared.fault.FrameFault.{FrameFault};
-    ghost use Rattle.hx_framing.specs.RequestHeadProgress.{IsHeadProgress, HasHead};
+    ghost use Rattle.hx_framing.specs.declared.frame_fault.FrameFault.{FrameFault};
+    ghost use Rattle.hx_framing.specs.RequestHeadProgress.{IsHeadProgress, RequestHeadStands};
     ghost use Rattle.hx_framing.specs.RequestState.{RepresentsStream, weight, kept, IsUnfinished};
 
     /// A reader of an empty stream. Contents have at most `max_body` bytes.
     pub fn new(alloc: Global, max_body: u64) -> RequestReader
-        ensures represents { RepresentsStream result (start max_body false) }
+        ensures represents { RepresentsStream result (no_stream max_body false) }
         ensures weight { weight result ≤ 1 }
     {
         RequestReader {
@@ -98,7 +99,7 @@ impl RequestReader {
     /// Takes the next piece of the stream, before `finish`. An `Err` changes nothing.
     pub fn feed(&mut self, piece: &[u8]) -> Result<(), AllocError>
         ensures represents { OnOk result ((p : Progress Request) → RepresentsStream self.old p
-            → p.ended ≡ false → RepresentsStream self.new (fed p piece.now)) }
+            → p.ended ≡ false → RepresentsStream self.new (stream_with_piece p piece.now)) }
         ensures weight { weight self.new ≤ weight self.old + 2 * length piece.now }
         ensures faulty { (fault : FrameFault) → self.old.phase ≡ phase.Faulty fault → self.new ≡ self.old }
         ensures reserved { length piece.now ≤ self.old.spare → IsOk result }
@@ -115,7 +116,7 @@ impl RequestReader {
     /// The stream has ended. No memory is taken.
     pub fn finish(&mut self)
         ensures represents { (p : Progress Request) → RepresentsStream self.old p
-            → RepresentsStream self.new (finished p) }
+            → RepresentsStream self.new (stream_finished p) }
         ensures weight { weight self.new ≡ weight self.old }
     {
         self.ended = true;
@@ -134,8 +135,8 @@ impl RequestReader {
         ensures answers { IfOk result (λ answer. (p : Progress Request) → RepresentsStream self.old p
             → Answers p answer) }
         ensures represents { IfOk result (λ answer. (p : Progress Request) → RepresentsStream self.old p
-            → RepresentsStream self.new (moved p answer)) }
-        ensures weight { IfOk result (λ answer. weight self.new + cost answer ≤ weight self.old) }
+            → RepresentsStream self.new (stream_after_answer p answer)) }
+        ensures weight { IfOk result (λ answer. weight self.new + cost_of_answer answer ≤ weight self.old) }
         ensures unfinished { IfOk result (λ answer. answer ≡ Next.More → IsUnfinished self.new) }
         ensures room { self.old.spare ≤ self.new.spare }
         ensures memory_last { OnErr result ((p : Progress Request) → RepresentsStream self.old p → NeedsMemory p) }
@@ -173,7 +174,7 @@ impl RequestReader {
     /// What stands at the front of the unread bytes, before a continue was given.
     fn look(&mut self, alloc: Global) -> Result<HeadProgress<Head, Request>, AllocError>
         ensures progress { IfOk result (IsHeadProgress self.old.max_body self.old.ended self.old.unread) }
-        ensures memory_last { OnErr result (HasHead self.old.unread) }
+        ensures memory_last { OnErr result (RequestHeadStands self.old.unread) }
         ensures same { self.new ≡ self.old }
     {
         let head_length = self.unread.head_length();
@@ -191,8 +192,8 @@ impl RequestReader {
         ensures answers { IfOk result (λ answer. (p : Progress Request) → RepresentsStream self.old p
             → Answers p answer) }
         ensures represents { IfOk result (λ answer. (p : Progress Request) → RepresentsStream self.old p
-            → RepresentsStream self.new (moved p answer)) }
-        ensures weight { IfOk result (λ answer. weight self.new + cost answer ≤ weight self.old) }
+            → RepresentsStream self.new (stream_after_answer p answer)) }
+        ensures weight { IfOk result (λ answer. weight self.new + cost_of_answer answer ≤ weight self.old) }
         ensures unfinished { IfOk result (λ answer. answer ≡ Next.More → IsUnfinished self.new) }
         ensures room { self.old.spare ≤ self.new.spare }
         ensures memory_last { OnErr result ((p : Progress Request) → RepresentsStream self.old p → NeedsMemory p) }
@@ -234,8 +235,8 @@ impl RequestReader {
             → RepresentsStream (record self.old { phase = phase.InContent head content }) p → Answers p answer) }
         ensures represents { IfOk result (λ answer. (p : Progress Request)
             → RepresentsStream (record self.old { phase = phase.InContent head content }) p
-            → RepresentsStream self.new (moved p answer)) }
-        ensures weight { IfOk result (λ answer. weight self.new + cost answer
+            → RepresentsStream self.new (stream_after_answer p answer)) }
+        ensures weight { IfOk result (λ answer. weight self.new + cost_of_answer answer
             ≤ 2 * length self.old.unread + 1) }
         ensures unfinished { IfOk result (λ answer. answer ≡ Next.More → IsUnfinished self.new) }
         ensures room { self.old.spare ≤ self.new.spare }

@@ -1,13 +1,13 @@
 //! What stands at the front of the unread bytes of a request stream. The definitions are in
 //! `specs/RequestReading.antt` and `specs/RequestHeadProgress.antt`.
 ghost use Rattle.std.specs.Prelude.{◌≡◌, ◌<◌, IfOk, OnErr, Some, None, Ok, Err, length, take, drop};
-ghost use Rattle.hx_framing.specs.Places.{head_length as head_length_of, most_head_bytes};
-ghost use Rattle.hx_framing.specs.Head.{Judges};
+ghost use Rattle.hx_framing.specs.HeadEnd.{head_length as head_length_of, most_head_bytes};
+ghost use Rattle.hx_framing.specs.Head.{RequestHeadIsJudged};
 ghost use Rattle.hx_framing.specs.Lengths.{request_body_of};
-ghost use Rattle.hx_framing.specs.RequestHeadProgress.{IsHeadProgress, HasHead};
+ghost use Rattle.hx_framing.specs.RequestHeadProgress.{IsHeadProgress, RequestHeadStands};
 
 use crate::contents::content::{Content, ContentProgress};
-use crate::fault::FrameFault;
+use crate::frame_fault::FrameFault;
 use crate::heads::head_end::empty_lines_length;
 use crate::heads::judging::judge_head;
 use crate::heads::request_head::Head;
@@ -45,10 +45,10 @@ fn with_request_body(
 ) -> Result<HeadProgress<Head, Request>, AllocError>
     requires place { head_length_of (take most_head_bytes rest.now.bytes.now) ≡ Some at }
     requires some { 0 < at }
-    requires judged { Judges (take at rest.now.bytes.now) (Ok head) }
+    requires judged { RequestHeadIsJudged (take at rest.now.bytes.now) (Ok head) }
     requires body { request_body_of rest.now.max_body head ≡ Ok body }
     ensures progress { IfOk result (IsHeadProgress rest.now.max_body rest.now.ended rest.now.bytes.now) }
-    ensures memory_last { OnErr result (HasHead rest.now.bytes.now) }
+    ensures memory_last { OnErr result (RequestHeadStands rest.now.bytes.now) }
 {
     let mut content = Content::begun(alloc, rest.max_body, body.framing);
     if body.wants_continue {
@@ -73,7 +73,7 @@ pub(crate) fn read_request(
 ) -> Result<HeadProgress<Head, Request>, AllocError>
     requires { head_length ≡ head_length_of (take most_head_bytes rest.now.bytes.now) }
     ensures progress { IfOk result (IsHeadProgress rest.now.max_body rest.now.ended rest.now.bytes.now) }
-    ensures memory_last { OnErr result (HasHead rest.now.bytes.now) }
+    ensures memory_last { OnErr result (RequestHeadStands rest.now.bytes.now) }
 {
     let Some(at) = head_length else {
         return Ok(without_head(rest));

@@ -2,15 +2,16 @@
 //! stream that it stands for (`specs/ResponseState.antt`).
 ghost use Rattle.std.specs.Prelude.{◌≡◌, ◌+◌, ◌*◌, ◌≤◌, false, cond, IsOk, IfOk, OnOk, OnErr, length};
 ghost use Rattle.hx_framing.specs.declared.messages.Response.{Response};
-ghost use Rattle.hx_framing.specs.Progress.{Progress, start, fed, finished, moved, IsDue, cost};
+ghost use Rattle.hx_framing.specs.Progress.{Progress, no_stream, stream_with_piece, stream_finished};
+ghost use Rattle.hx_framing.specs.Progress.{stream_after_answer, AnswerIsDue, cost_of_answer};
 ghost use Rattle.hx_framing.specs.ResponseStream.{Answers, NeedsMemory};
 
 use crate::contents::content::{Content, ContentProgress};
-use crate::fault::FrameFault;
+use crate::frame_fault::FrameFault;
 use crate::heads::status_head::StatusHead;
 use crate::messages::{Next, Response};
 use crate::readers::progress::{HeadProgress, Rest};
-use crate::readers::response_reading::{read_response, response_of};
+use crate::readers::response_reading::{read_response, response_of_head};
 use crate::readers::unread::Unread;
 use std::alloc::{AllocError, Global};
 use std::fmt::{self, Debug, Formatter};
@@ -73,14 +74,14 @@ impl Debug for ResponseReader {
 
 impl ResponseReader {
     ghost use Rattle.hx_framing.specs.declared.readers.response_reader.ResponsePhase.TheVariants as phase;
-    ghost use Rattle.hx_framing.specs.declared.fault.FrameFault.{FrameFault};
-    ghost use Rattle.hx_framing.specs.ResponseHeadProgress.{IsHeadProgress, HasFinalHead};
+    ghost use Rattle.hx_framing.specs.declared.frame_fault.FrameFault.{FrameFault};
+    ghost use Rattle.hx_framing.specs.ResponseHeadProgress.{IsHeadProgress, FinalHeadStands};
     ghost use Rattle.hx_framing.specs.ResponseState.{RepresentsStream, weight, kept, IsUnfinished};
 
     /// A reader of an empty stream. A content has at most `max_body` bytes; `to_head` says that it
     /// answers a HEAD.
     pub fn new(alloc: Global, max_body: u64, to_head: bool) -> ResponseReader
-        ensures represents { RepresentsStream result (start max_body to_head) }
+        ensures represents { RepresentsStream result (no_stream max_body to_head) }
         ensures weight { weight result ≡ 0 }
     {
         ResponseReader {
@@ -104,7 +105,7 @@ impl ResponseReader {
     /// Takes the next piece of the stream, before `finish`. An `Err` changes nothing.
     pub fn feed(&mut self, piece: &[u8]) -> Result<(), AllocError>
         ensures represents { OnOk result ((p : Progress Response) → RepresentsStream self.old p
-            → p.ended ≡ false → RepresentsStream self.new (fed p piece.now)) }
+            → p.ended ≡ false → RepresentsStream self.new (stream_with_piece p piece.now)) }
         ensures weight { weight self.new ≤ weight self.old + 2 * length piece.now }
         ensures given { self.old.phase ≡ phase.Given → self.new ≡ self.old }
         ensures faulty { (fault : FrameFault) → self.old.phase ≡ phase.Faulty fault → self.new ≡ self.old }
@@ -123,7 +124,7 @@ impl ResponseReader {
     /// The stream has ended. No memory is taken.
     pub fn finish(&mut self)
         ensures represents { (p : Progress Response) → RepresentsStream self.old p
-            → RepresentsStream self.new (finished p) }
+            → RepresentsStream self.new (stream_finished p) }
         ensures weight { weight self.new ≤ weight self.old + 1 }
     {
         self.ended = true;
@@ -142,9 +143,9 @@ impl ResponseReader {
         ensures answers { IfOk result (λ answer. (p : Progress Response) → RepresentsStream self.old p
             → Answers p answer) }
         ensures represents { IfOk result (λ answer. (p : Progress Response) → RepresentsStream self.old p
-            → RepresentsStream self.new (moved p answer)) }
-        ensures weight { IfOk result (λ answer. weight self.new + cost answer ≤ weight self.old) }
-        ensures due { IfOk result (λ answer. IsDue answer → 1 ≤ weight self.new + cost answer) }
+            → RepresentsStream self.new (stream_after_answer p answer)) }
+        ensures weight { IfOk result (λ answer. weight self.new + cost_of_answer answer ≤ weight self.old) }
+        ensures due { IfOk result (λ answer. AnswerIsDue answer → 1 ≤ weight self.new + cost_of_answer answer) }
         ensures unfinished { IfOk result (λ answer. answer ≡ Next.More → IsUnfinished self.new) }
         ensures room { self.old.spare ≤ self.new.spare }
         ensures memory_last { OnErr result ((p : Progress Response) → RepresentsStream self.old p → NeedsMemory p) }
@@ -175,7 +176,7 @@ impl ResponseReader {
     fn look(&mut self, alloc: Global) -> Result<HeadProgress<StatusHead, Response>, AllocError>
         ensures progress { IfOk result
             (IsHeadProgress self.old.max_body self.old.to_head self.old.ended self.old.unread) }
-        ensures memory_last { OnErr result (HasFinalHead self.old.unread) }
+        ensures memory_last { OnErr result (FinalHeadStands self.old.unread) }
         ensures same { self.new ≡ self.old }
     {
         let head_length = self.unread.head_length();
@@ -193,9 +194,9 @@ impl ResponseReader {
         ensures answers { IfOk result (λ answer. (p : Progress Response) → RepresentsStream self.old p
             → Answers p answer) }
         ensures represents { IfOk result (λ answer. (p : Progress Response) → RepresentsStream self.old p
-            → RepresentsStream self.new (moved p answer)) }
-        ensures weight { IfOk result (λ answer. weight self.new + cost answer ≤ weight self.old) }
-        ensures due { IfOk result (λ answer. IsDue answer → 1 ≤ weight self.new + cost answer) }
+            → RepresentsStream self.new (stream_after_answer p answer)) }
+        ensures weight { IfOk result (λ answer. weight self.new + cost_of_answer answer ≤ weight self.old) }
+        ensures due { IfOk result (λ answer. AnswerIsDue answer → 1 ≤ weight self.new + cost_of_answer answer) }
         ensures unfinished { IfOk result (λ answer. answer ≡ Next.More → IsUnfinished self.new) }
         ensures room { self.old.spare ≤ self.new.spare }
         ensures memory_last { OnErr result ((p : Progress Response) → RepresentsStream self.old p → NeedsMemory p) }
@@ -237,10 +238,10 @@ impl ResponseReader {
             → RepresentsStream (record self.old { phase = phase.InContent head content }) p → Answers p answer) }
         ensures represents { IfOk result (λ answer. (p : Progress Response)
             → RepresentsStream (record self.old { phase = phase.InContent head content }) p
-            → RepresentsStream self.new (moved p answer)) }
-        ensures weight { IfOk result (λ answer. weight self.new + cost answer
+            → RepresentsStream self.new (stream_after_answer p answer)) }
+        ensures weight { IfOk result (λ answer. weight self.new + cost_of_answer answer
             ≤ 2 * length self.old.unread + 2 + cond self.old.ended 1 0) }
-        ensures due { IfOk result (λ answer. IsDue answer → 1 ≤ weight self.new + cost answer) }
+        ensures due { IfOk result (λ answer. AnswerIsDue answer → 1 ≤ weight self.new + cost_of_answer answer) }
         ensures unfinished { IfOk result (λ answer. answer ≡ Next.More → IsUnfinished self.new) }
         ensures room { self.old.spare ≤ self.new.spare }
         ensures memory_last { OnErr result ((p : Progress Response)
@@ -264,7 +265,7 @@ impl ResponseReader {
             Ok(ContentProgress::Whole(whole, _)) => {
                 drop(content);
                 self.phase = ResponsePhase::Given;
-                Ok(Next::Message(response_of(alloc, self.to_head, head, whole)))
+                Ok(Next::Message(response_of_head(alloc, self.to_head, head, whole)))
             }
         }
     }

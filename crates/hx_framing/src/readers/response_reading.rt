@@ -1,18 +1,20 @@
 //! What stands at the front of a response stream. The definitions are in `specs/ResponseReading.antt` and
 //! `specs/ResponseHeadProgress.antt`.
 ghost use Rattle.std.specs.Prelude.{◌≡◌, ◌≤◌, IfOk, OnErr, Ok, Bool, length, take};
-ghost use Rattle.hx_framing.specs.Places.{head_length as head_length_of, most_head_bytes};
+ghost use Rattle.hx_framing.specs.HeadEnd.{head_length as head_length_of, most_head_bytes};
 ghost use Rattle.hx_framing.specs.declared.readers.response_reading.FinalHead.TheVariants as final_head;
 ghost use Rattle.hx_framing.specs.Lengths.{framing_of_response};
-ghost use Rattle.hx_framing.specs.ResponseReading.{content_of, response_of};
-ghost use Rattle.hx_framing.specs.ResponseHeadProgress.{IsHeadProgress, IsFinalHead, HasFinalHead};
+ghost use Rattle.hx_framing.specs.ResponseReading.{content_bytes_of, response_of_head};
+ghost use Rattle.hx_framing.specs.ResponseHeadProgress.{IsHeadProgress, FinalHeadIsFound, FinalHeadStands};
 
 use crate::contents::content::{Content, ContentProgress};
-use crate::fault::FrameFault;
-use crate::heads::head_end::head_within;
+use crate::frame_fault::FrameFault;
+use crate::heads::head_end::head_length_within;
 use crate::heads::judging::judge_head;
 use crate::heads::status_head::{Judged, StatusHead};
-use crate::lengths::framing::{Framing, announced_of, framing_of_response, without_lengths};
+use crate::lengths::framing::{
+    Framing, announced_length_to_head, framing_of_response, without_lengths,
+};
 use crate::limits::MOST_HEAD_BYTES;
 use crate::messages::Response;
 use crate::readers::progress::{HeadProgress, Rest};
@@ -32,8 +34,8 @@ pub(crate) enum FinalHead {
 }
 
 /// The bytes of a content; no content has none.
-fn content_of(alloc: Global, content: Option<Bytes>) -> Bytes
-    ensures { result ≡ content_of content }
+fn content_bytes_of(alloc: Global, content: Option<Bytes>) -> Bytes
+    ensures { result ≡ content_bytes_of content }
 {
     match content {
         Some(bytes) => bytes,
@@ -42,15 +44,15 @@ fn content_of(alloc: Global, content: Option<Bytes>) -> Bytes
 }
 
 /// A head with its content, without its length fields.
-pub(crate) fn response_of(
+pub(crate) fn response_of_head(
     alloc: Global,
     to_head: bool,
     head: StatusHead,
     content: Option<Bytes>,
 ) -> Response
-    ensures { result ≡ response_of to_head head content }
+    ensures { result ≡ response_of_head to_head head content }
 {
-    let announced = announced_of(to_head, &head);
+    let announced = announced_length_to_head(to_head, &head);
     let StatusHead {
         status,
         minor: _,
@@ -59,7 +61,7 @@ pub(crate) fn response_of(
     Response {
         status,
         fields: without_lengths(fields),
-        content: content_of(alloc, content),
+        content: content_bytes_of(alloc, content),
         announced,
     }
 }
@@ -71,8 +73,8 @@ fn skip_interim(
     head_length: Option<usize>,
 ) -> Result<FinalHead, AllocError>
     requires { head_length ≡ head_length_of (take most_head_bytes bytes.now) }
-    ensures final_head { IfOk result (IsFinalHead bytes.now) }
-    ensures memory_last { OnErr result (HasFinalHead bytes.now) }
+    ensures final_head { IfOk result (FinalHeadIsFound bytes.now) }
+    ensures memory_last { OnErr result (FinalHeadStands bytes.now) }
 {
     let mut at = 0;
     let mut next = head_length;
@@ -85,7 +87,7 @@ fn skip_interim(
         match judge_head::<ResponseSpans>(alloc, head)? {
             Judged::Interim => {
                 at += n;
-                next = head_within(rest_from(bytes, at), MOST_HEAD_BYTES);
+                next = head_length_within(rest_from(bytes, at), MOST_HEAD_BYTES);
             }
             Judged::Final(head) => return Ok(FinalHead::Complete(head, at + n)),
             Judged::Faulty(fault) => return Ok(FinalHead::Faulty(fault)),
@@ -96,7 +98,7 @@ fn skip_interim(
 /// Where no head ends within the limit behind the interim responses, which take `at` bytes.
 fn without_head(rest: &Rest<'_>, at: usize) -> HeadProgress<StatusHead, Response>
     requires within { at ≤ length rest.now.bytes.now }
-    requires open { IsFinalHead rest.now.bytes.now (final_head.Incomplete at) }
+    requires open { FinalHeadIsFound rest.now.bytes.now (final_head.Incomplete at) }
     ensures { (to_head : Bool) → IsHeadProgress rest.now.max_body to_head rest.now.ended rest.now.bytes.now result }
 {
     if rest.bytes.len() - at > MOST_HEAD_BYTES {
@@ -117,17 +119,17 @@ fn with_framing(
     head: StatusHead,
     framing: Framing,
 ) -> Result<HeadProgress<StatusHead, Response>, AllocError>
-    requires final_head { IsFinalHead rest.now.bytes.now (final_head.Complete head at) }
+    requires final_head { FinalHeadIsFound rest.now.bytes.now (final_head.Complete head at) }
     requires framing { framing_of_response rest.now.max_body to_head head ≡ Ok framing }
     ensures progress { IfOk result (IsHeadProgress rest.now.max_body to_head rest.now.ended rest.now.bytes.now) }
-    ensures memory_last { OnErr result (HasFinalHead rest.now.bytes.now) }
+    ensures memory_last { OnErr result (FinalHeadStands rest.now.bytes.now) }
 {
     let mut content = Content::begun(alloc, rest.max_body, framing);
     match content.read(alloc, rest.ended, rest.ended, rest_from(rest.bytes, at), 0)? {
         ContentProgress::Incomplete(n) => Ok(HeadProgress::InContent(head, content, at + n)),
         ContentProgress::Faulty(fault) => Ok(HeadProgress::Faulty(fault)),
         ContentProgress::Whole(content, n) => {
-            Ok(HeadProgress::Message(response_of(alloc, to_head, head, content), at + n))
+            Ok(HeadProgress::Message(response_of_head(alloc, to_head, head, content), at + n))
         }
     }
 }
@@ -141,7 +143,7 @@ pub(crate) fn read_response(
 ) -> Result<HeadProgress<StatusHead, Response>, AllocError>
     requires { head_length ≡ head_length_of (take most_head_bytes rest.now.bytes.now) }
     ensures progress { IfOk result (IsHeadProgress rest.now.max_body to_head rest.now.ended rest.now.bytes.now) }
-    ensures memory_last { OnErr result (HasFinalHead rest.now.bytes.now) }
+    ensures memory_last { OnErr result (FinalHeadStands rest.now.bytes.now) }
 {
     match skip_interim(alloc, rest.bytes, head_length)? {
         FinalHead::Incomplete(at) => Ok(without_head(rest, at)),

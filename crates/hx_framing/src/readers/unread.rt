@@ -7,7 +7,7 @@ ghost use Rattle.std.specs.Prelude.{◌≡◌, ◌≤◌, ◌++◌, [], IsOk, On
 use crate::contents::content::{Content, ContentProgress};
 use crate::heads::head_end::{HeadSearch, Searched, search_head};
 use crate::limits::MOST_HEAD_BYTES;
-use crate::slices::{first, rest_from};
+use crate::slices::{first_bytes, rest_from};
 use std::alloc::{AllocError, Global};
 use std::marker::Model;
 
@@ -25,16 +25,16 @@ pub(crate) struct Unread {
 impl Model for Unread {
     ghost use Rattle.std.specs.Prelude.{◌≡◌, ◌≤◌, ◌-◌, ◌+◌, true, length, drop, take, vec_len, vec_capacity};
     ghost use Rattle.hx_framing.specs.ChunkGrammar.{has_no_lf};
-    ghost use Rattle.hx_framing.specs.Places.{most_head_bytes};
-    ghost use Rattle.hx_framing.specs.Queue.{Queue};
-    ghost use Rattle.hx_framing.specs.Searching.{Reaches};
+    ghost use Rattle.hx_framing.specs.HeadEnd.{most_head_bytes};
+    ghost use Rattle.hx_framing.specs.Queue.{ByteQueue};
+    ghost use Rattle.hx_framing.specs.Searching.{SearchReaches};
 
-    ghost Value = { Queue };
+    ghost Value = { ByteQueue };
 
     ghost view = { λ u. record { items = drop u.taken u.bytes.items; spare = vec_capacity u.bytes - vec_len u.bytes } };
 
     ghost invariant = { λ u. (u.taken + u.taken ≤ vec_len u.bytes)
-        × Reaches (take most_head_bytes (drop u.taken u.bytes.items)) u.search
+        × SearchReaches (take most_head_bytes (drop u.taken u.bytes.items)) u.search
         × (u.line ≤ length (drop u.taken u.bytes.items))
         × (has_no_lf (take u.line (drop u.taken u.bytes.items)) ≡ true) };
 }
@@ -48,8 +48,8 @@ const UNSEARCHED: HeadSearch = HeadSearch {
 impl Unread {
     ghost use Rattle.std.specs.Prelude.{true, take};
     ghost use Rattle.hx_framing.specs.ChunkGrammar.{has_no_lf};
-    ghost use Rattle.hx_framing.specs.ContentReading.{ReadsOn};
-    ghost use Rattle.hx_framing.specs.Places.{head_length, most_head_bytes};
+    ghost use Rattle.hx_framing.specs.ContentReading.{ContentGoesOn};
+    ghost use Rattle.hx_framing.specs.HeadEnd.{head_length, most_head_bytes};
 
     pub(crate) fn new(alloc: Global) -> Unread
         ensures { result.items ≡ [] }
@@ -118,7 +118,7 @@ impl Unread {
         ensures size { result ≡ head_length (take most_head_bytes self.old.items) }
         ensures same { self.new ≡ self.old }
     {
-        let front = first(
+        let front = first_bytes(
             rest_from(self.bytes.as_slice(), self.taken),
             MOST_HEAD_BYTES,
         );
@@ -148,7 +148,7 @@ impl Unread {
         closed: bool,
     ) -> Result<ContentProgress, AllocError>
         ensures reads { IfOk result
-            (λ progress. ReadsOn ended closed self.old.items content.old progress content.new self.new.items) }
+            (λ progress. ContentGoesOn ended closed self.old.items content.old progress content.new self.new.items) }
         ensures room { self.old.spare ≤ self.new.spare }
         ensures err { OnErr result (self.new ≡ self.old) }
         ensures err_content { OnErr result (content.new ≡ content.old) }

@@ -1,6 +1,6 @@
 //! A request that went forward, or waits for the answer to another, and isn't answered yet.
 ghost use Rattle.std.specs.Prelude.{◌≡◌};
-ghost use Rattle.proxy_core.specs.State.{goes_out, overtake, release};
+ghost use Rattle.proxy_core.specs.State.{exchange_gone_forward, overtaken_exchange, released_exchange};
 
 use crate::open::leading::waits_for;
 use crate::open::stage::Stage;
@@ -30,8 +30,8 @@ pub struct Exchange {
 
 impl Exchange {
     /// Its request goes forward, with this rule and these conditions of the proxy.
-    pub(crate) fn go_out(&mut self, now: u64, rule: ReuseRule, condition: Option<Condition>)
-        ensures { self.new ≡ goes_out now rule condition self.old }
+    pub(crate) fn go_forward(&mut self, now: u64, rule: ReuseRule, condition: Option<Condition>)
+        ensures { self.new ≡ exchange_gone_forward now rule condition self.old }
     {
         self.rule = rule;
         self.request_time = now;
@@ -42,7 +42,7 @@ impl Exchange {
 
     /// It waits no longer, if it waited for the exchange of this id.
     pub(crate) fn release(&mut self, leader: u64)
-        ensures { self.new ≡ release leader self.old }
+        ensures { self.new ≡ released_exchange leader self.old }
     {
         if waits_for(self.stage, leader) {
             self.stage = Stage::Released;
@@ -51,7 +51,7 @@ impl Exchange {
 
     /// Marks it, if it is of a key that was invalidated (RFC 9111, section 4.4).
     pub(crate) fn overtake(&mut self, key: &Key)
-        ensures { self.new ≡ overtake key.now self.old }
+        ensures { self.new ≡ overtaken_exchange key.now self.old }
     {
         if self.asked.target.key.is_same(key) {
             self.overtaken = true;

@@ -7,24 +7,27 @@
 //! key up to the one that leads. `ready` and an invalidation go through all of them.
 ghost use Rattle.std.specs.Prelude.{◌≡◌, ◌<◌, ◌++◌, ◌∷◌, [], map, filter, not, ◌==◌, None, IfOk, OnOk, OnErr};
 ghost use Rattle.std.specs.Prelude.{option_copied, slice_get, IfSome};
-ghost use Rattle.proxy_core.specs.Waiting.{IsReady};
+ghost use Rattle.proxy_core.specs.Waiting.{ExchangeMayBeWoken};
 ghost use Rattle.std.specs.List.{All};
 ghost use Rattle.std.specs.Ordering.{nat_cmp};
 ghost use Rattle.std.specs.Map.{remove_entry};
 ghost use Rattle.std.specs.Option.{ForNone, ForSome};
 ghost use Rattle.std.specs.BTreeMap.{get, keys, values, is_at};
-ghost use Rattle.proxy_core.specs.Gets.{GetsPass, IsGetEntered, GetHasLeft, AreSame, AreWithout, AreTrim};
+ghost use Rattle.proxy_core.specs.Gets.{GetArrivalsPass, GetArrivalIsEntered, GetArrivalHasLeft, AreSameGetIndex};
+ghost use Rattle.proxy_core.specs.Gets.{IsNotInGetIndex, HasNoEmptyKeys};
 ghost use Rattle.std.specs.BTreeSet.{contains};
-ghost use Rattle.proxy_core.specs.Arrivals.{WaitersPass, on_all};
-ghost use Rattle.proxy_core.specs.Waiters.{IsEntered, HasLeft, IsSameIndex, IsNotIn, IsTrim};
+ghost use Rattle.proxy_core.specs.Arrivals.{WaitingArrivalsPass, map_exchanges};
+ghost use Rattle.proxy_core.specs.Waiters.{WaiterIsEntered, WaiterHasLeft, IsSameWaitIndex, IsNotInWaitIndex};
+ghost use Rattle.proxy_core.specs.Waiters.{HasNoEmptyWaiterSets};
 ghost use Rattle.proxy_core.specs.Outcomes.{find_exchange};
 ghost use Rattle.proxy_core.specs.Leading.{leader, ready_ids};
-ghost use Rattle.proxy_core.specs.State.{closed, release, overtake, left_open, gone_out, sent_out};
+ghost use Rattle.proxy_core.specs.State.{exchanges_after_close, released_exchange, overtaken_exchange};
+ghost use Rattle.proxy_core.specs.State.{exchanges_after_end, exchange_forwarded_again, exchange_sent_forward};
 
 use crate::open::exchange::Exchange;
 use crate::open::get_index::GetIndex;
 use crate::open::ids::Ids;
-use crate::open::leading::{is_released, leads};
+use crate::open::leading::{is_released, leads_waiters};
 use crate::open::released::Released;
 use crate::open::wait_index::WaitIndex;
 use crate::steps::condition::Condition;
@@ -67,13 +70,13 @@ impl Model for Exchanges {
     ghost use Rattle.std.specs.Ordering.{nat_cmp};
     ghost use Rattle.std.specs.BTreeMap.{get, values};
     ghost use Rattle.proxy_core.specs.declared.open.exchange.Exchange.{Exchange};
-    ghost use Rattle.proxy_core.specs.Kept.{AreKept};
+    ghost use Rattle.proxy_core.specs.ExchangeIndexes.{IndexesAreRight};
 
     ghost Value = { List Exchange };
 
     ghost view = { λ x. values x.by_arrival };
 
-    ghost invariant = { λ x. AreKept x.by_arrival.entries (λ id. get nat_cmp x.arrivals id) x.waiting
+    ghost invariant = { λ x. IndexesAreRight x.by_arrival.entries (λ id. get nat_cmp x.arrivals id) x.waiting
         x.released x.gets };
 }
 
@@ -140,7 +143,7 @@ impl Exchanges {
     /// The first of those that may be woken. No memory is taken.
     pub(crate) fn first_ready(&self) -> Option<u64>
         ensures value { result ≡ slice_get (ready_ids self.now) 0 }
-        ensures ready { IfSome result (λ id. IsReady id self.now) }
+        ensures ready { IfSome result (λ id. ExchangeMayBeWoken id self.now) }
     {
         Some(self.by_arrival.get(&self.released.first()?)?.id)
     }
@@ -160,13 +163,13 @@ impl Exchanges {
 
     /// The exchange of an id ends, and releases those that wait for it. No memory is taken.
     pub(crate) fn close(&mut self, id: u64)
-        ensures { self.new ≡ closed id self.old }
+        ensures { self.new ≡ exchanges_after_close id self.old }
     {
-        self.take_out(id);
+        self.remove_from_index(id);
         self.release(id);
     }
 
-    fn take_out(&mut self, id: u64)
+    fn remove_from_index(&mut self, id: u64)
         ensures { self.new ≡ filter (λ x. not (x.id == id)) self.old }
     {
         if let Some(arrival) = self.arrivals.remove(&id) {
@@ -182,7 +185,7 @@ impl Exchanges {
 
     /// Those that wait for the exchange of an id wait no longer.
     fn release(&mut self, leader: u64)
-        ensures { self.new ≡ map (release leader) self.old }
+        ensures { self.new ≡ map (released_exchange leader) self.old }
     {
         if let Some(waiting) = self.waiting.take(leader) {
             release_each(&mut self.by_arrival, &waiting, leader);
@@ -192,33 +195,33 @@ impl Exchanges {
     }
 
     /// The exchange of an id goes forward once more, in its place. No memory is taken.
-    pub(crate) fn go_out(&mut self, id: u64, now: u64)
-        ensures { self.new ≡ map (gone_out id now) self.old }
+    pub(crate) fn go_forward(&mut self, id: u64, now: u64)
+        ensures { self.new ≡ map (exchange_forwarded_again id now) self.old }
     {
         if let Some(arrival) = self.arrivals.get(&id) {
             if let Some(x) = self.by_arrival.get_mut(arrival) {
                 self.waiting.leave(x.stage, *arrival);
                 let rule = x.rule;
-                x.go_out(now, rule, None);
+                x.go_forward(now, rule, None);
                 self.released.settle(&self.by_arrival);
             }
         }
     }
 
     /// The exchange of an id goes forward with this rule and these conditions, in its place. No memory is taken.
-    pub(crate) fn send_out(
+    pub(crate) fn send_forward(
         &mut self,
         id: u64,
         now: u64,
         rule: ReuseRule,
         condition: Option<Condition>,
     )
-        ensures { self.new ≡ map (sent_out id now rule condition) self.old }
+        ensures { self.new ≡ map (exchange_sent_forward id now rule condition) self.old }
     {
         if let Some(arrival) = self.arrivals.get(&id) {
             if let Some(x) = self.by_arrival.get_mut(arrival) {
                 self.waiting.leave(x.stage, *arrival);
-                x.go_out(now, rule, condition);
+                x.go_forward(now, rule, condition);
                 self.released.settle(&self.by_arrival);
             }
         }
@@ -226,7 +229,7 @@ impl Exchanges {
 
     /// The exchange of an id ends, and the others of an invalidated key are overtaken. No memory is taken.
     pub(crate) fn leave(&mut self, id: u64, invalidated: Option<&Key>)
-        ensures { self.new ≡ left_open (option_copied invalidated.entry) id self.old }
+        ensures { self.new ≡ exchanges_after_end (option_copied invalidated.entry) id self.old }
     {
         self.close(id);
         match invalidated {
@@ -237,7 +240,7 @@ impl Exchanges {
 
     /// Marks each exchange of a key that was invalidated. It goes through all of them.
     fn overtake(&mut self, key: &Key)
-        ensures { self.new ≡ map (overtake key.now) self.old }
+        ensures { self.new ≡ map (overtaken_exchange key.now) self.old }
     {
         overtake_each(&mut self.by_arrival, key);
         self.released.settle(&self.by_arrival);
@@ -263,12 +266,12 @@ fn push(
     exchange: Exchange,
 ) -> Result<(), AllocError>
     requires last { All (λ k. k < arrival) (keys by_arrival.old) }
-    requires asks_not { AreWithout arrival gets.old }
+    requires asks_not { IsNotInGetIndex arrival gets.old }
     ensures ok { OnOk result (by_arrival.new.entries ≡ by_arrival.old.entries ++ (arrival, exchange) ∷ []) }
-    ensures entered { OnOk result (IsGetEntered exchange.asked arrival gets.old gets.new) }
+    ensures entered { OnOk result (GetArrivalIsEntered exchange.asked arrival gets.old gets.new) }
     ensures err { OnErr result (by_arrival.new.entries ≡ by_arrival.old.entries) }
-    ensures left { OnErr result (AreSame gets.old gets.new) }
-    ensures trim { AreTrim gets.old → AreTrim gets.new }
+    ensures left { OnErr result (AreSameGetIndex gets.old gets.new) }
+    ensures trim { HasNoEmptyKeys gets.old → HasNoEmptyKeys gets.new }
 {
     gets.enter(&exchange.asked, arrival)?;
     match by_arrival.insert(arrival, exchange) {
@@ -291,16 +294,16 @@ fn enter(
     exchange: Exchange,
 ) -> Result<(), AllocError>
     requires last { All (λ k. k < arrival) (keys by_arrival.old) }
-    requires waits_not { IsNotIn arrival waiting.old }
-    requires asks_not { AreWithout arrival gets.old }
+    requires waits_not { IsNotInWaitIndex arrival waiting.old }
+    requires asks_not { IsNotInGetIndex arrival gets.old }
     ensures ok { OnOk result (by_arrival.new.entries ≡ by_arrival.old.entries ++ (arrival, exchange) ∷ []) }
-    ensures entered { OnOk result (IsEntered exchange.stage arrival waiting.old waiting.new) }
-    ensures asks { OnOk result (IsGetEntered exchange.asked arrival gets.old gets.new) }
+    ensures entered { OnOk result (WaiterIsEntered exchange.stage arrival waiting.old waiting.new) }
+    ensures asks { OnOk result (GetArrivalIsEntered exchange.asked arrival gets.old gets.new) }
     ensures err { OnErr result (by_arrival.new.entries ≡ by_arrival.old.entries) }
-    ensures left { OnErr result (IsSameIndex waiting.old waiting.new) }
-    ensures asks_no_more { OnErr result (AreSame gets.old gets.new) }
-    ensures trim_waits { IsTrim waiting.old → IsTrim waiting.new }
-    ensures trim_gets { AreTrim gets.old → AreTrim gets.new }
+    ensures left { OnErr result (IsSameWaitIndex waiting.old waiting.new) }
+    ensures asks_no_more { OnErr result (AreSameGetIndex gets.old gets.new) }
+    ensures trim_waits { HasNoEmptyWaiterSets waiting.old → HasNoEmptyWaiterSets waiting.new }
+    ensures trim_gets { HasNoEmptyKeys gets.old → HasNoEmptyKeys gets.new }
 {
     let stage = exchange.stage;
     waiting.enter(stage, arrival)?;
@@ -321,13 +324,14 @@ fn remove(
     arrival: u64,
 )
     ensures entries { by_arrival.new.entries ≡ remove_entry (is_at (nat_cmp arrival)) by_arrival.old.entries }
-    ensures left { ForSome (get nat_cmp by_arrival.old arrival) (λ x. HasLeft x.stage arrival waiting.old waiting.new) }
+    ensures left { ForSome (get nat_cmp by_arrival.old arrival)
+        (λ x. WaiterHasLeft x.stage arrival waiting.old waiting.new) }
     ensures asks_no_more { ForSome (get nat_cmp by_arrival.old arrival)
-        (λ x. GetHasLeft x.asked arrival gets.old gets.new) }
-    ensures waits_still { ForNone (get nat_cmp by_arrival.old arrival) (IsSameIndex waiting.old waiting.new) }
-    ensures asks_still { ForNone (get nat_cmp by_arrival.old arrival) (AreSame gets.old gets.new) }
-    ensures trim_waits { IsTrim waiting.old → IsTrim waiting.new }
-    ensures trim_gets { AreTrim gets.old → AreTrim gets.new }
+        (λ x. GetArrivalHasLeft x.asked arrival gets.old gets.new) }
+    ensures waits_still { ForNone (get nat_cmp by_arrival.old arrival) (IsSameWaitIndex waiting.old waiting.new) }
+    ensures asks_still { ForNone (get nat_cmp by_arrival.old arrival) (AreSameGetIndex gets.old gets.new) }
+    ensures trim_waits { HasNoEmptyWaiterSets waiting.old → HasNoEmptyWaiterSets waiting.new }
+    ensures trim_gets { HasNoEmptyKeys gets.old → HasNoEmptyKeys gets.new }
 {
     if let Some(x) = by_arrival.remove(&arrival) {
         waiting.leave(x.stage, arrival);
@@ -343,14 +347,14 @@ fn first_to_lead(
     rule: ReuseRule,
     key: &Key,
 ) -> Option<u64>
-    requires { GetsPass key.now (contains nat_cmp arrivals.now) by_arrival.now.entries }
+    requires { GetArrivalsPass key.now (contains nat_cmp arrivals.now) by_arrival.now.entries }
     ensures { result ≡ leader policy rule key.now (values by_arrival.now) }
 {
     // It is said of the length that the numbers ascend.
     let _open = by_arrival.len();
     for arrival in arrivals {
         if let Some(x) = by_arrival.get(arrival) {
-            if leads(x, policy, rule, key) {
+            if leads_waiters(x, policy, rule, key) {
                 return Some(x.id);
             }
         }
@@ -360,8 +364,8 @@ fn first_to_lead(
 
 /// Releases those of these arrivals that wait for the exchange of an id.
 fn release_each(by_arrival: &mut BTreeMap<u64, Exchange>, waiting: &BTreeSet<u64>, leader: u64)
-    requires { WaitersPass leader (contains nat_cmp waiting.now) by_arrival.old.entries }
-    ensures { by_arrival.new.entries ≡ on_all (release leader) by_arrival.old.entries }
+    requires { WaitingArrivalsPass leader (contains nat_cmp waiting.now) by_arrival.old.entries }
+    ensures { by_arrival.new.entries ≡ map_exchanges (released_exchange leader) by_arrival.old.entries }
 {
     for arrival in waiting {
         if let Some(x) = by_arrival.get_mut(arrival) {
@@ -372,7 +376,7 @@ fn release_each(by_arrival: &mut BTreeMap<u64, Exchange>, waiting: &BTreeSet<u64
 
 /// Marks each exchange of a key that was invalidated.
 fn overtake_each(by_arrival: &mut BTreeMap<u64, Exchange>, key: &Key)
-    ensures { by_arrival.new.entries ≡ on_all (overtake key.now) by_arrival.old.entries }
+    ensures { by_arrival.new.entries ≡ map_exchanges (overtaken_exchange key.now) by_arrival.old.entries }
 {
     by_arrival.retain(|_, x| {
         x.overtake(key);

@@ -5,8 +5,9 @@ ghost use Rattle.std.specs.Prelude.{◌≡◌, ℕ, false, IfOk, OnOk, OnErr, op
 ghost use Rattle.std.specs.Bool.{OnFalse, OnTrue};
 ghost use Rattle.std.specs.BTreeMap.{get};
 ghost use Rattle.hx_target.specs.KeyOrder.{key_cmp};
-ghost use Rattle.proxy_core.specs.Gets.{gets_in, AreNone, IsPut, IsPutIf, IsTaken, IsGetEntered, GetHasLeft, AreSame};
-ghost use Rattle.proxy_core.specs.Gets.{AreTrim, AreTrimBeside};
+ghost use Rattle.proxy_core.specs.Gets.{is_in_get_index, IsEmptyGetIndex, ArrivalIsPut, ArrivalIsPutIf};
+ghost use Rattle.proxy_core.specs.Gets.{ArrivalIsTakenOut, GetArrivalIsEntered, GetArrivalHasLeft, AreSameGetIndex};
+ghost use Rattle.proxy_core.specs.Gets.{HasNoEmptyKeys, HasNoOtherEmptyKeys};
 
 use crate::open::leading::is_get;
 use hx_hop::Asked;
@@ -33,8 +34,8 @@ impl Drop for GetIndex {
 impl GetIndex {
     /// No arrivals.
     pub(crate) fn new(alloc: Global) -> Self
-        ensures none { AreNone result }
-        ensures trim { AreTrim result }
+        ensures none { IsEmptyGetIndex result }
+        ensures trim { HasNoEmptyKeys result }
     {
         GetIndex {
             alloc,
@@ -51,9 +52,9 @@ impl GetIndex {
 
     /// Enters an arrival, if it is a GET. Out of memory changes nothing.
     pub(crate) fn enter(&mut self, asked: &Asked, arrival: u64) -> Result<(), AllocError>
-        ensures ok { OnOk result (IsGetEntered asked.now arrival self.old self.new) }
-        ensures err { OnErr result (AreSame self.old self.new) }
-        ensures trim { AreTrim self.old → AreTrim self.new }
+        ensures ok { OnOk result (GetArrivalIsEntered asked.now arrival self.old self.new) }
+        ensures err { OnErr result (AreSameGetIndex self.old self.new) }
+        ensures trim { HasNoEmptyKeys self.old → HasNoEmptyKeys self.new }
     {
         if is_get(asked) {
             return self.insert(&asked.target.key, arrival);
@@ -63,8 +64,8 @@ impl GetIndex {
 
     /// Takes an arrival out, if it is a GET. No memory is taken.
     pub(crate) fn leave(&mut self, asked: &Asked, arrival: u64)
-        ensures left { GetHasLeft asked.now arrival self.old self.new }
-        ensures trim { AreTrim self.old → AreTrim self.new }
+        ensures left { GetArrivalHasLeft asked.now arrival self.old self.new }
+        ensures trim { HasNoEmptyKeys self.old → HasNoEmptyKeys self.new }
     {
         if is_get(asked) {
             self.remove(&asked.target.key, arrival);
@@ -72,9 +73,9 @@ impl GetIndex {
     }
 
     fn insert(&mut self, key: &Key, arrival: u64) -> Result<(), AllocError>
-        ensures ok { OnOk result (IsPut key.now arrival self.old self.new) }
-        ensures err { OnErr result (AreSame self.old self.new) }
-        ensures trim { AreTrim self.old → AreTrim self.new }
+        ensures ok { OnOk result (ArrivalIsPut key.now arrival self.old self.new) }
+        ensures err { OnErr result (AreSameGetIndex self.old self.new) }
+        ensures trim { HasNoEmptyKeys self.old → HasNoEmptyKeys self.new }
     {
         if self.insert_beside(key, arrival)? {
             return Ok(());
@@ -87,9 +88,9 @@ impl GetIndex {
 
     /// Enters an arrival where others ask for that key, and says whether some do.
     fn insert_beside(&mut self, key: &Key, arrival: u64) -> Result<bool, AllocError>
-        ensures ok { IfOk result (λ has. IsPutIf has key.now arrival self.old self.new) }
-        ensures err { OnErr result (AreSame self.old self.new) }
-        ensures trim { AreTrim self.old → AreTrim self.new }
+        ensures ok { IfOk result (λ has. ArrivalIsPutIf has key.now arrival self.old self.new) }
+        ensures err { OnErr result (AreSameGetIndex self.old self.new) }
+        ensures trim { HasNoEmptyKeys self.old → HasNoEmptyKeys self.new }
     {
         match self.arrivals.get_mut(key) {
             Some(arrivals) => {
@@ -101,20 +102,20 @@ impl GetIndex {
     }
 
     fn remove(&mut self, key: &Key, arrival: u64)
-        ensures taken { IsTaken key.now arrival self.old self.new }
-        ensures trim { AreTrim self.old → AreTrim self.new }
+        ensures taken { ArrivalIsTakenOut key.now arrival self.old self.new }
+        ensures trim { HasNoEmptyKeys self.old → HasNoEmptyKeys self.new }
     {
-        if self.take_out(key, arrival) {
+        if self.remove_from_index(key, arrival) {
             self.arrivals.remove(key);
         }
     }
 
     /// Takes an arrival out, and says whether it was the last that asked for that key.
-    fn take_out(&mut self, key: &Key, arrival: u64) -> bool
-        ensures taken { IsTaken key.now arrival self.old self.new }
-        ensures last { OnTrue result ((m : ℕ) → gets_in self.new key.now m ≡ false) }
-        ensures trim_beside { AreTrim self.old → AreTrimBeside key.now self.new }
-        ensures trim { AreTrim self.old → OnFalse result (AreTrim self.new) }
+    fn remove_from_index(&mut self, key: &Key, arrival: u64) -> bool
+        ensures taken { ArrivalIsTakenOut key.now arrival self.old self.new }
+        ensures last { OnTrue result ((m : ℕ) → is_in_get_index self.new key.now m ≡ false) }
+        ensures trim_beside { HasNoEmptyKeys self.old → HasNoOtherEmptyKeys key.now self.new }
+        ensures trim { HasNoEmptyKeys self.old → OnFalse result (HasNoEmptyKeys self.new) }
     {
         match self.arrivals.get_mut(key) {
             Some(arrivals) => {

@@ -2,7 +2,8 @@
 ghost use Rattle.std.specs.Prelude.{◌≡◌};
 ghost use Rattle.hx_directives.specs.Occurrences.{occurrences_of};
 ghost use Rattle.proxy_core.specs.Leading.{is_forwarded, is_released, waits_for, is_get, is_uri_miss, has_expired};
-ghost use Rattle.proxy_core.specs.Leading.{can_wait, goes_alike, is_for_others, may_lead, leads};
+ghost use Rattle.proxy_core.specs.Leading.{can_wait, goes_forward_for_same_reason, may_be_answered_for_others};
+ghost use Rattle.proxy_core.specs.Leading.{may_lead_waiters, leads_waiters};
 
 use crate::open::exchange::Exchange;
 use crate::open::stage::Stage;
@@ -77,35 +78,35 @@ pub(crate) fn can_wait(policy: Policy, rule: ReuseRule) -> bool
 }
 
 /// Whether two go forward for the same reason.
-fn goes_alike(rule: ReuseRule, other: ReuseRule) -> bool
-    ensures { result ≡ goes_alike rule other }
+fn goes_forward_for_same_reason(rule: ReuseRule, other: ReuseRule) -> bool
+    ensures { result ≡ goes_forward_for_same_reason rule other }
 {
     (is_uri_miss(rule) && is_uri_miss(other)) || (has_expired(rule) && has_expired(other))
 }
 
 /// Whether nothing in the request keeps what it is answered for itself: neither no-store nor Authorization (RFC 9111,
 /// sections 5.2.1.5 and 3.5).
-pub(crate) fn is_for_others(asked_directives: &Directives, asked: &Asked) -> bool
+pub(crate) fn may_be_answered_for_others(asked_directives: &Directives, asked: &Asked) -> bool
     requires { asked_directives.now ≡ occurrences_of asked.now.fields }
-    ensures { result ≡ is_for_others asked.now }
+    ensures { result ≡ may_be_answered_for_others asked.now }
 {
     !asked_directives.has(Directive::NoStore) && !asked.fields.has(b"Authorization")
 }
 
-fn may_lead(policy: Policy, for_others: bool) -> bool
-    ensures { result ≡ may_lead policy for_others }
+fn may_lead_waiters(policy: Policy, for_others: bool) -> bool
+    ensures { result ≡ may_lead_waiters policy for_others }
 {
     !policy.waits_for_stale || for_others
 }
 
 /// Whether GETs of this key that go forward by this rule, over a line of this policy, wait for it:
 /// it is one itself, and went forward for the same reason.
-pub(crate) fn leads(exchange: &Exchange, policy: Policy, rule: ReuseRule, key: &Key) -> bool
-    ensures { result ≡ leads policy rule key.now exchange.now }
+pub(crate) fn leads_waiters(exchange: &Exchange, policy: Policy, rule: ReuseRule, key: &Key) -> bool
+    ensures { result ≡ leads_waiters policy rule key.now exchange.now }
 {
     exchange.asked.target.key.is_same(key)
         && is_get(&exchange.asked)
-        && goes_alike(exchange.rule, rule)
+        && goes_forward_for_same_reason(exchange.rule, rule)
         && is_forwarded(exchange.stage)
-        && may_lead(policy, exchange.for_others)
+        && may_lead_waiters(policy, exchange.for_others)
 }

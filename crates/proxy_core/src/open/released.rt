@@ -7,8 +7,9 @@ ghost use Rattle.std.specs.Prelude.{◌≡◌, ℕ, true, Some, if◌then◌else
 ghost use Rattle.std.specs.Ordering.{nat_cmp};
 ghost use Rattle.std.specs.BTreeSet.{contains};
 ghost use Rattle.proxy_core.specs.Leading.{is_released as is_free};
-ghost use Rattle.proxy_core.specs.Releases.{first_released, is_between, is_within, widened, ReleasedPass, IsSettled};
-ghost use Rattle.proxy_core.specs.Releases.{IsNone, IsWidened, IsWidenedBy, IsWidenedTo};
+ghost use Rattle.proxy_core.specs.Releases.{first_released_arrival, is_between_arrivals, may_be_released};
+ghost use Rattle.proxy_core.specs.Releases.{released_range_with, ReleasedArrivalsPass, KnowsTheFirstReleased};
+ghost use Rattle.proxy_core.specs.Releases.{HasNoReleased, CoversOldRange, CoversRange, CoversArrivalSet};
 
 use crate::open::exchange::Exchange;
 use crate::open::leading::is_released;
@@ -31,7 +32,7 @@ impl Drop for Released {
 impl Released {
     /// None is released.
     pub(crate) fn new() -> Self
-        ensures { IsNone result }
+        ensures { HasNoReleased result }
     {
         Released {
             first: None,
@@ -48,9 +49,9 @@ impl Released {
 
     /// The exchange of this number may be released.
     pub(crate) fn enter(&mut self, stage: Stage, arrival: u64)
-        ensures widened { IsWidened self.old self.new }
-        ensures entered { is_free stage ≡ true → is_within self.new arrival ≡ true }
-        ensures reach { self.new ≡ (if is_free stage then widened arrival arrival self.old else self.old) }
+        ensures widened { CoversOldRange self.old self.new }
+        ensures entered { is_free stage ≡ true → may_be_released self.new arrival ≡ true }
+        ensures reach { self.new ≡ (if is_free stage then released_range_with arrival arrival self.old else self.old) }
     {
         if is_released(stage) {
             self.widen(arrival, arrival);
@@ -59,9 +60,9 @@ impl Released {
 
     /// The exchanges of these numbers may be released.
     pub(crate) fn enter_all(&mut self, arrivals: &BTreeSet<u64>)
-        ensures widened { IsWidened self.old self.new }
-        ensures entered { (n : ℕ) → contains nat_cmp arrivals.now n ≡ true → is_within self.new n ≡ true }
-        ensures reach { IsWidenedTo arrivals.now self.old self.new }
+        ensures widened { CoversOldRange self.old self.new }
+        ensures entered { (n : ℕ) → contains nat_cmp arrivals.now n ≡ true → may_be_released self.new n ≡ true }
+        ensures reach { CoversArrivalSet arrivals.now self.old self.new }
     {
         if let Some(first) = arrivals.first() {
             if let Some(last) = arrivals.last() {
@@ -72,9 +73,9 @@ impl Released {
 
     /// Those from the one number to the other may be released.
     fn widen(&mut self, first: u64, last: u64)
-        ensures widened { IsWidened self.old self.new }
-        ensures by { IsWidenedBy first last self.new }
-        ensures reach { self.new ≡ widened first last self.old }
+        ensures widened { CoversOldRange self.old self.new }
+        ensures by { CoversRange first last self.new }
+        ensures reach { self.new ≡ released_range_with first last self.old }
     {
         match self.first {
             Some(other) => {
@@ -90,8 +91,8 @@ impl Released {
 
     /// Looks for the first of them.
     pub(crate) fn settle(&mut self, by_arrival: &BTreeMap<u64, Exchange>)
-        requires { ReleasedPass (is_within self.old) by_arrival.now.entries }
-        ensures settled { IsSettled self.new by_arrival.now.entries }
+        requires { ReleasedArrivalsPass (may_be_released self.old) by_arrival.now.entries }
+        ensures settled { KnowsTheFirstReleased self.new by_arrival.now.entries }
         ensures last { self.new.last ≡ self.old.last }
     {
         if let Some(first) = self.first {
@@ -102,9 +103,9 @@ impl Released {
 
 /// The number of the first that is released, where none stands before or behind these numbers.
 fn first_between(by_arrival: &BTreeMap<u64, Exchange>, first: u64, last: u64) -> Option<u64>
-    requires { ReleasedPass (is_between (Some first) last) by_arrival.now.entries }
-    ensures first { result ≡ first_released by_arrival.now.entries }
-    ensures from { ReleasedPass (is_between result last) by_arrival.now.entries }
+    requires { ReleasedArrivalsPass (is_between_arrivals (Some first) last) by_arrival.now.entries }
+    ensures first { result ≡ first_released_arrival by_arrival.now.entries }
+    ensures from { ReleasedArrivalsPass (is_between_arrivals result last) by_arrival.now.entries }
 {
     if last < first {
         return None;

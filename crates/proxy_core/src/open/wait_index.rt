@@ -4,8 +4,10 @@
 ghost use Rattle.std.specs.Prelude.{◌≡◌, ℕ, false, IfOk, OnOk, OnErr};
 ghost use Rattle.std.specs.Bool.{OnFalse, OnTrue};
 ghost use Rattle.proxy_core.specs.declared.open.stage.Stage.TheVariants as staged;
-ghost use Rattle.proxy_core.specs.Waiters.{waits_in, set_has, IsEntered, IsEnteredIf, HasLeft, IsEmptied, IsSameIndex};
-ghost use Rattle.proxy_core.specs.Waiters.{IsTrim, IsTrimBeside, HasNone, HasAll};
+ghost use Rattle.proxy_core.specs.Waiters.{is_in_wait_index, set_contains, WaiterIsEntered, WaiterIsEnteredIf};
+ghost use Rattle.proxy_core.specs.Waiters.{WaiterHasLeft, WaitersAreTakenOut, IsSameWaitIndex};
+ghost use Rattle.proxy_core.specs.Waiters.{HasNoEmptyWaiterSets, HasNoOtherEmptyWaiterSets, IsEmptyWaitIndex};
+ghost use Rattle.proxy_core.specs.Waiters.{SetHoldsAllWaiters};
 
 use crate::open::stage::Stage;
 use std::alloc::{AllocError, Global};
@@ -30,8 +32,8 @@ impl Drop for WaitIndex {
 impl WaitIndex {
     /// Nothing waits.
     pub(crate) fn new(alloc: Global) -> Self
-        ensures none { HasNone result }
-        ensures trim { IsTrim result }
+        ensures none { IsEmptyWaitIndex result }
+        ensures trim { HasNoEmptyWaiterSets result }
     {
         WaitIndex {
             alloc,
@@ -41,9 +43,9 @@ impl WaitIndex {
 
     /// Enters an arrival, if its exchange waits. Out of memory changes nothing.
     pub(crate) fn enter(&mut self, stage: Stage, arrival: u64) -> Result<(), AllocError>
-        ensures ok { OnOk result (IsEntered stage arrival self.old self.new) }
-        ensures err { OnErr result (IsSameIndex self.old self.new) }
-        ensures trim { IsTrim self.old → IsTrim self.new }
+        ensures ok { OnOk result (WaiterIsEntered stage arrival self.old self.new) }
+        ensures err { OnErr result (IsSameWaitIndex self.old self.new) }
+        ensures trim { HasNoEmptyWaiterSets self.old → HasNoEmptyWaiterSets self.new }
     {
         match stage {
             Stage::Waiting(leader) => self.insert(leader, arrival),
@@ -53,8 +55,8 @@ impl WaitIndex {
 
     /// Takes an arrival out, if its exchange waits. No memory is taken.
     pub(crate) fn leave(&mut self, stage: Stage, arrival: u64)
-        ensures left { HasLeft stage arrival self.old self.new }
-        ensures trim { IsTrim self.old → IsTrim self.new }
+        ensures left { WaiterHasLeft stage arrival self.old self.new }
+        ensures trim { HasNoEmptyWaiterSets self.old → HasNoEmptyWaiterSets self.new }
     {
         match stage {
             Stage::Waiting(leader) => self.remove(leader, arrival),
@@ -64,17 +66,17 @@ impl WaitIndex {
 
     /// Takes all out that wait for the exchange of an id. No memory is taken.
     pub(crate) fn take(&mut self, id: u64) -> Option<BTreeSet<u64>>
-        ensures all { HasAll result id self.old }
-        ensures emptied { IsEmptied id self.old self.new }
-        ensures trim { IsTrim self.old → IsTrim self.new }
+        ensures all { SetHoldsAllWaiters result id self.old }
+        ensures emptied { WaitersAreTakenOut id self.old self.new }
+        ensures trim { HasNoEmptyWaiterSets self.old → HasNoEmptyWaiterSets self.new }
     {
         self.arrivals.remove(&id)
     }
 
     fn insert(&mut self, id: u64, arrival: u64) -> Result<(), AllocError>
-        ensures ok { OnOk result (IsEntered (staged.Waiting id) arrival self.old self.new) }
-        ensures err { OnErr result (IsSameIndex self.old self.new) }
-        ensures trim { IsTrim self.old → IsTrim self.new }
+        ensures ok { OnOk result (WaiterIsEntered (staged.Waiting id) arrival self.old self.new) }
+        ensures err { OnErr result (IsSameWaitIndex self.old self.new) }
+        ensures trim { HasNoEmptyWaiterSets self.old → HasNoEmptyWaiterSets self.new }
     {
         if self.insert_beside(id, arrival)? {
             return Ok(());
@@ -87,9 +89,9 @@ impl WaitIndex {
 
     /// Enters an arrival where others wait for that exchange, and says whether some do.
     fn insert_beside(&mut self, id: u64, arrival: u64) -> Result<bool, AllocError>
-        ensures ok { IfOk result (λ has. IsEnteredIf has id arrival self.old self.new) }
-        ensures err { OnErr result (IsSameIndex self.old self.new) }
-        ensures trim { IsTrim self.old → IsTrim self.new }
+        ensures ok { IfOk result (λ has. WaiterIsEnteredIf has id arrival self.old self.new) }
+        ensures err { OnErr result (IsSameWaitIndex self.old self.new) }
+        ensures trim { HasNoEmptyWaiterSets self.old → HasNoEmptyWaiterSets self.new }
     {
         match self.arrivals.get_mut(&id) {
             Some(arrivals) => {
@@ -101,20 +103,20 @@ impl WaitIndex {
     }
 
     fn remove(&mut self, id: u64, arrival: u64)
-        ensures left { HasLeft (staged.Waiting id) arrival self.old self.new }
-        ensures trim { IsTrim self.old → IsTrim self.new }
+        ensures left { WaiterHasLeft (staged.Waiting id) arrival self.old self.new }
+        ensures trim { HasNoEmptyWaiterSets self.old → HasNoEmptyWaiterSets self.new }
     {
-        if self.take_out(id, arrival) {
+        if self.remove_from_index(id, arrival) {
             self.arrivals.remove(&id);
         }
     }
 
     /// Takes an arrival out, and says whether it was the last that waited for that exchange.
-    fn take_out(&mut self, id: u64, arrival: u64) -> bool
-        ensures left { HasLeft (staged.Waiting id) arrival self.old self.new }
-        ensures last { OnTrue result ((m : ℕ) → waits_in self.new id m ≡ false) }
-        ensures trim_beside { IsTrim self.old → IsTrimBeside id self.new }
-        ensures trim { IsTrim self.old → OnFalse result (IsTrim self.new) }
+    fn remove_from_index(&mut self, id: u64, arrival: u64) -> bool
+        ensures left { WaiterHasLeft (staged.Waiting id) arrival self.old self.new }
+        ensures last { OnTrue result ((m : ℕ) → is_in_wait_index self.new id m ≡ false) }
+        ensures trim_beside { HasNoEmptyWaiterSets self.old → HasNoOtherEmptyWaiterSets id self.new }
+        ensures trim { HasNoEmptyWaiterSets self.old → OnFalse result (HasNoEmptyWaiterSets self.new) }
     {
         match self.arrivals.get_mut(&id) {
             Some(arrivals) => {

@@ -1,7 +1,7 @@
 //! What is known of an origin's answer.
 ghost use Rattle.std.specs.Prelude.{◌≡◌, ◌<◌, IfOk};
 ghost use Rattle.hx_hop.specs.Answering.{answered_of};
-ghost use Rattle.proxy_core.specs.Storing.{is_unasked, invalidates, key_invalidated};
+ghost use Rattle.proxy_core.specs.Storing.{is_304_without_condition, answer_invalidates, key_invalidated};
 ghost use Rattle.proxy_core.specs.Validating.{is_validation};
 
 use crate::open::exchange::Exchange;
@@ -37,7 +37,7 @@ impl OriginAnswer<'_> {
 
     /// Whether it is a 304 to a client that set no condition.
     pub(crate) fn is_unasked(&self) -> bool
-        ensures { result ≡ is_unasked self.now.exchange.now.asked self.now.response.now }
+        ensures { result ≡ is_304_without_condition self.now.exchange.now.asked self.now.response.now }
     {
         let fields = &self.exchange.asked.fields;
         self.response.status == 304
@@ -46,7 +46,7 @@ impl OriginAnswer<'_> {
 
     /// Whether it invalidates what is held for the request's key.
     pub(crate) fn invalidates(&self) -> bool
-        ensures { result ≡ invalidates self.now.exchange.now self.now.response.now }
+        ensures { result ≡ answer_invalidates self.now.exchange.now self.now.response.now }
     {
         !self.exchange.asked.method.is_safe()
             && (200 <= self.response.status && self.response.status <= 399)

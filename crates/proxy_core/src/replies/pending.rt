@@ -1,6 +1,6 @@
 //! A reply that was made, and what it will do to the store.
 ghost use Rattle.std.specs.Prelude.{◌≡◌};
-ghost use Rattle.proxy_core.specs.Pending.{stored_by, used_by, reply_of};
+ghost use Rattle.proxy_core.specs.Pending.{serial_stored_by_change, serial_used_by_change, outcome_of_pending_reply};
 
 use crate::outcome::{Outcome, Reply};
 use hx_fields::Bytes;
@@ -24,7 +24,7 @@ pub(crate) enum Change {
 impl Change {
     /// The serial that will be stored.
     pub(crate) fn stored(&self) -> Option<u64>
-        ensures { result ≡ stored_by self.now }
+        ensures { result ≡ serial_stored_by_change self.now }
     {
         match self {
             Change::Store(entry) => Some(entry.serial),
@@ -34,7 +34,7 @@ impl Change {
 
     /// The serial that was sent.
     pub(crate) fn used(&self) -> Option<u64>
-        ensures { result ≡ used_by self.now }
+        ensures { result ≡ serial_used_by_change self.now }
     {
         match self {
             Change::Use(serial) => Some(*serial),
@@ -69,7 +69,7 @@ pub(crate) enum AfterAnswer {
 impl PendingReply {
     /// The outcome that it is.
     pub(crate) fn into_outcome(self) -> Outcome
-        ensures { result ≡ reply_of self }
+        ensures { result ≡ outcome_of_pending_reply self }
     {
         Outcome::Reply(Reply {
             bytes: self.bytes,

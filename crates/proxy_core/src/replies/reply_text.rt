@@ -3,8 +3,9 @@ ghost use Rattle.std.specs.Prelude.{◌≡◌, ◌<◌, length, IfOk, Some, None
 ghost use Rattle.hx_framing.specs.Text.{response_text};
 ghost use Rattle.hx_hop.specs.Answering.{answered_of};
 ghost use Rattle.hx_hop.specs.Moments.{date_text_of};
-ghost use Rattle.proxy_core.specs.Replies.{passed_text, lines_passed, length_passed, ttl_passed, refused_text};
-ghost use Rattle.proxy_core.specs.Replies.{lines_refused, content_sent, is_head, length_shown};
+ghost use Rattle.proxy_core.specs.Replies.{passed_answer_text, fields_of_passed_answer, length_of_passed_answer};
+ghost use Rattle.proxy_core.specs.Replies.{ttl_of_passed_answer, refusal_reply_text};
+ghost use Rattle.proxy_core.specs.Replies.{fields_of_refusal, content_unless_head, is_head, length_unless_forbidden};
 
 use crate::replies::origin_answer::OriginAnswer;
 use hx_age::{Times, current_age, ttl};
@@ -25,15 +26,15 @@ pub(crate) fn is_head(asked: &Asked) -> bool
 }
 
 /// What is sent of a content: nothing to HEAD (RFC 9110, section 9.3.2).
-pub(crate) fn content_sent(head: bool, content: &[u8]) -> &[u8]
-    ensures { result.now ≡ content_sent head content.now }
+pub(crate) fn content_unless_head(head: bool, content: &[u8]) -> &[u8]
+    ensures { result.now ≡ content_unless_head head content.now }
 {
     if head { &[] } else { content }
 }
 
 /// No length where the status has none (RFC 9110, section 8.6).
-pub(crate) fn length_shown(status: u16, length: Option<u64>) -> Option<u64>
-    ensures { result ≡ length_shown status length }
+pub(crate) fn length_unless_forbidden(status: u16, length: Option<u64>) -> Option<u64>
+    ensures { result ≡ length_unless_forbidden status length }
 {
     if status == 204 || status == 304 {
         None
@@ -44,7 +45,7 @@ pub(crate) fn length_shown(status: u16, length: Option<u64>) -> Option<u64>
 
 /// What is told of an answer that is passed on.
 #[derive(Clone, Copy)]
-pub(crate) struct PassedOn {
+pub(crate) struct PassedAnswerInfo {
     /// What the line of its exchange says of caching.
     pub(crate) policy: Policy,
     pub(crate) stored: bool,
@@ -53,14 +54,14 @@ pub(crate) struct PassedOn {
 }
 
 /// The seconds of freshness that an answer has left, where it was stored.
-fn ttl_passed(
+fn ttl_of_passed_answer(
     alloc: Global,
     answer: &OriginAnswer<'_>,
     head: &Answered,
-    shown: PassedOn,
+    shown: PassedAnswerInfo,
 ) -> Result<Option<i64>, AllocError>
     ensures { IfOk result
-        (λ left. left ≡ ttl_passed shown.policy answer.now.exchange.now head.now.status head.now.fields
+        (λ left. left ≡ ttl_of_passed_answer shown.policy answer.now.exchange.now head.now.status head.now.fields
         answer.now.response_time shown.stored) }
 {
     if !shown.stored {
@@ -75,20 +76,21 @@ fn ttl_passed(
 }
 
 /// The lines of an answer that is passed on.
-fn lines_passed(
+fn fields_of_passed_answer(
     alloc: Global,
     name: &str,
     answer: &OriginAnswer<'_>,
     head: &Answered,
-    shown: PassedOn,
+    shown: PassedAnswerInfo,
 ) -> Result<Fields, AllocError>
-    ensures { IfOk result (λ lines. lines ≡ lines_passed shown.policy name.now answer.now.exchange.now head.now.status
+    ensures { IfOk result (λ lines. lines ≡ fields_of_passed_answer shown.policy name.now answer.now.exchange.now
+        head.now.status
         head.now.fields answer.now.response_time shown.stored shown.rule) }
 {
     let status = Status {
         how: How::Fwd(answer.exchange.rule),
         fwd_status: None,
-        ttl: ttl_passed(alloc, answer, head, shown)?,
+        ttl: ttl_of_passed_answer(alloc, answer, head, shown)?,
         stored: shown.stored,
         collapsed: false,
         detail: None,
@@ -101,40 +103,40 @@ fn lines_passed(
 }
 
 /// The length that an answer of the origin announces (RFC 9110, section 8.6).
-fn length_passed(head: bool, response: &Response) -> Option<u64>
-    ensures { result ≡ length_passed head response.now }
+fn length_of_passed_answer(head: bool, response: &Response) -> Option<u64>
+    ensures { result ≡ length_of_passed_answer head response.now }
 {
     if head {
-        length_shown(response.status, response.announced)
+        length_unless_forbidden(response.status, response.announced)
     } else {
-        length_shown(response.status, Some(response.content.len() as u64))
+        length_unless_forbidden(response.status, Some(response.content.len() as u64))
     }
 }
 
 /// An answer of the origin, as it is passed on: its head is handed in as rules see it.
-pub(crate) fn passed_text(
+pub(crate) fn passed_answer_text(
     alloc: Global,
     name: &str,
     answer: &OriginAnswer<'_>,
     head: &Answered,
-    shown: PassedOn,
+    shown: PassedAnswerInfo,
 ) -> Result<Bytes, AllocError>
     requires { head.now ≡ answered_of answer.now.response.now answer.now.response_time }
-    ensures { IfOk result (λ text. text ≡ passed_text shown.policy name.now answer.now.exchange.now
+    ensures { IfOk result (λ text. text ≡ passed_answer_text shown.policy name.now answer.now.exchange.now
         answer.now.response.now answer.now.response_time shown.stored shown.rule) }
 {
     let asked = &answer.exchange.asked;
     let response = answer.response;
     let to_head = is_head(asked);
-    let lines = lines_passed(alloc, name, answer, head, shown)?;
-    let length = length_passed(to_head, response);
-    let content = content_sent(to_head, response.content.as_slice());
+    let lines = fields_of_passed_answer(alloc, name, answer, head, shown)?;
+    let length = length_of_passed_answer(to_head, response);
+    let content = content_unless_head(to_head, response.content.as_slice());
     write_response(alloc, response.status, &lines, length, asked.close, content)
 }
 
-fn lines_refused(alloc: Global, now: u64, text: &[u8]) -> Result<Fields, AllocError>
+fn fields_of_refusal(alloc: Global, now: u64, text: &[u8]) -> Result<Fields, AllocError>
     requires { now < 253_402_300_800 }
-    ensures { IfOk result (λ lines. lines ≡ lines_refused (date_text_of now) text.now) }
+    ensures { IfOk result (λ lines. lines ≡ fields_of_refusal (date_text_of now) text.now) }
 {
     let mut lines = Fields::new(alloc);
     lines.push(b"Date", &date_text(now))?;
@@ -152,11 +154,11 @@ pub fn refused(
     head: bool,
 ) -> Result<Bytes, AllocError>
     requires { now < 253_402_300_800 }
-    ensures { IfOk result (λ text. text ≡ refused_text (date_text_of now) cause close head) }
+    ensures { IfOk result (λ text. text ≡ refusal_reply_text (date_text_of now) cause close head) }
 {
     let (status, text) = refusal(alloc, cause)?;
-    let lines = lines_refused(alloc, now, text.as_slice())?;
-    let content = content_sent(head, text.as_slice());
+    let lines = fields_of_refusal(alloc, now, text.as_slice())?;
+    let content = content_unless_head(head, text.as_slice());
     let length = text.len() as u64;
     let message = write_response(alloc, status, &lines, Some(length), close, content)?;
     Ok(message)

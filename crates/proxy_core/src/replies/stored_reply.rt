@@ -3,12 +3,13 @@ ghost use Rattle.std.specs.Prelude.{◌≡◌, IfOk};
 ghost use Rattle.hx_age.specs.Age.{age_of};
 ghost use Rattle.hx_framing.specs.Text.{response_text};
 ghost use Rattle.hx_status.specs.Member.{member_text};
-ghost use Rattle.proxy_core.specs.Outcomes.{forwarded_as, collapsed_as};
-ghost use Rattle.proxy_core.specs.Replies.{status_sent, stored_text, whole_text, not_modified_text, lines_sent};
+ghost use Rattle.proxy_core.specs.Outcomes.{forwarded_status_info, collapsed_status_info};
+ghost use Rattle.proxy_core.specs.Replies.{cache_status_of_sent, stored_text, whole_stored_text, not_modified_text};
+ghost use Rattle.proxy_core.specs.Replies.{fields_of_sent_response};
 ghost use Rattle.proxy_core.specs.Replies.{fwd_status_of};
 
 use crate::open::exchange::Exchange;
-use crate::replies::reply_text::{content_sent, is_head, length_shown};
+use crate::replies::reply_text::{content_unless_head, is_head, length_unless_forbidden};
 use hx_age::{current_age, ttl};
 use hx_fields::{Bytes, Fields};
 use hx_framing::{AddedLine, ResponseLines, write_response_with};
@@ -42,7 +43,7 @@ impl CacheStatusInfo {
         came: Option<u16>,
         detail: Option<Detail>,
     ) -> Self
-        ensures { result ≡ forwarded_as policy exchange.now came detail }
+        ensures { result ≡ forwarded_status_info policy exchange.now came detail }
     {
         CacheStatusInfo {
             policy,
@@ -55,7 +56,7 @@ impl CacheStatusInfo {
 
     /// It is sent after its request waited for the answer to another (RFC 9211, section 2.6).
     pub(crate) fn collapsed(policy: Policy, exchange: &Exchange) -> Self
-        ensures { result ≡ collapsed_as policy exchange.now }
+        ensures { result ≡ collapsed_status_info policy exchange.now }
     {
         CacheStatusInfo {
             policy,
@@ -93,12 +94,12 @@ impl StoredReply<'_> {
     }
 
     fn whole_text(&self, alloc: Global) -> Result<Bytes, AllocError>
-        ensures { IfOk result (λ text. text
-            ≡ whole_text self.now.name.now self.now.entry.now self.now.sent_at self.now.info self.now.asked.now) }
+        ensures { IfOk result (λ text. text ≡ whole_stored_text self.now.name.now self.now.entry.now self.now.sent_at
+            self.now.info self.now.asked.now) }
     {
         let entry = self.entry;
-        let length = length_shown(entry.status, Some(entry.content.len() as u64));
-        let content = content_sent(is_head(self.asked), entry.content.as_slice());
+        let length = length_unless_forbidden(entry.status, Some(entry.content.len() as u64));
+        let content = content_unless_head(is_head(self.asked), entry.content.as_slice());
         self.written(alloc, entry.status, &entry.fields, length, content)
     }
 
@@ -114,7 +115,8 @@ impl StoredReply<'_> {
     fn member(&self, alloc: Global, status: u16, age: u32) -> Result<Bytes, AllocError>
         requires { age ≡ age_of self.now.entry.now.times self.now.sent_at }
         ensures { IfOk result (λ text. text
-            ≡ member_text self.now.name.now (status_sent status self.now.entry.now self.now.sent_at self.now.info)) }
+            ≡ member_text self.now.name.now (cache_status_of_sent status self.now.entry.now self.now.sent_at
+            self.now.info)) }
     {
         let entry = self.entry;
         let policy = self.info.policy;
@@ -141,7 +143,8 @@ impl StoredReply<'_> {
         length: Option<u64>,
         content: &[u8],
     ) -> Result<Bytes, AllocError>
-        ensures { IfOk result (λ text. text ≡ response_text status (lines_sent self.now.name.now status fields.now
+        ensures { IfOk result (λ text. text ≡ response_text status
+            (fields_of_sent_response self.now.name.now status fields.now
             self.now.entry.now self.now.sent_at self.now.info) length self.now.asked.now.close content.now) }
     {
         let entry = self.entry;

@@ -4,21 +4,23 @@ ghost use Rattle.hx_hop.specs.Answering.{answered_of};
 ghost use Rattle.hx_allow.specs.Matching.{policy_of};
 ghost use Rattle.hx_reuse.specs.Rules.{decision_of};
 ghost use Rattle.hx_vary.specs.Vary.{kept_values};
-ghost use Rattle.proxy_core.specs.Replies.{passed_text};
-ghost use Rattle.proxy_core.specs.Storing.{rule_shown};
-ghost use Rattle.proxy_core.specs.Outcomes.{is_error_status, passed, passed_unless, fallback_for, answered};
-ghost use Rattle.proxy_core.specs.Outcomes.{stored_serial};
+ghost use Rattle.proxy_core.specs.Replies.{passed_answer_text};
+ghost use Rattle.proxy_core.specs.Storing.{storing_rule_to_explain};
+ghost use Rattle.proxy_core.specs.Outcomes.{is_error_status, outcome_of_passing_on, outcome_of_passing_on_or_stale};
+ghost use Rattle.proxy_core.specs.Outcomes.{fallback_for, outcome_of_answer};
+ghost use Rattle.proxy_core.specs.Outcomes.{serial_of_stored_answer};
 ghost use Rattle.proxy_core.specs.declared.event.Event.TheVariants.{Answer};
-ghost use Rattle.proxy_core.specs.State.{Steps, Refuses};
-ghost use Rattle.proxy_core.specs.Pending.{reply_of, IsNext, Makes, outcome_after, AfterLeaves, AfterFits};
+ghost use Rattle.proxy_core.specs.State.{StepIsAccepted, StepIsRefusedWith};
+ghost use Rattle.proxy_core.specs.Pending.{outcome_of_pending_reply, StoresUnderNextSerial, ChangeIsMadeByAnswer};
+ghost use Rattle.proxy_core.specs.Pending.{outcome_after, AnswerLeavesHeldAsStepDoes, AnswerChangeFits};
 
-use crate::core_state::{Core, not_forwarded};
-use crate::fault::CoreFault;
+use crate::core_fault::CoreFault;
+use crate::core_state::{Core, fault_if_not_forwarded};
 use crate::moments::moment_fault;
 use crate::outcome::Outcome;
 use crate::replies::origin_answer::OriginAnswer;
 use crate::replies::pending::{AfterAnswer, Change, PendingReply};
-use crate::replies::reply_text::{PassedOn, passed_text};
+use crate::replies::reply_text::{PassedAnswerInfo, passed_answer_text};
 use crate::replies::stored_reply::CacheStatusInfo;
 use crate::steps::fallback::{Fallback, fallback_for};
 use crate::steps::storing::{Admission, NewEntry, removed_unstored, replaced_by};
@@ -47,20 +49,21 @@ impl<S: Shelf> Core<S> {
         stored: bool,
     ) -> Result<Bytes, AllocError>
         requires { head.now ≡ answered_of answer.now.response.now answer.now.response_time }
-        ensures { IfOk result (λ text. text ≡ passed_text (policy_of self.now.table.lines answer.now.exchange.now.line)
+        ensures { IfOk result (λ text. text ≡ passed_answer_text
+            (policy_of self.now.table.lines answer.now.exchange.now.line)
             self.now.table.name answer.now.exchange.now answer.now.response.now answer.now.response_time stored rule) }
     {
         let policy = self.config.policy(answer.exchange.line);
-        let shown = PassedOn {
+        let shown = PassedAnswerInfo {
             policy,
             stored,
             rule,
         };
-        passed_text(alloc, self.config.name(), answer, head, shown)
+        passed_answer_text(alloc, self.config.name(), answer, head, shown)
     }
 
     /// Passes on an answer that isn't stored, and tells the rule against that.
-    fn pass_by(
+    fn pass_on_unstored(
         &self,
         alloc: Global,
         answer: &OriginAnswer<'_>,
@@ -68,7 +71,8 @@ impl<S: Shelf> Core<S> {
         rule: Option<StoreRule>,
     ) -> Result<PendingReply, AllocError>
         requires { head.now ≡ answered_of answer.now.response.now answer.now.response_time }
-        ensures outcome { IfOk result (λ pending. reply_of pending ≡ passed self.now.table self.now.entries
+        ensures outcome { IfOk result (λ pending. outcome_of_pending_reply pending
+            ≡ outcome_of_passing_on self.now.table self.now.entries
             answer.now.response_time answer.now.exchange.now answer.now.response.now rule None) }
         ensures change { IfOk result (λ pending. pending.change ≡ Change.Keep) }
     {
@@ -91,11 +95,13 @@ impl<S: Shelf> Core<S> {
     ) -> Result<PendingReply, AllocError>
         requires head { head ≡ answered_of answer.now.response.now answer.now.response_time }
         requires nominated { new_entry.nominated ≡ kept_values head.fields answer.now.exchange.now.asked.fields }
-        ensures outcome { IfOk result (λ pending. reply_of pending ≡ passed self.now.table self.now.entries
+        ensures outcome { IfOk result (λ pending. outcome_of_pending_reply pending
+            ≡ outcome_of_passing_on self.now.table self.now.entries
             answer.now.response_time answer.now.exchange.now answer.now.response.now rule (Some new_entry.serial)) }
-        ensures next { IfOk result (λ pending. IsNext (Some new_entry.serial) pending.change) }
+        ensures next { IfOk result (λ pending. StoresUnderNextSerial (Some new_entry.serial) pending.change) }
         ensures makes { IfOk result
-            (λ pending. Makes answer.now.exchange.now answer.now.response.now answer.now.response_time pending.change) }
+            (λ pending. ChangeIsMadeByAnswer answer.now.exchange.now answer.now.response.now answer.now.response_time
+            pending.change) }
     {
         let asked = &answer.exchange.asked;
         let bytes = self.passed_text(alloc, answer, &head, rule, true)?;
@@ -112,21 +118,24 @@ impl<S: Shelf> Core<S> {
     /// Passes on an answer, and stores it where it may be.
     fn pass_on(&self, alloc: Global, answer: &OriginAnswer<'_>) -> Result<PendingReply, AllocError>
         requires { answer.now.response_time < 253_402_300_800 }
-        ensures outcome { IfOk result (λ pending. reply_of pending
-            ≡ passed self.now.table self.now.entries answer.now.response_time answer.now.exchange.now
+        ensures outcome { IfOk result (λ pending. outcome_of_pending_reply pending
+            ≡ outcome_of_passing_on self.now.table self.now.entries answer.now.response_time answer.now.exchange.now
             answer.now.response.now
-            (rule_shown self.now.table answer.now.exchange.now answer.now.response.now answer.now.response_time
+            (storing_rule_to_explain self.now.table answer.now.exchange.now answer.now.response.now
+            answer.now.response_time
             self.now.next)
-            (stored_serial self.now.table answer.now.exchange.now answer.now.response.now answer.now.response_time
+            (serial_of_stored_answer self.now.table answer.now.exchange.now answer.now.response.now
+            answer.now.response_time
             self.now.next)) }
-        ensures next { IfOk result (λ pending. IsNext self.now.next pending.change) }
+        ensures next { IfOk result (λ pending. StoresUnderNextSerial self.now.next pending.change) }
         ensures makes { IfOk result
-            (λ pending. Makes answer.now.exchange.now answer.now.response.now answer.now.response_time pending.change) }
+            (λ pending. ChangeIsMadeByAnswer answer.now.exchange.now answer.now.response.now answer.now.response_time
+            pending.change) }
     {
         let head = answer.head(alloc)?;
         let Admission { rule, new_entry } = self.admit(alloc, answer, &head)?;
         match new_entry {
-            None => self.pass_by(alloc, answer, &head, rule),
+            None => self.pass_on_unstored(alloc, answer, &head, rule),
             Some(new_entry) => self.pass_and_store(alloc, answer, head, rule, new_entry),
         }
     }
@@ -138,15 +147,17 @@ impl<S: Shelf> Core<S> {
         answer: &OriginAnswer<'_>,
     ) -> Result<PendingReply, AllocError>
         requires { answer.now.response_time < 253_402_300_800 }
-        ensures outcome { IfOk result (λ pending. reply_of pending
-            ≡ passed_unless self.now.table self.now.entries answer.now.response_time answer.now.exchange.now
+        ensures outcome { IfOk result (λ pending. outcome_of_pending_reply pending
+            ≡ outcome_of_passing_on_or_stale self.now.table self.now.entries answer.now.response_time
+            answer.now.exchange.now
             answer.now.response.now self.now.next (is_error_status answer.now.response.now.status)
             (fallback_for (policy_of self.now.table.lines answer.now.exchange.now.line) self.now.entries
             answer.now.exchange.now.asked answer.now.response_time (decision_of (policy_of self.now.table.lines
             answer.now.exchange.now.line) self.now.entries answer.now.exchange.now.asked answer.now.response_time))) }
-        ensures next { IfOk result (λ pending. IsNext self.now.next pending.change) }
+        ensures next { IfOk result (λ pending. StoresUnderNextSerial self.now.next pending.change) }
         ensures makes { IfOk result
-            (λ pending. Makes answer.now.exchange.now answer.now.response.now answer.now.response_time pending.change) }
+            (λ pending. ChangeIsMadeByAnswer answer.now.exchange.now answer.now.response.now answer.now.response_time
+            pending.change) }
     {
         let status = answer.response.status;
         if !is_error_status(status) {
@@ -166,22 +177,23 @@ impl<S: Shelf> Core<S> {
     }
 
     /// What follows an answer.
-    fn after_answer(
+    fn follow_answer(
         &self,
         alloc: Global,
         answer: &OriginAnswer<'_>,
     ) -> Result<AfterAnswer, AllocError>
         requires { answer.now.response_time < 253_402_300_800 }
         ensures outcome { IfOk result (λ after. outcome_after answer.now.exchange.now after
-            ≡ answered self.now.table self.now.entries answer.now.response_time answer.now.exchange.now
+            ≡ outcome_of_answer self.now.table self.now.entries answer.now.response_time answer.now.exchange.now
             answer.now.response.now self.now.next (decision_of (policy_of self.now.table.lines
             answer.now.exchange.now.line) self.now.entries answer.now.exchange.now.asked answer.now.response_time)) }
-        ensures leaves { IfOk result (λ after. AfterLeaves self.now.limit self.now.entries answer.now.exchange.now
+        ensures leaves { IfOk result
+            (λ after. AnswerLeavesHeldAsStepDoes self.now.limit self.now.entries answer.now.exchange.now
             (Answer answer.now.response_time answer.now.exchange.now.id answer.now.response.now) after) }
-        ensures fits { IfOk result (λ after. AfterFits self.now.next self.now.entries after) }
+        ensures fits { IfOk result (λ after. AnswerChangeFits self.now.next self.now.entries after) }
     {
         if answer.is_validation() {
-            return self.after_304(alloc, answer);
+            return self.follow_304(alloc, answer);
         }
         if answer.is_unasked() {
             let kind = FailKind::BadAnswer;
@@ -207,8 +219,8 @@ impl<S: Shelf> Core<S> {
         id: u64,
         response: &Response,
     ) -> Result<Outcome, CoreFault>
-        ensures ok { IfOk result (λ outcome. Steps self.old (Answer now id response.now) outcome self.new) }
-        ensures err { IfErr result (λ fault. Refuses self.old (Answer now id response.now) fault) }
+        ensures ok { IfOk result (λ outcome. StepIsAccepted self.old (Answer now id response.now) outcome self.new) }
+        ensures err { IfErr result (λ fault. StepIsRefusedWith self.old (Answer now id response.now) fault) }
         ensures unchanged { OnErr result (self.new ≡ self.old) }
     {
         let x = match self.exchanges.find(id) {
@@ -219,7 +231,7 @@ impl<S: Shelf> Core<S> {
             None => {}
             Some(fault) => return Err(fault),
         }
-        match not_forwarded(x.stage) {
+        match fault_if_not_forwarded(x.stage) {
             None => {}
             Some(fault) => return Err(fault),
         }
@@ -233,7 +245,7 @@ impl<S: Shelf> Core<S> {
             Err(_) => return Err(CoreFault::OutOfMemory),
         };
         let line = x.line;
-        match self.after_answer(alloc, &answer) {
+        match self.follow_answer(alloc, &answer) {
             Ok(AfterAnswer::Ends(pending)) => match self.finish(id, pending, invalidated) {
                 Ok(outcome) => Ok(outcome),
                 Err(_) => Err(CoreFault::OutOfMemory),

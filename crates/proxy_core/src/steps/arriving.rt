@@ -4,22 +4,23 @@ ghost use Rattle.hx_directives.specs.Occurrences.{occurrences_of};
 ghost use Rattle.hx_allow.specs.Matching.{policy_of, verdict_of};
 ghost use Rattle.hx_allow.specs.declared.verdicts.Verdict.TheVariants.{Allowed};
 ghost use Rattle.hx_reuse.specs.Rules.{decision_of};
-ghost use Rattle.proxy_core.specs.Leading.{leader_for};
-ghost use Rattle.proxy_core.specs.Outcomes.{as_hit, find_exchange, refused, allowed, sent_on, forward_text};
+ghost use Rattle.proxy_core.specs.Leading.{leader_of_request};
+ghost use Rattle.proxy_core.specs.Outcomes.{hit_status_info, find_exchange, outcome_of_refusal};
+ghost use Rattle.proxy_core.specs.Outcomes.{outcome_of_allowed_request, outcome_of_waiting_or_forwarding, forward_text};
 ghost use Rattle.proxy_core.specs.Outcomes.{is_only_if_cached};
 ghost use Rattle.proxy_core.specs.declared.event.Event.TheVariants.{Arrive};
 ghost use Rattle.proxy_core.specs.declared.open.stage.Stage.TheVariants.{Forwarded};
-ghost use Rattle.proxy_core.specs.State.{Steps, Refuses, after, placed};
+ghost use Rattle.proxy_core.specs.State.{StepIsAccepted, StepIsRefusedWith, state_after, exchange_with_leader};
 
+use crate::core_fault::CoreFault;
 use crate::core_state::Core;
-use crate::fault::CoreFault;
 use crate::moments::moment_fault;
 use crate::open::exchange::Exchange;
-use crate::open::leading::{can_wait, is_for_others, is_get};
+use crate::open::leading::{can_wait, is_get, may_be_answered_for_others};
 use crate::open::stage::Stage;
 use crate::outcome::Outcome;
 use crate::replies::stored_reply::CacheStatusInfo;
-use crate::steps::condition::condition_at;
+use crate::steps::condition::condition_about_serial;
 use crate::steps::judging::judge_by;
 use crate::steps::sending::{forward_text, refuse};
 use hx_allow::Verdict;
@@ -32,8 +33,8 @@ use hx_store::Shelf;
 use std::alloc::{AllocError, Global};
 
 /// A stored response that no rule keeps back.
-fn as_hit(policy: Policy) -> CacheStatusInfo
-    ensures { result ≡ as_hit policy }
+fn hit_status_info(policy: Policy) -> CacheStatusInfo
+    ensures { result ≡ hit_status_info policy }
 {
     CacheStatusInfo {
         policy,
@@ -52,9 +53,9 @@ fn is_only_if_cached(asked_directives: &Directives, asked: &Asked) -> bool
 }
 
 /// A request that the table doesn't allow.
-fn deny(alloc: Global, now: u64, cause: Cause, asked: &Asked) -> Result<Outcome, CoreFault>
+fn deny_request(alloc: Global, now: u64, cause: Cause, asked: &Asked) -> Result<Outcome, CoreFault>
     requires { now < 253_402_300_800 }
-    ensures outcome { IfOk result (λ outcome. outcome ≡ refused now cause asked.now) }
+    ensures outcome { IfOk result (λ outcome. outcome ≡ outcome_of_refusal now cause asked.now) }
     ensures fault { IfErr result (λ fault. fault ≡ CoreFault.OutOfMemory) }
 {
     match refuse(alloc, now, cause, asked) {
@@ -73,8 +74,8 @@ impl<S: Shelf> Core<S> {
         id: u64,
         asked: &Asked,
     ) -> Result<Outcome, CoreFault>
-        ensures ok { IfOk result (λ outcome. Steps self.old (Arrive now id asked.now) outcome self.new) }
-        ensures err { IfErr result (λ fault. Refuses self.old (Arrive now id asked.now) fault) }
+        ensures ok { IfOk result (λ outcome. StepIsAccepted self.old (Arrive now id asked.now) outcome self.new) }
+        ensures err { IfErr result (λ fault. StepIsRefusedWith self.old (Arrive now id asked.now) fault) }
         ensures unchanged { OnErr result (self.new ≡ self.old) }
     {
         match self.exchanges.find(id) {
@@ -90,8 +91,8 @@ impl<S: Shelf> Core<S> {
                 Ok(outcome) => Ok(outcome),
                 Err(_) => Err(CoreFault::OutOfMemory),
             },
-            Verdict::DeniedBy(line) => deny(alloc, now, Cause::Denied(line), asked),
-            Verdict::NoLine => deny(alloc, now, Cause::NoLine, asked),
+            Verdict::DeniedBy(line) => deny_request(alloc, now, Cause::Denied(line), asked),
+            Verdict::NoLine => deny_request(alloc, now, Cause::NoLine, asked),
         }
     }
 
@@ -107,16 +108,17 @@ impl<S: Shelf> Core<S> {
         requires early { now < 253_402_300_800 }
         requires free { find_exchange id self.old.exchanges ≡ None }
         requires line { verdict_of self.old.table.lines asked.now.method asked.now.target ≡ Allowed line }
-        ensures outcome { IfOk result (λ outcome. outcome ≡ allowed self.old.table self.old.entries self.old.exchanges
+        ensures outcome { IfOk result
+            (λ outcome. outcome ≡ outcome_of_allowed_request self.old.table self.old.entries self.old.exchanges
             line now asked.now (decision_of (policy_of self.old.table.lines line) self.old.entries asked.now now)) }
-        ensures after { IfOk result (λ outcome. self.new ≡ after self.old (Arrive now id asked.now) outcome) }
+        ensures after { IfOk result (λ outcome. self.new ≡ state_after self.old (Arrive now id asked.now) outcome) }
         ensures unchanged { OnErr result (self.new ≡ self.old) }
     {
         let directives = Directives::of(alloc, &asked.fields)?;
         let policy = self.config.policy(line);
         match judge_by(alloc, &self.shelf, asked, &directives, now, policy)? {
             Decision::Hit(serial) => {
-                let pending = self.send(alloc, serial, now, as_hit(policy), asked)?;
+                let pending = self.send(alloc, serial, now, hit_status_info(policy), asked)?;
                 self.shelf.promote(serial);
                 Ok(pending.into_outcome())
             }
@@ -131,9 +133,9 @@ impl<S: Shelf> Core<S> {
                     line,
                     rule,
                     request_time: now,
-                    condition: condition_at(alloc, &self.shelf, named)?,
+                    condition: condition_about_serial(alloc, &self.shelf, named)?,
                     overtaken: false,
-                    for_others: is_for_others(&directives, asked),
+                    for_others: may_be_answered_for_others(&directives, asked),
                     stage: Stage::Forwarded,
                 };
                 self.wait_or_forward(alloc, policy, exchange)
@@ -143,7 +145,7 @@ impl<S: Shelf> Core<S> {
 
     /// The open exchange for whose answer a request waits, which a rule keeps from the store.
     fn leader_for(&self, policy: Policy, asked: &Asked, rule: ReuseRule) -> Option<u64>
-        ensures { result ≡ leader_for policy self.now.exchanges asked.now rule }
+        ensures { result ≡ leader_of_request policy self.now.exchanges asked.now rule }
     {
         if is_get(asked) && can_wait(policy, rule) {
             self.exchanges.leader(policy, rule, &asked.target.key)
@@ -161,11 +163,13 @@ impl<S: Shelf> Core<S> {
     ) -> Result<Outcome, AllocError>
         requires free { find_exchange exchange.id self.old.exchanges ≡ None }
         requires stage { exchange.stage ≡ Forwarded }
-        ensures outcome { IfOk result (λ outcome. outcome ≡ sent_on self.old.table exchange.line exchange.asked
-            exchange.condition (leader_for policy self.old.exchanges exchange.asked exchange.rule)) }
+        ensures outcome { IfOk result
+            (λ outcome. outcome ≡ outcome_of_waiting_or_forwarding self.old.table exchange.line exchange.asked
+            exchange.condition (leader_of_request policy self.old.exchanges exchange.asked exchange.rule)) }
         ensures after { OnOk result (self.new ≡ record self.old {
           exchanges = self.old.exchanges
-              ++ placed (leader_for policy self.old.exchanges exchange.asked exchange.rule) exchange ∷ [];
+              ++ exchange_with_leader
+              (leader_of_request policy self.old.exchanges exchange.asked exchange.rule) exchange ∷ [];
         }) }
         ensures unchanged { OnErr result (self.new ≡ self.old) }
     {

@@ -1,10 +1,10 @@
 //! The origin of an exchange failed.
 ghost use Rattle.std.specs.Prelude.{◌≡◌, ◌<◌, IfOk, IfErr, OnErr};
 ghost use Rattle.proxy_core.specs.declared.event.Event.TheVariants.{Fail};
-ghost use Rattle.proxy_core.specs.State.{Steps, Refuses};
+ghost use Rattle.proxy_core.specs.State.{StepIsAccepted, StepIsRefusedWith};
 
-use crate::core_state::{Core, not_forwarded};
-use crate::fault::CoreFault;
+use crate::core_fault::CoreFault;
+use crate::core_state::{Core, fault_if_not_forwarded};
 use crate::moments::moment_fault;
 use crate::outcome::Outcome;
 use hx_status::FailKind;
@@ -21,8 +21,8 @@ impl<S: Shelf> Core<S> {
         id: u64,
         kind: FailKind,
     ) -> Result<Outcome, CoreFault>
-        ensures ok { IfOk result (λ outcome. Steps self.old (Fail now id kind) outcome self.new) }
-        ensures err { IfErr result (λ fault. Refuses self.old (Fail now id kind) fault) }
+        ensures ok { IfOk result (λ outcome. StepIsAccepted self.old (Fail now id kind) outcome self.new) }
+        ensures err { IfErr result (λ fault. StepIsRefusedWith self.old (Fail now id kind) fault) }
         ensures unchanged { OnErr result (self.new ≡ self.old) }
     {
         let x = match self.exchanges.find(id) {
@@ -33,7 +33,7 @@ impl<S: Shelf> Core<S> {
             None => {}
             Some(fault) => return Err(fault),
         }
-        match not_forwarded(x.stage) {
+        match fault_if_not_forwarded(x.stage) {
             None => {}
             Some(fault) => return Err(fault),
         }

@@ -3,8 +3,8 @@ ghost use Rattle.std.specs.Prelude.{◌≡◌, ◌<◌, Some, None, IfOk};
 ghost use Rattle.hx_directives.specs.Occurrences.{occurrences_of};
 ghost use Rattle.hx_allow.specs.Matching.{policy_of};
 ghost use Rattle.hx_reuse.specs.Rules.{decision_of};
-ghost use Rattle.proxy_core.specs.Outcomes.{error_rule_at, fallback_by, fallback_for, failed};
-ghost use Rattle.proxy_core.specs.Pending.{reply_of, IsPlain};
+ghost use Rattle.proxy_core.specs.Outcomes.{error_rule_at, fallback_with_error_rule, fallback_for, outcome_of_failure};
+ghost use Rattle.proxy_core.specs.Pending.{outcome_of_pending_reply, ChangeStoresNothing};
 
 use crate::core_state::Core;
 use crate::open::exchange::Exchange;
@@ -47,8 +47,8 @@ fn error_rule_at<S: Shelf>(
     }
 }
 
-fn fallback_by(rule: ReuseRule, serial: u64, error: Option<ErrorRule>) -> Fallback
-    ensures { result ≡ fallback_by rule serial error }
+fn fallback_with_error_rule(rule: ReuseRule, serial: u64, error: Option<ErrorRule>) -> Fallback
+    ensures { result ≡ fallback_with_error_rule rule serial error }
 {
     match error {
         Some(error) => Fallback::Refuses(rule, Some(error)),
@@ -73,7 +73,7 @@ pub(crate) fn fallback_for<S: Shelf>(
         Decision::Forward(rule, None) => Ok(Fallback::Refuses(rule, None)),
         Decision::Forward(rule, Some(serial)) => {
             let error = error_rule_at(shelf, serial, asked, &directives, now, policy);
-            Ok(fallback_by(rule, serial, error))
+            Ok(fallback_with_error_rule(rule, serial, error))
         }
     }
 }
@@ -89,11 +89,11 @@ impl<S: Shelf> Core<S> {
         now: u64,
     ) -> Result<PendingReply, AllocError>
         requires { now < 253_402_300_800 }
-        ensures outcome { IfOk result (λ pending. reply_of pending
-            ≡ failed self.now.table self.now.entries now exchange.now kind came
+        ensures outcome { IfOk result (λ pending. outcome_of_pending_reply pending
+            ≡ outcome_of_failure self.now.table self.now.entries now exchange.now kind came
             (fallback_for (policy_of self.now.table.lines exchange.now.line) self.now.entries exchange.now.asked now
             (decision_of (policy_of self.now.table.lines exchange.now.line) self.now.entries exchange.now.asked now))) }
-        ensures plain { IfOk result (λ pending. IsPlain pending.change) }
+        ensures plain { IfOk result (λ pending. ChangeStoresNothing pending.change) }
     {
         let asked = &exchange.asked;
         let policy = self.config.policy(exchange.line);

@@ -1,8 +1,10 @@
 //! What a pending reply does to the core.
 ghost use Rattle.std.specs.Prelude.{◌≡◌, ◌∷◌, [], take, map, false, IfOk, OnOk, OnErr, option_copied};
-ghost use Rattle.hx_store.specs.Shelf.{holds, without};
-ghost use Rattle.proxy_core.specs.State.{taken, next_after, gone_out, sent_out};
-ghost use Rattle.proxy_core.specs.Pending.{reply_of, entries_by, finished, IsNext, IsNew, IsHeld};
+ghost use Rattle.hx_store.specs.Shelf.{holds_serial, without_serials};
+ghost use Rattle.proxy_core.specs.State.{entries_without_serials, next_serial_after, exchange_forwarded_again};
+ghost use Rattle.proxy_core.specs.State.{exchange_sent_forward};
+ghost use Rattle.proxy_core.specs.Pending.{outcome_of_pending_reply, entries_after_change, state_after_reply};
+ghost use Rattle.proxy_core.specs.Pending.{StoresUnderNextSerial, StoresNewSerial, FreshensHeldResponse};
 
 use crate::core_state::Core;
 use crate::open::serial_numbers::serial_after;
@@ -15,9 +17,9 @@ use std::alloc::AllocError;
 
 /// Stores an entry. What is evicted is let go.
 fn put_in<S: Shelf>(shelf: &mut S, entry: Entry, removed: &[u64]) -> Result<(), AllocError>
-    requires { holds entry.serial (S.entries shelf.old) ≡ false }
+    requires { holds_serial entry.serial (S.entries shelf.old) ≡ false }
     ensures ok { OnOk result (S.entries shelf.new
-        ≡ take (S.limit shelf.old) (entry ∷ without removed.now (S.entries shelf.old))) }
+        ≡ take (S.limit shelf.old) (entry ∷ without_serials removed.now (S.entries shelf.old))) }
     ensures err { OnErr result (S.entries shelf.new ≡ S.entries shelf.old) }
     ensures limit { S.limit shelf.new ≡ S.limit shelf.old }
 {
@@ -29,7 +31,7 @@ fn put_in<S: Shelf>(shelf: &mut S, entry: Entry, removed: &[u64]) -> Result<(), 
 
 /// Takes out the responses of these serials. No memory is taken.
 fn remove_each<S: Shelf>(shelf: &mut S, removed: &[u64])
-    ensures entries { S.entries shelf.new ≡ taken removed.now (S.entries shelf.old) }
+    ensures entries { S.entries shelf.new ≡ entries_without_serials removed.now (S.entries shelf.old) }
     ensures limit { S.limit shelf.new ≡ S.limit shelf.old }
 {
     for serial in removed {
@@ -39,10 +41,10 @@ fn remove_each<S: Shelf>(shelf: &mut S, removed: &[u64])
 
 /// Changes what is held. Where memory is wanted nothing has changed.
 fn change_shelf<S: Shelf>(shelf: &mut S, change: Change, removed: &[u64]) -> Result<(), AllocError>
-    requires new { IsNew change (S.entries shelf.old) }
-    requires held { IsHeld change (S.entries shelf.old) }
+    requires new { StoresNewSerial change (S.entries shelf.old) }
+    requires held { FreshensHeldResponse change (S.entries shelf.old) }
     ensures ok { OnOk result (S.entries shelf.new
-        ≡ entries_by (S.limit shelf.old) removed.now change (S.entries shelf.old)) }
+        ≡ entries_after_change (S.limit shelf.old) removed.now change (S.entries shelf.old)) }
     ensures err { OnErr result (S.entries shelf.new ≡ S.entries shelf.old) }
     ensures limit { S.limit shelf.new ≡ S.limit shelf.old }
 {
@@ -71,8 +73,8 @@ fn change_shelf<S: Shelf>(shelf: &mut S, change: Change, removed: &[u64]) -> Res
 }
 
 /// The next serial, after one may have been stored.
-fn next_after(next: Option<u64>, stored: Option<u64>) -> Option<u64>
-    ensures { result ≡ next_after next stored }
+fn next_serial_after(next: Option<u64>, stored: Option<u64>) -> Option<u64>
+    ensures { result ≡ next_serial_after next stored }
 {
     match stored {
         Some(serial) => serial_after(serial),
@@ -84,9 +86,12 @@ impl<S: Shelf> Core<S> {
     /// The exchange of an id goes forward once more, with the client's own request.
     pub(crate) fn go_on(&mut self, id: u64, now: u64, line: u16, bytes: Bytes) -> Outcome
         ensures outcome { result ≡ Outcome.Forward line bytes }
-        ensures after { self.new ≡ record self.old { exchanges = map (gone_out id now) self.old.exchanges } }
+        ensures after { self.new ≡ record self.old {
+          exchanges = map
+              (exchange_forwarded_again id now) self.old.exchanges;
+        } }
     {
-        self.exchanges.go_out(id, now);
+        self.exchanges.go_forward(id, now);
         Outcome::Forward(line, bytes)
     }
 
@@ -98,10 +103,10 @@ impl<S: Shelf> Core<S> {
         pending: PendingReply,
         invalidated: Option<Key>,
     ) -> Result<Outcome, AllocError>
-        requires next { IsNext self.old.next pending.change }
-        requires held { IsHeld pending.change self.old.entries }
-        ensures outcome { IfOk result (λ outcome. outcome ≡ reply_of pending) }
-        ensures after { OnOk result (self.new ≡ finished self.old id pending invalidated) }
+        requires next { StoresUnderNextSerial self.old.next pending.change }
+        requires held { FreshensHeldResponse pending.change self.old.entries }
+        ensures outcome { IfOk result (λ outcome. outcome ≡ outcome_of_pending_reply pending) }
+        ensures after { OnOk result (self.new ≡ state_after_reply self.old id pending invalidated) }
         ensures unchanged { OnErr result (self.new ≡ self.old) }
     {
         let PendingReply {
@@ -117,7 +122,7 @@ impl<S: Shelf> Core<S> {
             Err(error) => return Err(error),
         }
         self.exchanges.leave(id, invalidated.as_ref());
-        self.next = next_after(self.next, stored);
+        self.next = next_serial_after(self.next, stored);
         Ok(Outcome::Reply(Reply {
             bytes,
             close,

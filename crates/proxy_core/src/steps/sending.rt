@@ -1,8 +1,8 @@
 //! What is sent without an answer to pass on: a stored response, the proxy's own reply, a request.
 ghost use Rattle.std.specs.Prelude.{◌≡◌, ◌<◌, IfOk, option_copied};
-ghost use Rattle.proxy_core.specs.Outcomes.{sent, refused, forward_text};
-ghost use Rattle.proxy_core.specs.Validating.{sent_with};
-ghost use Rattle.proxy_core.specs.Pending.{reply_of};
+ghost use Rattle.proxy_core.specs.Outcomes.{outcome_of_sending_stored, outcome_of_refusal, forward_text};
+ghost use Rattle.proxy_core.specs.Validating.{conditions_to_send};
+ghost use Rattle.proxy_core.specs.Pending.{outcome_of_pending_reply};
 
 use crate::core_state::Core;
 use crate::replies::pending::{Change, PendingReply};
@@ -27,8 +27,8 @@ impl<S: Shelf> Core<S> {
         info: CacheStatusInfo,
         asked: &Asked,
     ) -> Result<PendingReply, AllocError>
-        ensures outcome { IfOk result (λ pending. reply_of pending
-            ≡ sent self.now.table self.now.entries serial now info asked.now) }
+        ensures outcome { IfOk result (λ pending. outcome_of_pending_reply pending
+            ≡ outcome_of_sending_stored self.now.table self.now.entries serial now info asked.now) }
         ensures change { IfOk result (λ pending. pending.change ≡ Change.Use serial) }
     {
         let bytes = match self.shelf.peek(serial) {
@@ -61,7 +61,8 @@ pub(crate) fn refuse(
     asked: &Asked,
 ) -> Result<PendingReply, AllocError>
     requires { now < 253_402_300_800 }
-    ensures outcome { IfOk result (λ pending. reply_of pending ≡ refused now cause asked.now) }
+    ensures outcome { IfOk result (λ pending. outcome_of_pending_reply pending
+        ≡ outcome_of_refusal now cause asked.now) }
     ensures change { IfOk result (λ pending. pending.change ≡ Change.Keep) }
 {
     Ok(PendingReply {
@@ -72,8 +73,8 @@ pub(crate) fn refuse(
     })
 }
 
-fn sent_with(condition: Option<&Condition>) -> Option<&Conditions>
-    ensures { option_copied result ≡ sent_with (option_copied condition.entry) }
+fn conditions_to_send(condition: Option<&Condition>) -> Option<&Conditions>
+    ensures { option_copied result ≡ conditions_to_send (option_copied condition.entry) }
 {
     match condition {
         Some(condition) => Some(&condition.sent),
@@ -91,6 +92,6 @@ pub(crate) fn forward_text(
     ensures { IfOk result (λ text. text ≡ forward_text config.now asked.now (option_copied condition.entry)) }
 {
     let name = config.name().as_bytes();
-    let request = forward_request(alloc, asked, name, sent_with(condition))?;
+    let request = forward_request(alloc, asked, name, conditions_to_send(condition))?;
     write_request(alloc, &request)
 }

@@ -4,8 +4,9 @@ ghost use Rattle.hx_directives.specs.Occurrences.{occurrences_of};
 ghost use Rattle.hx_hop.specs.Answering.{answered_of};
 ghost use Rattle.hx_vary.specs.Vary.{kept_values, nominated_of};
 ghost use Rattle.hx_storable.specs.Rules.{storage_rule_of};
-ghost use Rattle.proxy_core.specs.Storing.{names_nothing, facts_of, rule_shown, made, replaced_by};
-ghost use Rattle.proxy_core.specs.Outcomes.{stored_serial, removed_by};
+ghost use Rattle.proxy_core.specs.Storing.{nominates_a_star, storing_facts_of_answer, storing_rule_to_explain};
+ghost use Rattle.proxy_core.specs.Storing.{stored_response_made, replaced_by};
+ghost use Rattle.proxy_core.specs.Outcomes.{serial_of_stored_answer, serials_removed_by_answer};
 
 use crate::core_state::Core;
 use crate::replies::origin_answer::OriginAnswer;
@@ -13,7 +14,7 @@ use hx_age::Times;
 use hx_directives::Directives;
 use hx_hop::{Answered, Asked, lists_cache_field};
 use hx_reuse::lifetime_under;
-use hx_storable::{Facts, StoreRule, first_rule_against, the_least_storage_rule_is_named};
+use hx_storable::{StoreRule, StoringFacts, first_rule_against, the_least_storage_rule_is_named};
 use hx_store::{Entry, Serials, Shelf};
 use hx_validate::has_validator;
 use hx_vary::{Nominated, Nomination};
@@ -36,7 +37,7 @@ pub(crate) struct Admission {
 }
 
 impl Admission {
-    fn none(rule: Option<StoreRule>) -> Admission
+    fn not_stored(rule: Option<StoreRule>) -> Admission
         ensures rule { result.rule ≡ rule }
         ensures new_entry { result.new_entry ≡ None }
     {
@@ -58,7 +59,8 @@ impl NewEntry {
         requires head { head ≡ answered_of answer.now.response.now answer.now.response_time }
         requires nominated { self.nominated ≡ kept_values head.fields answer.now.exchange.now.asked.fields }
         ensures { IfOk result (λ entry. entry
-            ≡ made self.serial answer.now.exchange.now answer.now.response.now answer.now.response_time) }
+            ≡ stored_response_made self.serial answer.now.exchange.now answer.now.response.now
+            answer.now.response_time) }
     {
         let NewEntry { serial, nominated } = self;
         let Answered { status, mut fields } = head;
@@ -84,8 +86,8 @@ impl NewEntry {
 }
 
 /// Whether no request but its own may be answered by the response (RFC 9111, section 4.1).
-fn is_star(nomination: &Nomination) -> bool
-    ensures { result ≡ names_nothing nomination.now }
+fn nominates_a_star_there(nomination: &Nomination) -> bool
+    ensures { result ≡ nominates_a_star nomination.now }
 {
     match nomination {
         Nomination::Star => true,
@@ -101,19 +103,19 @@ impl<S: Shelf> Core<S> {
         head: &Answered,
         directives: &Directives,
         nomination: &Nomination,
-    ) -> Facts
+    ) -> StoringFacts
         requires head { head.now ≡ answered_of answer.now.response.now answer.now.response_time }
         requires directives { directives.now ≡ occurrences_of head.now.fields }
         requires nomination { nomination.now ≡ nominated_of head.now.fields answer.now.exchange.now.asked.fields }
-        ensures { result ≡ facts_of self.now.table answer.now.exchange.now answer.now.response.now
+        ensures { result ≡ storing_facts_of_answer self.now.table answer.now.exchange.now answer.now.response.now
             answer.now.response_time self.now.next }
     {
         let response = answer.response;
         let policy = self.config.policy(answer.exchange.line);
         let lifetime = lifetime_under(policy, head.status, &head.fields, directives);
-        Facts {
+        StoringFacts {
             policy,
-            vary_star: is_star(nomination),
+            vary_star: nominates_a_star_there(nomination),
             listed: lists_cache_field(&response.fields),
             explicit: lifetime.explicit,
             validator: has_validator(&head.fields),
@@ -134,7 +136,8 @@ impl<S: Shelf> Core<S> {
         requires head { head.now ≡ answered_of answer.now.response.now answer.now.response_time }
         requires nomination { nomination.now ≡ nominated_of head.now.fields answer.now.exchange.now.asked.fields }
         ensures { IfOk result (λ rule. rule ≡ storage_rule_of answer.now.exchange.now.asked head.now
-            (facts_of self.now.table answer.now.exchange.now answer.now.response.now answer.now.response_time
+            (storing_facts_of_answer self.now.table answer.now.exchange.now answer.now.response.now
+            answer.now.response_time
             self.now.next)) }
     {
         let asked = &answer.exchange.asked;
@@ -148,9 +151,9 @@ impl<S: Shelf> Core<S> {
     /// What is told of the storing rule that stands against an answer.
     fn rule_shown(&self, answer: &OriginAnswer<'_>, rule: Option<StoreRule>) -> Option<StoreRule>
         requires { rule ≡ storage_rule_of answer.now.exchange.now.asked
-            (answered_of answer.now.response.now answer.now.response_time) (facts_of self.now.table
+            (answered_of answer.now.response.now answer.now.response_time) (storing_facts_of_answer self.now.table
             answer.now.exchange.now answer.now.response.now answer.now.response_time self.now.next) }
-        ensures { result ≡ rule_shown self.now.table answer.now.exchange.now answer.now.response.now
+        ensures { result ≡ storing_rule_to_explain self.now.table answer.now.exchange.now answer.now.response.now
             answer.now.response_time self.now.next }
     {
         if self.config.policy(answer.exchange.line).explains_storing {
@@ -169,9 +172,11 @@ impl<S: Shelf> Core<S> {
         head: &Answered,
     ) -> Result<Admission, AllocError>
         requires { head.now ≡ answered_of answer.now.response.now answer.now.response_time }
-        ensures rule { IfOk result (λ admission. admission.rule ≡ rule_shown self.now.table answer.now.exchange.now
+        ensures rule { IfOk result
+            (λ admission. admission.rule ≡ storing_rule_to_explain self.now.table answer.now.exchange.now
             answer.now.response.now answer.now.response_time self.now.next) }
-        ensures serial { IfOk result (λ admission. option_map (λ n. n.serial) admission.new_entry ≡ stored_serial
+        ensures serial { IfOk result (λ admission. option_map (λ n. n.serial) admission.new_entry
+            ≡ serial_of_stored_answer
             self.now.table answer.now.exchange.now answer.now.response.now answer.now.response_time self.now.next) }
         ensures nominated { IfOk result (λ admission. IfSome admission.new_entry
             (λ n. n.nominated ≡ kept_values head.now.fields answer.now.exchange.now.asked.fields)) }
@@ -180,19 +185,19 @@ impl<S: Shelf> Core<S> {
         let rule = self.rule_against(alloc, answer, head, &nomination)?;
         let shown = self.rule_shown(answer, rule);
         if rule.is_some() {
-            return Ok(Admission::none(shown));
+            return Ok(Admission::not_stored(shown));
         }
         the_least_storage_rule_is_named();
         let serial = match self.next {
             Some(serial) => serial,
-            None => return Ok(Admission::none(shown)),
+            None => return Ok(Admission::not_stored(shown)),
         };
         match nomination {
             Nomination::Names(nominated) => Ok(Admission {
                 rule: shown,
                 new_entry: Some(NewEntry { serial, nominated }),
             }),
-            Nomination::Star => Ok(Admission::none(shown)),
+            Nomination::Star => Ok(Admission::not_stored(shown)),
         }
     }
 }
@@ -215,7 +220,7 @@ pub(crate) fn removed_unstored<S: Shelf>(
     answer: &OriginAnswer<'_>,
 ) -> Result<Serials, AllocError>
     ensures { IfOk result (λ removed. removed
-        ≡ removed_by (S.entries shelf.now) answer.now.exchange.now answer.now.response.now None) }
+        ≡ serials_removed_by_answer (S.entries shelf.now) answer.now.exchange.now answer.now.response.now None) }
 {
     if answer.invalidates() {
         shelf.find(alloc, &answer.exchange.asked.target.key)

@@ -5,10 +5,13 @@ ghost use Rattle.hx_vary.specs.Vary.{is_star};
 ghost use Rattle.hx_allow.specs.Matching.{policy_of};
 ghost use Rattle.hx_reuse.specs.Rules.{decision_of};
 ghost use Rattle.proxy_core.specs.declared.event.Event.TheVariants.{Answer};
-ghost use Rattle.proxy_core.specs.Outcomes.{sent_refreshed, revalidated};
-ghost use Rattle.proxy_core.specs.Pending.{reply_of, outcome_after, AfterLeaves, AfterFits, IsPlainAfter, IsRefresh};
-ghost use Rattle.proxy_core.specs.Validating.{is_answered, asked_about, validated, refreshed, as_get, head_of};
-ghost use Rattle.proxy_core.specs.Validating.{kept_facts, is_kept};
+ghost use Rattle.proxy_core.specs.Outcomes.{outcome_of_sending_freshened, outcome_of_304};
+ghost use Rattle.proxy_core.specs.Pending.{outcome_of_pending_reply, outcome_after, AnswerLeavesHeldAsStepDoes};
+ghost use Rattle.proxy_core.specs.Pending.{AnswerChangeFits, AnswerStoresNothing, IsChangeAfterFreshening};
+ghost use Rattle.proxy_core.specs.Validating.{stored_response_is_answered, stored_response_asked_about};
+ghost use Rattle.proxy_core.specs.Validating.{stored_response_validated, freshened_by_304, as_get_request};
+ghost use Rattle.proxy_core.specs.Validating.{head_of_stored};
+ghost use Rattle.proxy_core.specs.Validating.{storing_facts_of_freshened, freshened_may_be_kept};
 
 use crate::core_state::Core;
 use crate::open::exchange::Exchange;
@@ -25,17 +28,19 @@ use hx_framing::Response;
 use hx_hop::{Answered, Asked, lists_cache_field};
 use hx_reuse::{Decision, lifetime_under};
 use hx_status::Detail;
-use hx_storable::{Facts, first_rule_against};
+use hx_storable::{StoringFacts, first_rule_against};
 use hx_store::{Entry, Serials, Shelf};
 use hx_target::equal_keys_are_one;
-use hx_validate::{answers, freshened, has_validator, leaves_room};
+use hx_validate::{answers, freshened, has_validator, head_leaves_room};
 use hx_vary::{Nominated, Nomination};
 use std::alloc::{AllocError, Global};
 
 /// Whether an answer with this head answers a held response.
-fn is_answered(answer: &OriginAnswer<'_>, head: &Answered, entry: &Entry) -> bool
+fn stored_response_is_answered(answer: &OriginAnswer<'_>, head: &Answered, entry: &Entry) -> bool
     requires { head.now ≡ answered_of answer.now.response.now answer.now.response_time }
-    ensures { result ≡ is_answered answer.now.exchange.now answer.now.response.now answer.now.response_time entry.now }
+    ensures { result
+        ≡ stored_response_is_answered answer.now.exchange.now answer.now.response.now answer.now.response_time
+        entry.now }
 {
     match &answer.exchange.condition {
         Some(condition) => {
@@ -47,8 +52,8 @@ fn is_answered(answer: &OriginAnswer<'_>, head: &Answered, entry: &Entry) -> boo
 }
 
 /// The held response that an exchange asks about.
-fn asked_about<'a, S: Shelf>(shelf: &'a S, exchange: &Exchange) -> Option<&'a Entry>
-    ensures { option_copied result ≡ asked_about (S.entries shelf.now) exchange.now }
+fn stored_response_asked_about<'a, S: Shelf>(shelf: &'a S, exchange: &Exchange) -> Option<&'a Entry>
+    ensures { option_copied result ≡ stored_response_asked_about (S.entries shelf.now) exchange.now }
 {
     match &exchange.condition {
         Some(condition) => shelf.peek(condition.serial),
@@ -57,23 +62,24 @@ fn asked_about<'a, S: Shelf>(shelf: &'a S, exchange: &Exchange) -> Option<&'a En
 }
 
 /// The held response that a 304 answers.
-fn validated<'a, S: Shelf>(
+fn stored_response_validated<'a, S: Shelf>(
     shelf: &'a S,
     answer: &OriginAnswer<'_>,
     head: &Answered,
 ) -> Option<&'a Entry>
     requires { head.now ≡ answered_of answer.now.response.now answer.now.response_time }
     ensures { option_copied result
-        ≡ validated (S.entries shelf.now) answer.now.exchange.now answer.now.response.now answer.now.response_time }
+        ≡ stored_response_validated
+        (S.entries shelf.now) answer.now.exchange.now answer.now.response.now answer.now.response_time }
 {
-    match asked_about(shelf, answer.exchange) {
-        Some(entry) if is_answered(answer, head, entry) => Some(entry),
+    match stored_response_asked_about(shelf, answer.exchange) {
+        Some(entry) if stored_response_is_answered(answer, head, entry) => Some(entry),
         _ => None,
     }
 }
 
 /// What the held response becomes that a 304 answers.
-fn refreshed(
+fn freshened_by_304(
     alloc: Global,
     answer: &OriginAnswer<'_>,
     head: &Answered,
@@ -81,7 +87,7 @@ fn refreshed(
 ) -> Result<Entry, AllocError>
     requires { head.now ≡ answered_of answer.now.response.now answer.now.response_time }
     ensures { IfOk result (λ fresh. fresh
-        ≡ refreshed answer.now.exchange.now answer.now.response.now answer.now.response_time entry.now) }
+        ≡ freshened_by_304 answer.now.exchange.now answer.now.response.now answer.now.response_time entry.now) }
 {
     let exchange = answer.exchange;
     let times = Times::of(&head.fields, exchange.request_time, answer.response_time);
@@ -89,16 +95,16 @@ fn refreshed(
 }
 
 /// The same request, of method GET.
-fn as_get(alloc: Global, asked: &Asked) -> Result<Asked, AllocError>
-    ensures { IfOk result (λ get. get ≡ as_get asked.now) }
+fn as_get_request(alloc: Global, asked: &Asked) -> Result<Asked, AllocError>
+    ensures { IfOk result (λ get. get ≡ as_get_request asked.now) }
 {
     let mut get = asked.copy(alloc)?;
     get.method = Method::GET;
     Ok(get)
 }
 
-fn head_of(alloc: Global, entry: &Entry) -> Result<Answered, AllocError>
-    ensures { IfOk result (λ head. head ≡ head_of entry.now) }
+fn head_of_stored(alloc: Global, entry: &Entry) -> Result<Answered, AllocError>
+    ensures { IfOk result (λ head. head ≡ head_of_stored entry.now) }
 {
     Ok(Answered {
         status: entry.status,
@@ -107,20 +113,20 @@ fn head_of(alloc: Global, entry: &Entry) -> Result<Answered, AllocError>
 }
 
 /// What the storing rules ask of a freshened response.
-fn kept_facts(
+fn storing_facts_of_freshened(
     alloc: Global,
     config: &Config,
     exchange: &Exchange,
     response: &Response,
     entry: &Entry,
-) -> Result<Facts, AllocError>
-    ensures { IfOk result (λ facts. facts ≡ kept_facts config.now exchange.now response.now entry.now) }
+) -> Result<StoringFacts, AllocError>
+    ensures { IfOk result (λ facts. facts ≡ storing_facts_of_freshened config.now exchange.now response.now entry.now) }
 {
     let policy = config.policy(exchange.line);
     let lifetime = lifetime_under(policy, entry.status, &entry.fields, &entry.directives);
-    Ok(Facts {
+    Ok(StoringFacts {
         policy,
-        vary_star: is_star(alloc, &exchange.asked, entry)?,
+        vary_star: nominates_a_star_there(alloc, &exchange.asked, entry)?,
         listed: lists_cache_field(&response.fields),
         explicit: lifetime.explicit,
         validator: has_validator(&entry.fields),
@@ -131,7 +137,7 @@ fn kept_facts(
 }
 
 /// Whether no request but its own may be answered by a response (RFC 9111, section 4.1).
-fn is_star(alloc: Global, asked: &Asked, entry: &Entry) -> Result<bool, AllocError>
+fn nominates_a_star_there(alloc: Global, asked: &Asked, entry: &Entry) -> Result<bool, AllocError>
     ensures { IfOk result (λ is. is ≡ is_star entry.now.fields) }
 {
     match Nominated::of(alloc, &entry.fields, &asked.fields)? {
@@ -142,29 +148,29 @@ fn is_star(alloc: Global, asked: &Asked, entry: &Entry) -> Result<bool, AllocErr
 
 /// Whether a freshened response is kept: its head leaves room for what is added to it, and no
 /// storing rule stands against it.
-fn is_kept(
+fn freshened_may_be_kept(
     alloc: Global,
     config: &Config,
     exchange: &Exchange,
     response: &Response,
     entry: &Entry,
 ) -> Result<bool, AllocError>
-    ensures { IfOk result (λ is. is ≡ is_kept config.now exchange.now response.now entry.now) }
+    ensures { IfOk result (λ is. is ≡ freshened_may_be_kept config.now exchange.now response.now entry.now) }
 {
-    if !leaves_room(&entry.fields) {
+    if !head_leaves_room(&entry.fields) {
         return Ok(false);
     }
-    let asked = as_get(alloc, &exchange.asked)?;
+    let asked = as_get_request(alloc, &exchange.asked)?;
     let asked_directives = Directives::of(alloc, &asked.fields)?;
-    let head = head_of(alloc, entry)?;
-    let facts = kept_facts(alloc, config, exchange, response, entry)?;
+    let head = head_of_stored(alloc, entry)?;
+    let facts = storing_facts_of_freshened(alloc, config, exchange, response, entry)?;
     let rule = first_rule_against(&asked, &asked_directives, &head, &entry.directives, facts);
     Ok(rule.is_none())
 }
 
 /// What becomes of a freshened response: it is kept where it may be kept.
 fn change_after(entry: Entry, kept: bool) -> Change
-    ensures { IsRefresh kept entry result }
+    ensures { IsChangeAfterFreshening kept entry result }
 {
     if kept {
         Change::Freshen(entry)
@@ -192,14 +198,16 @@ impl<S: Shelf> Core<S> {
         answer: &OriginAnswer<'_>,
         entry: Entry,
     ) -> Result<PendingReply, AllocError>
-        ensures outcome { IfOk result (λ pending. reply_of pending ≡ sent_refreshed self.now.table
+        ensures outcome { IfOk result (λ pending. outcome_of_pending_reply pending
+            ≡ outcome_of_sending_freshened self.now.table
             answer.now.exchange.now answer.now.response.now answer.now.response_time entry) }
-        ensures change { IfOk result (λ pending. IsRefresh
-            (is_kept self.now.table answer.now.exchange.now answer.now.response.now entry) entry pending.change) }
+        ensures change { IfOk result (λ pending. IsChangeAfterFreshening
+            (freshened_may_be_kept self.now.table answer.now.exchange.now answer.now.response.now entry) entry
+            pending.change) }
     {
         let exchange = answer.exchange;
         let response = answer.response;
-        let kept = is_kept(alloc, &self.config, exchange, response, &entry)?;
+        let kept = freshened_may_be_kept(alloc, &self.config, exchange, response, &entry)?;
         let removed = removed_after(alloc, entry.serial, kept)?;
         let policy = self.config.policy(exchange.line);
         let reply = StoredReply {
@@ -219,26 +227,28 @@ impl<S: Shelf> Core<S> {
     }
 
     /// What follows a 304 to the proxy's conditions.
-    pub(crate) fn after_304(
+    pub(crate) fn follow_304(
         &self,
         alloc: Global,
         answer: &OriginAnswer<'_>,
     ) -> Result<AfterAnswer, AllocError>
         requires { answer.now.response_time < 253_402_300_800 }
         ensures outcome { IfOk result (λ after. outcome_after answer.now.exchange.now after
-            ≡ revalidated self.now.table self.now.entries answer.now.response_time answer.now.exchange.now
-            answer.now.response.now (validated self.now.entries answer.now.exchange.now answer.now.response.now
+            ≡ outcome_of_304 self.now.table self.now.entries answer.now.response_time answer.now.exchange.now
+            answer.now.response.now
+            (stored_response_validated self.now.entries answer.now.exchange.now answer.now.response.now
             answer.now.response_time) (decision_of (policy_of self.now.table.lines answer.now.exchange.now.line)
             self.now.entries answer.now.exchange.now.asked answer.now.response_time)) }
-        ensures leaves { IfOk result (λ after. AfterLeaves self.now.limit self.now.entries answer.now.exchange.now
+        ensures leaves { IfOk result
+            (λ after. AnswerLeavesHeldAsStepDoes self.now.limit self.now.entries answer.now.exchange.now
             (Answer answer.now.response_time answer.now.exchange.now.id answer.now.response.now) after) }
-        ensures fits { IfOk result (λ after. AfterFits self.now.next self.now.entries after) }
+        ensures fits { IfOk result (λ after. AnswerChangeFits self.now.next self.now.entries after) }
     {
         let head = answer.head(alloc)?;
         equal_keys_are_one();
-        match validated(&self.shelf, answer, &head) {
+        match stored_response_validated(&self.shelf, answer, &head) {
             Some(entry) => {
-                let fresh = refreshed(alloc, answer, &head, entry)?;
+                let fresh = freshened_by_304(alloc, answer, &head, entry)?;
                 let pending = self.send_refreshed(alloc, answer, fresh)?;
                 Ok(AfterAnswer::Ends(pending))
             }
@@ -253,10 +263,10 @@ impl<S: Shelf> Core<S> {
         answer: &OriginAnswer<'_>,
     ) -> Result<AfterAnswer, AllocError>
         ensures outcome { IfOk result (λ after. outcome_after answer.now.exchange.now after
-            ≡ revalidated self.now.table self.now.entries answer.now.response_time answer.now.exchange.now
+            ≡ outcome_of_304 self.now.table self.now.entries answer.now.response_time answer.now.exchange.now
             answer.now.response.now None (decision_of (policy_of self.now.table.lines answer.now.exchange.now.line)
             self.now.entries answer.now.exchange.now.asked answer.now.response_time)) }
-        ensures plain { IfOk result IsPlainAfter }
+        ensures plain { IfOk result AnswerStoresNothing }
     {
         let exchange = answer.exchange;
         let asked = &exchange.asked;

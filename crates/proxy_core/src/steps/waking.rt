@@ -3,20 +3,20 @@ ghost use Rattle.std.specs.Prelude.{◌≡◌, ◌<◌, map, IfOk, IfErr, OnErr}
 ghost use Rattle.hx_allow.specs.Matching.{policy_of};
 ghost use Rattle.hx_reuse.specs.Rules.{decision_of};
 ghost use Rattle.hx_reuse.specs.declared.decision.Decision.TheVariants as decision;
-ghost use Rattle.proxy_core.specs.Outcomes.{woken};
-ghost use Rattle.proxy_core.specs.Pending.{IsPlain};
-ghost use Rattle.proxy_core.specs.Waking.{IsWoken};
+ghost use Rattle.proxy_core.specs.Outcomes.{outcome_of_wake};
+ghost use Rattle.proxy_core.specs.Pending.{ChangeStoresNothing};
+ghost use Rattle.proxy_core.specs.Waking.{IsPreparedForWake};
 ghost use Rattle.proxy_core.specs.declared.event.Event.TheVariants.{Wake};
-ghost use Rattle.proxy_core.specs.State.{Steps, Refuses, sent_out};
+ghost use Rattle.proxy_core.specs.State.{StepIsAccepted, StepIsRefusedWith, exchange_sent_forward};
 
-use crate::core_state::{Core, not_ready};
-use crate::fault::CoreFault;
+use crate::core_fault::CoreFault;
+use crate::core_state::{Core, fault_if_not_released};
 use crate::moments::moment_fault;
 use crate::open::exchange::Exchange;
 use crate::outcome::Outcome;
 use crate::replies::pending::PendingReply;
 use crate::replies::stored_reply::CacheStatusInfo;
-use crate::steps::condition::{Condition, condition_at};
+use crate::steps::condition::{Condition, condition_about_serial};
 use crate::steps::judging::judge;
 use crate::steps::sending::forward_text;
 use hx_fields::Bytes;
@@ -35,13 +35,13 @@ pub(crate) enum AfterWake {
 
 impl<S: Shelf> Core<S> {
     /// What a request that waited gets now.
-    fn after_wake(
+    fn follow_wake(
         &self,
         alloc: Global,
         exchange: &Exchange,
         now: u64,
     ) -> Result<AfterWake, AllocError>
-        ensures { IfOk result (λ after. IsWoken self.now.table self.now.entries now exchange.now
+        ensures { IfOk result (λ after. IsPreparedForWake self.now.table self.now.entries now exchange.now
             (decision_of (policy_of self.now.table.lines exchange.now.line) self.now.entries exchange.now.asked now)
             after) }
     {
@@ -54,7 +54,7 @@ impl<S: Shelf> Core<S> {
                 Ok(AfterWake::Ends(pending))
             }
             Decision::Forward(rule, named) => {
-                let condition = condition_at(alloc, &self.shelf, named)?;
+                let condition = condition_about_serial(alloc, &self.shelf, named)?;
                 let bytes = forward_text(alloc, &self.config, asked, condition.as_ref())?;
                 Ok(AfterWake::GoesOut(rule, condition, bytes))
             }
@@ -64,8 +64,8 @@ impl<S: Shelf> Core<S> {
     /// The exchange that a request waited for has ended: a stored response is sent where no reuse
     /// rule stands now, else the request goes forward. `now` is in Unix seconds.
     pub fn wake(&mut self, alloc: Global, now: u64, id: u64) -> Result<Outcome, CoreFault>
-        ensures ok { IfOk result (λ outcome. Steps self.old (Wake now id) outcome self.new) }
-        ensures err { IfErr result (λ fault. Refuses self.old (Wake now id) fault) }
+        ensures ok { IfOk result (λ outcome. StepIsAccepted self.old (Wake now id) outcome self.new) }
+        ensures err { IfErr result (λ fault. StepIsRefusedWith self.old (Wake now id) fault) }
         ensures unchanged { OnErr result (self.new ≡ self.old) }
     {
         let x = match self.exchanges.find(id) {
@@ -76,18 +76,18 @@ impl<S: Shelf> Core<S> {
             None => {}
             Some(fault) => return Err(fault),
         }
-        match not_ready(x.stage) {
+        match fault_if_not_released(x.stage) {
             None => {}
             Some(fault) => return Err(fault),
         }
         let line = x.line;
-        match self.after_wake(alloc, x, now) {
+        match self.follow_wake(alloc, x, now) {
             Ok(AfterWake::Ends(pending)) => match self.finish(id, pending, None) {
                 Ok(outcome) => Ok(outcome),
                 Err(_) => Err(CoreFault::OutOfMemory),
             },
             Ok(AfterWake::GoesOut(rule, condition, bytes)) => {
-                self.exchanges.send_out(id, now, rule, condition);
+                self.exchanges.send_forward(id, now, rule, condition);
                 Ok(Outcome::Forward(line, bytes))
             }
             Err(_) => Err(CoreFault::OutOfMemory),

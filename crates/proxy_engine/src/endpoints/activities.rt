@@ -1,6 +1,6 @@
 //! What a connection does with the last request that it took: nothing any more, or its exchange is open.
 ghost use Rattle.std.specs.Prelude.{◌≡◌};
-ghost use Rattle.proxy_engine.specs.Activities.{link_of, has_exchange};
+ghost use Rattle.proxy_engine.specs.Activities.{link_place_of_activity, has_exchange};
 
 /// An exchange of a connection is open, or none is.
 #[derive(Clone, Copy)]
@@ -16,7 +16,7 @@ pub(crate) enum Activity {
 impl Activity {
     /// The place of the link on which the request went forward.
     pub(crate) fn link(self) -> Option<u64>
-        ensures { result ≡ link_of self }
+        ensures { result ≡ link_place_of_activity self }
     {
         match self {
             Activity::Free => None,

@@ -4,14 +4,16 @@ ghost use Rattle.std.specs.Prelude.{sum_by, true, is_some, IsOk, IfOk, IfSome, I
 ghost use Rattle.std.specs.Prelude.{slice_index_or, slice_set};
 ghost use Rattle.std.specs.Option.{option_copied_mut};
 ghost use Rattle.std.specs.Borrow.{LendsIf, sem};
-ghost use Rattle.proxy_engine.specs.Numbers.{connection_number};
+ghost use Rattle.proxy_engine.specs.ConnectionNumbers.{connection_number};
 ghost use Rattle.proxy_engine.specs.EngineModel.{ConnectionModel, no_connection};
-ghost use Rattle.proxy_engine.specs.Due.{IsFirst, Lost};
-ghost use Rattle.proxy_engine.specs.Reading.{places_with, is_open, is_read, client_end, IsBetween};
-ghost use Rattle.proxy_engine.specs.Room.{IsRoomy, piece};
-ghost use Rattle.proxy_engine.specs.Activities.{link_of, has_exchange};
+ghost use Rattle.proxy_engine.specs.Due.{IsFirstAtWhich, IsLostConnection};
+ghost use Rattle.proxy_engine.specs.Reading.{places_with_flag, connection_is_open_in_model};
+ghost use Rattle.proxy_engine.specs.Reading.{connection_may_send_request, client_end_at, IsBetweenRequests};
+ghost use Rattle.proxy_engine.specs.Room.{ConnectionHasSpare, most_bytes_of_read};
+ghost use Rattle.proxy_engine.specs.Activities.{link_place_of_activity, has_exchange};
 ghost use Rattle.proxy_engine.specs.Pairing.{activity_at, activity_of, activities_of};
-ghost use Rattle.proxy_engine.specs.State.{Both, ConnectionRepresents, gone_at, NoneLost, FoundConnections};
+ghost use Rattle.proxy_engine.specs.State.{RelatesLists, ConnectionRepresents, is_gone_at, NoConnectionIsLost};
+ghost use Rattle.proxy_engine.specs.State.{IsFirstFoundConnection};
 ghost use Rattle.proxy_engine.specs.State.{connection_load};
 
 use crate::endpoints::activities::Activity;
@@ -19,7 +21,7 @@ use crate::endpoints::ends::Connection;
 use crate::endpoints::numbers::{connection_number, next_connection};
 use crate::endpoints::peeked::Peeked;
 use crate::endpoints::ready_list::ReadyList;
-use crate::reading;
+use crate::readable_ends;
 use crate::steps::finds::{first_due, first_lost};
 use crate::work::End;
 use hx_framing::RequestReader;
@@ -42,20 +44,20 @@ impl Model for Connections {
     ghost use Rattle.std.specs.Prelude.{◌&&◌, ◌+◌, ◌^◌, nat_lt, is_some};
     ghost use Rattle.std.specs.Ordering.{nat_cmp};
     ghost use Rattle.std.specs.BTreeMap.{get};
-    ghost use Rattle.proxy_engine.specs.ReadyList.{listed, AllBelow, IsMarked};
-    ghost use Rattle.proxy_engine.specs.Marked.{EndList, may_be_lost, may_want};
+    ghost use Rattle.proxy_engine.specs.ReadyList.{entries_below, PlacesAreBelow, FlaggedPlacesAreMarked};
+    ghost use Rattle.proxy_engine.specs.Marked.{EndList, may_be_lost, connection_may_be_due};
     ghost use Rattle.proxy_engine.specs.declared.endpoints.ends.Connection.{Connection};
 
     ghost Value = { EndList Connection };
 
     ghost view = { λ c. record {
-      items = listed c.ends c.count;
+      items = entries_below c.ends c.count;
       has_room = nat_lt (c.count + 1) (2 ^ 64)
           && is_some (get nat_cmp c.ends c.count);
     } };
 
-    ghost invariant = { λ c. IsMarked may_be_lost c.ends c.lost × AllBelow c.count c.lost.places
-        × IsMarked may_want c.ends c.waiting × AllBelow c.count c.waiting.places };
+    ghost invariant = { λ c. FlaggedPlacesAreMarked may_be_lost c.ends c.lost × PlacesAreBelow c.count c.lost.places
+        × FlaggedPlacesAreMarked connection_may_be_due c.ends c.waiting × PlacesAreBelow c.count c.waiting.places };
 }
 
 impl Connections {
@@ -111,14 +113,14 @@ impl Connections {
 
     /// Whether the client at a place is between two requests.
     pub(crate) fn is_between(&self, i: u64) -> bool
-        ensures { (ss : List ConnectionModel) → Both ConnectionRepresents self.now.items ss → result ≡ true
-            → IsBetween (slice_index_or ss i no_connection) }
+        ensures { (ss : List ConnectionModel) → RelatesLists ConnectionRepresents self.now.items ss → result ≡ true
+            → IsBetweenRequests (slice_index_or ss i no_connection) }
     {
         if i >= self.count {
             return false;
         }
         match self.ends.get(&i) {
-            Some(connection) => reading::is_between(connection),
+            Some(connection) => readable_ends::is_between(connection),
             None => false,
         }
     }
@@ -196,40 +198,41 @@ impl Connections {
 
     /// How many are open: neither closed nor gone.
     pub(crate) fn open_count(&self) -> usize
-        ensures { (ss : List ConnectionModel) → Both ConnectionRepresents self.now.items ss → result
-            ≡ length (places_with is_open 0 ss) }
+        ensures { (ss : List ConnectionModel) → RelatesLists ConnectionRepresents self.now.items ss → result
+            ≡ length (places_with_flag connection_is_open_in_model 0 ss) }
     {
-        reading::open_count(&self.ends, self.count)
+        readable_ends::open_count(&self.ends, self.count)
     }
 
     /// Whether fewer than this are open.
     pub(crate) fn are_fewer_open(&self, most: usize) -> bool
-        ensures { (ss : List ConnectionModel) → Both ConnectionRepresents self.now.items ss → result
-            ≡ nat_lt (length (places_with is_open 0 ss)) most }
+        ensures { (ss : List ConnectionModel) → RelatesLists ConnectionRepresents self.now.items ss → result
+            ≡ nat_lt (length (places_with_flag connection_is_open_in_model 0 ss)) most }
     {
-        reading::are_fewer_open(&self.ends, self.count, most)
+        readable_ends::are_fewer_open(&self.ends, self.count, most)
     }
 
     /// Adds the clients from which bytes may come.
     pub(crate) fn push_readable(&self, ends: &mut Vec<End>) -> Result<(), AllocError>
-        ensures { OnOk result ((ss : List ConnectionModel) → Both ConnectionRepresents self.now.items ss
-            → ends.new.items ≡ ends.old.items ++ map client_end (places_with is_read 0 ss)) }
+        ensures { OnOk result ((ss : List ConnectionModel) → RelatesLists ConnectionRepresents self.now.items ss
+            → ends.new.items ≡ ends.old.items ++ map client_end_at
+            (places_with_flag connection_may_send_request 0 ss)) }
     {
-        reading::push_clients(&self.ends, self.count, ends)
+        readable_ends::push_clients(&self.ends, self.count, ends)
     }
 
     /// Makes room for one piece of the client's bytes at a place, if the connection isn't over.
     pub(crate) fn reserve_piece(&mut self, i: u64) -> Result<(), AllocError>
-        ensures ok { OnOk result (IsRoomy (slice_index_or self.new.items i None) piece) }
-        ensures represents { (ss : List ConnectionModel) → Both ConnectionRepresents self.old.items ss
-            → Both ConnectionRepresents self.new.items ss }
+        ensures ok { OnOk result (ConnectionHasSpare (slice_index_or self.new.items i None) most_bytes_of_read) }
+        ensures represents { (ss : List ConnectionModel) → RelatesLists ConnectionRepresents self.old.items ss
+            → RelatesLists ConnectionRepresents self.new.items ss }
         ensures activities { activities_of self.new.items ≡ activities_of self.old.items }
         ensures err { OnErr result (self.new ≡ self.old) }
     {
         if i >= self.count {
             return Ok(());
         }
-        reading::reserve_at(&mut self.ends, i)
+        readable_ends::reserve_at(&mut self.ends, i)
     }
 
     /// Lets go of the connection at a place, which is over.
@@ -245,21 +248,22 @@ impl Connections {
     /// The first connection that is gone with an open exchange, and its link, if its request went forward.
     pub(crate) fn find_lost(&mut self) -> Option<(u64, Option<u64>)>
         ensures same { self.new.items ≡ self.old.items }
-        ensures first { (ss : List ConnectionModel) → Both ConnectionRepresents self.old.items ss
-            → IsFirst Lost no_connection ss result }
-        ensures none { IfNone result (NoneLost self.old.items) }
+        ensures first { (ss : List ConnectionModel) → RelatesLists ConnectionRepresents self.old.items ss
+            → IsFirstAtWhich IsLostConnection no_connection ss result }
+        ensures none { IfNone result (NoConnectionIsLost self.old.items) }
         ensures open { IfSome result (λ p. has_exchange (activity_at (activities_of self.old.items) p.0) ≡ true) }
-        ensures linked { IfSome result (λ p. link_of (activity_at (activities_of self.old.items) p.0) ≡ p.1) }
-        ensures gone { IfSome result (λ p. gone_at (slice_index_or self.old.items p.0 None) ≡ Some true) }
+        ensures linked { IfSome result (λ p. link_place_of_activity (activity_at (activities_of self.old.items) p.0)
+            ≡ p.1) }
+        ensures gone { IfSome result (λ p. is_gone_at (slice_index_or self.old.items p.0 None) ≡ Some true) }
     {
         first_lost(&self.ends, &mut self.lost)
     }
 
     /// The first connection on which something is due.
     pub(crate) fn find_due(&mut self, alloc: Global) -> Result<Option<u64>, AllocError>
-        ensures represents { (ss : List ConnectionModel) → Both ConnectionRepresents self.old.items ss
-            → Both ConnectionRepresents self.new.items ss }
-        ensures found { IfOk result (λ found. FoundConnections self.new.items found) }
+        ensures represents { (ss : List ConnectionModel) → RelatesLists ConnectionRepresents self.old.items ss
+            → RelatesLists ConnectionRepresents self.new.items ss }
+        ensures found { IfOk result (λ found. IsFirstFoundConnection self.new.items found) }
         ensures activities { activities_of self.new.items ≡ activities_of self.old.items }
         ensures load { sum_by connection_load self.new.items ≤ sum_by connection_load self.old.items }
     {

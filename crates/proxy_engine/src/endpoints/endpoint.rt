@@ -45,19 +45,19 @@ pub(crate) trait Endpoint: Drop {
 }
 
 impl Endpoint for Connection {
-    ghost use Rattle.proxy_engine.specs.Held.{GrowsConnection};
-    ghost use Rattle.proxy_engine.specs.Marked.{may_want, LooksLikeConnection, WantsThere};
+    ghost use Rattle.proxy_engine.specs.Held.{ConnectionOnlyGainsRoom};
+    ghost use Rattle.proxy_engine.specs.Marked.{connection_may_be_due, ConnectionAfterLook, ConnectionIsDueAsLookShows};
     ghost use Rattle.proxy_engine.specs.Exhausted.{connection_unknown};
     ghost use Rattle.std.proofs.Common.{refl, ◌∙◌};
     ghost use Rattle.std.proofs.Math.Nat.{le_refl, le_trans};
 
-    ghost may_show = { may_want };
+    ghost may_show = { connection_may_be_due };
 
-    ghost IsShown = { WantsThere };
+    ghost IsShown = { ConnectionIsDueAsLookShows };
 
-    ghost LooksLike = { LooksLikeConnection };
+    ghost LooksLike = { ConnectionAfterLook };
 
-    ghost Grows = { GrowsConnection };
+    ghost Grows = { ConnectionOnlyGainsRoom };
 
     ghost spare = { λ c. c.reader.inner.spare };
 
@@ -96,19 +96,19 @@ impl Endpoint for Connection {
 }
 
 impl Endpoint for Link {
-    ghost use Rattle.proxy_engine.specs.Held.{GrowsLink};
-    ghost use Rattle.proxy_engine.specs.Marked.{may_finish, LooksLikeLink, FinishThere};
+    ghost use Rattle.proxy_engine.specs.Held.{LinkOnlyGainsRoom};
+    ghost use Rattle.proxy_engine.specs.Marked.{link_may_be_due, LinkAfterLook, LinkIsDueAsLookShows};
     ghost use Rattle.proxy_engine.specs.Exhausted.{link_unknown};
     ghost use Rattle.std.proofs.Common.{refl, ◌∙◌};
     ghost use Rattle.std.proofs.Math.Nat.{le_refl, le_trans};
 
-    ghost may_show = { may_finish };
+    ghost may_show = { link_may_be_due };
 
-    ghost IsShown = { FinishThere };
+    ghost IsShown = { LinkIsDueAsLookShows };
 
-    ghost LooksLike = { LooksLikeLink };
+    ghost LooksLike = { LinkAfterLook };
 
-    ghost Grows = { GrowsLink };
+    ghost Grows = { LinkOnlyGainsRoom };
 
     ghost spare = { λ k. k.reader.inner.spare };
 

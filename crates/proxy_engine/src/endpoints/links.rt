@@ -4,16 +4,16 @@ ghost use Rattle.std.specs.Prelude.{IfOk, OnOk, OnErr, Some, None, slice_index_o
 ghost use Rattle.std.specs.Option.{option_copied_mut};
 ghost use Rattle.std.specs.Borrow.{LendsIf, sem};
 ghost use Rattle.proxy_engine.specs.EngineModel.{LinkModel, keeps_answer};
-ghost use Rattle.proxy_engine.specs.Reading.{places_with, has_failed, link_end};
-ghost use Rattle.proxy_engine.specs.Room.{IsRoomyLink, piece};
+ghost use Rattle.proxy_engine.specs.Reading.{places_with_flag, link_has_failed, link_end_at};
+ghost use Rattle.proxy_engine.specs.Room.{LinkHasSpare, most_bytes_of_read};
 ghost use Rattle.proxy_engine.specs.Pairing.{owners_of};
-ghost use Rattle.proxy_engine.specs.State.{Both, LinkRepresents, FoundLinks, link_load};
-ghost use Rattle.proxy_engine.specs.Exhausted.{StopsAt};
+ghost use Rattle.proxy_engine.specs.State.{RelatesLists, LinkRepresents, IsFirstFoundLink, link_load};
+ghost use Rattle.proxy_engine.specs.Exhausted.{LookStoppedForMemory};
 
 use crate::endpoints::ends::Link;
 use crate::endpoints::peeked::Peeked;
 use crate::endpoints::ready_list::ReadyList;
-use crate::reading;
+use crate::readable_ends;
 use crate::steps::finds::first_due;
 use crate::work::End;
 use hx_framing::ResponseReader;
@@ -35,19 +35,20 @@ impl Model for Links {
     ghost use Rattle.std.specs.Prelude.{◌&&◌, ◌+◌, ◌^◌, nat_lt, is_some};
     ghost use Rattle.std.specs.Ordering.{nat_cmp};
     ghost use Rattle.std.specs.BTreeMap.{get};
-    ghost use Rattle.proxy_engine.specs.ReadyList.{listed, AllBelow, IsMarked};
-    ghost use Rattle.proxy_engine.specs.Marked.{EndList, may_finish};
+    ghost use Rattle.proxy_engine.specs.ReadyList.{entries_below, PlacesAreBelow, FlaggedPlacesAreMarked};
+    ghost use Rattle.proxy_engine.specs.Marked.{EndList, link_may_be_due};
     ghost use Rattle.proxy_engine.specs.declared.endpoints.ends.Link.{Link};
 
     ghost Value = { EndList Link };
 
     ghost view = { λ k. record {
-      items = listed k.ends k.count;
+      items = entries_below k.ends k.count;
       has_room = nat_lt (k.count + 1) (2 ^ 64)
           && is_some (get nat_cmp k.ends k.count);
     } };
 
-    ghost invariant = { λ k. IsMarked may_finish k.ends k.ready_links × AllBelow k.count k.ready_links.places };
+    ghost invariant = { λ k. FlaggedPlacesAreMarked link_may_be_due k.ends k.ready_links
+        × PlacesAreBelow k.count k.ready_links.places };
 }
 
 impl Links {
@@ -129,34 +130,34 @@ impl Links {
 
     /// Adds the links from which bytes may come. The first link has this number.
     pub(crate) fn push_readable(&self, first: u64, ends: &mut Vec<End>) -> Result<(), AllocError>
-        ensures { OnOk result ((ss : List LinkModel) → Both LinkRepresents self.now.items ss
+        ensures { OnOk result ((ss : List LinkModel) → RelatesLists LinkRepresents self.now.items ss
             → first + length ss ≤ 2 ^ 64 → ends.new.items ≡ ends.old.items
-            ++ map (link_end first) (places_with keeps_answer 0 ss)) }
+            ++ map (link_end_at first) (places_with_flag keeps_answer 0 ss)) }
     {
-        reading::push_links(&self.ends, self.count, first, ends)
+        readable_ends::push_links(&self.ends, self.count, first, ends)
     }
 
     /// Adds the links that have failed. The first link has this number.
     pub(crate) fn push_failed(&self, first: u64, ends: &mut Vec<End>) -> Result<(), AllocError>
-        ensures { OnOk result ((ss : List LinkModel) → Both LinkRepresents self.now.items ss
+        ensures { OnOk result ((ss : List LinkModel) → RelatesLists LinkRepresents self.now.items ss
             → first + length ss ≤ 2 ^ 64 → ends.new.items ≡ ends.old.items
-            ++ map (link_end first) (places_with has_failed 0 ss)) }
+            ++ map (link_end_at first) (places_with_flag link_has_failed 0 ss)) }
     {
-        reading::push_failed(&self.ends, self.count, first, ends)
+        readable_ends::push_failed(&self.ends, self.count, first, ends)
     }
 
     /// Makes room for one piece of the origin's bytes at a place, if the link isn't dropped.
     pub(crate) fn reserve_piece(&mut self, j: u64) -> Result<(), AllocError>
-        ensures ok { OnOk result (IsRoomyLink (slice_index_or self.new.items j None) piece) }
-        ensures represents { (ss : List LinkModel) → Both LinkRepresents self.old.items ss
-            → Both LinkRepresents self.new.items ss }
+        ensures ok { OnOk result (LinkHasSpare (slice_index_or self.new.items j None) most_bytes_of_read) }
+        ensures represents { (ss : List LinkModel) → RelatesLists LinkRepresents self.old.items ss
+            → RelatesLists LinkRepresents self.new.items ss }
         ensures owners { owners_of self.new.items ≡ owners_of self.old.items }
         ensures err { OnErr result (self.new ≡ self.old) }
     {
         if j >= self.count {
             return Ok(());
         }
-        reading::reserve_at(&mut self.ends, j)
+        readable_ends::reserve_at(&mut self.ends, j)
     }
 
     /// Lets go of the link at a place, which is dropped.
@@ -171,10 +172,10 @@ impl Links {
 
     /// The first link whose answer is complete, refused or failed.
     pub(crate) fn find_finished(&mut self, alloc: Global) -> Result<Option<u64>, AllocError>
-        ensures represents { (ss : List LinkModel) → Both LinkRepresents self.old.items ss
-            → Both LinkRepresents self.new.items ss }
-        ensures found { IfOk result (λ found. FoundLinks self.new.items found) }
-        ensures failed { OnErr result (StopsAt self.new.items) }
+        ensures represents { (ss : List LinkModel) → RelatesLists LinkRepresents self.old.items ss
+            → RelatesLists LinkRepresents self.new.items ss }
+        ensures found { IfOk result (λ found. IsFirstFoundLink self.new.items found) }
+        ensures failed { OnErr result (LookStoppedForMemory self.new.items) }
         ensures owners { owners_of self.new.items ≡ owners_of self.old.items }
         ensures load { sum_by link_load self.new.items ≤ sum_by link_load self.old.items }
     {

@@ -1,6 +1,6 @@
 //! What is known of the next answer of a reader.
 ghost use Rattle.std.specs.Prelude.{◌≡◌, IfSome, is_some};
-ghost use Rattle.proxy_engine.specs.Lookahead.{ahead_by, is_due};
+ghost use Rattle.proxy_engine.specs.Lookahead.{lookahead_of_next, lookahead_is_due};
 
 use hx_framing::Next;
 
@@ -15,7 +15,7 @@ pub enum Lookahead<M> {
 impl<M: Drop> Lookahead<M> {
     /// What an answer tells.
     pub(crate) fn from_next(next: Next<M>) -> Lookahead<M>
-        ensures { result ≡ ahead_by next }
+        ensures { result ≡ lookahead_of_next next }
     {
         match next {
             Next::More => Lookahead::Quiet,
@@ -28,7 +28,7 @@ impl<M: Drop> Lookahead<M> {
 
     /// What is due.
     pub(crate) fn due(&self) -> Option<&Next<M>>
-        ensures variant { is_some result ≡ is_due self.now }
+        ensures variant { is_some result ≡ lookahead_is_due self.now }
         ensures value { IfSome result (λ next. self.now ≡ Lookahead.Due next.now) }
     {
         match self {

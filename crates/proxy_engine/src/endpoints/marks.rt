@@ -5,12 +5,13 @@ ghost use Rattle.hx_framing.specs.declared.messages.Request.{Request};
 ghost use Rattle.hx_framing.specs.declared.messages.Next.{Next};
 ghost use Rattle.proxy_core.specs.State.{State as CoreState};
 ghost use Rattle.proxy_engine.specs.declared.endpoints.lookahead.Lookahead.TheVariants.{Due};
-ghost use Rattle.proxy_engine.specs.Lookahead.{known};
+ghost use Rattle.proxy_engine.specs.Lookahead.{one_if_message_or_continue};
 ghost use Rattle.proxy_engine.specs.EngineModel.{EngineModel, ConnectionModel, with_connection};
-ghost use Rattle.proxy_engine.specs.Acts.{closing, doing, passing};
+ghost use Rattle.proxy_engine.specs.Acts.{with_closed, with_activity, with_next_passed};
 ghost use Rattle.proxy_engine.specs.Pairing.{activity_of, activities_of};
-ghost use Rattle.proxy_engine.specs.State.{Represents, ConnectionRepresents, state, action_at, gone_at, is_free};
-ghost use Rattle.proxy_engine.specs.State.{connection_load, wait_load, action_load};
+ghost use Rattle.proxy_engine.specs.State.{EngineRepresents, ConnectionRepresents, engine_state, due_request_at};
+ghost use Rattle.proxy_engine.specs.State.{is_gone_at, connection_is_free_at};
+ghost use Rattle.proxy_engine.specs.State.{connection_load, load_of_waiting, load_of_due_request};
 ghost use Rattle.proxy_engine.specs.declared.endpoints.ends.Link.{Link};
 
 use crate::endpoints::activities::Activity;
@@ -18,13 +19,13 @@ use crate::endpoints::connections::Connections;
 use crate::endpoints::ends::Connection;
 
 /// The connection, which isn't gone, has no open exchange any more.
-fn unlink(connection: &mut Connection)
+fn mark_free(connection: &mut Connection)
     requires { connection.old.gone ≡ false }
     ensures represents { (c : ConnectionModel) → ConnectionRepresents (Some connection.old) c
-        → ConnectionRepresents (Some connection.new) (doing Activity.Free c) }
+        → ConnectionRepresents (Some connection.new) (with_activity Activity.Free c) }
     ensures activity { connection.new.activity ≡ Activity.Free }
     ensures gone { connection.new.gone ≡ false }
-    ensures load { connection_load (Some connection.new) + wait_load connection.old.activity
+    ensures load { connection_load (Some connection.new) + load_of_waiting connection.old.activity
         ≡ connection_load (Some connection.old) }
 {
     connection.activity = Activity::Free;
@@ -34,7 +35,7 @@ fn unlink(connection: &mut Connection)
 fn queue(connection: &mut Connection)
     requires { connection.old.activity ≡ Activity.Free }
     ensures represents { (c : ConnectionModel) → ConnectionRepresents (Some connection.old) c
-        → ConnectionRepresents (Some connection.new) (doing Activity.Waiting c) }
+        → ConnectionRepresents (Some connection.new) (with_activity Activity.Waiting c) }
     ensures activity { connection.new.activity ≡ Activity.Waiting }
     ensures load { connection_load (Some connection.new) ≡ connection_load (Some connection.old) + 2 }
 {
@@ -42,10 +43,10 @@ fn queue(connection: &mut Connection)
 }
 
 /// The connection's request went forward on the link at a place.
-fn link_to(connection: &mut Connection, place: u64)
+fn mark_forwarded(connection: &mut Connection, place: u64)
     requires { connection.old.activity ≡ Activity.Free }
     ensures represents { (c : ConnectionModel) → ConnectionRepresents (Some connection.old) c
-        → ConnectionRepresents (Some connection.new) (doing (Activity.Forwarded place) c) }
+        → ConnectionRepresents (Some connection.new) (with_activity (Activity.Forwarded place) c) }
     ensures activity { connection.new.activity ≡ Activity.Forwarded place }
     ensures load { connection_load (Some connection.new) ≡ connection_load (Some connection.old) }
 {
@@ -55,26 +56,29 @@ fn link_to(connection: &mut Connection, place: u64)
 /// What was due on the connection is done.
 fn pass(connection: &mut Connection)
     ensures represents { (c : ConnectionModel) → (a : Next Request) → connection.old.reader.ahead ≡ Due a
-        → ConnectionRepresents (Some connection.old) c → ConnectionRepresents (Some connection.new) (passing a c) }
+        → ConnectionRepresents (Some connection.old) c → ConnectionRepresents (Some connection.new)
+        (with_next_passed a c) }
     ensures activity { connection.new.activity ≡ connection.old.activity }
     ensures gone { connection.new.gone ≡ connection.old.gone }
-    ensures load { connection_load (Some connection.new) + 3 * known connection.old.reader.ahead ≤ connection_load
+    ensures load { connection_load (Some connection.new) + 3 * one_if_message_or_continue connection.old.reader.ahead
+        ≤ connection_load
         (Some connection.old) }
 {
     connection.reader.pass();
 }
 
 /// What was due on the connection at a place is done.
-pub(crate) fn pass_at(connections: &mut Connections, i: u64)
-    requires { is_some (action_at (slice_index_or connections.old.items i None)) ≡ true }
+pub(crate) fn pass_next_at(connections: &mut Connections, i: u64)
+    requires { is_some (due_request_at (slice_index_or connections.old.items i None)) ≡ true }
     ensures represents { (s : EngineModel) → (a : Next Request) → (links : List (Option Link)) → (core : CoreState)
-        → (first : ℕ) → action_at (slice_index_or connections.old.items i None) ≡ Some a
-        → Represents (state connections.old.items links core first) s
-        → Represents (state connections.new.items links core first) (with_connection s i (passing a)) }
+        → (first : ℕ) → due_request_at (slice_index_or connections.old.items i None) ≡ Some a
+        → EngineRepresents (engine_state connections.old.items links core first) s
+        → EngineRepresents (engine_state connections.new.items links core first)
+        (with_connection s i (with_next_passed a)) }
     ensures activities { activities_of connections.new.items ≡ activities_of connections.old.items }
-    ensures free { is_free (slice_index_or connections.new.items i None) ≡ true }
-    ensures load { sum_by connection_load connections.new.items + 3 * action_load
-        (action_at (slice_index_or connections.old.items i None)) ≤ sum_by connection_load connections.old.items }
+    ensures free { connection_is_free_at (slice_index_or connections.new.items i None) ≡ true }
+    ensures load { sum_by connection_load connections.new.items + 3 * load_of_due_request
+        (due_request_at (slice_index_or connections.old.items i None)) ≤ sum_by connection_load connections.old.items }
 {
     match connections.at_mut(i) {
         Some(connection) => pass(connection),
@@ -84,27 +88,28 @@ pub(crate) fn pass_at(connections: &mut Connections, i: u64)
 
 /// The connection at a place has the link at another one.
 pub(crate) fn link_at(connections: &mut Connections, i: u64, place: u64)
-    requires { is_free (slice_index_or connections.old.items i None) ≡ true }
+    requires { connection_is_free_at (slice_index_or connections.old.items i None) ≡ true }
     ensures represents { (s : EngineModel) → (links : List (Option Link)) → (core : CoreState) → (first : ℕ)
-        → Represents (state connections.old.items links core first) s
-        → Represents (state connections.new.items links core first)
-        (with_connection s i (doing (Activity.Forwarded place))) }
+        → EngineRepresents (engine_state connections.old.items links core first) s
+        → EngineRepresents (engine_state connections.new.items links core first)
+        (with_connection s i (with_activity (Activity.Forwarded place))) }
     ensures activities { activities_of connections.new.items
         ≡ slice_set (activities_of connections.old.items) i (Activity.Forwarded place) }
     ensures load { sum_by connection_load connections.new.items ≡ sum_by connection_load connections.old.items }
 {
     match connections.at_mut(i) {
-        Some(connection) => link_to(connection, place),
+        Some(connection) => mark_forwarded(connection, place),
         None => unreachable!(),
     }
 }
 
 /// The request of the connection at a place waits for the answer to another.
-pub(crate) fn queue_at(connections: &mut Connections, i: u64)
-    requires { is_free (slice_index_or connections.old.items i None) ≡ true }
+pub(crate) fn mark_waiting_at(connections: &mut Connections, i: u64)
+    requires { connection_is_free_at (slice_index_or connections.old.items i None) ≡ true }
     ensures represents { (s : EngineModel) → (links : List (Option Link)) → (core : CoreState) → (first : ℕ)
-        → Represents (state connections.old.items links core first) s
-        → Represents (state connections.new.items links core first) (with_connection s i (doing Activity.Waiting)) }
+        → EngineRepresents (engine_state connections.old.items links core first) s
+        → EngineRepresents (engine_state connections.new.items links core first)
+        (with_connection s i (with_activity Activity.Waiting)) }
     ensures activities { activities_of connections.new.items
         ≡ slice_set (activities_of connections.old.items) i Activity.Waiting }
     ensures load { sum_by connection_load connections.new.items ≡ sum_by connection_load connections.old.items + 2 }
@@ -116,29 +121,31 @@ pub(crate) fn queue_at(connections: &mut Connections, i: u64)
 }
 
 /// The connection at a place, which isn't gone, has no open exchange any more.
-pub(crate) fn unlink_at(connections: &mut Connections, i: u64)
-    requires { gone_at (slice_index_or connections.old.items i None) ≡ Some false }
+pub(crate) fn mark_free_at(connections: &mut Connections, i: u64)
+    requires { is_gone_at (slice_index_or connections.old.items i None) ≡ Some false }
     ensures represents { (s : EngineModel) → (links : List (Option Link)) → (core : CoreState) → (first : ℕ)
-        → Represents (state connections.old.items links core first) s
-        → Represents (state connections.new.items links core first) (with_connection s i (doing Activity.Free)) }
+        → EngineRepresents (engine_state connections.old.items links core first) s
+        → EngineRepresents (engine_state connections.new.items links core first)
+        (with_connection s i (with_activity Activity.Free)) }
     ensures activities { activities_of connections.new.items
         ≡ slice_set (activities_of connections.old.items) i Activity.Free }
-    ensures free { is_free (slice_index_or connections.new.items i None) ≡ true }
-    ensures load { sum_by connection_load connections.new.items + wait_load
+    ensures free { connection_is_free_at (slice_index_or connections.new.items i None) ≡ true }
+    ensures load { sum_by connection_load connections.new.items + load_of_waiting
         (activity_of (slice_index_or connections.old.items i None)) ≡ sum_by connection_load connections.old.items }
 {
     match connections.at_mut(i) {
-        Some(connection) => unlink(connection),
+        Some(connection) => mark_free(connection),
         None => unreachable!(),
     }
 }
 
 /// The proxy closes the connection at a place, which is over then, or leaves it as it is.
 pub(crate) fn close_at(connections: &mut Connections, i: u64, close: bool)
-    requires free { is_free (slice_index_or connections.old.items i None) ≡ true }
+    requires free { connection_is_free_at (slice_index_or connections.old.items i None) ≡ true }
     ensures represents { (s : EngineModel) → (links : List (Option Link)) → (core : CoreState) → (first : ℕ)
-        → Represents (state connections.old.items links core first) s
-        → Represents (state connections.new.items links core first) (with_connection s i (closing close)) }
+        → EngineRepresents (engine_state connections.old.items links core first) s
+        → EngineRepresents (engine_state connections.new.items links core first)
+        (with_connection s i (with_closed close)) }
     ensures activities { activities_of connections.new.items ≡ activities_of connections.old.items }
     ensures load { sum_by connection_load connections.new.items ≤ sum_by connection_load connections.old.items }
     ensures less { close ≡ true

@@ -1,7 +1,7 @@
 //! Numbers and places. A connection has a number from 1 on, by which happenings and effects name it, and the core its
 //! exchange; it stands at a place from 0 on. Links have numbers from that of the first on.
 ghost use Rattle.std.specs.Prelude.{◌≡◌, ◌<◌, ◌^◌, nat_lt, if◌then◌else◌, Some, None};
-ghost use Rattle.proxy_engine.specs.Numbers.{connection_number, connection_place, link_number, link_place};
+ghost use Rattle.proxy_engine.specs.ConnectionNumbers.{connection_number, connection_place, link_number, link_place};
 
 /// The number of the connection at a place.
 pub(crate) fn connection_number(place: u64) -> u64

@@ -1,14 +1,15 @@
 //! A reader that is asked ahead: its answer is kept until it is used, so that no act reads bytes twice, and a message
 //! that finds no memory on its way isn't lost.
 ghost use Rattle.std.specs.Prelude.{◌≡◌, ◌+◌, ◌≤◌, [], true, OnOk, OnErr, IfSome, is_some};
-ghost use Rattle.hx_framing.specs.Progress.{Progress, moved};
+ghost use Rattle.hx_framing.specs.Progress.{Progress, stream_after_answer};
 ghost use Rattle.hx_framing.specs.declared.messages.Next.{Next};
 ghost use Rattle.hx_framing.specs.declared.messages.Next.TheVariants as next;
-ghost use Rattle.proxy_engine.specs.Lookahead.{Shows, asked_again, is_due, known, unsettled};
+ghost use Rattle.proxy_engine.specs.Lookahead.{LookaheadShows, lookahead_after_input, lookahead_is_due};
+ghost use Rattle.proxy_engine.specs.Lookahead.{one_if_message_or_continue, one_if_maybe_due};
 ghost use Rattle.hx_framing.specs.declared.messages.Request.{Request};
 ghost use Rattle.hx_framing.specs.RequestStream.{StreamSpells};
-ghost use Rattle.proxy_engine.specs.Peeked.{Represents, RequestRepresents, load};
-ghost use Rattle.proxy_engine.specs.Exhausted.{is_unknown};
+ghost use Rattle.proxy_engine.specs.Peeked.{PeekedRepresents, RequestRepresents, peeked_load};
+ghost use Rattle.proxy_engine.specs.Exhausted.{lookahead_is_unknown};
 
 use crate::endpoints::lookahead::Lookahead;
 use crate::endpoints::readers::Reader;
@@ -33,8 +34,8 @@ impl<R: Reader> Peeked<R> {
     /// Of a reader to which nothing has come, so that nothing is due.
     pub fn new(reader: R) -> Self
         ensures represents { (p : Progress R.Message) → R.RepresentsStream reader p → R.Answers p next.More
-            → Represents R.RepresentsStream R.Answers result p }
-        ensures load { load R.weight result ≡ R.weight reader }
+            → PeekedRepresents R.RepresentsStream R.Answers result p }
+        ensures load { peeked_load R.weight result ≡ R.weight reader }
         ensures quiet { result.ahead ≡ Lookahead.Quiet }
     {
         Peeked {
@@ -46,7 +47,7 @@ impl<R: Reader> Peeked<R> {
     /// More of the stream has come, or its end: where nothing was due yet, something may be now.
     pub(crate) fn ask_again(&mut self)
         ensures inner { self.new.inner ≡ self.old.inner }
-        ensures ahead { self.new.ahead ≡ asked_again self.old.ahead }
+        ensures ahead { self.new.ahead ≡ lookahead_after_input self.old.ahead }
     {
         match self.ahead {
             Lookahead::Unknown => {}
@@ -57,12 +58,12 @@ impl<R: Reader> Peeked<R> {
 
     /// Sees what is due next, and keeps it. Whatever it answers, it stands for the same streams.
     pub fn look_ahead(&mut self, alloc: Global) -> Result<(), AllocError>
-        ensures represents { (p : Progress R.Message) → Represents R.RepresentsStream R.Answers self.old p
-            → Represents R.RepresentsStream R.Answers self.new p }
-        ensures looked { OnOk result ((a : Next R.Message) × Shows self.new.ahead a) }
-        ensures unknown { OnErr result (is_unknown self.new.ahead ≡ true) }
-        ensures load { load R.weight self.new ≤ load R.weight self.old }
-        ensures unsettled { unsettled self.new.ahead ≤ unsettled self.old.ahead }
+        ensures represents { (p : Progress R.Message) → PeekedRepresents R.RepresentsStream R.Answers self.old p
+            → PeekedRepresents R.RepresentsStream R.Answers self.new p }
+        ensures looked { OnOk result ((a : Next R.Message) × LookaheadShows self.new.ahead a) }
+        ensures unknown { OnErr result (lookahead_is_unknown self.new.ahead ≡ true) }
+        ensures load { peeked_load R.weight self.new ≤ peeked_load R.weight self.old }
+        ensures unsettled { one_if_maybe_due self.new.ahead ≤ one_if_maybe_due self.old.ahead }
     {
         match self.ahead {
             Lookahead::Unknown => {
@@ -81,12 +82,12 @@ impl<R: Reader> Peeked<R> {
     /// Reads what is due next, of which nothing is known.
     fn read(&mut self, alloc: Global) -> Result<(), AllocError>
         requires { self.old.ahead ≡ Lookahead.Unknown }
-        ensures represents { (p : Progress R.Message) → Represents R.RepresentsStream R.Answers self.old p
-            → Represents R.RepresentsStream R.Answers self.new p }
-        ensures looked { OnOk result ((a : Next R.Message) × Shows self.new.ahead a) }
-        ensures unknown { OnErr result (is_unknown self.new.ahead ≡ true) }
-        ensures load { load R.weight self.new ≤ load R.weight self.old }
-        ensures unsettled { unsettled self.new.ahead ≤ unsettled self.old.ahead }
+        ensures represents { (p : Progress R.Message) → PeekedRepresents R.RepresentsStream R.Answers self.old p
+            → PeekedRepresents R.RepresentsStream R.Answers self.new p }
+        ensures looked { OnOk result ((a : Next R.Message) × LookaheadShows self.new.ahead a) }
+        ensures unknown { OnErr result (lookahead_is_unknown self.new.ahead ≡ true) }
+        ensures load { peeked_load R.weight self.new ≤ peeked_load R.weight self.old }
+        ensures unsettled { one_if_maybe_due self.new.ahead ≤ one_if_maybe_due self.old.ahead }
     {
         match self.inner.next(alloc) {
             Ok(next) => {
@@ -106,7 +107,7 @@ impl<R: Reader> Peeked<R> {
 
     /// What is due next, if `look_ahead` has found something.
     pub fn peek(&self) -> Option<&Next<R::Message>>
-        ensures variant { is_some result ≡ is_due self.now.ahead }
+        ensures variant { is_some result ≡ lookahead_is_due self.now.ahead }
         ensures value { IfSome result (λ next. self.now.ahead ≡ Lookahead.Due next.now) }
     {
         self.ahead.due()
@@ -115,9 +116,10 @@ impl<R: Reader> Peeked<R> {
     /// Goes on behind what is due.
     pub fn pass(&mut self)
         ensures represents { (p : Progress R.Message) → (a : Next R.Message) → self.old.ahead ≡ Lookahead.Due a
-            → Represents R.RepresentsStream R.Answers self.old p
-            → Represents R.RepresentsStream R.Answers self.new (moved p a) }
-        ensures load { load R.weight self.new + known self.old.ahead ≤ load R.weight self.old }
+            → PeekedRepresents R.RepresentsStream R.Answers self.old p
+            → PeekedRepresents R.RepresentsStream R.Answers self.new (stream_after_answer p a) }
+        ensures load { peeked_load R.weight self.new + one_if_message_or_continue self.old.ahead
+            ≤ peeked_load R.weight self.old }
     {
         self.ahead = Lookahead::Unknown;
     }

@@ -1,7 +1,7 @@
 //! Places at which something may be due: none is there twice, and the least is at hand.
 ghost use Rattle.std.specs.Prelude.{◌≡◌, ◌≢◌, ◌⊎◌, ℕ, ◌+◌, ◌*◌, ◌-◌, ◌<◌, ◌≤◌, max, [], length, Contains, IfSome};
 ghost use Rattle.std.specs.Prelude.{IfNone, IfOk, IfErr, OnOk, slice_index_or};
-ghost use Rattle.proxy_engine.specs.ReadyList.{Falls, IsBehind, IsLeast};
+ghost use Rattle.proxy_engine.specs.ReadyList.{PlacesDescend, PlaceBelongsBehind, PlaceIsLeast};
 
 use std::alloc::{AllocError, Global};
 use std::collections::BTreeMap;
@@ -15,19 +15,19 @@ pub(crate) struct ReadyList {
 
 impl Model for ReadyList {
     ghost use Rattle.std.specs.Prelude.{vec_capacity};
-    ghost use Rattle.proxy_engine.specs.ReadyList.{Kept, Falls};
+    ghost use Rattle.proxy_engine.specs.ReadyList.{ReadyPlaces, PlacesDescend};
 
-    ghost Value = { Kept };
+    ghost Value = { ReadyPlaces };
 
     ghost view = { λ p. record { places = p.items.items; room = vec_capacity p.items } };
 
-    ghost invariant = { λ p. Falls p.items.items };
+    ghost invariant = { λ p. PlacesDescend p.items.items };
 }
 
 /// Where a place stands, or behind how many greater ones it belongs.
 fn find(places: &[u64], place: u64) -> Result<usize, usize>
     ensures there { IfOk result (λ at. (at < length places.now) × (slice_index_or places.now at 0 ≡ place)) }
-    ensures behind { IfErr result (λ count. IsBehind places.now place count) }
+    ensures behind { IfErr result (λ count. PlaceBelongsBehind places.now place count) }
 {
     for (i, x) in places.iter().enumerate() {
         if *x == place {
@@ -72,7 +72,7 @@ impl ReadyList {
         ensures others { (q : ℕ) → Contains self.old.places q → Contains self.new.places q }
         ensures only { (q : ℕ) → q ≢ place → Contains self.new.places q → Contains self.old.places q }
         ensures room { self.new.room ≡ self.old.room }
-        ensures falls { Falls self.new.places }
+        ensures falls { PlacesDescend self.new.places }
     {
         match find(&self.items, place) {
             Ok(_) => {}
@@ -87,7 +87,7 @@ impl ReadyList {
         ensures others { (q : ℕ) → q ≢ place → Contains self.old.places q → Contains self.new.places q }
         ensures only { (q : ℕ) → Contains self.new.places q → (q ≢ place) × Contains self.old.places q }
         ensures room { self.new.room ≡ self.old.room }
-        ensures falls { Falls self.new.places }
+        ensures falls { PlacesDescend self.new.places }
     {
         match find(&self.items, place) {
             Ok(at) => {
@@ -100,7 +100,7 @@ impl ReadyList {
     /// The least place.
     pub(crate) fn least(&self) -> Option<u64>
         ensures none { IfNone result (self.now.places ≡ []) }
-        ensures some { IfSome result (λ place. IsLeast self.now.places place) }
+        ensures some { IfSome result (λ place. PlaceIsLeast self.now.places place) }
     {
         let count = self.items.len();
         if count == 0 {
@@ -112,13 +112,13 @@ impl ReadyList {
 
     /// Drops the least place, if there is one.
     pub(crate) fn drop_least(&mut self)
-        ensures others { (p q : ℕ) → IsLeast self.old.places p → q ≢ p → Contains self.old.places q
+        ensures others { (p q : ℕ) → PlaceIsLeast self.old.places p → q ≢ p → Contains self.old.places q
             → Contains self.new.places q }
-        ensures only { (p q : ℕ) → IsLeast self.old.places p → Contains self.new.places q → (q ≢ p)
+        ensures only { (p q : ℕ) → PlaceIsLeast self.old.places p → Contains self.new.places q → (q ≢ p)
             × Contains self.old.places q }
         ensures fewer { length self.new.places ≡ length self.old.places - 1 }
         ensures room { self.new.room ≡ self.old.room }
-        ensures falls { Falls self.new.places }
+        ensures falls { PlacesDescend self.new.places }
     {
         let _ = self.items.pop();
     }

@@ -1,6 +1,7 @@
 //! Laws that a run refuses what wasn't done. Each function's contract is a law, and its body is empty.
-ghost use Rattle.proxy_engine.specs.OneRun.{NoOtherEffects, NoOtherAct, NoOtherMoment, NothingUntaken, NoMoreItems};
-ghost use Rattle.proxy_engine.specs.OneRun.{NothingUndone};
+ghost use Rattle.proxy_engine.specs.OneRun.{RunHasNoOtherEffects, RunHasNoOtherAct, RunHasNoOtherMoment};
+ghost use Rattle.proxy_engine.specs.OneRun.{RunHasNoUntakenHappening, RunHasNoMoreItems};
+ghost use Rattle.proxy_engine.specs.OneRun.{RunHasNoItemWithoutStep};
 
 use hx_hop::a_request_is_asked_in_one_way;
 
@@ -8,12 +9,12 @@ use hx_hop::a_request_is_asked_in_one_way;
 /// due, nor a step of the core at another moment than its act's, nor a happening that the engine doesn't take, nor more
 /// items than acts.
 pub fn a_run_refuses_what_was_not_done()
-    ensures effects { NoOtherEffects }
-    ensures act { NoOtherAct }
-    ensures moment { NoOtherMoment }
-    ensures taken { NothingUntaken }
-    ensures items { NoMoreItems }
-    ensures nothing { NothingUndone }
+    ensures effects { RunHasNoOtherEffects }
+    ensures act { RunHasNoOtherAct }
+    ensures moment { RunHasNoOtherMoment }
+    ensures taken { RunHasNoUntakenHappening }
+    ensures items { RunHasNoMoreItems }
+    ensures nothing { RunHasNoItemWithoutStep }
 {
     a_request_is_asked_in_one_way();
 }

@@ -4,8 +4,8 @@ ghost use Rattle.hx_framing.specs.declared.messages.Request.{Request as Spelled}
 ghost use Rattle.hx_framing.specs.declared.messages.Next.{Next as NextRead};
 ghost use Rattle.hx_framing.specs.declared.messages.Next.TheVariants as next;
 ghost use Rattle.proxy_engine.specs.declared.endpoints.lookahead.Lookahead.TheVariants.{Due};
-ghost use Rattle.proxy_engine.specs.State.{action_at};
-ghost use Rattle.proxy_engine.specs.Actions.{IsMessageAction, IsAction, action_by};
+ghost use Rattle.proxy_engine.specs.State.{due_request_at};
+ghost use Rattle.proxy_engine.specs.Actions.{IsActionOfMessage, IsActionForNext, action_of_fault};
 
 use crate::endpoints::ends::Connection;
 use hx_framing::{FrameFault, Next, Request};
@@ -35,7 +35,7 @@ fn is_head(request: &Request) -> bool
 
 /// A message arrives as a request, or is refused.
 fn message_action(alloc: Global, request: &Request) -> Result<Action, AllocError>
-    ensures { IfOk result (λ action. IsMessageAction request.now action) }
+    ensures { IfOk result (λ action. IsActionOfMessage request.now action) }
 {
     match ask(alloc, request) {
         Ok(asked) => Ok(Action::Arrive(asked)),
@@ -46,7 +46,7 @@ fn message_action(alloc: Global, request: &Request) -> Result<Action, AllocError
 
 /// A stream that was cut off gets no answer.
 fn fault_action(fault: FrameFault) -> Action
-    ensures { result ≡ action_by fault }
+    ensures { result ≡ action_of_fault fault }
 {
     match fault {
         FrameFault::Truncated => Action::Close,
@@ -56,9 +56,9 @@ fn fault_action(fault: FrameFault) -> Action
 
 /// What is to be done on a connection on which something is due.
 pub(crate) fn action_of(connection: &Connection, alloc: Global) -> Result<Action, AllocError>
-    requires { is_some (action_at (Some connection.now)) ≡ true }
-    ensures { IfOk result (λ action. (a : NextRead Spelled) × (action_at (Some connection.now) ≡ Some a)
-        × (connection.now.reader.ahead ≡ Due a) × IsAction a action) }
+    requires { is_some (due_request_at (Some connection.now)) ≡ true }
+    ensures { IfOk result (λ action. (a : NextRead Spelled) × (due_request_at (Some connection.now) ≡ Some a)
+        × (connection.now.reader.ahead ≡ Due a) × IsActionForNext a action) }
 {
     match connection.reader.peek() {
         Some(next) => match next {

@@ -3,9 +3,10 @@
 ghost use Rattle.std.specs.Prelude.{◌≡◌, ◌<◌, ◌≤◌, Err, IfOk, IfErr, OnErr};
 ghost use Rattle.hx_fields.specs.declared.limits.TheConstants.{END_OF_TIME};
 ghost use Rattle.proxy_engine.specs.EngineModel.{EngineModel};
-ghost use Rattle.proxy_engine.specs.State.{Represents, load_at, Did, Failed, Lessens};
-ghost use Rattle.proxy_engine.specs.Exhausted.{ReportsExhausted};
-ghost use Rattle.proxy_engine.specs.DueActs.{IsFound};
+ghost use Rattle.proxy_engine.specs.State.{EngineRepresents, load_of_state, FirstDueActWasDone, NoActWasDoneSince};
+ghost use Rattle.proxy_engine.specs.State.{WorkLessensLoad};
+ghost use Rattle.proxy_engine.specs.Exhausted.{ReportsLinkNumbersExhausted};
+ghost use Rattle.proxy_engine.specs.DueActs.{IsFirstDueActFound};
 
 use crate::endpoints::numbers::connection_place;
 use crate::engine::Engine;
@@ -30,10 +31,11 @@ pub(crate) enum DueAct {
 impl<S: Shelf> Engine<S> {
     /// The first act that is due, in the order of the variants. What the looks find is kept.
     fn first_due_act(&mut self, alloc: Global) -> Result<DueAct, AllocError>
-        ensures found { IfOk result (λ act. IsFound self.old self.new act) }
-        ensures exhausted { OnErr result ((s : EngineModel) → Represents self.old s → ReportsExhausted s self.new) }
-        ensures represents { (s : EngineModel) → Represents self.old s → Represents self.new s }
-        ensures load { load_at self.new ≤ load_at self.old }
+        ensures found { IfOk result (λ act. IsFirstDueActFound self.old self.new act) }
+        ensures exhausted { OnErr result ((s : EngineModel) → EngineRepresents self.old s
+            → ReportsLinkNumbersExhausted s self.new) }
+        ensures represents { (s : EngineModel) → EngineRepresents self.old s → EngineRepresents self.new s }
+        ensures load { load_of_state self.new ≤ load_of_state self.old }
     {
         if let Some((place, link)) = self.ends.connections.find_lost() {
             return Ok(DueAct::Abandon(place, link));
@@ -57,13 +59,16 @@ impl<S: Shelf> Engine<S> {
     /// which takes memory.
     pub fn work(&mut self, alloc: Global, now: u64) -> Result<Work, EngineFault>
         requires { now < END_OF_TIME }
-        ensures ok { IfOk result (λ work. (s : EngineModel) → Represents self.old s → Did s now work self.new) }
-        ensures less { IfOk result (λ work. Lessens self.old work self.new) }
-        ensures fault { IfErr result (λ fault. (s : EngineModel) → Represents self.old s → Failed s fault) }
-        ensures exhausted { result ≡ Err EngineFault.OutOfMemory → (s : EngineModel) → Represents self.old s
-            → ReportsExhausted s self.new }
-        ensures unchanged { OnErr result ((s : EngineModel) → Represents self.old s → Represents self.new s) }
-        ensures no_more { OnErr result (load_at self.new ≤ load_at self.old) }
+        ensures ok { IfOk result (λ work. (s : EngineModel) → EngineRepresents self.old s
+            → FirstDueActWasDone s now work self.new) }
+        ensures less { IfOk result (λ work. WorkLessensLoad self.old work self.new) }
+        ensures fault { IfErr result (λ fault. (s : EngineModel) → EngineRepresents self.old s
+            → NoActWasDoneSince s fault) }
+        ensures exhausted { result ≡ Err EngineFault.OutOfMemory → (s : EngineModel) → EngineRepresents self.old s
+            → ReportsLinkNumbersExhausted s self.new }
+        ensures unchanged { OnErr result ((s : EngineModel) → EngineRepresents self.old s
+            → EngineRepresents self.new s) }
+        ensures no_more { OnErr result (load_of_state self.new ≤ load_of_state self.old) }
     {
         let act = match self.first_due_act(alloc) {
             Ok(act) => act,

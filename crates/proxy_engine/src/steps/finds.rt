@@ -3,9 +3,10 @@ ghost use Rattle.std.specs.Prelude.{◌≡◌, ◌≢◌, ℕ, length, true, fal
 ghost use Rattle.std.specs.Prelude.{MatchOption, Contains, Some};
 ghost use Rattle.std.specs.Ordering.{nat_cmp};
 ghost use Rattle.std.specs.BTreeMap.{get};
-ghost use Rattle.proxy_engine.specs.ReadyList.{IsMarked};
-ghost use Rattle.proxy_engine.specs.Exhausted.{HasThere};
-ghost use Rattle.proxy_engine.specs.Marked.{may_be_lost, AtEach, NoneBelow, NoneAtAll, lost_at};
+ghost use Rattle.proxy_engine.specs.ReadyList.{FlaggedPlacesAreMarked};
+ghost use Rattle.proxy_engine.specs.Exhausted.{IsKeptWithFlag};
+ghost use Rattle.proxy_engine.specs.Marked.{may_be_lost, RelatesAtEachPlace, NoneHasFlagBelow, NoneHasFlag};
+ghost use Rattle.proxy_engine.specs.Marked.{lost_connection_at};
 
 use crate::endpoints::endpoint::Endpoint;
 use crate::endpoints::ends::Connection;
@@ -15,7 +16,7 @@ use std::collections::BTreeMap;
 
 /// Whether the connection at a place is gone with an open exchange, and its link, if its request went forward.
 fn lost_link(ends: &BTreeMap<u64, Connection>, i: u64) -> Option<Option<u64>>
-    ensures { result ≡ lost_at (get nat_cmp ends.now i) }
+    ensures { result ≡ lost_connection_at (get nat_cmp ends.now i) }
 {
     match ends.get(&i) {
         Some(connection) => {
@@ -35,12 +36,12 @@ pub(crate) fn first_lost(
     ends: &BTreeMap<u64, Connection>,
     lost: &mut ReadyList,
 ) -> Option<(u64, Option<u64>)>
-    requires { IsMarked may_be_lost ends.now lost.old }
-    ensures marked { IsMarked may_be_lost ends.now lost.new }
+    requires { FlaggedPlacesAreMarked may_be_lost ends.now lost.old }
+    ensures marked { FlaggedPlacesAreMarked may_be_lost ends.now lost.new }
     ensures fewer { (q : ℕ) → Contains lost.new.places q → Contains lost.old.places q }
-    ensures none { IfNone result (NoneAtAll may_be_lost ends.now) }
-    ensures some { IfSome result (λ p. (lost_at (get nat_cmp ends.now p.0) ≡ Some p.1)
-        × NoneBelow may_be_lost ends.now p.0 × Contains lost.old.places p.0) }
+    ensures none { IfNone result (NoneHasFlag may_be_lost ends.now) }
+    ensures some { IfSome result (λ p. (lost_connection_at (get nat_cmp ends.now p.0) ≡ Some p.1)
+        × NoneHasFlagBelow may_be_lost ends.now p.0 × Contains lost.old.places p.0) }
 {
     while let Some(i) = lost.least() {
         if let Some(link) = lost_link(ends, i) {
@@ -57,12 +58,12 @@ fn poll_at<E: Endpoint>(
     place: u64,
     alloc: Global,
 ) -> Result<bool, AllocError>
-    ensures alike { AtEach E.LooksLike ends.old ends.new }
+    ensures alike { RelatesAtEachPlace E.LooksLike ends.old ends.new }
     ensures others { (q : ℕ) → q ≢ place → get nat_cmp ends.new q ≡ get nat_cmp ends.old q }
     ensures size { length ends.new.entries ≡ length ends.old.entries }
     ensures yes { IfOk result (λ b. b ≡ true → E.IsShown (get nat_cmp ends.new place)) }
     ensures no { IfOk result (λ b. b ≡ false → (x : E) → get nat_cmp ends.new place ≡ Some x → E.may_show x ≡ false) }
-    ensures failed { OnErr result (HasThere E.is_unknown (get nat_cmp ends.new place)) }
+    ensures failed { OnErr result (IsKeptWithFlag E.is_unknown (get nat_cmp ends.new place)) }
 {
     match ends.get_mut(&place) {
         Some(end) => end.poll(alloc),
@@ -76,16 +77,16 @@ pub(crate) fn first_due<E: Endpoint>(
     marked: &mut ReadyList,
     alloc: Global,
 ) -> Result<Option<u64>, AllocError>
-    requires { IsMarked E.may_show ends.old marked.old }
-    ensures marked { IsMarked E.may_show ends.new marked.new }
+    requires { FlaggedPlacesAreMarked E.may_show ends.old marked.old }
+    ensures marked { FlaggedPlacesAreMarked E.may_show ends.new marked.new }
     ensures fewer { (q : ℕ) → Contains marked.new.places q → Contains marked.old.places q }
-    ensures alike { AtEach E.LooksLike ends.old ends.new }
+    ensures alike { RelatesAtEachPlace E.LooksLike ends.old ends.new }
     ensures size { length ends.new.entries ≡ length ends.old.entries }
-    ensures found { IfOk result (λ found. MatchOption found (NoneAtAll E.may_show ends.new)
-        (λ place. E.IsShown (get nat_cmp ends.new place) × NoneBelow E.may_show ends.new place
+    ensures found { IfOk result (λ found. MatchOption found (NoneHasFlag E.may_show ends.new)
+        (λ place. E.IsShown (get nat_cmp ends.new place) × NoneHasFlagBelow E.may_show ends.new place
         × Contains marked.old.places place)) }
-    ensures failed { OnErr result ((place : ℕ) × HasThere E.is_unknown (get nat_cmp ends.new place)
-        × NoneBelow E.may_show ends.new place × Contains marked.old.places place) }
+    ensures failed { OnErr result ((place : ℕ) × IsKeptWithFlag E.is_unknown (get nat_cmp ends.new place)
+        × NoneHasFlagBelow E.may_show ends.new place × Contains marked.old.places place) }
 {
     while let Some(place) = marked.least() {
         if poll_at(ends, place, alloc)? {

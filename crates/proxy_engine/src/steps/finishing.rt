@@ -5,21 +5,24 @@ ghost use Rattle.hx_fields.specs.declared.limits.TheConstants.{END_OF_TIME};
 ghost use Rattle.hx_framing.specs.declared.messages.Response.{Response as AnswerRead};
 ghost use Rattle.hx_framing.specs.declared.messages.Next.{Next as Answer};
 ghost use Rattle.proxy_core.specs.declared.event.Event.TheVariants.{Fail};
-ghost use Rattle.proxy_core.specs.State.{State as CoreState, Steps};
+ghost use Rattle.proxy_core.specs.State.{State as CoreState, StepIsAccepted};
 ghost use Rattle.proxy_engine.specs.EngineModel.{EngineModel};
-ghost use Rattle.proxy_engine.specs.Due.{Abandons, Finish, Finishes, kind_of, IsDueFirst};
-ghost use Rattle.proxy_engine.specs.State.{Represents, finish_at, gone_at, NoneLost, load_at, Done, Failed};
+ghost use Rattle.proxy_engine.specs.Due.{Abandons, LinkResult, Finishes, fail_kind_of_fault, IsDueFirst};
+ghost use Rattle.proxy_engine.specs.State.{EngineRepresents, link_result_at, is_gone_at, NoConnectionIsLost};
+ghost use Rattle.proxy_engine.specs.State.{load_of_state, EngineDoesAct, NoActWasDoneSince};
 ghost use Rattle.proxy_core.specs.Outcomes.{find_exchange};
-ghost use Rattle.proxy_engine.specs.Activities.{link_of, has_exchange};
-ghost use Rattle.proxy_engine.specs.Pairing.{activity_at, activities_of, forwarded_at};
-ghost use Rattle.proxy_engine.specs.Acts.{asks_head, HasRoomFor};
-ghost use Rattle.proxy_engine.specs.Actions.{IsFinishedBy, gives, EndFault};
+ghost use Rattle.proxy_engine.specs.Activities.{link_place_of_activity, has_exchange};
+ghost use Rattle.proxy_engine.specs.Pairing.{activity_at, activities_of, forwarded_or_waiting_at};
+ghost use Rattle.proxy_engine.specs.Acts.{exchange_asks_head, HasRoomForAddresses};
+ghost use Rattle.proxy_engine.specs.Actions.{ExchangeIsFinishedBy, is_whole_answer, IsFaultOfFinishing};
 ghost use Rattle.proxy_engine.specs.declared.endpoints.ends.Connection.{Connection};
 
 use crate::endpoints::activities::Activity;
 use crate::endpoints::ends::Link;
 use crate::engine::Engine;
-use crate::steps::outcomes::{Upstream, free, free_lost, lacks_memory, put, release_waiting, room};
+use crate::steps::outcomes::{
+    Upstream, as_alloc_error, free, free_lost, put, release_waiting, room,
+};
 use crate::work::EngineFault;
 use hx_framing::{FrameFault, Next};
 use hx_status::FailKind;
@@ -30,8 +33,8 @@ use std::alloc::{AllocError, Global};
 use std::mem::replace;
 
 /// The failure that a fault in an answer is.
-fn kind_of(fault: FrameFault) -> FailKind
-    ensures { result ≡ kind_of fault }
+fn fail_kind_of_fault(fault: FrameFault) -> FailKind
+    ensures { result ≡ fail_kind_of_fault fault }
 {
     match fault {
         FrameFault::Truncated => FailKind::Closed,
@@ -41,16 +44,17 @@ fn kind_of(fault: FrameFault) -> FailKind
 }
 
 /// How the request of an open exchange goes forward once more, if it does.
-pub(crate) fn upstream_again<S: Shelf>(
+pub(crate) fn upstream_for_second_forward<S: Shelf>(
     core: &Core<S>,
     address: Vec<u8>,
     id: u64,
 ) -> Result<Upstream, AllocError>
     requires { is_some (find_exchange id core.now.exchanges) ≡ true }
     ensures empty { IfOk result (λ upstream. (upstream.address.items ≡ []) × (vec_len upstream.address ≡ 0)) }
-    ensures room { IfOk result (λ upstream. HasRoomFor core.now.table (vec_capacity upstream.address)) }
+    ensures room { IfOk result (λ upstream. HasRoomForAddresses core.now.table (vec_capacity upstream.address)) }
     ensures max_body { IfOk result (λ upstream. upstream.max_body ≡ core.now.table.max_body) }
-    ensures to_head { IfOk result (λ upstream. upstream.to_head ≡ asks_head (find_exchange id core.now.exchanges)) }
+    ensures to_head { IfOk result (λ upstream. upstream.to_head ≡ exchange_asks_head
+        (find_exchange id core.now.exchanges)) }
 {
     let Some(exchange) = core.exchange(id) else {
         unreachable!()
@@ -66,14 +70,14 @@ fn fail<S: Shelf>(
     id: u64,
     kind: FailKind,
 ) -> Result<Outcome, AllocError>
-    requires open { forwarded_at id core.old.exchanges ≡ Some true }
+    requires open { forwarded_or_waiting_at id core.old.exchanges ≡ Some true }
     requires early { now < END_OF_TIME }
-    ensures ok { IfOk result (λ outcome. Steps core.old (Fail now id kind) outcome core.new) }
+    ensures ok { IfOk result (λ outcome. StepIsAccepted core.old (Fail now id kind) outcome core.new) }
     ensures err { OnErr result (core.new ≡ core.old) }
 {
     match core.fail(alloc, now, id, kind) {
         Ok(outcome) => Ok(outcome),
-        Err(fault) => Err(lacks_memory(fault)),
+        Err(fault) => Err(as_alloc_error(fault)),
     }
 }
 
@@ -85,20 +89,20 @@ fn end<S: Shelf>(
     now: u64,
     id: u64,
 ) -> Result<Outcome, AllocError>
-    requires due { is_some (finish_at (Some link.now)) ≡ true }
-    requires open { forwarded_at id core.old.exchanges ≡ Some true }
+    requires due { is_some (link_result_at (Some link.now)) ≡ true }
+    requires open { forwarded_or_waiting_at id core.old.exchanges ≡ Some true }
     requires early { now < END_OF_TIME }
-    ensures ok { IfOk result (λ outcome. (f : Finish) × (finish_at (Some link.now) ≡ Some f)
-        × IsFinishedBy core.old now id f outcome core.new) }
+    ensures ok { IfOk result (λ outcome. (f : LinkResult) × (link_result_at (Some link.now) ≡ Some f)
+        × ExchangeIsFinishedBy core.old now id f outcome core.new) }
     ensures err { OnErr result (core.new ≡ core.old) }
 {
     match link.reader.peek() {
         Some(next) => match next {
             Next::Message(response) => match core.answer(alloc, now, id, response) {
                 Ok(outcome) => Ok(outcome),
-                Err(fault) => Err(lacks_memory(fault)),
+                Err(fault) => Err(as_alloc_error(fault)),
             },
-            Next::Refused(fault) => fail(core, alloc, now, id, kind_of(*fault)),
+            Next::Refused(fault) => fail(core, alloc, now, id, fail_kind_of_fault(*fault)),
             Next::NeedsContinue => fail(core, alloc, now, id, FailKind::BadAnswer),
             Next::End => fail(core, alloc, now, id, FailKind::Closed),
             Next::More => unreachable!(),
@@ -112,8 +116,8 @@ fn end<S: Shelf>(
 
 /// Whether a whole answer stands on a link. Its exchange may go forward once more, and then needs a link.
 fn is_answered(link: &Link) -> bool
-    requires { is_some (finish_at (Some link.now)) ≡ true }
-    ensures { (f : Finish) → finish_at (Some link.now) ≡ Some f → result ≡ gives f }
+    requires { is_some (link_result_at (Some link.now)) ≡ true }
+    ensures { (f : LinkResult) → link_result_at (Some link.now) ≡ Some f → result ≡ is_whole_answer f }
 {
     match link.reader.peek() {
         Some(next) => match next {
@@ -136,11 +140,11 @@ impl<S: Shelf> Engine<S> {
         link: Option<u64>,
     ) -> Result<Vec<Effect>, AllocError>
         requires open { has_exchange (activity_at (activities_of self.old.connections) i) ≡ true }
-        requires linked { link_of (activity_at (activities_of self.old.connections) i) ≡ link }
-        requires gone { gone_at (slice_index_or self.old.connections i None) ≡ Some true }
-        ensures ok { IfOk result (λ effects. (s : EngineModel) → (now : ℕ) → Represents self.old s
-            → Done s now (Abandons i link) effects.items self.new) }
-        ensures less { OnOk result (load_at self.new < load_at self.old) }
+        requires linked { link_place_of_activity (activity_at (activities_of self.old.connections) i) ≡ link }
+        requires gone { is_gone_at (slice_index_or self.old.connections i None) ≡ Some true }
+        ensures ok { IfOk result (λ effects. (s : EngineModel) → (now : ℕ) → EngineRepresents self.old s
+            → EngineDoesAct s now (Abandons i link) effects.items self.new) }
+        ensures less { OnOk result (load_of_state self.new < load_of_state self.old) }
         ensures err { OnErr result (self.new ≡ self.old) }
     {
         match link {
@@ -152,10 +156,10 @@ impl<S: Shelf> Engine<S> {
     /// The exchange of a connection that is gone is abandoned, whose request waits.
     fn abandon_waiting(&mut self, alloc: Global, i: u64) -> Result<Vec<Effect>, AllocError>
         requires waiting { activity_at (activities_of self.old.connections) i ≡ Activity.Waiting }
-        requires gone { gone_at (slice_index_or self.old.connections i None) ≡ Some true }
-        ensures ok { IfOk result (λ effects. (s : EngineModel) → (now : ℕ) → Represents self.old s
-            → Done s now (Abandons i None) effects.items self.new) }
-        ensures less { OnOk result (load_at self.new < load_at self.old) }
+        requires gone { is_gone_at (slice_index_or self.old.connections i None) ≡ Some true }
+        ensures ok { IfOk result (λ effects. (s : EngineModel) → (now : ℕ) → EngineRepresents self.old s
+            → EngineDoesAct s now (Abandons i None) effects.items self.new) }
+        ensures less { OnOk result (load_of_state self.new < load_of_state self.old) }
         ensures err { OnErr result (self.new ≡ self.old) }
     {
         let effects = room(alloc)?;
@@ -170,11 +174,11 @@ impl<S: Shelf> Engine<S> {
 
     /// The exchange of a connection that is gone is abandoned, and its link is dropped.
     fn abandon_link(&mut self, alloc: Global, i: u64, l: u64) -> Result<Vec<Effect>, AllocError>
-        requires linked { link_of (activity_at (activities_of self.old.connections) i) ≡ Some l }
-        requires gone { gone_at (slice_index_or self.old.connections i None) ≡ Some true }
-        ensures ok { IfOk result (λ effects. (s : EngineModel) → (now : ℕ) → Represents self.old s
-            → Done s now (Abandons i (Some l)) effects.items self.new) }
-        ensures less { OnOk result (load_at self.new < load_at self.old) }
+        requires linked { link_place_of_activity (activity_at (activities_of self.old.connections) i) ≡ Some l }
+        requires gone { is_gone_at (slice_index_or self.old.connections i None) ≡ Some true }
+        ensures ok { IfOk result (λ effects. (s : EngineModel) → (now : ℕ) → EngineRepresents self.old s
+            → EngineDoesAct s now (Abandons i (Some l)) effects.items self.new) }
+        ensures less { OnOk result (load_of_state self.new < load_of_state self.old) }
         ensures err { OnErr result (self.new ≡ self.old) }
     {
         let mut effects = room(alloc)?;
@@ -191,15 +195,16 @@ impl<S: Shelf> Engine<S> {
     /// The exchange of a link is finished by what stands on it, or goes forward once more on a new one; the link is
     /// dropped. There is a number for it.
     fn complete(&mut self, alloc: Global, now: u64, j: u64) -> Result<Vec<Effect>, AllocError>
-        requires due { is_some (finish_at (slice_index_or self.old.links j None)) ≡ true }
-        requires here { NoneLost self.old.connections }
-        requires left { (f : Finish) → finish_at (slice_index_or self.old.links j None) ≡ Some f → gives f ≡ true
+        requires due { is_some (link_result_at (slice_index_or self.old.links j None)) ≡ true }
+        requires here { NoConnectionIsLost self.old.connections }
+        requires left { (f : LinkResult) → link_result_at (slice_index_or self.old.links j None) ≡ Some f
+            → is_whole_answer f ≡ true
             → self.old.first + length self.old.links < 2 ^ 64 }
         requires early { now < END_OF_TIME }
-        ensures ok { IfOk result (λ effects. (s : EngineModel) → (f : Finish)
-            → finish_at (slice_index_or self.old.links j None) ≡ Some f
-            → Represents self.old s → Done s now (Finishes j f) effects.items self.new) }
-        ensures less { OnOk result (load_at self.new < load_at self.old) }
+        ensures ok { IfOk result (λ effects. (s : EngineModel) → (f : LinkResult)
+            → link_result_at (slice_index_or self.old.links j None) ≡ Some f
+            → EngineRepresents self.old s → EngineDoesAct s now (Finishes j f) effects.items self.new) }
+        ensures less { OnOk result (load_of_state self.new < load_of_state self.old) }
         ensures err { OnErr result (self.new ≡ self.old) }
     {
         let mut effects = room(alloc)?;
@@ -207,7 +212,7 @@ impl<S: Shelf> Engine<S> {
         let i = self.ends.links.at(j).connection;
         let id = self.ends.connections.number_at(i);
         let address = replace(&mut self.ends.address, Vec::new(alloc));
-        let mut upstream = upstream_again(&self.core, address, id)?;
+        let mut upstream = upstream_for_second_forward(&self.core, address, id)?;
         let outcome = end(self.ends.links.at(j), &mut self.core, alloc, now, id)?;
         upstream.set_address(self.core.config(), &outcome);
         free(&mut self.ends.connections, &mut self.ends.links, j, i);
@@ -225,19 +230,19 @@ impl<S: Shelf> Engine<S> {
         now: u64,
         j: u64,
     ) -> Result<Vec<Effect>, EngineFault>
-        requires due { is_some (finish_at (slice_index_or self.old.links j None)) ≡ true }
-        requires here { NoneLost self.old.connections }
+        requires due { is_some (link_result_at (slice_index_or self.old.links j None)) ≡ true }
+        requires here { NoConnectionIsLost self.old.connections }
         requires early { now < END_OF_TIME }
-        ensures ok { IfOk result (λ effects. (s : EngineModel) → (f : Finish)
-            → finish_at (slice_index_or self.old.links j None) ≡ Some f
-            → Represents self.old s → Done s now (Finishes j f) effects.items self.new) }
-        ensures less { OnOk result (load_at self.new < load_at self.old) }
+        ensures ok { IfOk result (λ effects. (s : EngineModel) → (f : LinkResult)
+            → link_result_at (slice_index_or self.old.links j None) ≡ Some f
+            → EngineRepresents self.old s → EngineDoesAct s now (Finishes j f) effects.items self.new) }
+        ensures less { OnOk result (load_of_state self.new < load_of_state self.old) }
         ensures exhausted { IfErr result
-            (λ fault. (f : Finish) → finish_at (slice_index_or self.old.links j None) ≡ Some f
-            → EndFault (nat_le (2 ^ 64) (self.old.first + length self.old.links)) f fault) }
-        ensures fault { IfErr result (λ fault. (s : EngineModel) → (f : Finish)
-            → finish_at (slice_index_or self.old.links j None) ≡ Some f → IsDueFirst s (Some (Finishes j f))
-            → Represents self.old s → Failed s fault) }
+            (λ fault. (f : LinkResult) → link_result_at (slice_index_or self.old.links j None) ≡ Some f
+            → IsFaultOfFinishing (nat_le (2 ^ 64) (self.old.first + length self.old.links)) f fault) }
+        ensures fault { IfErr result (λ fault. (s : EngineModel) → (f : LinkResult)
+            → link_result_at (slice_index_or self.old.links j None) ≡ Some f → IsDueFirst s (Some (Finishes j f))
+            → EngineRepresents self.old s → NoActWasDoneSince s fault) }
         ensures err { OnErr result (self.new ≡ self.old) }
     {
         if self.ends.is_exhausted() && is_answered(self.ends.links.at(j)) {

@@ -4,16 +4,19 @@ ghost use Rattle.std.specs.Prelude.{true, false, is_some, Option, IfOk, OnOk, No
 ghost use Rattle.std.specs.Prelude.{slice_index_or, slice_set};
 ghost use Rattle.proxy_core.specs.Replies.{is_head};
 ghost use Rattle.proxy_core.specs.State.{State as CoreState};
-ghost use Rattle.proxy_engine.specs.Numbers.{link_number};
+ghost use Rattle.proxy_engine.specs.ConnectionNumbers.{link_number};
 ghost use Rattle.proxy_engine.specs.EngineModel.{EngineModel, ConnectionModel, with_connection};
-ghost use Rattle.proxy_engine.specs.Acts.{closing, doing, came_at, came, HasRoomFor, effects_on, after_on, freed};
-ghost use Rattle.proxy_engine.specs.Acts.{with_opened};
-ghost use Rattle.proxy_engine.specs.Acts.Came.{Replies};
+ghost use Rattle.proxy_engine.specs.Acts.{with_closed, with_activity, outcome_with_address, outcome_by_table};
+ghost use Rattle.proxy_engine.specs.Acts.{HasRoomForAddresses, effects_of_outcome, model_after_outcome};
+ghost use Rattle.proxy_engine.specs.Acts.{model_after_link_freed};
+ghost use Rattle.proxy_engine.specs.Acts.{with_opened_link};
+ghost use Rattle.proxy_engine.specs.Acts.OutcomeOnConnection.{Replies};
 ghost use Rattle.proxy_engine.specs.Pairing.{activities_of, owners_of, activities_after, owners_after};
-ghost use Rattle.proxy_engine.specs.Actions.{goes_forward, outcome_load};
-ghost use Rattle.proxy_engine.specs.State.{Represents, ConnectionRepresents, state, is_free, gone_at, connection_load};
-ghost use Rattle.proxy_engine.specs.State.{link_load, load_of};
-ghost use Rattle.proxy_engine.specs.OpenEnds.{state_of, load_on};
+ghost use Rattle.proxy_engine.specs.Actions.{outcome_needs_link, acts_due_after_outcome};
+ghost use Rattle.proxy_engine.specs.State.{EngineRepresents, ConnectionRepresents, engine_state, connection_is_free_at};
+ghost use Rattle.proxy_engine.specs.State.{is_gone_at, connection_load};
+ghost use Rattle.proxy_engine.specs.State.{link_load, engine_load};
+ghost use Rattle.proxy_engine.specs.OpenEnds.{state_of_ends, load_of_ends};
 ghost use Rattle.proxy_engine.specs.declared.endpoints.ends.Connection.{Connection};
 
 use crate::endpoints::activities::Activity;
@@ -51,7 +54,7 @@ pub(crate) fn room(alloc: Global) -> Result<Vec<Effect>, AllocError>
 }
 
 /// A step of the core that is refused found no memory: the engine asks for no step that another fault stands against.
-pub(crate) fn lacks_memory(fault: CoreFault) -> AllocError
+pub(crate) fn as_alloc_error(fault: CoreFault) -> AllocError
     requires { fault ≡ CoreFault.OutOfMemory }
 {
     match fault {
@@ -72,12 +75,13 @@ pub(crate) fn send_reply(
     bytes: Bytes,
     close: bool,
 )
-    requires free { is_free (slice_index_or connections.old.items i None) ≡ true }
+    requires free { connection_is_free_at (slice_index_or connections.old.items i None) ≡ true }
     requires room { vec_len effects.old + 2 ≤ vec_capacity effects.old }
-    ensures effects { effects.new.items ≡ effects.old.items ++ effects_on i 0 (Replies bytes close) }
+    ensures effects { effects.new.items ≡ effects.old.items ++ effects_of_outcome i 0 (Replies bytes close) }
     ensures represents { (s : EngineModel) → (links : List (Option Link)) → (core : CoreState) → (first : ℕ)
-        → Represents (state connections.old.items links core first) s
-        → Represents (state connections.new.items links core first) (with_connection s i (closing close)) }
+        → EngineRepresents (engine_state connections.old.items links core first) s
+        → EngineRepresents (engine_state connections.new.items links core first)
+        (with_connection s i (with_closed close)) }
     ensures activities { activities_of connections.new.items ≡ activities_of connections.old.items }
     ensures load { sum_by connection_load connections.new.items ≤ sum_by connection_load connections.old.items }
     ensures less { close ≡ true
@@ -100,16 +104,18 @@ fn open_link(
     to_head: bool,
     i: u64,
 )
-    requires free { is_free (slice_index_or connections.old.items i None) ≡ true }
+    requires free { connection_is_free_at (slice_index_or connections.old.items i None) ≡ true }
     requires room { links.old.has_room ≡ true }
     ensures represents { (s : EngineModel) → (core : CoreState) → (first : ℕ) → core.table.max_body ≡ max_body
         → first + length links.old.items < 2 ^ 64
-        → Represents (state connections.old.items links.old.items core first) s
-        → Represents (state connections.new.items links.new.items core first) (with_opened s i to_head) }
+        → EngineRepresents (engine_state connections.old.items links.old.items core first) s
+        → EngineRepresents (engine_state connections.new.items links.new.items core first)
+        (with_opened_link s i to_head) }
     ensures activities { activities_of connections.new.items
         ≡ slice_set (activities_of connections.old.items) i (Activity.Forwarded (length links.old.items)) }
     ensures owners { owners_of links.new.items ≡ owners_of links.old.items ++ Some i ∷ [] }
-    ensures load { load_of connections.new.items links.new.items ≤ load_of connections.old.items links.old.items + 1 }
+    ensures load { engine_load connections.new.items links.new.items
+        ≤ engine_load connections.old.items links.old.items + 1 }
 {
     marks::link_at(connections, i, links.len());
     links.put(Link {
@@ -144,7 +150,7 @@ impl Upstream {
         asked: &Asked,
     ) -> Result<Upstream, AllocError>
         ensures empty { IfOk result (λ upstream. (upstream.address.items ≡ []) × (vec_len upstream.address ≡ 0)) }
-        ensures room { IfOk result (λ upstream. HasRoomFor config.now (vec_capacity upstream.address)) }
+        ensures room { IfOk result (λ upstream. HasRoomForAddresses config.now (vec_capacity upstream.address)) }
         ensures max_body { IfOk result (λ upstream. upstream.max_body ≡ config.now.max_body) }
         ensures to_head { IfOk result (λ upstream. upstream.to_head ≡ is_head asked.now) }
     {
@@ -160,8 +166,9 @@ impl Upstream {
     /// Puts down the address of the line that an outcome names, if it names one. No memory is taken.
     pub(crate) fn set_address(&mut self, config: &Config, outcome: &Outcome)
         requires empty { (self.old.address.items ≡ []) × (vec_len self.old.address ≡ 0) }
-        requires room { HasRoomFor config.now (vec_capacity self.old.address) }
-        ensures came { came_at self.new.address.items outcome.now ≡ came config.now outcome.now }
+        requires room { HasRoomForAddresses config.now (vec_capacity self.old.address) }
+        ensures came { outcome_with_address self.new.address.items outcome.now
+            ≡ outcome_by_table config.now outcome.now }
         ensures max_body { self.new.max_body ≡ self.old.max_body }
         ensures to_head { self.new.to_head ≡ self.old.to_head }
     {
@@ -176,29 +183,31 @@ impl Upstream {
 /// The exchange of a link is over, and its connection goes on.
 pub(crate) fn free(connections: &mut Connections, links: &mut Links, j: u64, i: u64)
     requires link { is_some (slice_index_or links.old.items j None) ≡ true }
-    requires connection { gone_at (slice_index_or connections.old.items i None) ≡ Some false }
+    requires connection { is_gone_at (slice_index_or connections.old.items i None) ≡ Some false }
     ensures represents { (s : EngineModel) → (core : CoreState) → (first : ℕ)
-        → Represents (state connections.old.items links.old.items core first) s
-        → Represents (state connections.new.items links.new.items core first) (freed s j i) }
+        → EngineRepresents (engine_state connections.old.items links.old.items core first) s
+        → EngineRepresents (engine_state connections.new.items links.new.items core first)
+        (model_after_link_freed s j i) }
     ensures activities { activities_of connections.new.items
         ≡ slice_set (activities_of connections.old.items) i Activity.Free }
     ensures owners { owners_of links.new.items ≡ slice_set (owners_of links.old.items) j None }
-    ensures load { load_of connections.new.items links.new.items + link_load
-        (slice_index_or links.old.items j None) ≤ load_of connections.old.items links.old.items }
-    ensures free { is_free (slice_index_or connections.new.items i None) ≡ true }
+    ensures load { engine_load connections.new.items links.new.items + link_load
+        (slice_index_or links.old.items j None) ≤ engine_load connections.old.items links.old.items }
+    ensures free { connection_is_free_at (slice_index_or connections.new.items i None) ≡ true }
     ensures room { links.new.has_room ≡ links.old.has_room }
     ensures links { length links.new.items ≡ length links.old.items }
 {
     links.release(j);
-    marks::unlink_at(connections, i);
+    marks::mark_free_at(connections, i);
 }
 
 /// The exchange of a request that waited is over, and so is its connection, which is gone.
 pub(crate) fn release_waiting(connections: &mut Connections, i: u64)
-    requires { gone_at (slice_index_or connections.old.items i None) ≡ Some true }
+    requires { is_gone_at (slice_index_or connections.old.items i None) ≡ Some true }
     ensures represents { (s : EngineModel) → (links : List (Option Link)) → (core : CoreState) → (first : ℕ)
-        → Represents (state connections.old.items links core first) s
-        → Represents (state connections.new.items links core first) (with_connection s i (doing Activity.Free)) }
+        → EngineRepresents (engine_state connections.old.items links core first) s
+        → EngineRepresents (engine_state connections.new.items links core first)
+        (with_connection s i (with_activity Activity.Free)) }
     ensures activities { activities_of connections.new.items
         ≡ slice_set (activities_of connections.old.items) i Activity.Free }
     ensures load { sum_by connection_load connections.new.items < sum_by connection_load connections.old.items }
@@ -209,14 +218,16 @@ pub(crate) fn release_waiting(connections: &mut Connections, i: u64)
 /// The exchange of a link is over, and so is its connection, which is gone.
 pub(crate) fn free_lost(connections: &mut Connections, links: &mut Links, j: u64, i: u64)
     requires link { is_some (slice_index_or links.old.items j None) ≡ true }
-    requires connection { gone_at (slice_index_or connections.old.items i None) ≡ Some true }
+    requires connection { is_gone_at (slice_index_or connections.old.items i None) ≡ Some true }
     ensures represents { (s : EngineModel) → (core : CoreState) → (first : ℕ)
-        → Represents (state connections.old.items links.old.items core first) s
-        → Represents (state connections.new.items links.new.items core first) (freed s j i) }
+        → EngineRepresents (engine_state connections.old.items links.old.items core first) s
+        → EngineRepresents (engine_state connections.new.items links.new.items core first)
+        (model_after_link_freed s j i) }
     ensures activities { activities_of connections.new.items
         ≡ slice_set (activities_of connections.old.items) i Activity.Free }
     ensures owners { owners_of links.new.items ≡ slice_set (owners_of links.old.items) j None }
-    ensures load { load_of connections.new.items links.new.items < load_of connections.old.items links.old.items }
+    ensures load { engine_load connections.new.items links.new.items < engine_load connections.old.items
+        links.old.items }
 {
     links.release(j);
     connections.release(i);
@@ -247,22 +258,22 @@ impl Ends {
         upstream: Upstream,
         outcome: Outcome,
     )
-        requires free { is_free (slice_index_or self.old.connections.items i None) ≡ true }
+        requires free { connection_is_free_at (slice_index_or self.old.connections.items i None) ≡ true }
         requires room_for_link { self.old.links.has_room ≡ true }
         requires room { vec_len effects.old + 2 ≤ vec_capacity effects.old }
-        requires left { goes_forward outcome ≡ true → self.old.first_link + length self.old.links.items < 2 ^ 64 }
+        requires left { outcome_needs_link outcome ≡ true → self.old.first_link + length self.old.links.items < 2 ^ 64 }
         ensures effects { effects.new.items ≡ effects.old.items
-            ++ effects_on i (self.old.first_link + length self.old.links.items)
-            (came_at upstream.address.items outcome) }
+            ++ effects_of_outcome i (self.old.first_link + length self.old.links.items)
+            (outcome_with_address upstream.address.items outcome) }
         ensures represents { (s : EngineModel) → (core : CoreState) → core.table.max_body ≡ upstream.max_body
-            → Represents (state_of self.old core) s
-            → Represents (state_of self.new core)
-            (after_on i upstream.to_head (came_at upstream.address.items outcome) s) }
+            → EngineRepresents (state_of_ends self.old core) s
+            → EngineRepresents (state_of_ends self.new core)
+            (model_after_outcome i upstream.to_head (outcome_with_address upstream.address.items outcome) s) }
         ensures first { self.new.first_link ≡ self.old.first_link }
         ensures activities { activities_of self.new.connections.items
             ≡ activities_after i (length self.old.links.items) outcome (activities_of self.old.connections.items) }
         ensures owners { owners_of self.new.links.items ≡ owners_after i outcome (owners_of self.old.links.items) }
-        ensures load { load_on self.new ≤ load_on self.old + outcome_load outcome }
+        ensures load { load_of_ends self.new ≤ load_of_ends self.old + acts_due_after_outcome outcome }
     {
         match outcome {
             Outcome::Reply(reply) => {
@@ -284,7 +295,7 @@ impl Ends {
             }
             Outcome::Waits(_) => {
                 self.address = upstream.address;
-                marks::queue_at(&mut self.connections, i);
+                marks::mark_waiting_at(&mut self.connections, i);
             }
             Outcome::Ended => self.address = upstream.address,
         }

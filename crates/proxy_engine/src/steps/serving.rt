@@ -5,17 +5,18 @@ ghost use Rattle.hx_fields.specs.declared.limits.TheConstants.{END_OF_TIME};
 ghost use Rattle.hx_framing.specs.declared.messages.Request.{Request};
 ghost use Rattle.hx_framing.specs.declared.messages.Next.{Next};
 ghost use Rattle.hx_framing.specs.declared.messages.Next.TheVariants as next;
-ghost use Rattle.proxy_engine.specs.Admitted.{IsAdmitted};
+ghost use Rattle.proxy_engine.specs.Admitted.{RequestIsAdmittedOrRefused};
 ghost use Rattle.hx_hop.specs.Moments.{date_text_of};
-ghost use Rattle.proxy_core.specs.Replies.{refused_text, is_head};
+ghost use Rattle.proxy_core.specs.Replies.{refusal_reply_text, is_head};
 ghost use Rattle.proxy_core.specs.State.{State as CoreState};
 ghost use Rattle.proxy_engine.specs.declared.endpoints.lookahead.Lookahead.TheVariants.{Due};
 ghost use Rattle.proxy_engine.specs.EngineModel.{EngineModel};
 ghost use Rattle.proxy_engine.specs.Due.{Serves, IsDueFirst};
-ghost use Rattle.proxy_engine.specs.State.{Represents, state, action_at, is_free, connection_load, load_at, Done};
-ghost use Rattle.proxy_engine.specs.State.{Failed};
+ghost use Rattle.proxy_engine.specs.State.{EngineRepresents, engine_state, due_request_at, connection_is_free_at};
+ghost use Rattle.proxy_engine.specs.State.{connection_load, load_of_state, EngineDoesAct};
+ghost use Rattle.proxy_engine.specs.State.{NoActWasDoneSince};
 ghost use Rattle.proxy_engine.specs.Pairing.{activities_of};
-ghost use Rattle.proxy_engine.specs.Actions.{IsAction};
+ghost use Rattle.proxy_engine.specs.Actions.{IsActionForNext};
 ghost use Rattle.proxy_engine.specs.declared.endpoints.ends.Connection.{Connection};
 ghost use Rattle.proxy_engine.specs.declared.endpoints.ends.Link.{Link};
 
@@ -23,7 +24,7 @@ use crate::endpoints::connections::Connections;
 use crate::endpoints::marks;
 use crate::engine::Engine;
 use crate::steps::actions::{Action, action_of};
-use crate::steps::outcomes::{Upstream, lacks_memory, put, room, send_reply};
+use crate::steps::outcomes::{Upstream, as_alloc_error, put, room, send_reply};
 use crate::work::EngineFault;
 use hx_fields::Bytes;
 use hx_hop::Asked;
@@ -40,12 +41,13 @@ fn send_continue(
     alloc: Global,
     i: u64,
 ) -> Result<Vec<Effect>, AllocError>
-    requires { is_some (action_at (slice_index_or connections.old.items i None)) ≡ true }
+    requires { is_some (due_request_at (slice_index_or connections.old.items i None)) ≡ true }
     ensures ok { IfOk result (λ effects. (s : EngineModel) → (links : List (Option Link)) → (core : CoreState)
-        → (first now : ℕ) → action_at (slice_index_or connections.old.items i None) ≡ Some next.NeedsContinue
-        → Represents (state connections.old.items links core first) s
-        → Done s now (Serves i next.NeedsContinue) effects.items (state connections.new.items links core first)) }
-    ensures less { OnOk result (action_at (slice_index_or connections.old.items i None) ≡ Some next.NeedsContinue
+        → (first now : ℕ) → due_request_at (slice_index_or connections.old.items i None) ≡ Some next.NeedsContinue
+        → EngineRepresents (engine_state connections.old.items links core first) s
+        → EngineDoesAct s now (Serves i next.NeedsContinue) effects.items
+        (engine_state connections.new.items links core first)) }
+    ensures less { OnOk result (due_request_at (slice_index_or connections.old.items i None) ≡ Some next.NeedsContinue
         → sum_by connection_load connections.new.items < sum_by connection_load connections.old.items) }
     ensures activities { activities_of connections.new.items ≡ activities_of connections.old.items }
     ensures err { OnErr result (connections.new ≡ connections.old) }
@@ -53,15 +55,15 @@ fn send_continue(
     let mut effects = room(alloc)?;
     let number = connections.number_at(i);
     let bytes = Bytes::copy_of(alloc, b"HTTP/1.1 100 Continue\r\n\r\n")?;
-    marks::pass_at(connections, i);
+    marks::pass_next_at(connections, i);
     put(&mut effects, Effect::Client(number, bytes));
     Ok(effects)
 }
 
 /// The proxy's own answer, which closes the connection.
-fn own_answer(alloc: Global, now: u64, why: Cause, head: bool) -> Result<Bytes, AllocError>
+fn proxys_own_answer(alloc: Global, now: u64, why: Cause, head: bool) -> Result<Bytes, AllocError>
     requires { now < END_OF_TIME }
-    ensures { IfOk result (λ text. text ≡ refused_text (date_text_of now) why true head) }
+    ensures { IfOk result (λ text. text ≡ refusal_reply_text (date_text_of now) why true head) }
 {
     refused(alloc, now, why, true, head)
 }
@@ -75,30 +77,30 @@ fn refuse(
     why: Cause,
     head: bool,
 ) -> Result<Vec<Effect>, AllocError>
-    requires free { is_free (slice_index_or connections.old.items i None) ≡ true }
+    requires free { connection_is_free_at (slice_index_or connections.old.items i None) ≡ true }
     requires early { now < END_OF_TIME }
     ensures ok { IfOk result (λ effects. (s : EngineModel) → (links : List (Option Link)) → (core : CoreState)
-        → (first : ℕ) → (a : Next Request) → IsAction a (Action.Refuse why head)
-        → Represents (state connections.old.items links core first) s
-        → Done s now (Serves i a) effects.items (state connections.new.items links core first)) }
+        → (first : ℕ) → (a : Next Request) → IsActionForNext a (Action.Refuse why head)
+        → EngineRepresents (engine_state connections.old.items links core first) s
+        → EngineDoesAct s now (Serves i a) effects.items (engine_state connections.new.items links core first)) }
     ensures less { OnOk result
         (sum_by connection_load connections.new.items < sum_by connection_load connections.old.items) }
     ensures activities { activities_of connections.new.items ≡ activities_of connections.old.items }
     ensures err { OnErr result (connections.new ≡ connections.old) }
 {
     let mut effects = room(alloc)?;
-    let bytes = own_answer(alloc, now, why, head)?;
+    let bytes = proxys_own_answer(alloc, now, why, head)?;
     send_reply(connections, &mut effects, i, bytes, true);
     Ok(effects)
 }
 
 /// The connection is closed without an answer.
 fn shut(connections: &mut Connections, alloc: Global, i: u64) -> Result<Vec<Effect>, AllocError>
-    requires { is_free (slice_index_or connections.old.items i None) ≡ true }
+    requires { connection_is_free_at (slice_index_or connections.old.items i None) ≡ true }
     ensures ok { IfOk result (λ effects. (s : EngineModel) → (links : List (Option Link)) → (core : CoreState)
-        → (first now : ℕ) → (a : Next Request) → IsAction a Action.Close
-        → Represents (state connections.old.items links core first) s
-        → Done s now (Serves i a) effects.items (state connections.new.items links core first)) }
+        → (first now : ℕ) → (a : Next Request) → IsActionForNext a Action.Close
+        → EngineRepresents (engine_state connections.old.items links core first) s
+        → EngineDoesAct s now (Serves i a) effects.items (engine_state connections.new.items links core first)) }
     ensures less { OnOk result
         (sum_by connection_load connections.new.items < sum_by connection_load connections.old.items) }
     ensures activities { activities_of connections.new.items ≡ activities_of connections.old.items }
@@ -121,15 +123,16 @@ impl<S: Shelf> Engine<S> {
         i: u64,
         asked: &Asked,
     ) -> Result<Vec<Effect>, AllocError>
-        requires due { is_some (action_at (slice_index_or self.old.connections i None)) ≡ true }
+        requires due { is_some (due_request_at (slice_index_or self.old.connections i None)) ≡ true }
         requires left { self.old.first + length self.old.links < 2 ^ 64 }
         requires early { now < END_OF_TIME }
-        ensures ok { IfOk result (λ effects. (s : EngineModel) → (r : Request) → IsAdmitted r (Ok asked.now)
-            → action_at (slice_index_or self.old.connections i None) ≡ Some (next.Message r)
-            → Represents self.old s → Done s now (Serves i (next.Message r)) effects.items self.new) }
-        ensures less { OnOk result ((r : Request) → action_at (slice_index_or self.old.connections i None)
+        ensures ok { IfOk result (λ effects. (s : EngineModel) → (r : Request) → RequestIsAdmittedOrRefused r
+            (Ok asked.now)
+            → due_request_at (slice_index_or self.old.connections i None) ≡ Some (next.Message r)
+            → EngineRepresents self.old s → EngineDoesAct s now (Serves i (next.Message r)) effects.items self.new) }
+        ensures less { OnOk result ((r : Request) → due_request_at (slice_index_or self.old.connections i None)
             ≡ Some (next.Message r)
-            → load_at self.new < load_at self.old) }
+            → load_of_state self.new < load_of_state self.old) }
         ensures err { OnErr result (self.new ≡ self.old) }
     {
         let mut effects = room(alloc)?;
@@ -139,10 +142,10 @@ impl<S: Shelf> Engine<S> {
         let id = self.ends.connections.number_at(i);
         let outcome = match self.core.arrive(alloc, now, id, asked) {
             Ok(outcome) => outcome,
-            Err(fault) => return Err(lacks_memory(fault)),
+            Err(fault) => return Err(as_alloc_error(fault)),
         };
         upstream.set_address(self.core.config(), &outcome);
-        marks::pass_at(&mut self.ends.connections, i);
+        marks::pass_next_at(&mut self.ends.connections, i);
         self.ends
             .carry_out(&mut effects, alloc, i, upstream, outcome);
         Ok(effects)
@@ -157,18 +160,20 @@ impl<S: Shelf> Engine<S> {
         i: u64,
         asked: &Asked,
     ) -> Result<Vec<Effect>, EngineFault>
-        requires due { is_some (action_at (slice_index_or self.old.connections i None)) ≡ true }
+        requires due { is_some (due_request_at (slice_index_or self.old.connections i None)) ≡ true }
         requires early { now < END_OF_TIME }
-        ensures ok { IfOk result (λ effects. (s : EngineModel) → (r : Request) → IsAdmitted r (Ok asked.now)
-            → action_at (slice_index_or self.old.connections i None) ≡ Some (next.Message r)
-            → Represents self.old s → Done s now (Serves i (next.Message r)) effects.items self.new) }
-        ensures less { OnOk result ((r : Request) → action_at (slice_index_or self.old.connections i None)
+        ensures ok { IfOk result (λ effects. (s : EngineModel) → (r : Request) → RequestIsAdmittedOrRefused r
+            (Ok asked.now)
+            → due_request_at (slice_index_or self.old.connections i None) ≡ Some (next.Message r)
+            → EngineRepresents self.old s → EngineDoesAct s now (Serves i (next.Message r)) effects.items self.new) }
+        ensures less { OnOk result ((r : Request) → due_request_at (slice_index_or self.old.connections i None)
             ≡ Some (next.Message r)
-            → load_at self.new < load_at self.old) }
+            → load_of_state self.new < load_of_state self.old) }
         ensures exhausted { result ≡ Err EngineFault.OutOfMemory → self.old.first + length self.old.links < 2 ^ 64 }
-        ensures fault { IfErr result (λ fault. (s : EngineModel) → (r : Request) → IsAdmitted r (Ok asked.now)
+        ensures fault { IfErr result (λ fault. (s : EngineModel) → (r : Request) → RequestIsAdmittedOrRefused r
+            (Ok asked.now)
             → IsDueFirst s (Some (Serves i (next.Message r)))
-            → Represents self.old s → Failed s fault) }
+            → EngineRepresents self.old s → NoActWasDoneSince s fault) }
         ensures err { OnErr result (self.new ≡ self.old) }
     {
         if self.ends.is_exhausted() {
@@ -187,15 +192,15 @@ impl<S: Shelf> Engine<S> {
         now: u64,
         i: u64,
     ) -> Result<Vec<Effect>, EngineFault>
-        requires due { is_some (action_at (slice_index_or self.old.connections i None)) ≡ true }
+        requires due { is_some (due_request_at (slice_index_or self.old.connections i None)) ≡ true }
         requires early { now < END_OF_TIME }
         ensures ok { IfOk result (λ effects. (s : EngineModel) → (a : Next Request)
-            → action_at (slice_index_or self.old.connections i None) ≡ Some a
-            → Represents self.old s → Done s now (Serves i a) effects.items self.new) }
-        ensures less { OnOk result (load_at self.new < load_at self.old) }
+            → due_request_at (slice_index_or self.old.connections i None) ≡ Some a
+            → EngineRepresents self.old s → EngineDoesAct s now (Serves i a) effects.items self.new) }
+        ensures less { OnOk result (load_of_state self.new < load_of_state self.old) }
         ensures fault { IfErr result (λ fault. (s : EngineModel) → (a : Next Request)
-            → action_at (slice_index_or self.old.connections i None) ≡ Some a → IsDueFirst s (Some (Serves i a))
-            → Represents self.old s → Failed s fault) }
+            → due_request_at (slice_index_or self.old.connections i None) ≡ Some a → IsDueFirst s (Some (Serves i a))
+            → EngineRepresents self.old s → NoActWasDoneSince s fault) }
         ensures err { OnErr result (self.new ≡ self.old) }
     {
         let action = match action_of(self.ends.connections.at(i), alloc) {

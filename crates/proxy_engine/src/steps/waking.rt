@@ -1,16 +1,17 @@
 //! A request that waited for the answer to another is judged anew.
 ghost use Rattle.std.specs.Prelude.{◌≡◌, ◌+◌, ◌<◌, ◌^◌, length, Some, IfOk, IfErr, OnOk, OnErr};
 ghost use Rattle.hx_fields.specs.declared.limits.TheConstants.{END_OF_TIME};
-ghost use Rattle.proxy_core.specs.Waiting.{IsReady};
-ghost use Rattle.proxy_engine.specs.Numbers.{connection_number};
+ghost use Rattle.proxy_core.specs.Waiting.{ExchangeMayBeWoken};
+ghost use Rattle.proxy_engine.specs.ConnectionNumbers.{connection_number};
 ghost use Rattle.proxy_engine.specs.EngineModel.{EngineModel};
 ghost use Rattle.proxy_engine.specs.Due.{Wakes, IsDueFirst};
-ghost use Rattle.proxy_engine.specs.State.{Represents, NoneLost, load_at, Done, Failed};
+ghost use Rattle.proxy_engine.specs.State.{EngineRepresents, NoConnectionIsLost, load_of_state, EngineDoesAct};
+ghost use Rattle.proxy_engine.specs.State.{NoActWasDoneSince};
 
 use crate::endpoints::marks;
 use crate::engine::Engine;
-use crate::steps::finishing::upstream_again;
-use crate::steps::outcomes::{lacks_memory, room};
+use crate::steps::finishing::upstream_for_second_forward;
+use crate::steps::outcomes::{as_alloc_error, room};
 use crate::work::EngineFault;
 use hx_store::Shelf;
 use proxy_script::Effect;
@@ -21,26 +22,26 @@ impl<S: Shelf> Engine<S> {
     /// The request of the connection at a place is judged anew, where a link number is left for it. All that can fail
     /// comes before the core's step, or is that step.
     fn wake_at(&mut self, alloc: Global, now: u64, i: u64) -> Result<Vec<Effect>, AllocError>
-        requires ready { IsReady (connection_number i) self.old.core.exchanges }
-        requires here { NoneLost self.old.connections }
+        requires ready { ExchangeMayBeWoken (connection_number i) self.old.core.exchanges }
+        requires here { NoConnectionIsLost self.old.connections }
         requires left { self.old.first + length self.old.links < 2 ^ 64 }
         requires early { now < END_OF_TIME }
-        ensures ok { IfOk result (λ effects. (s : EngineModel) → Represents self.old s
-            → Done s now (Wakes i) effects.items self.new) }
-        ensures less { OnOk result (load_at self.new < load_at self.old) }
+        ensures ok { IfOk result (λ effects. (s : EngineModel) → EngineRepresents self.old s
+            → EngineDoesAct s now (Wakes i) effects.items self.new) }
+        ensures less { OnOk result (load_of_state self.new < load_of_state self.old) }
         ensures err { OnErr result (self.new ≡ self.old) }
     {
         let mut effects = room(alloc)?;
         self.ends.links.reserve_one(alloc)?;
         let id = self.ends.connections.number_at(i);
         let address = replace(&mut self.ends.address, Vec::new(alloc));
-        let mut upstream = upstream_again(&self.core, address, id)?;
+        let mut upstream = upstream_for_second_forward(&self.core, address, id)?;
         let outcome = match self.core.wake(alloc, now, id) {
             Ok(outcome) => outcome,
-            Err(fault) => return Err(lacks_memory(fault)),
+            Err(fault) => return Err(as_alloc_error(fault)),
         };
         upstream.set_address(self.core.config(), &outcome);
-        marks::unlink_at(&mut self.ends.connections, i);
+        marks::mark_free_at(&mut self.ends.connections, i);
         self.ends
             .carry_out(&mut effects, alloc, i, upstream, outcome);
         Ok(effects)
@@ -54,15 +55,15 @@ impl<S: Shelf> Engine<S> {
         now: u64,
         i: u64,
     ) -> Result<Vec<Effect>, EngineFault>
-        requires ready { IsReady (connection_number i) self.old.core.exchanges }
-        requires here { NoneLost self.old.connections }
+        requires ready { ExchangeMayBeWoken (connection_number i) self.old.core.exchanges }
+        requires here { NoConnectionIsLost self.old.connections }
         requires early { now < END_OF_TIME }
-        ensures ok { IfOk result (λ effects. (s : EngineModel) → Represents self.old s
-            → Done s now (Wakes i) effects.items self.new) }
-        ensures less { OnOk result (load_at self.new < load_at self.old) }
+        ensures ok { IfOk result (λ effects. (s : EngineModel) → EngineRepresents self.old s
+            → EngineDoesAct s now (Wakes i) effects.items self.new) }
+        ensures less { OnOk result (load_of_state self.new < load_of_state self.old) }
         ensures exhausted { result ≡ Err EngineFault.OutOfMemory → self.old.first + length self.old.links < 2 ^ 64 }
         ensures fault { IfErr result (λ fault. (s : EngineModel) → IsDueFirst s (Some (Wakes i))
-            → Represents self.old s → Failed s fault) }
+            → EngineRepresents self.old s → NoActWasDoneSince s fault) }
         ensures err { OnErr result (self.new ≡ self.old) }
     {
         if self.ends.is_exhausted() {

@@ -58,7 +58,7 @@ fn request(alloc: Global, n: u64) -> Result<Fields, AllocError> {
 }
 
 /// The nth call, which is mostly about a serial of late.
-fn nth(n: u64, dice: u64) -> Call {
+fn nth_call(n: u64, dice: u64) -> Call {
     let serial = n.saturating_sub(dice / 16 % 24);
     match dice % 16 {
         0..=6 => Call::Put(n, serial),
@@ -159,7 +159,12 @@ fn both_shelves_answer_alike(rt: HostRuntime) -> Result<(), Fail> {
         dice = dice
             .wrapping_mul(6_364_136_223_846_793_005)
             .wrapping_add(1_442_695_040_888_963_407);
-        agree(&rt, alloc, (&mut list, &mut indexed), nth(n, dice >> 33))?;
+        agree(
+            &rt,
+            alloc,
+            (&mut list, &mut indexed),
+            nth_call(n, dice >> 33),
+        )?;
     }
     for n in CALLS + 1..=CALLS + CAPACITY {
         agree(&rt, alloc, (&mut list, &mut indexed), Call::Put(n, 0))?;

@@ -25,7 +25,7 @@ pub(super) fn core(alloc: Global, first_serial: u64) -> Result<Core<ListShelf>, 
 }
 
 /// The run of these events.
-pub(super) fn ran(alloc: Global, events: &[Event]) -> Result<Run, Fail> {
+pub(super) fn run_of_events(alloc: Global, events: &[Event]) -> Result<Run, Fail> {
     let config = config(alloc)?;
     let shelf = ListShelf::new(alloc, config.capacity());
     Ok(run(alloc, config, shelf, 1, events))

@@ -43,7 +43,12 @@ fn work(
     }
 }
 
-fn takes(rt: &impl Abort, alloc: Global, engine: &mut Engine<ListShelf>, happening: Happening<'_>) {
+fn takes_happening(
+    rt: &impl Abort,
+    alloc: Global,
+    engine: &mut Engine<ListShelf>,
+    happening: Happening<'_>,
+) {
     assert!(rt; take(alloc, engine, happening).is_ok());
 }
 
@@ -58,17 +63,17 @@ fn refuses(
 }
 
 /// One act with this text is due at the moment, and then none.
-fn does(rt: &impl Abort, alloc: Global, engine: &mut Engine<ListShelf>, now: u64, text: &[u8])
+fn does_act(rt: &impl Abort, alloc: Global, engine: &mut Engine<ListShelf>, now: u64, text: &[u8])
     requires { now < 253402300800 }
 {
     match work(alloc, engine, now) {
         Ok(Some(shown)) => assert!(rt; shown.as_slice() == text),
         _ => assert!(rt; false),
     }
-    rests(rt, alloc, engine, now);
+    is_idle_at(rt, alloc, engine, now);
 }
 
-fn rests(rt: &impl Abort, alloc: Global, engine: &mut Engine<ListShelf>, now: u64)
+fn is_idle_at(rt: &impl Abort, alloc: Global, engine: &mut Engine<ListShelf>, now: u64)
     requires { now < 253402300800 }
 {
     assert!(rt; matches!(work(alloc, engine, now), Ok(None)));
@@ -78,25 +83,25 @@ fn rests(rt: &impl Abort, alloc: Global, engine: &mut Engine<ListShelf>, now: u6
 #[test]
 fn acts_are_done_in_turn(rt: HostRuntime) -> Result<(), Fail> {
     let mut engine = engine(rt.alloc(), 1)?;
-    rests(&rt, rt.alloc(), &mut engine, 100);
-    takes(&rt, rt.alloc(), &mut engine, Happening::Accept(1));
-    takes(&rt, rt.alloc(), &mut engine, Happening::Client(1, ASK));
+    is_idle_at(&rt, rt.alloc(), &mut engine, 100);
+    takes_happening(&rt, rt.alloc(), &mut engine, Happening::Accept(1));
+    takes_happening(&rt, rt.alloc(), &mut engine, Happening::Client(1, ASK));
     let wrong = EngineFault::WrongNumber;
     refuses(&rt, rt.alloc(), &mut engine, Happening::Shut(1), wrong);
-    does(&rt, rt.alloc(), &mut engine, 100, FORWARDED);
-    takes(&rt, rt.alloc(), &mut engine, Happening::Gone(1));
-    does(&rt, rt.alloc(), &mut engine, 100, b"drop 1\n");
+    does_act(&rt, rt.alloc(), &mut engine, 100, FORWARDED);
+    takes_happening(&rt, rt.alloc(), &mut engine, Happening::Gone(1));
+    does_act(&rt, rt.alloc(), &mut engine, 100, b"drop 1\n");
     Ok(())
 }
 
 #[test]
 fn numbers_run_out(rt: HostRuntime) -> Result<(), Fail> {
     let mut engine = engine(rt.alloc(), u64::MAX)?;
-    takes(&rt, rt.alloc(), &mut engine, Happening::Accept(1));
-    takes(&rt, rt.alloc(), &mut engine, Happening::Client(1, ASK));
+    takes_happening(&rt, rt.alloc(), &mut engine, Happening::Accept(1));
+    takes_happening(&rt, rt.alloc(), &mut engine, Happening::Client(1, ASK));
     assert!(&rt; matches!(work(rt.alloc(), &mut engine, 100), Ok(Some(_))));
-    takes(&rt, rt.alloc(), &mut engine, Happening::Accept(2));
-    takes(&rt, rt.alloc(), &mut engine, Happening::Client(2, ASK));
+    takes_happening(&rt, rt.alloc(), &mut engine, Happening::Accept(2));
+    takes_happening(&rt, rt.alloc(), &mut engine, Happening::Client(2, ASK));
     assert!(&rt; matches!(work(rt.alloc(), &mut engine, 100), Err(EngineFault::Spent)));
     Ok(())
 }
@@ -107,27 +112,27 @@ const ASK_OTHER: &[u8] = b"GET /b HTTP/1.1\r\nHost: h\r\n\r\n";
 #[test]
 fn a_wake_needs_a_number(rt: HostRuntime) -> Result<(), Fail> {
     let mut engine = engine(rt.alloc(), u64::MAX - 1)?;
-    takes(&rt, rt.alloc(), &mut engine, Happening::Accept(1));
-    takes(&rt, rt.alloc(), &mut engine, Happening::Client(1, ASK));
+    takes_happening(&rt, rt.alloc(), &mut engine, Happening::Accept(1));
+    takes_happening(&rt, rt.alloc(), &mut engine, Happening::Client(1, ASK));
     assert!(&rt; matches!(work(rt.alloc(), &mut engine, 100), Ok(Some(_))));
-    takes(&rt, rt.alloc(), &mut engine, Happening::Accept(2));
-    takes(&rt, rt.alloc(), &mut engine, Happening::Client(2, ASK));
-    does(&rt, rt.alloc(), &mut engine, 100, b"");
-    takes(&rt, rt.alloc(), &mut engine, Happening::Accept(3));
-    takes(
+    takes_happening(&rt, rt.alloc(), &mut engine, Happening::Accept(2));
+    takes_happening(&rt, rt.alloc(), &mut engine, Happening::Client(2, ASK));
+    does_act(&rt, rt.alloc(), &mut engine, 100, b"");
+    takes_happening(&rt, rt.alloc(), &mut engine, Happening::Accept(3));
+    takes_happening(
         &rt,
         rt.alloc(),
         &mut engine,
         Happening::Client(3, ASK_OTHER),
     );
     assert!(&rt; matches!(work(rt.alloc(), &mut engine, 100), Ok(Some(_))));
-    takes(&rt, rt.alloc(), &mut engine, Happening::Gone(1));
+    takes_happening(&rt, rt.alloc(), &mut engine, Happening::Gone(1));
     assert!(&rt; matches!(work(rt.alloc(), &mut engine, 100), Ok(Some(_))));
     for _ in 0..2u8 {
         assert!(&rt; matches!(work(rt.alloc(), &mut engine, 100), Err(EngineFault::Spent)));
     }
-    takes(&rt, rt.alloc(), &mut engine, Happening::Gone(2));
-    does(&rt, rt.alloc(), &mut engine, 100, b"");
+    takes_happening(&rt, rt.alloc(), &mut engine, Happening::Gone(2));
+    does_act(&rt, rt.alloc(), &mut engine, 100, b"");
     Ok(())
 }
 
@@ -144,13 +149,13 @@ Connection: close\r
 
 /// A client asks, its request goes forward, the origin answers, and the client goes.
 fn comes_and_goes(rt: &impl Abort, alloc: Global, engine: &mut Engine<ListShelf>, n: u64) {
-    takes(rt, alloc, engine, Happening::Accept(n));
-    takes(rt, alloc, engine, Happening::Client(n, ASK));
+    takes_happening(rt, alloc, engine, Happening::Accept(n));
+    takes_happening(rt, alloc, engine, Happening::Client(n, ASK));
     assert!(rt; matches!(work(alloc, engine, 100), Ok(Some(_))));
-    takes(rt, alloc, engine, Happening::Link(n, ANSWER));
+    takes_happening(rt, alloc, engine, Happening::Link(n, ANSWER));
     assert!(rt; matches!(work(alloc, engine, 100), Ok(Some(_))));
-    takes(rt, alloc, engine, Happening::Gone(n));
-    rests(rt, alloc, engine, 100);
+    takes_happening(rt, alloc, engine, Happening::Gone(n));
+    is_idle_at(rt, alloc, engine, 100);
 }
 
 /// What is over is let go, so the last of many clients is served as the first.
@@ -160,15 +165,15 @@ fn many_clients_come_and_go(rt: HostRuntime) -> Result<(), Fail> {
     for n in 1..2_000u64 {
         comes_and_goes(&rt, rt.alloc(), &mut engine, n);
     }
-    takes(&rt, rt.alloc(), &mut engine, Happening::Accept(2_000));
-    takes(&rt, rt.alloc(), &mut engine, Happening::Client(2_000, ASK));
-    does(&rt, rt.alloc(), &mut engine, 100, LAST_FORWARDED);
-    takes(&rt, rt.alloc(), &mut engine, Happening::Gone(2_000));
-    does(&rt, rt.alloc(), &mut engine, 100, b"drop 2000\n");
+    takes_happening(&rt, rt.alloc(), &mut engine, Happening::Accept(2_000));
+    takes_happening(&rt, rt.alloc(), &mut engine, Happening::Client(2_000, ASK));
+    does_act(&rt, rt.alloc(), &mut engine, 100, LAST_FORWARDED);
+    takes_happening(&rt, rt.alloc(), &mut engine, Happening::Gone(2_000));
+    does_act(&rt, rt.alloc(), &mut engine, 100, b"drop 2000\n");
     // Those that are over are still known by their numbers.
-    takes(&rt, rt.alloc(), &mut engine, Happening::Gone(1));
-    takes(&rt, rt.alloc(), &mut engine, Happening::Link(1, ANSWER));
-    rests(&rt, rt.alloc(), &mut engine, 100);
+    takes_happening(&rt, rt.alloc(), &mut engine, Happening::Gone(1));
+    takes_happening(&rt, rt.alloc(), &mut engine, Happening::Link(1, ANSWER));
+    is_idle_at(&rt, rt.alloc(), &mut engine, 100);
     Ok(())
 }
 
@@ -177,32 +182,32 @@ fn many_clients_come_and_go(rt: HostRuntime) -> Result<(), Fail> {
 fn who_is_between_requests(rt: HostRuntime) -> Result<(), Fail> {
     let mut engine = engine(rt.alloc(), 1)?;
     assert!(&rt; !engine.is_between_requests(1));
-    takes(&rt, rt.alloc(), &mut engine, Happening::Accept(1));
+    takes_happening(&rt, rt.alloc(), &mut engine, Happening::Accept(1));
     assert!(&rt; engine.is_between_requests(1));
     for piece in [
         b"GET /a HTTP/1.1\r\n".as_slice(),
         b"Host: h\r\n\r\n".as_slice(),
     ] {
-        takes(&rt, rt.alloc(), &mut engine, Happening::Client(1, piece));
+        takes_happening(&rt, rt.alloc(), &mut engine, Happening::Client(1, piece));
         assert!(&rt; !engine.is_between_requests(1));
     }
-    does(&rt, rt.alloc(), &mut engine, 100, FORWARDED);
+    does_act(&rt, rt.alloc(), &mut engine, 100, FORWARDED);
     assert!(&rt; !engine.is_between_requests(1));
-    takes(&rt, rt.alloc(), &mut engine, Happening::Link(1, ANSWER));
+    takes_happening(&rt, rt.alloc(), &mut engine, Happening::Link(1, ANSWER));
     assert!(&rt; matches!(work(rt.alloc(), &mut engine, 100), Ok(Some(_))));
     assert!(&rt; engine.is_between_requests(1));
     let begun = b"POST /a HTTP/1.1\r\nHost: h\r\nContent-Length: 3\r\n\r\nab";
-    takes(&rt, rt.alloc(), &mut engine, Happening::Client(1, begun));
-    rests(&rt, rt.alloc(), &mut engine, 100);
+    takes_happening(&rt, rt.alloc(), &mut engine, Happening::Client(1, begun));
+    is_idle_at(&rt, rt.alloc(), &mut engine, 100);
     assert!(&rt; !engine.is_between_requests(1));
-    takes(&rt, rt.alloc(), &mut engine, Happening::Client(1, b"cG"));
+    takes_happening(&rt, rt.alloc(), &mut engine, Happening::Client(1, b"cG"));
     assert!(&rt; matches!(work(rt.alloc(), &mut engine, 100), Ok(Some(_))));
-    takes(&rt, rt.alloc(), &mut engine, Happening::Link(2, ANSWER));
+    takes_happening(&rt, rt.alloc(), &mut engine, Happening::Link(2, ANSWER));
     assert!(&rt; matches!(work(rt.alloc(), &mut engine, 100), Ok(Some(_))));
     // The first byte of a third request has come.
     assert!(&rt; !engine.is_between_requests(1));
-    takes(&rt, rt.alloc(), &mut engine, Happening::Accept(2));
-    takes(&rt, rt.alloc(), &mut engine, Happening::End(2));
+    takes_happening(&rt, rt.alloc(), &mut engine, Happening::Accept(2));
+    takes_happening(&rt, rt.alloc(), &mut engine, Happening::End(2));
     assert!(&rt; !engine.is_between_requests(2));
     Ok(())
 }
@@ -220,16 +225,16 @@ Connection: close\r
 #[test]
 fn numbers_are_of_64_bits(rt: HostRuntime) -> Result<(), Fail> {
     let mut engine = engine(rt.alloc(), 5_000_000_000)?;
-    takes(&rt, rt.alloc(), &mut engine, Happening::Accept(1));
-    takes(&rt, rt.alloc(), &mut engine, Happening::Client(1, ASK));
-    does(&rt, rt.alloc(), &mut engine, 100, FAR_FORWARDED);
-    takes(
+    takes_happening(&rt, rt.alloc(), &mut engine, Happening::Accept(1));
+    takes_happening(&rt, rt.alloc(), &mut engine, Happening::Client(1, ASK));
+    does_act(&rt, rt.alloc(), &mut engine, 100, FAR_FORWARDED);
+    takes_happening(
         &rt,
         rt.alloc(),
         &mut engine,
         Happening::Link(5_000_000_000, ANSWER),
     );
     assert!(&rt; matches!(work(rt.alloc(), &mut engine, 100), Ok(Some(_))));
-    rests(&rt, rt.alloc(), &mut engine, 100);
+    is_idle_at(&rt, rt.alloc(), &mut engine, 100);
     Ok(())
 }

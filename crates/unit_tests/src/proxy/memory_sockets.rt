@@ -1,6 +1,6 @@
 //! Sockets in memory, of which one call fails: clients that ask once, and an origin that answers once on each link.
 ghost use Rattle.std.specs.Prelude.{◌≡◌, length};
-ghost use Rattle.proxy_turn.specs.Received.{IsReceived};
+ghost use Rattle.proxy_turn.specs.Received.{FitsTheBuffer};
 
 use proxy_turn::{End, Received, SocketFailed, Sockets};
 use std::alloc::Global;
@@ -101,7 +101,7 @@ impl MemorySockets {
 
 /// Fills the front of a buffer, if there is room for all.
 pub(super) fn give(buf: &mut [u8], bytes: &[u8]) -> Received
-    ensures within { IsReceived (length buf.old) result }
+    ensures within { FitsTheBuffer (length buf.old) result }
     ensures length { length buf.new ≡ length buf.old }
 {
     if bytes.len() <= buf.len() {

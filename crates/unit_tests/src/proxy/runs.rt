@@ -1,6 +1,6 @@
 //! Whole runs, and where they stop.
 
-use super::cores::{ran, request, response};
+use super::cores::{request, response, run_of_events};
 use http::Method;
 use hx_status::FailKind;
 use proxy_core::{CoreFault, Event, Outcome, Run};
@@ -46,7 +46,7 @@ fn whole_run(alloc: Global) -> Result<Vec<Event>, Fail> {
     Ok(events)
 }
 
-fn used(ran: &Run, at: usize) -> Option<Option<u64>> {
+fn serial_used_at(ran: &Run, at: usize) -> Option<Option<u64>> {
     match ran.outcomes.get(at) {
         Some(Outcome::Reply(reply)) => Some(reply.used),
         _ => None,
@@ -56,9 +56,9 @@ fn used(ran: &Run, at: usize) -> Option<Option<u64>> {
 #[test]
 fn reuse_after_an_error(rt: HostRuntime) -> Result<(), Fail> {
     let events = whole_run(rt.alloc())?;
-    let ran = ran(rt.alloc(), &events)?;
+    let ran = run_of_events(rt.alloc(), &events)?;
     stops(&rt, &ran, 7, None);
-    assert_eq!(rt; used(&ran, 5), Some(Some(2)));
-    assert_eq!(rt; used(&ran, 6), Some(None));
+    assert_eq!(rt; serial_used_at(&ran, 5), Some(Some(2)));
+    assert_eq!(rt; serial_used_at(&ran, 6), Some(None));
     Ok(())
 }

@@ -5,7 +5,9 @@ use super::first_run::{ASK, engine};
 use super::memory_sockets::{Call, MemorySockets};
 use hx_store::ListShelf;
 use proxy_engine::Engine;
-use proxy_turn::{End, Gave, Logged, LoggedCall, Sockets, TurnFault, turn, turn_with_log};
+use proxy_turn::{
+    End, LoggedCall, LoggedReadOutcome, LoggedSockets, Sockets, TurnFault, turn, turn_with_log,
+};
 use std::alloc::Global;
 use std::process::Abort;
 use std::test::Fail;
@@ -153,13 +155,13 @@ fn calls_are_logged(rt: HostRuntime) -> Result<(), Fail> {
     let mut engine = engine(alloc, 1)?;
     let mut below = MemorySockets::new(alloc, 0, ASK, ANSWER);
     below.waiting = 1;
-    let mut sockets = Logged::new(below, alloc);
+    let mut sockets = LoggedSockets::new(below, alloc);
     assert!(rt; turn_with_log(&mut engine, &mut sockets, alloc, 100).is_ok());
     assert!(rt; !sockets.has_lost());
     match sockets.calls() {
         [
             LoggedCall::Accept(1, Ok(true)),
-            LoggedCall::Read(End::Client(1), Gave::Bytes(asked)),
+            LoggedCall::Read(End::Client(1), LoggedReadOutcome::Bytes(asked)),
             LoggedCall::Connect(1, address, true),
             LoggedCall::Write(End::Link(1), written, true),
         ] => {

@@ -1,6 +1,6 @@
 //! Requests that wait: where a run stops at one, and which are ready.
 
-use super::cores::{answer, arrive, core, ran, request, response};
+use super::cores::{answer, arrive, core, request, response, run_of_events};
 use http::Method;
 use hx_status::FailKind;
 use hx_store::ListShelf;
@@ -29,7 +29,7 @@ fn answers(alloc: Global, events: &mut Vec<Event>, id: u64) -> Result<(), Fail> 
 fn stops_at(rt: &impl Abort, alloc: Global, event: Event, fault: CoreFault) -> Result<(), Fail> {
     let mut events = two_ask(alloc)?;
     events.push(event)?;
-    let ran = ran(alloc, &events)?;
+    let ran = run_of_events(alloc, &events)?;
     assert_eq!(rt; ran.outcomes.len(), 2);
     assert_eq!(rt; ran.stopped, Some(fault));
     Ok(())
@@ -62,7 +62,7 @@ fn a_run_wakes_once(rt: HostRuntime) -> Result<(), Fail> {
     for _ in 0..2u8 {
         events.push(Event::Wake(101, 2))?;
     }
-    let ran = ran(alloc, &events)?;
+    let ran = run_of_events(alloc, &events)?;
     assert!(rt; matches!(ran.outcomes.get(1), Some(Outcome::Waits(1))));
     match ran.outcomes.get(3) {
         Some(Outcome::Reply(reply)) => assert_eq!(rt; reply.used, Some(1)),

@@ -1,6 +1,6 @@
 use Rattle.std.proofs.Common.{◌≡◌, drop, length, []}
 use Rattle.std.specs.Prelude.{max, fold, unwrap_or}
-use Rattle.hx_allow.specs.Lines.{Line}
+use Rattle.hx_allow.specs.TableLines.{Line}
 use Rattle.hx_allow.specs.Matching.{longest_origin}
 use Rattle.hx_allow.proofs.lines.longest_origin.Given as goal
 

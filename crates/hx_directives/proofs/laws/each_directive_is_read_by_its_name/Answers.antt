@@ -2,10 +2,10 @@ use Rattle.std.proofs.Common.{◌≡◌, refl}
 use Rattle.std.specs.Prelude.{Some}
 use Rattle.hx_directives.specs.declared.names.Directive.{Directive}
 use Rattle.hx_directives.specs.declared.names.Directive.TheVariants as directive
-use Rattle.hx_directives.specs.Occurrences.{directive_of, name_of}
+use Rattle.hx_directives.specs.Occurrences.{directive_of, directive_name}
 use Rattle.hx_directives.proofs.laws.each_directive_is_read_by_its_name.Goals as goal
 
-is_read : (d : Directive) → directive_of (name_of d) ≡ Some d
+is_read : (d : Directive) → directive_of (directive_name d) ≡ Some d
 is_read directive.MaxAge = refl
 is_read directive.SMaxage = refl
 is_read directive.MaxStale = refl

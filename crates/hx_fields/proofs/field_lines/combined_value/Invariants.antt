@@ -1,5 +1,5 @@
 use Rattle.std.proofs.Common.{◌≡◌, false, [], drop}
-use Rattle.hx_fields.specs.Lines.{values_of, combined_of}
+use Rattle.hx_fields.specs.FieldLines.{values_of, combined_of}
 use Rattle.hx_fields.proofs.Joined.{joined_after}
 use Rattle.hx_fields.proofs.field_lines.combined_value.Given as goal
 

@@ -1,5 +1,5 @@
 use Rattle.std.proofs.Common.{◌≡◌, ◌+◌, ◌≤◌, drop, length}
-use Rattle.hx_fields.specs.Lines.{values_of}
+use Rattle.hx_fields.specs.FieldLines.{values_of}
 use Rattle.hx_fields.proofs.field_lines.count_lines.Given as goal
 
 abbrev pub invariant-loop-line : goal.invariant-loop-line

@@ -1,6 +1,6 @@
 use Rattle.std.proofs.Common.{rules, not}
 use Rattle.std.proofs.lemmas.Fn.{filter_same}
-use Rattle.hx_fields.specs.Lines.{is_named}
+use Rattle.hx_fields.specs.FieldLines.{is_named}
 use Rattle.hx_fields.proofs.field_lines.retain_others.Goals as goal
 
 pub returns : goal.returns

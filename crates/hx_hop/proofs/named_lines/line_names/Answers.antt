@@ -2,7 +2,7 @@ use Rattle.std.proofs.Common.{rules, ◌≡◌, ℕ, ◌+◌, ◌++◌, false, c
 use Rattle.std.specs.BTreeMap.{get, is_at}
 use Rattle.std.proofs.lemmas.List.{take_more}
 use Rattle.hx_fields.specs.Folded.{folded, folded_cmp}
-use Rattle.hx_hop.specs.NamedLines.{AreLineNames}
+use Rattle.hx_hop.specs.NamedLines.{AreUnmarkedLineNames}
 use Rattle.hx_hop.proofs.NamedLemmas.{one_name_more}
 use Rattle.hx_hop.proofs.named_lines.line_names.Goals as goal
 
@@ -18,4 +18,4 @@ loop-line-preserved c =
     let u : (q : List ℕ) → get folded_cmp new q ≡ cond (is_at (folded_cmp (folded line.name)) q) (Some false) (get folded_cmp old q) =
     subst (λ k. (q : List ℕ) → get folded_cmp new q ≡ cond (is_at (folded_cmp k) q) (Some false) (get folded_cmp old q)) key
     c.in_ok-insert.ensures.updates.0 in
-    subst (λ z. AreLineNames z new) (sym next) (one_name_more done line old new u c.loop-line.invariant)
+    subst (λ z. AreUnmarkedLineNames z new) (sym next) (one_name_more done line old new u c.loop-line.invariant)

@@ -1,5 +1,5 @@
 use Rattle.std.proofs.Common.{ap, codes, ◌∙◌}
-use Rattle.hx_fields.specs.Lines.{members_of}
+use Rattle.hx_fields.specs.FieldLines.{members_of}
 use Rattle.hx_hop.proofs.NamedLemmas.{any_is_cache_name, lists_by_members}
 use Rattle.hx_hop.proofs.stripping.lists_cache_field.Goals as goal
 

@@ -1,5 +1,5 @@
 use Rattle.std.proofs.Common.{◌≡◌, drop, codes}
-use Rattle.hx_fields.specs.Lines.{members_of}
+use Rattle.hx_fields.specs.FieldLines.{members_of}
 use Rattle.hx_hop.specs.Stripping.{lists_cache_field}
 use Rattle.hx_hop.proofs.NamedLemmas.{any_is_cache_name}
 use Rattle.hx_hop.proofs.stripping.lists_cache_field.Given as goal

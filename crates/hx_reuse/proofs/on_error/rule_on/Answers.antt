@@ -5,12 +5,12 @@ use Rattle.hx_age.specs.declared.lifetimes.Lifetime.{Lifetime}
 use Rattle.hx_store.specs.Stored.{Stored}
 use Rattle.hx_policy.specs.declared.words.Policy.{Policy}
 use Rattle.hx_reuse.specs.Rules.{situation_at}
-use Rattle.hx_reuse.specs.ErrorRules.{against_on_error, error_rules, error_rule_on}
+use Rattle.hx_reuse.specs.ErrorRules.{error_rule_condition, error_rules, error_rule_on}
 use Rattle.hx_reuse.proofs.on_error.rule_on.Goals as goal
 
 -- of equal numbers and directives the least rule is the same
 same_least : (policy : Policy) (l k : Lifetime) (a b : ℕ) (r q asked : List Occurrence) → l ≡ k → a ≡ b → r ≡ q →
-    find (λ rule. against_on_error rule (situation_at policy l a r asked)) error_rules ≡ find (λ rule. against_on_error rule (situation_at policy k b q asked)) error_rules
+    find (λ rule. error_rule_condition rule (situation_at policy l a r asked)) error_rules ≡ find (λ rule. error_rule_condition rule (situation_at policy k b q asked)) error_rules
 same_least policy l k a b r q asked h i j = rw (h, i, j) refl
 
 pub returns : goal.returns

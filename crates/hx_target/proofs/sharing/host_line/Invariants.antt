@@ -1,5 +1,5 @@
 use Rattle.std.proofs.Common.{◌≡◌, drop, codes}
-use Rattle.hx_fields.specs.Lines.{values_of}
+use Rattle.hx_fields.specs.FieldLines.{values_of}
 use Rattle.hx_target.proofs.sharing.host_line.Given as goal
 
 abbrev pub invariant-loop-line : goal.invariant-loop-line

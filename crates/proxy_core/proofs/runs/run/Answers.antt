@@ -1,8 +1,8 @@
 use Rattle.std.proofs.Common.{rules, arith, ◌≡◌, ◌<◌, ◌+◌, ◌++◌, ◌∷◌, [], ℕ, List, length, ap, ◌∙◌, sym, subst, length-append}
-use Rattle.hx_allow.specs.Lines.{Table}
+use Rattle.hx_allow.specs.TableLines.{Table}
 use Rattle.proxy_core.specs.declared.event.Event.{Event}
 use Rattle.proxy_core.specs.declared.outcome.Outcome.{Outcome}
-use Rattle.proxy_core.specs.Traces.{trace_of, begun, left, IsGood}
+use Rattle.proxy_core.specs.Traces.{trace_of, initial_state, state_after_trace, IsGood}
 use Rattle.proxy_core.specs.Histories.{IsGoodHistory}
 use Rattle.proxy_core.specs.Headline.{Headline}
 use Rattle.proxy_core.proofs.Tracing.{left-push, good-push, at_index, stops_at, refuses_or, same_good}
@@ -12,9 +12,9 @@ use Rattle.proxy_core.proofs.runs.run.Goals as goal
 
 -- the trace so far is good over the bounded list, also where its outcomes are the same ones after room was found
 module _ (table : Table) (limit first : ℕ) (events : List Event) (outcomes more : List Outcome) (same : more ≡ outcomes)
-    (g : IsGood (begun table limit first) (trace_of events outcomes)) where
-  plain : IsGood (begun table limit first) (trace_of events more)
-  plain = same_good (begun table limit first) events outcomes more same g
+    (g : IsGood (initial_state table limit first) (trace_of events outcomes)) where
+  plain : IsGood (initial_state table limit first) (trace_of events more)
+  plain = same_good (initial_state table limit first) events outcomes more same g
 
   good : IsGoodHistory table limit first (trace_of events more)
   good = good_held table limit first (trace_of events more) plain
@@ -52,7 +52,7 @@ returns-in-Err-clause-stopped g c =
     let n : c.loop-event.event-index < length c.args.events.now = omega arith in
     stops_held c.args.config limit c.args.first_serial _ _ _
     (plain c.args.config limit c.args.first_serial c.args.events.now c.loop-event.outcomes.items _ c.reserve.ensures.items i.good)
-    (stops_at (begun c.args.config limit c.args.first_serial) c.args.events.now c.loop-event.outcomes.items _ c.event-item.result c.loop-event.core _ c.reserve.ensures.items
+    (stops_at (initial_state c.args.config limit c.args.first_serial) c.args.events.now c.loop-event.outcomes.items _ c.event-item.result c.loop-event.core _ c.reserve.ensures.items
     (at_index c.args.events.now _ _ c.event-item.result i.long n c.event-item.is) i.applies c.in-Err.ensures.err)
 
 pub returns-then-is_err-clause-stopped : goal.returns-then-is_err-clause-stopped
@@ -62,7 +62,7 @@ returns-then-is_err-clause-stopped g c =
     let n : c.loop-event.event-index < length c.args.events.now = omega arith in
     stops_held c.args.config limit c.args.first_serial _ _ _
     (plain c.args.config limit c.args.first_serial c.args.events.now c.loop-event.outcomes.items _ c.reserve.ensures.items i.good)
-    (stops_at (begun c.args.config limit c.args.first_serial) c.args.events.now c.loop-event.outcomes.items _ c.event-item.result c.loop-event.core _ c.reserve.ensures.items
+    (stops_at (initial_state c.args.config limit c.args.first_serial) c.args.events.now c.loop-event.outcomes.items _ c.event-item.result c.loop-event.core _ c.reserve.ensures.items
     (at_index c.args.events.now _ _ c.event-item.result i.long n c.event-item.is) i.applies (refuses_or c.loop-event.core c.event-item.result _ c.fault.result c.fault.ensures c.unwrap_or-fault.ensures))
 
 pub loop-event-preserved : goal.loop-event-preserved
@@ -70,13 +70,13 @@ loop-event-preserved g c =
     let i = c.loop-event.invariant in
     let os = c.loop-event.outcomes.items in
     let es = c.args.events.now in
-    let start = begun c.args.config (g.S.Shelf.limit c.args.shelf) c.args.first_serial in
+    let start = initial_state c.args.config (g.S.Shelf.limit c.args.shelf) c.args.first_serial in
     let n : c.loop-event.event-index < length es = omega arith in
     let at = at_index es os _ c.event-item.result i.long n c.event-item.is in
     let p : c.push.new.self.items ≡ os ++ c.in-Ok.outcome ∷ [] = search rules in
     let k = c.in-Ok.ensures.ok in
     record {
       long = ap length p ∙ (length-append os (c.in-Ok.outcome ∷ []) ∙ ap (λ m. m + 1) i.long);
-      applies = left-push start es os c.event-item.result c.in-Ok.outcome c.loop-event.core _ at i.applies k ∙ ap (λ (zs : List Outcome). left start (trace_of es zs)) (sym p);
+      applies = left-push start es os c.event-item.result c.in-Ok.outcome c.loop-event.core _ at i.applies k ∙ ap (λ (zs : List Outcome). state_after_trace start (trace_of es zs)) (sym p);
       good = subst (λ (zs : List Outcome). IsGood start (trace_of es zs)) (sym p) (good-push start es os c.event-item.result c.in-Ok.outcome c.loop-event.core _ at i.applies k i.good);
     }

@@ -1,11 +1,11 @@
 use Rattle.std.proofs.Common.{◌≡◌, length}
-use Rattle.proxy_core.specs.Traces.{trace_of, begun, left, IsGood}
+use Rattle.proxy_core.specs.Traces.{trace_of, initial_state, state_after_trace, IsGood}
 use Rattle.proxy_core.proofs.runs.run.Given as goal
 
 -- so many outcomes as events, a good trace, and the core that it leaves
 abbrev pub invariant-loop-event : goal.invariant-loop-event
 invariant-loop-event g l = record {
   long : length l.outcomes.items ≡ l.event-index;
-  applies : l.core ≡ left (begun l.fn.config (g.S.Shelf.limit l.fn.shelf) l.first_serial) (trace_of l.events l.outcomes.items);
-  good : IsGood (begun l.fn.config (g.S.Shelf.limit l.fn.shelf) l.first_serial) (trace_of l.events l.outcomes.items);
+  applies : l.core ≡ state_after_trace (initial_state l.fn.config (g.S.Shelf.limit l.fn.shelf) l.first_serial) (trace_of l.events l.outcomes.items);
+  good : IsGood (initial_state l.fn.config (g.S.Shelf.limit l.fn.shelf) l.first_serial) (trace_of l.events l.outcomes.items);
 }

@@ -1,6 +1,6 @@
 use Rattle.std.proofs.Common.{true, Option, Some, None, sym, ap, subst, ◌∙◌}
 use Rattle.proxy_engine.specs.Pairing.{activity_of}
-use Rattle.proxy_engine.specs.EngineModel.{ended}
+use Rattle.proxy_engine.specs.EngineModel.{connection_after_end}
 use Rattle.proxy_engine.specs.State.{ConnectionRepresents}
 use Rattle.proxy_engine.specs.declared.endpoints.ends.Connection.{Connection}
 use Rattle.proxy_engine.proofs.Searching.{map_kept}
@@ -13,13 +13,13 @@ returns-in_default-clause-fault c = λ s links core first h. connection_refused 
 pub returns-in_default-at_mut-clause-ok : goal.returns-in_default-at_mut-clause-ok
 returns-in_default-at_mut-clause-ok c = λ s links core first h. record {
   free = connection_free c.args.connections.now.items links core first s c.args.n true c.in-Some.ensures.0 h;
-  represents = connection_over ended c.args.connections.now.items links core first s c.args.n c.in-Some.i c.in-Some.ensures.1 c.in-Some.ensures.2 c.in_default-at_mut.ensures.value ended_over h;
+  represents = connection_over connection_after_end c.args.connections.now.items links core first s c.args.n c.in-Some.i c.in-Some.ensures.1 c.in-Some.ensures.2 c.in_default-at_mut.ensures.value ended_over h;
 }
 
 pub returns-in-Some-at_mut-clause-ok : goal.returns-in-Some-at_mut-clause-ok
 returns-in-Some-at_mut-clause-ok c = λ s links core first h. record {
   free = connection_free c.args.connections.now.items links core first s c.args.n true c.in-Some.ensures.0 h;
-  represents = connection_taken ended c.args.connections.now.items links core first s c.args.n c.in-Some.i (Some c.end.new.connection) c.in-Some.ensures.1 c.in-Some.ensures.2
+  represents = connection_taken connection_after_end c.args.connections.now.items links core first s c.args.n c.in-Some.i (Some c.end.new.connection) c.in-Some.ensures.1 c.in-Some.ensures.2
       (λ k q. c.end.ensures.represents k (subst (λ (o : Option Connection). ConnectionRepresents o k) (sym c.in-Some-at_mut.ensures.value) q)) h;
 }
 

@@ -1,7 +1,7 @@
 use Rattle.std.proofs.Common.{◌≡◌, true, false, ℕ, length, get_or, Option, Some, None, sym, ap, subst, ◌∙◌}
 use Rattle.proxy_engine.specs.Pairing.{activity_of}
-use Rattle.proxy_engine.specs.Room.{IsRoomy}
-use Rattle.proxy_engine.specs.EngineModel.{sent}
+use Rattle.proxy_engine.specs.Room.{ConnectionHasSpare}
+use Rattle.proxy_engine.specs.EngineModel.{connection_after_bytes}
 use Rattle.proxy_engine.specs.State.{ConnectionRepresents}
 use Rattle.proxy_engine.specs.declared.endpoints.ends.Connection.{Connection}
 use Rattle.proxy_engine.proofs.Searching.{map_kept}
@@ -14,13 +14,13 @@ returns-in_default-clause-fault c = λ s links core first h. connection_refused 
 pub returns-in_default-at_mut-clause-ok : goal.returns-in_default-at_mut-clause-ok
 returns-in_default-at_mut-clause-ok c = λ s links core first h. record {
   free = connection_free c.args.connections.now.items links core first s c.args.n true c.in-Some.ensures.0 h;
-  represents = connection_over (sent c.args.bytes.now) c.args.connections.now.items links core first s c.args.n c.in-Some.i c.in-Some.ensures.1 c.in-Some.ensures.2 c.in_default-at_mut.ensures.value (λ k q. sent_over c.args.bytes.now k q) h;
+  represents = connection_over (connection_after_bytes c.args.bytes.now) c.args.connections.now.items links core first s c.args.n c.in-Some.i c.in-Some.ensures.1 c.in-Some.ensures.2 c.in_default-at_mut.ensures.value (λ k q. sent_over c.args.bytes.now k q) h;
 }
 
 pub returns-in-Ok-clause-ok : goal.returns-in-Ok-clause-ok
 returns-in-Ok-clause-ok c = λ s links core first h. record {
   free = connection_free c.args.connections.now.items links core first s c.args.n true c.in-Some.ensures.0 h;
-  represents = connection_taken (sent c.args.bytes.now) c.args.connections.now.items links core first s c.args.n c.in-Some.i (Some c.feed_connection.new.connection) c.in-Some.ensures.1 c.in-Some.ensures.2
+  represents = connection_taken (connection_after_bytes c.args.bytes.now) c.args.connections.now.items links core first s c.args.n c.in-Some.i (Some c.feed_connection.new.connection) c.in-Some.ensures.1 c.in-Some.ensures.2
       (λ k q. c.in-Ok.ensures.represents k (subst (λ (o : Option Connection). ConnectionRepresents o k) (sym c.in-Some-at_mut.ensures.value) q)) h;
 }
 
@@ -35,6 +35,6 @@ returns-in-Err-clause-kept c = λ e s links core first h. connection_keeps c.arg
 
 pub returns-in-Err-clause-reserved : goal.returns-in-Err-clause-reserved
 returns-in-Err-clause-reserved c = λ roomy.
-    let here = subst (λ (o : Option Connection). IsRoomy o (length c.args.bytes.now)) (ap (λ (i : ℕ). get_or c.args.connections.now.items i None) (sym c.in-Some.ensures.1) ∙ sym c.in-Some-at_mut.ensures.value) roomy in
+    let here = subst (λ (o : Option Connection). ConnectionHasSpare o (length c.args.bytes.now)) (ap (λ (i : ℕ). get_or c.args.connections.now.items i None) (sym c.in-Some.ensures.1) ∙ sym c.in-Some-at_mut.ensures.value) roomy in
     let none : false ≡ true = c.in-Err.ensures.reserved here in
     absurd cc

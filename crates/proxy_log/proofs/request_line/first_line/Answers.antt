@@ -2,20 +2,20 @@ use Rattle.std.proofs.Common.{◌≡◌, sym, ◌∙◌, ap, ℕ, List, Some, tr
 use Rattle.hx_fields.specs.Names.{cut_at}
 use Rattle.hx_framing.specs.HeadLines.{is_empty_line}
 use Rattle.hx_framing.specs.Version.{without_return}
-use Rattle.proxy_log.specs.Asked.{first_line, first_of}
+use Rattle.proxy_log.specs.Asked.{first_line, first_nonempty_line}
 use Rattle.proxy_log.specs.ReplyFacts.{whole_lines}
 use Rattle.proxy_log.proofs.LineSteps.{lines_at, no_lines}
 use Rattle.proxy_log.proofs.request_line.first_line.Goals as goal
 
 passed : (left line behind : List ℕ) → Some (line, behind) ≡ cut_at 10 left → is_empty_line line ≡ true → first_line behind ≡ first_line left
 passed left line behind cut empty =
-    let here : first_of ((line, behind) ∷ whole_lines behind) ≡ first_of (whole_lines behind) = rw empty refl in
-    sym here ∙ ap first_of (sym (lines_at left (line, behind) cut))
+    let here : first_nonempty_line ((line, behind) ∷ whole_lines behind) ≡ first_nonempty_line (whole_lines behind) = rw empty refl in
+    sym here ∙ ap first_nonempty_line (sym (lines_at left (line, behind) cut))
 
 found : (left line behind : List ℕ) → Some (line, behind) ≡ cut_at 10 left → is_empty_line line ≡ false → Some (without_return line) ≡ first_line left
 found left line behind cut other =
-    let here : first_of ((line, behind) ∷ whole_lines behind) ≡ Some (without_return line) = rw other refl in
-    sym here ∙ ap first_of (sym (lines_at left (line, behind) cut))
+    let here : first_nonempty_line ((line, behind) ∷ whole_lines behind) ≡ Some (without_return line) = rw other refl in
+    sym here ∙ ap first_nonempty_line (sym (lines_at left (line, behind) cut))
 
 pub loop-line-preserved : goal.loop-line-preserved
 loop-line-preserved c =
@@ -27,4 +27,4 @@ returns-else-is_empty_line c =
     ∙ found c.loop-line.left.now c.in-Some.line.now c.in-Some.behind.now c.in-Some.ensures.cut (sym c.is_empty_line.ensures ∙ c.if-is_empty_line.false) ∙ c.loop-line.invariant
 
 pub returns : goal.returns
-returns c = ap first_of (sym (no_lines c.loop-line.left.now c.in_default.ensures.cut)) ∙ c.loop-line.invariant
+returns c = ap first_nonempty_line (sym (no_lines c.loop-line.left.now c.in_default.ensures.cut)) ∙ c.loop-line.invariant

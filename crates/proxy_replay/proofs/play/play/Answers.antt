@@ -1,11 +1,11 @@
 use Rattle.std.proofs.Common.{◌+◌, ◌<◌, false, true, sym, subst, arith}
 use Rattle.hx_fields.specs.declared.limits.TheConstants.{END_OF_TIME}
-use Rattle.proxy_script.specs.Script.{said, Table}
+use Rattle.proxy_script.specs.Script.{plain_item, Table}
 use Rattle.proxy_script.proofs.ItemLaws.{item_found}
-use Rattle.proxy_replay.specs.Played.{happening_of}
-use Rattle.proxy_replay.specs.Steps.{StepDone, StepNotDone}
+use Rattle.proxy_replay.specs.Played.{happening_of_item}
+use Rattle.proxy_replay.specs.Steps.{ItemWasPlayed, ItemWasNotPlayed}
 use Rattle.proxy_replay.proofs.Fronts.{ends_first, item_shorter, moment_fits, wrong_by, short_by}
-use Rattle.proxy_replay.specs.declared.faults.ReplayFault.TheVariants as faults
+use Rattle.proxy_replay.specs.declared.replay_fault.ReplayFault.TheVariants as faults
 use Rattle.proxy_replay.proofs.Playing.{SoFar, so_far_first, so_far_more, writes_first, writes_wrong, writes_cut, writes_not_done}
 use Rattle.proxy_replay.proofs.play.play.Goals as goal
 
@@ -18,32 +18,32 @@ items-init g c = record {
 
 pub play_item-requires : goal.play_item-requires
 play_item-requires g c =
-    let represents = item_found false c.items.rest.now c.in-Found.more.now (said c.in-Found.item) (sym c.in-Found.ensures) in
-    subst (λ m. m < END_OF_TIME) (sym c.moment_after-now.ensures) (moment_fits c.items.now (said c.in-Found.item) c.items.invariant.moments represents.1)
+    let represents = item_found false c.items.rest.now c.in-Found.more.now (plain_item c.in-Found.item) (sym c.in-Found.ensures) in
+    subst (λ m. m < END_OF_TIME) (sym c.moment_after-now.ensures) (moment_fits c.items.now (plain_item c.in-Found.item) c.items.invariant.moments represents.1)
 
 pub returns-in-Err-play_item : goal.returns-in-Err-play_item
 returns-in-Err-play_item g c =
-    let represents = item_found false c.items.rest.now c.in-Found.more.now (said c.in-Found.item) (sym c.in-Found.ensures) in
+    let represents = item_found false c.items.rest.now c.in-Found.more.now (plain_item c.in-Found.item) (sym c.in-Found.ensures) in
     let before = c.items.invariant.so_far in
-    writes_not_done c.args.bytes.now c.items.rest.now c.in-Found.more.now (said c.in-Found.item) c.args.ended c.items.now c.items.line c.items.engine _ _ _ _ before represents
-    (subst (λ m. StepNotDone before.last.model m (happening_of (said c.in-Found.item)) c.in-Err-play_item.fault (g.W.Write.contents c.items.writer) (g.W.Write.contents c.play_item.new.writer)) c.moment_after-now.ensures
+    writes_not_done c.args.bytes.now c.items.rest.now c.in-Found.more.now (plain_item c.in-Found.item) c.args.ended c.items.now c.items.line c.items.engine _ _ _ _ before represents
+    (subst (λ m. ItemWasNotPlayed before.last.model m (happening_of_item (plain_item c.in-Found.item)) c.in-Err-play_item.fault (g.W.Write.contents c.items.writer) (g.W.Write.contents c.play_item.new.writer)) c.moment_after-now.ensures
     (c.in-Err-play_item.ensures.fault before.last.model before.represents))
 
 pub items-smaller : goal.items-smaller
 items-smaller g c =
-    item_shorter false c.items.rest.now c.in-Found.more.now (said c.in-Found.item) (item_found false c.items.rest.now c.in-Found.more.now (said c.in-Found.item) (sym c.in-Found.ensures))
+    item_shorter false c.items.rest.now c.in-Found.more.now (plain_item c.in-Found.item) (item_found false c.items.rest.now c.in-Found.more.now (plain_item c.in-Found.item) (sym c.in-Found.ensures))
 
 pub items-preserved : goal.items-preserved
 items-preserved g c =
-    let represents = item_found false c.items.rest.now c.in-Found.more.now (said c.in-Found.item) (sym c.in-Found.ensures) in
+    let represents = item_found false c.items.rest.now c.in-Found.more.now (plain_item c.in-Found.item) (sym c.in-Found.ensures) in
     let before = c.items.invariant.so_far in
     record {
       so_far = subst (λ m. SoFar c.args.bytes.now c.in-Found.more.now m (c.items.line + 1) c.play_item.new.engine (g.W.Write.contents c.args.writer.now) (g.W.Write.contents c.play_item.new.writer)) (sym c.moment_after-now.ensures)
-          (so_far_more c.args.bytes.now c.items.rest.now c.in-Found.more.now c.items.now c.items.line (said c.in-Found.item) c.items.engine c.play_item.new.engine _ _ _ before represents
-          (subst (λ m. StepDone before.last.model m (happening_of (said c.in-Found.item)) c.play_item.new.engine (g.W.Write.contents c.items.writer) (g.W.Write.contents c.play_item.new.writer)) c.moment_after-now.ensures
+          (so_far_more c.args.bytes.now c.items.rest.now c.in-Found.more.now c.items.now c.items.line (plain_item c.in-Found.item) c.items.engine c.play_item.new.engine _ _ _ before represents
+          (subst (λ m. ItemWasPlayed before.last.model m (happening_of_item (plain_item c.in-Found.item)) c.play_item.new.engine (g.W.Write.contents c.items.writer) (g.W.Write.contents c.play_item.new.writer)) c.moment_after-now.ensures
           (c.in-Ok-play_item.ensures.ok before.last.model before.represents)));
-      lines = omega (arith, c.items.invariant.lines, item_shorter false c.items.rest.now c.in-Found.more.now (said c.in-Found.item) represents);
-      moments = subst (λ m. m < END_OF_TIME) (sym c.moment_after-now.ensures) (moment_fits c.items.now (said c.in-Found.item) c.items.invariant.moments represents.1);
+      lines = omega (arith, c.items.invariant.lines, item_shorter false c.items.rest.now c.in-Found.more.now (plain_item c.in-Found.item) represents);
+      moments = subst (λ m. m < END_OF_TIME) (sym c.moment_after-now.ensures) (moment_fits c.items.now (plain_item c.in-Found.item) c.items.invariant.moments represents.1);
     }
 
 pub returns-in-Wrong : goal.returns-in-Wrong

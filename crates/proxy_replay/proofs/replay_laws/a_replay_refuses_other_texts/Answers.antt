@@ -4,7 +4,7 @@ use Rattle.proxy_replay.proofs.replay_laws.a_replay_refuses_other_texts.Goals as
 
 pub returns : goal.returns
 returns c =
-    let play = has_one_play c.due_once.ensures c.an_act_is_done_in_one_way.ensures in
+    let play = has_one_play c.one_act_is_due_first.ensures c.an_act_is_done_in_one_way.ensures in
     record {
       text = no_other_text (has_one_text c.items_are_found_as_they_are_spelled.ensures.again play c.a_table_is_read_in_one_way.ensures);
       whole = not_before_its_end;

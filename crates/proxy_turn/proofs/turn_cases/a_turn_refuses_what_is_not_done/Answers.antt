@@ -1,7 +1,7 @@
 use Rattle.std.proofs.Common.{◌≡◌, ◌⊎◌, inl, inr, [], ◌∷◌, sym, ◌∙◌, ap, arith, true, false}
 use Rattle.std.proofs.lemmas.Bool.{false≢true}
 use Rattle.hx_status.specs.declared.cause.FailKind.TheVariants as kinds
-use Rattle.proxy_engine.specs.Reading.{ends_read}
+use Rattle.proxy_engine.specs.Reading.{readable_ends_of}
 use Rattle.proxy_turn.specs.Turn.{Came, Failed}
 use Rattle.proxy_turn.proofs.turn_cases.a_turn_refuses_what_is_not_done.Goals as goal
 
@@ -13,7 +13,7 @@ returns-clause-listener c now s t asked reads rest rounds h none asks = false≢
 
 pub returns-clause-ends : goal.returns-clause-ends
 returns-clause-ends c now s t read reads rest rounds h none =
-    let never : read.end ∷ _ ≡ [] = h.ends ∙ ap ends_read h.accepts ∙ none in
+    let never : read.end ∷ _ ≡ [] = h.ends ∙ ap readable_ends_of h.accepts ∙ none in
     absurd (cc)
 
 pub returns-clause-order : goal.returns-clause-order

@@ -1,6 +1,6 @@
 use Rattle.std.proofs.Common.{◌≡◌, ◌+◌, refl, sym, subst, arith, rules, ◌∙◌, get_or}
 use Rattle.proxy_engine.specs.declared.work.End.TheVariants.{Listener}
-use Rattle.proxy_turn.specs.Parts.{AreThere}
+use Rattle.proxy_turn.specs.Parts.{EndsWereNumbered}
 use Rattle.proxy_turn.proofs.Hearing.{SoFar, so_far_none, so_far_more, so_far_later, read_partly, read_not, read_at}
 use Rattle.proxy_turn.proofs.There.{read_there}
 use Rattle.proxy_turn.proofs.turns.read_all.Goals as goal
@@ -20,7 +20,7 @@ returns-in-Err-clause-reads g c = λ s represents.
     let at = read_at Listener es i c.loop-end-test.true in
     read_partly s es i c.loop-end.engine c.read_one.new.engine _ _ _ _ _ _ c.loop-end.faults c.in-Err.fault is done
     (c.in-Err.ensures.err done.some.last done.some.represents
-    (so_far_later c.what_ends_stays_ended.ensures.takes s es i (get_or es i Listener) c.loop-end.engine _ _ _ c.loop-end.faults at c.loop-end-test.true (subst (AreThere s) (sym is) (read_there s)) done))
+    (so_far_later c.what_ends_stays_ended.ensures.takes s es i (get_or es i Listener) c.loop-end.engine _ _ _ c.loop-end.faults at c.loop-end-test.true (subst (EndsWereNumbered s) (sym is) (read_there s)) done))
     (λ x y p q. g.met.K.Sockets.joined _ _ _ x y p q)
 
 pub loop-end-preserved : goal.loop-end-preserved
@@ -39,7 +39,7 @@ loop-end-preserved g c =
           subst (SoFar s _ c.read_one.new.engine _ _ _) (sym sum)
           (so_far_more s es i (get_or es i Listener) c.loop-end.engine c.read_one.new.engine _ _ _ _ _ _ c.loop-end.faults c.in-Ok-read_one.more at within done
           (c.in-Ok-read_one.ensures.ok done.some.last done.some.represents
-          (so_far_later c.what_ends_stays_ended.ensures.takes s es i (get_or es i Listener) c.loop-end.engine _ _ _ c.loop-end.faults at within (subst (AreThere s) (sym is) (read_there s)) done))
+          (so_far_later c.what_ends_stays_ended.ensures.takes s es i (get_or es i Listener) c.loop-end.engine _ _ _ c.loop-end.faults at within (subst (EndsWereNumbered s) (sym is) (read_there s)) done))
           (λ x y p q. g.met.K.Sockets.joined _ _ _ x y p q));
       few = omega (arith, few, one, sum);
       piece = c.in-Ok-read_one.ensures.length ∙ c.loop-end.invariant.piece;

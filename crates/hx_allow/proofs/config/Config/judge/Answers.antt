@@ -1,6 +1,6 @@
 use Rattle.std.proofs.Common.{◌≡◌, List, true, false, ap, sym, ◌∙◌, subst}
-use Rattle.hx_allow.specs.Lines.{Line, Table}
-use Rattle.hx_allow.specs.Matching.{NamesAnOrigin, is_never_allowed}
+use Rattle.hx_allow.specs.TableLines.{Line, Table}
+use Rattle.hx_allow.specs.Matching.{VerdictNamesAnOrigin, is_never_allowed}
 use Rattle.hx_allow.specs.Index.{verdict_among}
 use Rattle.hx_allow.proofs.HostIndices.{decides, none_of_never, names_an_origin}
 use Rattle.hx_allow.proofs.config.Config.judge.Goals as goal
@@ -23,4 +23,4 @@ pub returns-clause-allowing : goal.returns-clause-allowing
 returns-clause-allowing c =
     let lines_are : c.deref.result.now ≡ c.args.self.now.lines = c.deref.ensures.value ∙ ap (λ (t : Table). t.lines) c.self.view_is in
     let is = c.verdict_among.ensures ∙ ap (λ (lines : List Line). verdict_among lines c.numbers-numbers.result.now c.as_bytes-method.result.now c.as_slice-2.result.now) lines_are in
-    subst (NamesAnOrigin c.args.self.now.lines) (sym is) (names_an_origin c.args.self.now.lines c.numbers-numbers.result.now c.as_bytes-method.result.now c.as_slice-2.result.now)
+    subst (VerdictNamesAnOrigin c.args.self.now.lines) (sym is) (names_an_origin c.args.self.now.lines c.numbers-numbers.result.now c.as_bytes-method.result.now c.as_slice-2.result.now)

@@ -1,5 +1,5 @@
 use Rattle.std.proofs.Common.{sym, ap, ◌∙◌}
-use Rattle.hx_allow.specs.Lines.{Line}
+use Rattle.hx_allow.specs.TableLines.{Line}
 use Rattle.hx_allow.specs.Matching.{matches_path}
 use Rattle.hx_allow.proofs.PathTails.{without_tail}
 use Rattle.hx_allow.proofs.lines.Line.matches_path.Goals as goal

@@ -1,5 +1,5 @@
 use Rattle.std.proofs.Common.{◌≡◌, drop}
-use Rattle.hx_fields.specs.Lines.{members_of}
+use Rattle.hx_fields.specs.FieldLines.{members_of}
 use Rattle.hx_fields.proofs.field_lines.Fields.first_member.Given as goal
 
 abbrev pub invariant-loop-line : goal.invariant-loop-line

@@ -1,5 +1,5 @@
 use Rattle.std.proofs.Common.{sym, ◌∙◌}
-use Rattle.hx_fields.specs.Lines.{is_named}
+use Rattle.hx_fields.specs.FieldLines.{is_named}
 use Rattle.hx_fields.proofs.Others.{all_others}
 use Rattle.hx_fields.proofs.field_lines.Fields.remove_named.Goals as goal
 

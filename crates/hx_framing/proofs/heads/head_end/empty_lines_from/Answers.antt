@@ -1,5 +1,5 @@
 use Rattle.std.proofs.Common.{◌≡◌, drop, length, ◌+◌, ℕ, ◌<◌, sym, ap, ◌∙◌, arith, subst, length-drop}
-use Rattle.hx_framing.specs.Places.{empty_line_at, empty_lines_from}
+use Rattle.hx_framing.specs.HeadEnd.{empty_line_at, empty_lines_from}
 use Rattle.hx_framing.proofs.PlaceSteps.{empty_lines_more}
 use Rattle.hx_framing.proofs.heads.head_end.empty_lines_from.Goals as goal
 

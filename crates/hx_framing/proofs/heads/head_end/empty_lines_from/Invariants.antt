@@ -1,5 +1,5 @@
 use Rattle.std.proofs.Common.{◌≡◌, ◌≤◌, ◌-◌, drop, length}
-use Rattle.hx_framing.specs.Places.{empty_lines_from}
+use Rattle.hx_framing.specs.HeadEnd.{empty_lines_from}
 use Rattle.hx_framing.proofs.heads.head_end.empty_lines_from.Given as goal
 
 abbrev pub invariant-loop-at : goal.invariant-loop-at

@@ -1,6 +1,6 @@
 use Rattle.std.proofs.Common.{◌≡◌, ◌+◌, ◌<◌, ℕ, List, Some, length, drop, length-drop, sym, ap, ◌∙◌, arith, subst}
 use Rattle.memchr.specs.Find.{IsFirstByte, is_byte}
-use Rattle.hx_framing.specs.Places.{head_end_at}
+use Rattle.hx_framing.specs.HeadEnd.{head_end_at}
 use Rattle.hx_framing.proofs.PlaceSteps.{head_end_at_line_feed, empty_found, empty_more, empty_none}
 use Rattle.hx_framing.proofs.heads.head_end.head_end_from.Goals as goal
 

@@ -1,5 +1,5 @@
 use Rattle.std.proofs.Common.{◌≡◌, ◌≤◌, ◌-◌, drop, length}
-use Rattle.hx_framing.specs.Places.{head_end_from}
+use Rattle.hx_framing.specs.HeadEnd.{head_end_from}
 use Rattle.hx_framing.proofs.heads.head_end.head_end_from.Given as goal
 
 abbrev pub invariant-loop-skipped : goal.invariant-loop-skipped

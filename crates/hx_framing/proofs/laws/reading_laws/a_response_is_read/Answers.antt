@@ -2,7 +2,7 @@ use Rattle.std.proofs.Common.{[], ◌∷◌, ◌++◌, refl, true, false, Some}
 use Rattle.std.specs.Prelude.{codes}
 use Rattle.httparse.specs.Grammar.{ResponseHead}
 use Rattle.httparse.proofs.OnLiterals.{httparse_on_literals}
-use Rattle.hx_framing.specs.ReadingExamples.{hello_response, ok}
+use Rattle.hx_framing.specs.ReadingExamples.{hello_response, ok_response_with}
 use Rattle.hx_framing.proofs.ReadingLemmas.{field, answered, reads_response}
 use Rattle.hx_framing.proofs.laws.reading_laws.a_response_is_read.Goals as goal
 
@@ -22,8 +22,8 @@ returns-clause-behind c = reads_response 1000 false false (hello_response ++ cod
 
 pub returns-clause-short : goal.returns-clause-short
 unfolding httparse_on_literals
-returns-clause-short c = reads_response 1000 false false (ok (codes "Content-Length: 3\r\n") ++ codes "hi") short_head 38 _ refl refl refl refl refl
+returns-clause-short c = reads_response 1000 false false (ok_response_with (codes "Content-Length: 3\r\n") ++ codes "hi") short_head 38 _ refl refl refl refl refl
 
 pub returns-clause-cut : goal.returns-clause-cut
 unfolding httparse_on_literals
-returns-clause-cut c = reads_response 1000 false true (ok (codes "Content-Length: 3\r\n") ++ codes "hi") short_head 38 _ refl refl refl refl refl
+returns-clause-cut c = reads_response 1000 false true (ok_response_with (codes "Content-Length: 3\r\n") ++ codes "hi") short_head 38 _ refl refl refl refl refl

@@ -2,7 +2,7 @@ use Rattle.std.proofs.Common.{[], ◌∷◌, ◌++◌, refl, false, Some}
 use Rattle.std.specs.Prelude.{codes}
 use Rattle.httparse.specs.Grammar.{RequestHead, ResponseHead}
 use Rattle.httparse.proofs.OnLiterals.{httparse_on_literals}
-use Rattle.hx_framing.specs.ReadingExamples.{put, ok}
+use Rattle.hx_framing.specs.ReadingExamples.{put_request_with, ok_response_with}
 use Rattle.hx_framing.proofs.ReadingLemmas.{field, asked, answered, reads_request, reads_response}
 use Rattle.hx_framing.proofs.laws.reading_laws.codings_are_read.Goals as goal
 
@@ -29,19 +29,19 @@ old_response_head = answered 0 (codes "200") (Some (codes "OK")) (field (codes "
 
 pub returns-clause-any_case : goal.returns-clause-any_case
 unfolding httparse_on_literals
-returns-clause-any_case c = reads_request 1000 false false (put (codes "transfer-encoding: CHUNKED\r\n") ++ codes "0\r\n\r\n") any_case_head 47 _ refl refl refl refl
+returns-clause-any_case c = reads_request 1000 false false (put_request_with (codes "transfer-encoding: CHUNKED\r\n") ++ codes "0\r\n\r\n") any_case_head 47 _ refl refl refl refl
 
 pub returns-clause-two : goal.returns-clause-two
 unfolding httparse_on_literals
-returns-clause-two c = reads_request 1000 false false (put (codes "Transfer-Encoding: gzip, chunked\r\n")) two_head 53 _ refl refl refl refl
+returns-clause-two c = reads_request 1000 false false (put_request_with (codes "Transfer-Encoding: gzip, chunked\r\n")) two_head 53 _ refl refl refl refl
 
 pub returns-clause-endless : goal.returns-clause-endless
 unfolding httparse_on_literals
-returns-clause-endless c = reads_request 1000 false false (put (codes "Transfer-Encoding: gzip\r\n")) endless_head 44 _ refl refl refl refl
+returns-clause-endless c = reads_request 1000 false false (put_request_with (codes "Transfer-Encoding: gzip\r\n")) endless_head 44 _ refl refl refl refl
 
 pub returns-clause-twice : goal.returns-clause-twice
 unfolding httparse_on_literals
-returns-clause-twice c = reads_request 1000 false false (put (codes "Transfer-Encoding: chunked\r\nTransfer-Encoding: chunked\r\n")) twice_head 75 _ refl refl refl refl
+returns-clause-twice c = reads_request 1000 false false (put_request_with (codes "Transfer-Encoding: chunked\r\nTransfer-Encoding: chunked\r\n")) twice_head 75 _ refl refl refl refl
 
 pub returns-clause-old : goal.returns-clause-old
 unfolding httparse_on_literals
@@ -49,7 +49,7 @@ returns-clause-old c = reads_request 1000 false false (codes "PUT /a HTTP/1.0\r\
 
 pub returns-clause-response : goal.returns-clause-response
 unfolding httparse_on_literals
-returns-clause-response c = reads_response 1000 false false (ok (codes "Transfer-Encoding: gzip\r\n")) response_head 44 _ refl refl refl refl refl
+returns-clause-response c = reads_response 1000 false false (ok_response_with (codes "Transfer-Encoding: gzip\r\n")) response_head 44 _ refl refl refl refl refl
 
 pub returns-clause-old_response : goal.returns-clause-old_response
 unfolding httparse_on_literals

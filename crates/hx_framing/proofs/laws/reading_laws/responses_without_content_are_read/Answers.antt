@@ -2,7 +2,7 @@ use Rattle.std.proofs.Common.{[], ◌∷◌, ◌++◌, refl, true, false, Some}
 use Rattle.std.specs.Prelude.{codes}
 use Rattle.httparse.specs.Grammar.{ResponseHead}
 use Rattle.httparse.proofs.OnLiterals.{httparse_on_literals}
-use Rattle.hx_framing.specs.ReadingExamples.{ok}
+use Rattle.hx_framing.specs.ReadingExamples.{ok_response_with}
 use Rattle.hx_framing.proofs.ReadingLemmas.{field, answered, reads_response}
 use Rattle.hx_framing.proofs.laws.reading_laws.responses_without_content_are_read.Goals as goal
 
@@ -34,11 +34,11 @@ returns-clause-not_modified c = reads_response 1000 false false (codes "HTTP/1.1
 
 pub returns-clause-to_head : goal.returns-clause-to_head
 unfolding httparse_on_literals
-returns-clause-to_head c = reads_response 1000 true false (ok (codes "Content-Length: 5\r\n") ++ codes "hello") to_head_head 38 _ refl refl refl refl refl
+returns-clause-to_head c = reads_response 1000 true false (ok_response_with (codes "Content-Length: 5\r\n") ++ codes "hello") to_head_head 38 _ refl refl refl refl refl
 
 pub returns-clause-to_head_coded : goal.returns-clause-to_head_coded
 unfolding httparse_on_literals
-returns-clause-to_head_coded c = reads_response 1000 true false (ok (codes "Transfer-Encoding: chunked\r\n") ++ codes "hello") to_head_coded_head 47 _ refl refl refl refl refl
+returns-clause-to_head_coded c = reads_response 1000 true false (ok_response_with (codes "Transfer-Encoding: chunked\r\n") ++ codes "hello") to_head_coded_head 47 _ refl refl refl refl refl
 
 pub returns-clause-reset : goal.returns-clause-reset
 unfolding httparse_on_literals

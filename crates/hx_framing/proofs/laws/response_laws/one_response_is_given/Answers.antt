@@ -1,10 +1,10 @@
 use Rattle.std.proofs.Common.{◌≤◌, List, [], ◌∷◌, length, arith}
 use Rattle.hx_framing.specs.declared.messages.Response.{Response}
 use Rattle.hx_framing.specs.Progress.{Progress}
-use Rattle.hx_framing.specs.ResponseStream.{IsGiven}
+use Rattle.hx_framing.specs.ResponseStream.{OneResponseIsGiven}
 use Rattle.hx_framing.proofs.laws.response_laws.one_response_is_given.Goals as goal
 
-at_most_one : (p : Progress Response) (given : List Response) → IsGiven p given → length given ≤ 1
+at_most_one : (p : Progress Response) (given : List Response) → OneResponseIsGiven p given → length given ≤ 1
 at_most_one p [] is = omega arith
 at_most_one p (message ∷ []) is = omega arith
 at_most_one p (message ∷ other ∷ more) is = absurd is

@@ -1,6 +1,6 @@
 use Rattle.std.proofs.Common.{◌≡◌, true, false}
 use Rattle.hx_framing.specs.declared.messages.Next.TheVariants as next
-use Rattle.hx_framing.specs.declared.fault.FrameFault.TheVariants as fault
+use Rattle.hx_framing.specs.declared.frame_fault.FrameFault.TheVariants as fault
 use Rattle.hx_framing.proofs.laws.stream_laws.out_of_memory_hides_no_end.Goals as goal
 
 pub returns-clause-requests : goal.returns-clause-requests

@@ -2,7 +2,7 @@ use Rattle.std.proofs.Common.{◌+◌, sym, subst}
 use Rattle.hx_framing.specs.declared.messages.Request.{Request}
 use Rattle.hx_framing.specs.declared.contents.content.Content.{Content}
 use Rattle.hx_framing.specs.declared.readers.progress.HeadProgress.TheVariants as head_progress
-use Rattle.hx_framing.specs.RequestHeadProgress.{IsHeadProgress, HasHead}
+use Rattle.hx_framing.specs.RequestHeadProgress.{IsHeadProgress, RequestHeadStands}
 use Rattle.hx_framing.proofs.MemoryLemmas.{on_err}
 use Rattle.hx_framing.proofs.RequestProgressLemmas.{Begins, place_within, took, progress_continue, progress_going, progress_faulty, progress_message}
 use Rattle.hx_framing.proofs.readers.request_reading.with_request_body.Goals as goal
@@ -37,5 +37,5 @@ returns-in-Whole-clause-progress c =
 
 pub returns-in_err-n-clause-memory_last : goal.returns-in_err-n-clause-memory_last
 returns-in_err-n-clause-memory_last c =
-    let has : HasHead c.args.rest.now.bytes.now = (c.args.at, c.args.head, c.requires.place, c.requires.judged) in
+    let has : RequestHeadStands c.args.rest.now.bytes.now = (c.args.at, c.args.head, c.requires.place, c.requires.judged) in
     on_err _ has

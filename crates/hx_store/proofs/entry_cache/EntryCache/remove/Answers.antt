@@ -1,5 +1,5 @@
 use Rattle.std.proofs.Common.{◌∙◌, ap, [], ◌∷◌}
-use Rattle.hx_store.specs.Shelf.{find_entry, without}
+use Rattle.hx_store.specs.Shelf.{find_entry, without_serials}
 use Rattle.hx_store.proofs.KeyedEntries.{apart-removed, lookup_finds, removed_is}
 use Rattle.hx_store.proofs.entry_cache.EntryCache.remove.Goals as goal
 
@@ -11,4 +11,4 @@ returns-clause-value c = c.pop.ensures.value ∙ lookup_finds c.args.serial _ c.
 
 pub returns-clause-entries : goal.returns-clause-entries
 returns-clause-entries c =
-    rw c.pop.ensures.entries (removed_is c.args.serial _ c.self.invariant.0) ∙ ap (without (c.args.serial ∷ [])) c.self.view_is
+    rw c.pop.ensures.entries (removed_is c.args.serial _ c.self.invariant.0) ∙ ap (without_serials (c.args.serial ∷ [])) c.self.view_is

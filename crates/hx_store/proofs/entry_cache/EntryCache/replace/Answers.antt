@@ -3,13 +3,13 @@ use Rattle.std.specs.Option.{option_copied_mut}
 use Rattle.std.specs.Map.{lookup, set_value, values_of}
 use Rattle.std.proofs.lemmas.Bool.{false≢true}
 use Rattle.lru.specs.LruCache.{lru_cache, promoted as lru_promoted}
-use Rattle.hx_store.specs.Shelf.{holds, find_entry, without}
+use Rattle.hx_store.specs.Shelf.{holds_serial, find_entry, without_serials}
 use Rattle.hx_store.proofs.KeyedEntries.{lookup_finds, lookup_holds, replaces}
 use Rattle.hx_store.proofs.entry_cache.EntryCache.replace.Goals as goal
 use Rattle.hx_store.proofs.entry_cache.EntryCache.replace.Goals.{in-Some, in-None}
 
-held : (c : goal.Joined-get_mut) → holds c.args.entry.serial (values_of c.self.inside.entries.entries) ≡ true
-held c = ap (holds c.args.entry.serial) c.self.view_is ∙ c.requires
+held : (c : goal.Joined-get_mut) → holds_serial c.args.entry.serial (values_of c.self.inside.entries.entries) ≡ true
+held c = ap (holds_serial c.args.entry.serial) c.self.view_is ∙ c.requires
 
 never : (c : goal.Joined-get_mut) → c.get_mut.result ≡ None → ⊥
 never c n =
@@ -17,7 +17,7 @@ never c n =
     false≢true (
     ap is_some (sym (ap option_copied_mut n) ∙ c.get_mut.ensures.value)
     ∙ lookup_holds c.entry.inside.serial ps c.self.invariant.0.0
-    ∙ ap (λ e. holds e.serial (values_of ps)) c.entry.view_is
+    ∙ ap (λ e. holds_serial e.serial (values_of ps)) c.entry.view_is
     ∙ held c
     )
 
@@ -44,4 +44,4 @@ returns-clause-value c = elim c.match-get_mut.branch [
 pub returns-clause-entries : goal.returns-clause-entries
 returns-clause-entries c =
     rw (moved c) (replaces c.args.entry _ c.self.invariant.0 (held c)).0
-    ∙ ap (λ es. c.args.entry ∷ without (c.args.entry.serial ∷ []) es) c.self.view_is
+    ∙ ap (λ es. c.args.entry ∷ without_serials (c.args.entry.serial ∷ []) es) c.self.view_is

@@ -1,5 +1,5 @@
 use Rattle.std.proofs.Common.{◌≡◌, ◌-◌, length, slice_get, Some, subst, sym, ◌∙◌}
-use Rattle.hx_store.specs.Index.{IsMarked, IsTakenOut}
+use Rattle.hx_store.specs.Index.{MarksAreOfTheirEntries, SerialIsTakenOut}
 use Rattle.hx_store.proofs.IndexedLists.{IsKept, kept-last, last-none, marked-last}
 use Rattle.hx_store.proofs.indexed_entries.IndexedEntries.pop_last.Goals as goal
 
@@ -7,8 +7,8 @@ pub invariant_of-self : goal.invariant_of-self
 invariant_of-self c =
     let es = c.self.inside.entries in
     let last : slice_get es (length es - 1) ≡ Some c.in-Some.entry = sym c.pop_last.ensures.value ∙ c.in-Some.is in
-    let taken : IsTakenOut c.self.inside.index c.in-Some.entry.key c.in-Some.entry.serial c.remove.new.self =
-    subst (λ e. IsTakenOut c.self.inside.index e.key e.serial c.remove.new.self) c.entry.view_is c.remove.ensures.taken in
+    let taken : SerialIsTakenOut c.self.inside.index c.in-Some.entry.key c.in-Some.entry.serial c.remove.new.self =
+    subst (λ e. SerialIsTakenOut c.self.inside.index e.key e.serial c.remove.new.self) c.entry.view_is c.remove.ensures.taken in
     rw c.pop_last.ensures.entries (
       kept-last es c.in-Some.entry c.self.inside.index c.remove.new.self last taken c.self.invariant.0,
       c.remove.ensures.trim c.self.invariant.1,
@@ -22,5 +22,5 @@ invariant_of-self-in-None c =
     rw c.pop_last.ensures.entries (
       subst (λ zs. IsKept zs c.self.inside.index) (sym same) c.self.invariant.0,
       c.self.invariant.1,
-      subst (λ zs. IsMarked c.self.inside.seed zs c.self.inside.index) (sym same) c.self.invariant.2,
+      subst (λ zs. MarksAreOfTheirEntries c.self.inside.seed zs c.self.inside.index) (sym same) c.self.invariant.2,
     )

@@ -1,7 +1,7 @@
 use Rattle.std.proofs.Common.{◌≡◌, ℕ, ◌+◌, false, [], ◌∷◌, ap, sym, ◌∙◌, drop, eqb, get_or, inl, inr}
 use Rattle.std.proofs.lemmas.Bool.{cases_Bool, eqb-true}
 use Rattle.std.proofs.lemmas.List.{drop_all, drop_more}
-use Rattle.hx_store.specs.Index.{without_others}
+use Rattle.hx_store.specs.Index.{entries_but_others}
 use Rattle.hx_store.proofs.IndexedLists.{others-none, others-same, others-step}
 use Rattle.hx_store.proofs.indexed_entries.IndexedEntries.remove_others.Goals.{then-serial-kept+in-Some-1, then-serial-kept+in-None-1, else-serial-kept}
 use Rattle.hx_store.proofs.indexed_entries.IndexedEntries.remove_others.Goals as goal
@@ -14,25 +14,25 @@ loop-serial-preserved c = elim c.if-serial-kept.branch [
   | then-serial-kept+in-Some-1 w ↦ (
       let xs = c.args.gone.now in
       let i = c.loop-serial.serial-index in
-      ap (without_others c.args.kept (drop (i + 1) xs)) (w.self-is ∙ w.remove.ensures.entries)
+      ap (entries_but_others c.args.kept (drop (i + 1) xs)) (w.self-is ∙ w.remove.ensures.entries)
       ∙ others-step (get_or xs i 0) c.args.kept (drop (i + 1) xs) c.loop-serial.self (differs _ _ w.if-serial-kept.true)
-      ∙ ap (λ ys. without_others c.args.kept ys c.loop-serial.self) (sym (drop_more xs i 0 c.loop-serial-test.true))
+      ∙ ap (λ ys. entries_but_others c.args.kept ys c.loop-serial.self) (sym (drop_more xs i 0 c.loop-serial-test.true))
       ∙ c.loop-serial.invariant
       )
   | then-serial-kept+in-None-1 w ↦ (
       let xs = c.args.gone.now in
       let i = c.loop-serial.serial-index in
-      ap (without_others c.args.kept (drop (i + 1) xs)) (w.self-is ∙ w.remove.ensures.entries)
+      ap (entries_but_others c.args.kept (drop (i + 1) xs)) (w.self-is ∙ w.remove.ensures.entries)
       ∙ others-step (get_or xs i 0) c.args.kept (drop (i + 1) xs) c.loop-serial.self (differs _ _ w.if-serial-kept.true)
-      ∙ ap (λ ys. without_others c.args.kept ys c.loop-serial.self) (sym (drop_more xs i 0 c.loop-serial-test.true))
+      ∙ ap (λ ys. entries_but_others c.args.kept ys c.loop-serial.self) (sym (drop_more xs i 0 c.loop-serial-test.true))
       ∙ c.loop-serial.invariant
       )
   | else-serial-kept w ↦ (
       let xs = c.args.gone.now in
       let i = c.loop-serial.serial-index in
-      ap (without_others c.args.kept (drop (i + 1) xs)) w.self-is
+      ap (entries_but_others c.args.kept (drop (i + 1) xs)) w.self-is
       ∙ others-same c.args.kept (drop (i + 1) xs) c.loop-serial.self
-      ∙ ap (λ ys. without_others c.args.kept ys c.loop-serial.self)
+      ∙ ap (λ ys. entries_but_others c.args.kept ys c.loop-serial.self)
       (sym (drop_more xs i 0 c.loop-serial-test.true ∙ ap (λ s. s ∷ drop (i + 1) xs) w.if-serial-kept.false))
       ∙ c.loop-serial.invariant
       )
@@ -41,4 +41,4 @@ loop-serial-preserved c = elim c.if-serial-kept.branch [
 pub returns : goal.returns
 returns c =
     let end : drop c.loop-serial.serial-index c.args.gone.now ≡ [] = drop_all c.loop-serial.serial-index c.args.gone.now c.loop-serial-test.false in
-    sym (ap (λ xs. without_others c.args.kept xs c.loop-serial.self) end ∙ others-none c.args.kept c.loop-serial.self) ∙ c.loop-serial.invariant
+    sym (ap (λ xs. entries_but_others c.args.kept xs c.loop-serial.self) end ∙ others-none c.args.kept c.loop-serial.self) ∙ c.loop-serial.invariant

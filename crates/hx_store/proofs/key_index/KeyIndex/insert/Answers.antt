@@ -5,7 +5,7 @@ use Rattle.std.specs.HashMap.{get}
 use Rattle.hx_target.specs.declared.keys.Key.{Key}
 use Rattle.hx_target.specs.Keys.{same_key}
 use Rattle.hx_store.specs.declared.key_index.KeyIndex.{KeyIndex}
-use Rattle.hx_store.specs.Index.{marks_at, IsSameIndex}
+use Rattle.hx_store.specs.Index.{serials_and_marks_at, IsSameKeyIndex}
 use Rattle.hx_store.proofs.Indices.{changed, not_unmarked, some_has, trim-same, trim-written, written}
 use Rattle.hx_store.proofs.key_index.KeyIndex.insert.Goals as goal
 
@@ -14,12 +14,12 @@ returns-clause-ok c =
     let old = c.args.self.now in
     let mid = c.insert_beside.new.self in
     let new : KeyIndex = record { serials = c.insert.new.self } in
-    let b : IsSameIndex old mid × (marks_at old c.args.key.now ≡ []) = search rules in
+    let b : IsSameKeyIndex old mid × (serials_and_marks_at old c.args.key.now ≡ []) = search rules in
     let k : c.in_ok-key.key ≡ c.args.key.now = search rules in
     let u : (q : Key) → get same_key c.insert.new.self q ≡ cond (same_key c.args.key.now q) (Some c.one.result) (get same_key mid.serials q) =
     subst (λ z. (q : Key) → get same_key c.insert.new.self q ≡ cond (same_key z q) (Some c.one.result) (get same_key mid.serials q)) k c.in_ok-insert.ensures.updates.0 in
     let w = written c.args.key.now mid new (Some c.one.result) u in
-    let s : c.one.result ≡ insert_entry nat_cmp (marks_at old c.args.key.now) c.args.serial c.args.mark =
+    let s : c.one.result ≡ insert_entry nat_cmp (serials_and_marks_at old c.args.key.now) c.args.serial c.args.mark =
     c.one.ensures ∙ ap (λ ps. insert_entry nat_cmp ps c.args.serial c.args.mark) (sym b.1) in
     changed (λ ps. insert_entry nat_cmp ps c.args.serial c.args.mark) c.args.key.now old new _
     (λ q. w q ∙ ap (cond (same_key c.args.key.now q) c.one.result) (b.0 q)) s

@@ -4,7 +4,7 @@ use Rattle.std.specs.BTreeMap.{insert_entry}
 use Rattle.std.specs.HashMap.{WritesThrough, get_by}
 use Rattle.hx_target.specs.Keys.{same_key}
 use Rattle.hx_store.specs.declared.key_index.KeyIndex.{KeyIndex}
-use Rattle.hx_store.specs.Index.{marks_at, IsSameIndex}
+use Rattle.hx_store.specs.Index.{serials_and_marks_at, IsSameKeyIndex}
 use Rattle.hx_store.proofs.Indices.{changed, not_unmarked, some_has, trim-same, trim-written, unchanged, written}
 use Rattle.hx_store.proofs.key_index.KeyIndex.insert_beside.Goals as goal
 
@@ -15,9 +15,9 @@ returns-in_err-insert-in-Some-clause-err c =
     let new : KeyIndex = record { serials = c.get_mut.follows.lender set } in
     let u : WritesThrough same_key (same_key c.args.key.now) old.serials set new.serials = search rules in
     let m : get_by (same_key c.args.key.now) old.serials ≡ Some c.in-Some.marks.now = search rules in
-    let e : marks_at old c.args.key.now ≡ c.in-Some.marks.now = search rules in
-    let k : set ≡ marks_at old c.args.key.now = c.in_err-insert-in-Some.ensures.err ∙ sym e in
-    let same : IsSameIndex old new = unchanged c.args.key.now old new _ (written c.args.key.now old new (Some set) (u.3 (ap is_some m)).0) k in
+    let e : serials_and_marks_at old c.args.key.now ≡ c.in-Some.marks.now = search rules in
+    let k : set ≡ serials_and_marks_at old c.args.key.now = c.in_err-insert-in-Some.ensures.err ∙ sym e in
+    let same : IsSameKeyIndex old new = unchanged c.args.key.now old new _ (written c.args.key.now old new (Some set) (u.3 (ap is_some m)).0) k in
     search rules
 
 pub returns-in_ok-insert-in-Some-clause-ok : goal.returns-in_ok-insert-in-Some-clause-ok
@@ -27,8 +27,8 @@ returns-in_ok-insert-in-Some-clause-ok c =
     let new : KeyIndex = record { serials = c.get_mut.follows.lender set } in
     let u : WritesThrough same_key (same_key c.args.key.now) old.serials set new.serials = search rules in
     let m : get_by (same_key c.args.key.now) old.serials ≡ Some c.in-Some.marks.now = search rules in
-    let e : marks_at old c.args.key.now ≡ c.in-Some.marks.now = search rules in
-    let k : set ≡ insert_entry nat_cmp (marks_at old c.args.key.now) c.args.serial c.args.mark =
+    let e : serials_and_marks_at old c.args.key.now ≡ c.in-Some.marks.now = search rules in
+    let k : set ≡ insert_entry nat_cmp (serials_and_marks_at old c.args.key.now) c.args.serial c.args.mark =
     c.in_ok-insert-in-Some.ensures.ok ∙ ap (λ ps. insert_entry nat_cmp ps c.args.serial c.args.mark) (sym e) in
     changed (λ ps. insert_entry nat_cmp ps c.args.serial c.args.mark) c.args.key.now old new _ (written c.args.key.now old new (Some set) (u.3 (ap is_some m)).0) k
 

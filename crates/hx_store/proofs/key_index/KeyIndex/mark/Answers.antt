@@ -5,7 +5,7 @@ use Rattle.std.specs.BTreeMap.{is_at}
 use Rattle.std.specs.HashMap.{WritesThrough, get_by}
 use Rattle.hx_target.specs.Keys.{same_key}
 use Rattle.hx_store.specs.declared.key_index.KeyIndex.{KeyIndex}
-use Rattle.hx_store.specs.Index.{marks_at}
+use Rattle.hx_store.specs.Index.{serials_and_marks_at}
 use Rattle.hx_store.proofs.Indices.{changed, some_has, trim-same, trim-written, written}
 use Rattle.hx_store.proofs.MarkLists.{set_nothing}
 use Rattle.hx_store.proofs.key_index.KeyIndex.mark.Goals as goal
@@ -17,8 +17,8 @@ returns-in-Some-clause-marked c =
     let new : KeyIndex = record { serials = c.get_mut.follows.lender map } in
     let u : WritesThrough same_key (same_key c.args.key.now) old.serials map new.serials = search rules in
     let m : get_by (same_key c.args.key.now) old.serials ≡ Some c.in-Some.marks.now = search rules in
-    let e : marks_at old c.args.key.now ≡ c.in-Some.marks.now = search rules in
-    let k : map ≡ set_value (is_at (nat_cmp c.args.serial)) (marks_at old c.args.key.now) c.args.mark =
+    let e : serials_and_marks_at old c.args.key.now ≡ c.in-Some.marks.now = search rules in
+    let k : map ≡ set_value (is_at (nat_cmp c.args.serial)) (serials_and_marks_at old c.args.key.now) c.args.mark =
     c.set_mark.ensures ∙ ap (λ ps. set_value (is_at (nat_cmp c.args.serial)) ps c.args.mark) (sym e) in
     changed (λ ps. set_value (is_at (nat_cmp c.args.serial)) ps c.args.mark) c.args.key.now old new _
     (written c.args.key.now old new (Some map) (u.3 (ap is_some m)).0) k

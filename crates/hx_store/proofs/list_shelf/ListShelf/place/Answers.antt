@@ -1,7 +1,7 @@
 use Rattle.std.proofs.Common.{ℕ, subst, sym, Option}
 use Rattle.std.specs.Prelude.{MatchOption}
-use Rattle.hx_store.specs.Places.{IsAbsent, IsPlace}
-use Rattle.hx_store.specs.Shelf.{Shelved, serials}
+use Rattle.hx_store.specs.SerialPlaces.{SerialIsAbsent, IsPlaceOfSerial}
+use Rattle.hx_store.specs.Shelf.{ShelfModel, serials}
 use Rattle.hx_store.specs.Serials.{Distinct}
 use Rattle.hx_store.proofs.EntryLists.{position_is}
 use Rattle.hx_store.proofs.list_shelf.ListShelf.place.Goals as goal
@@ -9,6 +9,6 @@ use Rattle.hx_store.proofs.list_shelf.ListShelf.place.Goals as goal
 pub returns : goal.returns
 returns c =
     let es = c.args.self.now.entries in
-    let d : Distinct (serials es) = subst (λ (v : Shelved). Distinct (serials v.entries)) c.self.view_is c.self.invariant.1 in
-    let P : Option ℕ → Type 0 = λ r. MatchOption r (IsAbsent c.args.serial es) (IsPlace c.args.serial es) in
-    subst P (sym c.first_with.ensures) (position_is c.args.serial es d)
+    let d : Distinct (serials es) = subst (λ (v : ShelfModel). Distinct (serials v.entries)) c.self.view_is c.self.invariant.1 in
+    let P : Option ℕ → Type 0 = λ r. MatchOption r (SerialIsAbsent c.args.serial es) (IsPlaceOfSerial c.args.serial es) in
+    subst P (sym c.first_index_with.ensures) (position_is c.args.serial es d)

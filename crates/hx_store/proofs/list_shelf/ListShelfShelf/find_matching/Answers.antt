@@ -3,7 +3,7 @@ use Rattle.std.specs.List.{filter}
 use Rattle.hx_target.specs.Keys.{same_key}
 use Rattle.hx_vary.specs.Vary.{vary_matches}
 use Rattle.hx_store.specs.Serials.{Distinct, insert_ascending}
-use Rattle.hx_store.specs.Shelf.{Shelved, serials, serials_of}
+use Rattle.hx_store.specs.Shelf.{ShelfModel, serials, serials_of}
 use Rattle.hx_store.specs.Stored.{Stored}
 use Rattle.hx_store.proofs.MatchLists.{drop_before, walk_step, walked}
 use Rattle.hx_store.proofs.list_shelf.ListShelfShelf.find_matching.Goals as goal
@@ -15,7 +15,7 @@ loop-rest-preserved-then-branch c =
     let e = c.index-entry.result.now in
     let key = c.args.key.now in
     let request = c.args.request.now in
-    let same : c.self.inside.entries.items ≡ es = ap (λ (v : Shelved). v.entries) c.self.view_is in
+    let same : c.self.inside.entries.items ≡ es = ap (λ (v : ShelfModel). v.entries) c.self.view_is in
     let at : e ≡ get_or es (n - 1) e = c.index-entry.ensures ∙ ap (λ zs. get_or zs (n - 1) e) same in
     let more : c.insert.new.self ≡ insert_ascending e.serial c.loop-rest.found = search rules in
     let of_key : same_key e.key key ≡ true = search rules in
@@ -33,6 +33,6 @@ returns-clause-found c =
     let key = c.args.key.now in
     let request = c.args.request.now in
     let here : Stored → Bool = λ f. vary_matches f.nominated request in
-    let distinct : Distinct (serials es) = subst (λ (v : Shelved). Distinct (serials v.entries)) c.self.view_is c.self.invariant.1 in
+    let distinct : Distinct (serials es) = subst (λ (v : ShelfModel). Distinct (serials v.entries)) c.self.view_is c.self.invariant.1 in
     let none : c.loop-rest.rest ≡ 0 = omega (arith, c.loop-rest-test.false) in
     c.loop-rest.invariant.so_far ∙ ap (λ m. serials_of key (filter here (drop m es))) none ∙ walked key request es distinct

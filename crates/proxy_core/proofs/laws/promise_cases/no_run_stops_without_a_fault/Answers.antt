@@ -1,6 +1,6 @@
 use Rattle.std.proofs.Common.{◌≡◌, inl, inr, Option, None, Some}
-use Rattle.proxy_core.specs.declared.fault.CoreFault.{CoreFault}
-use Rattle.proxy_core.specs.declared.fault.CoreFault.TheVariants.{IdTaken, NotForwarded, OutOfMemory, UnknownId}
+use Rattle.proxy_core.specs.declared.core_fault.CoreFault.{CoreFault}
+use Rattle.proxy_core.specs.declared.core_fault.CoreFault.TheVariants.{IdTaken, NotForwarded, OutOfMemory, UnknownId}
 use Rattle.proxy_core.proofs.laws.promise_cases.no_run_stops_without_a_fault.Goals as goal
 
 pub returns-clause-behind_the_last : goal.returns-clause-behind_the_last

@@ -3,25 +3,25 @@ use Rattle.std.proofs.lemmas.Bool.{false≢true}
 use Rattle.std.specs.Fmt.{digits}
 use Rattle.httpdate.proofs.OnLiterals.{httpdate_on_literals}
 use Rattle.hx_hop.specs.Forwarding.{forwarded_of}
-use Rattle.hx_hop.specs.Moments.{split_off}
+use Rattle.hx_hop.specs.Moments.{part_holding_day}
 use Rattle.hx_allow.specs.Matching.{policy_of, matches_line, verdict_of}
 use Rattle.hx_reuse.specs.ErrorRules.{error_rule_on}
 use Rattle.hx_reuse.specs.Rules.{decision_of, reuse_rule_of}
 use Rattle.hx_storable.specs.Rules.{storage_rule_of}
 use Rattle.hx_validate.specs.Answering.{freshened_of}
 use Rattle.proxy_core.specs.declared.event.Event.TheVariants.{Arrive, Answer}
-use Rattle.proxy_core.specs.Cases.{answer}
-use Rattle.proxy_core.specs.WrongTraces.{fresh, get_a, goes_3, item, post_a, replies, says, sends}
+use Rattle.proxy_core.specs.Cases.{response_with}
+use Rattle.proxy_core.specs.WrongTraces.{fresh_for_a_minute, get_a, forward_over_line_3, item_of, post_a, reply_that_stores, reply_without_store, reply_that_sends_stored}
 use Rattle.proxy_core.proofs.laws.promise_cases.what_is_invalidated_is_not_sent.Goals as goal
 
 pub returns-clause-since_stored : goal.returns-clause-since_stored
-unfolding digits httpdate_on_literals matches_line verdict_of policy_of decision_of reuse_rule_of storage_rule_of forwarded_of split_off freshened_of error_rule_on
+unfolding digits httpdate_on_literals matches_line verdict_of policy_of decision_of reuse_rule_of storage_rule_of forwarded_of part_holding_day freshened_of error_rule_on
 returns-clause-since_stored c = λ h.
-    let none = h [] (item (Answer 111 2 (answer 200 [])) (says []) ∷ item (Arrive 110 2 post_a) goes_3 ∷ []) [] [] (item (Arrive 120 3 get_a) (sends 1 [])) (item (Answer 101 1 fresh) (replies [] (Some 1) [])) (item (Arrive 100 1 get_a) goes_3) 1 get_a refl refl refl refl refl refl refl in
+    let none = h [] (item_of (Answer 111 2 (response_with 200 [])) (reply_without_store []) ∷ item_of (Arrive 110 2 post_a) forward_over_line_3 ∷ []) [] [] (item_of (Arrive 120 3 get_a) (reply_that_sends_stored 1 [])) (item_of (Answer 101 1 fresh_for_a_minute) (reply_that_stores [] (Some 1) [])) (item_of (Arrive 100 1 get_a) forward_over_line_3) 1 get_a refl refl refl refl refl refl refl in
     false≢true (sym none.0.0)
 
 pub returns-clause-on_its_way : goal.returns-clause-on_its_way
-unfolding digits httpdate_on_literals matches_line verdict_of policy_of decision_of reuse_rule_of storage_rule_of forwarded_of split_off freshened_of error_rule_on
+unfolding digits httpdate_on_literals matches_line verdict_of policy_of decision_of reuse_rule_of storage_rule_of forwarded_of part_holding_day freshened_of error_rule_on
 returns-clause-on_its_way c = λ h.
-    let none = h [] [] (item (Answer 111 2 (answer 200 [])) (says []) ∷ item (Arrive 110 2 post_a) goes_3 ∷ []) [] (item (Arrive 120 3 get_a) (sends 1 [])) (item (Answer 112 1 fresh) (replies [] (Some 1) [])) (item (Arrive 100 1 get_a) goes_3) 1 get_a refl refl refl refl refl refl refl in
+    let none = h [] [] (item_of (Answer 111 2 (response_with 200 [])) (reply_without_store []) ∷ item_of (Arrive 110 2 post_a) forward_over_line_3 ∷ []) [] (item_of (Arrive 120 3 get_a) (reply_that_sends_stored 1 [])) (item_of (Answer 112 1 fresh_for_a_minute) (reply_that_stores [] (Some 1) [])) (item_of (Arrive 100 1 get_a) forward_over_line_3) 1 get_a refl refl refl refl refl refl refl in
     false≢true (sym none.1.1.0)

@@ -4,9 +4,9 @@ use Rattle.hx_allow.specs.Matching.{policy_of}
 use Rattle.hx_storable.specs.Rules.{storage_rule_of}
 use Rattle.hx_validate.specs.Answering.{freshened_of}
 use Rattle.hx_validate.proofs.Rooms.{leaves_room_to_the_byte}
-use Rattle.proxy_core.specs.Cases.{tag}
+use Rattle.proxy_core.specs.Cases.{etag_field}
 use Rattle.proxy_core.proofs.laws.worked_cases.what_a_304_leaves.Goals as goal
 
 pub returns-clause-bytes : goal.returns-clause-bytes
 unfolding httpdate_on_literals storage_rule_of policy_of freshened_of
-returns-clause-bytes c value = leaves_room_to_the_byte value (tag (codes "\"e\"") ∷ []) (omega arith)
+returns-clause-bytes c value = leaves_room_to_the_byte value (etag_field (codes "\"e\"") ∷ []) (omega arith)

@@ -1,7 +1,7 @@
 use Rattle.std.proofs.Common.{rules}
 use Rattle.std.proofs.lemmas.Map.Made.{map_same_pairs}
-use Rattle.proxy_core.specs.State.{overtake}
+use Rattle.proxy_core.specs.State.{overtaken_exchange}
 use Rattle.proxy_core.proofs.open.exchanges.overtake_each.Goals as goal
 
 pub returns : goal.returns
-returns c = map_same_pairs _ (overtake c.args.key.now) _ (λ k v b w f' t. search rules) _ _ c.retain.ensures.filtered
+returns c = map_same_pairs _ (overtaken_exchange c.args.key.now) _ (λ k v b w f' t. search rules) _ _ c.retain.ensures.filtered

@@ -1,6 +1,6 @@
 use Rattle.std.proofs.Common.{arith, ap, sym, ◌∙◌, ◌<◌, ◌+◌, length, drop}
 use Rattle.std.proofs.lemmas.List.{drop_more}
-use Rattle.proxy_core.specs.State.{taken}
+use Rattle.proxy_core.specs.State.{entries_without_serials}
 use Rattle.proxy_core.proofs.Stepping.{taken_more}
 use Rattle.proxy_core.proofs.steps.finishing.remove_each.Goals as goal
 
@@ -11,7 +11,7 @@ loop-serial-preserved g c =
     let es = g.S.Shelf.entries c.loop-serial.shelf in
     let l : i < length gone = omega arith in
     record {
-      entries = ap (taken (drop (i + 1) gone)) c.remove.ensures.entries
-          ∙ (taken_more _ (drop (i + 1) gone) es ∙ (ap (λ rest. taken rest es) (sym (drop_more gone i _ l)) ∙ c.loop-serial.invariant.entries));
+      entries = ap (entries_without_serials (drop (i + 1) gone)) c.remove.ensures.entries
+          ∙ (taken_more _ (drop (i + 1) gone) es ∙ (ap (λ rest. entries_without_serials rest es) (sym (drop_more gone i _ l)) ∙ c.loop-serial.invariant.entries));
       limit = c.remove.ensures.limit ∙ c.loop-serial.invariant.limit;
     }

@@ -1,13 +1,13 @@
 use Rattle.std.proofs.Common.{◌≡◌, ℕ, sum_by, ◌+◌, ◌∙◌, ◌++◌, List, Option, length, sym, ap, subst, arith}
 use Rattle.proxy_script.specs.declared.effect_list.Effect.{Effect}
 use Rattle.hx_framing.specs.declared.messages.Next.TheVariants.{Message}
-use Rattle.hx_allow.specs.Lines.{Table}
+use Rattle.hx_allow.specs.TableLines.{Table}
 use Rattle.proxy_core.specs.State.{State as CoreState}
 use Rattle.proxy_core.specs.declared.open.exchange.Exchange.{Exchange}
-use Rattle.proxy_engine.specs.Acts.{effects_on, came_at, came, after_on}
-use Rattle.proxy_engine.specs.State.{Represents, Done, state, action_load, link_load}
+use Rattle.proxy_engine.specs.Acts.{effects_of_outcome, outcome_with_address, outcome_by_table, model_after_outcome}
+use Rattle.proxy_engine.specs.State.{EngineRepresents, EngineDoesAct, engine_state, load_of_due_request, link_load}
 use Rattle.proxy_engine.specs.Due.{Serves}
-use Rattle.proxy_engine.specs.Pairing.{Paired, activities_of, owners_of}
+use Rattle.proxy_engine.specs.Pairing.{ConnectionsAndLinksArePaired, activities_of, owners_of}
 use Rattle.proxy_engine.specs.declared.endpoints.ends.Link.{Link}
 use Rattle.proxy_engine.proofs.Keeping.{inside}
 use Rattle.proxy_engine.proofs.Changes.{free_there, action_free}
@@ -22,8 +22,8 @@ number_at-id-requires g c = inside c.self.inside.ends.connections.items c.args.i
 pub returns-clause-less : goal.returns-clause-less
 returns-clause-less g c = rw (← c.self.view_is) (
     λ r due.
-    let one = ap action_load due in
-    omega (arith, one, two_more c.in-Ok.outcome, ap (sum_by link_load) c.reserve_one.ensures.items, c.pass_at.ensures.load, c.carry_out.ensures.load)
+    let one = ap load_of_due_request due in
+    omega (arith, one, two_more c.in-Ok.outcome, ap (sum_by link_load) c.reserve_one.ensures.items, c.pass_next_at.ensures.load, c.carry_out.ensures.load)
     )
 
 pub returns-clause-ok : goal.returns-clause-ok
@@ -33,21 +33,21 @@ returns-clause-ok g c = rw (← c.self.view_is) (
     let same = c.reserve_one.ensures.items in
     let core = c.self.inside.core in
     let upstream = c.set_address.new.self in
-    let led : came_at upstream.address.items c.in-Ok.outcome ≡ came core.table c.in-Ok.outcome =
-    c.set_address.ensures.came ∙ ap (λ (t : Table). came t c.in-Ok.outcome) (c.config-2.ensures ∙ ap (λ (k : CoreState). k.table) (rw c.number_at-id.ensures at c.in-Ok.ensures.ok).leaves) in
-    let here = subst (λ (ls : List (Option Link)). Represents (state c.self.inside.ends.connections.items ls core c.self.inside.ends.first_link) s) (sym same) h in
-    subst (λ (n : ℕ). Done s c.args.now (Serves c.args.i (Message r)) c.carry_out.new.effects.items (state c.carry_out.new.self.connections.items c.carry_out.new.self.links.items c.arrive.new.self n)) (sym c.carry_out.ensures.first)
-    (arrived_done s c.pass_at.new.connections.items c.carry_out.new.self.connections.items ks c.carry_out.new.self.links.items core c.arrive.new.self c.self.inside.ends.first_link c.args.now c.args.i upstream.max_body r c.args.asked.now c.in-Ok.outcome
+    let led : outcome_with_address upstream.address.items c.in-Ok.outcome ≡ outcome_by_table core.table c.in-Ok.outcome =
+    c.set_address.ensures.came ∙ ap (λ (t : Table). outcome_by_table t c.in-Ok.outcome) (c.config-2.ensures ∙ ap (λ (k : CoreState). k.table) (rw c.number_at-id.ensures at c.in-Ok.ensures.ok).leaves) in
+    let here = subst (λ (ls : List (Option Link)). EngineRepresents (engine_state c.self.inside.ends.connections.items ls core c.self.inside.ends.first_link) s) (sym same) h in
+    subst (λ (n : ℕ). EngineDoesAct s c.args.now (Serves c.args.i (Message r)) c.carry_out.new.effects.items (engine_state c.carry_out.new.self.connections.items c.carry_out.new.self.links.items c.arrive.new.self n)) (sym c.carry_out.ensures.first)
+    (arrived_done s c.pass_next_at.new.connections.items c.carry_out.new.self.connections.items ks c.carry_out.new.self.links.items core c.arrive.new.self c.self.inside.ends.first_link c.args.now c.args.i upstream.max_body r c.args.asked.now c.in-Ok.outcome
     upstream.address.items upstream.to_head c.carry_out.new.effects.items asked (rw c.number_at-id.ensures at c.in-Ok.ensures.ok) (omega (arith, (rw (← c.self.view_is) at c.requires.left), ap length same))
     led
     (c.set_address.ensures.max_body ∙ c.in_ok-upstream.ensures.max_body ∙ ap (λ (t : Table). t.max_body) c.config.ensures) (c.set_address.ensures.to_head ∙ c.in_ok-upstream.ensures.to_head)
-    (c.carry_out.ensures.effects ∙ ap (λ (b : List Effect). b ++ effects_on c.args.i (c.self.inside.ends.first_link + length ks) (came_at upstream.address.items c.in-Ok.outcome)) c.in_ok-effects.ensures.items)
-    (λ t k most represents. subst (λ (n : ℕ). Represents (state c.carry_out.new.self.connections.items c.carry_out.new.self.links.items k n) (after_on c.args.i upstream.to_head (came_at upstream.address.items c.in-Ok.outcome) t)) c.carry_out.ensures.first (c.carry_out.ensures.represents t k most represents))
-    (c.pass_at.ensures.represents s (Message r) ks core c.self.inside.ends.first_link due here))
+    (c.carry_out.ensures.effects ∙ ap (λ (b : List Effect). b ++ effects_of_outcome c.args.i (c.self.inside.ends.first_link + length ks) (outcome_with_address upstream.address.items c.in-Ok.outcome)) c.in_ok-effects.ensures.items)
+    (λ t k most represents. subst (λ (n : ℕ). EngineRepresents (engine_state c.carry_out.new.self.connections.items c.carry_out.new.self.links.items k n) (model_after_outcome c.args.i upstream.to_head (outcome_with_address upstream.address.items c.in-Ok.outcome) t)) c.carry_out.ensures.first (c.carry_out.ensures.represents t k most represents))
+    (c.pass_next_at.ensures.represents s (Message r) ks core c.self.inside.ends.first_link due here))
     )
 
-pub lacks_memory-requires : goal.lacks_memory-requires
-lacks_memory-requires g c = let exchanges = c.self.inside.core.exchanges in
+pub as_alloc_error-requires : goal.as_alloc_error-requires
+as_alloc_error-requires g c = let exchanges = c.self.inside.core.exchanges in
     let free = not_open c.self.inside.ends.connections.items c.self.inside.ends.links.items exchanges c.args.i (action_free _ (rw (← c.self.view_is) at c.requires.due)) c.self.invariant in
     arrival_refused exchanges c.args.now (c.args.i + 1) c.args.asked.now c.in-Err.fault free.1 c.requires.early (rw c.number_at-id.ensures at c.in-Err.ensures.err)
 
@@ -57,7 +57,7 @@ invariant_of-self-2 g c = let cs = c.self.inside.ends.connections.items in
     let core = c.self.inside.core in
     let idle = action_free _ (rw (← c.self.view_is) at c.requires.due) in
     let free = not_open cs c.self.inside.ends.links.items core.exchanges i idle c.self.invariant in
-    subst (λ (xs : List Exchange). Paired (activities_of c.carry_out.new.self.connections.items) (owners_of c.carry_out.new.self.links.items) xs) (sym (ap (λ (k : CoreState). k.exchanges) (rw c.number_at-id.ensures at c.in-Ok.ensures.ok).leaves))
-    (paired_arrived core.table cs c.pass_at.new.connections.items c.carry_out.new.self.connections.items c.reserve_one.new.self.items c.carry_out.new.self.links.items core.entries core.exchanges c.args.now i c.args.asked.now c.in-Ok.outcome
-    (inside cs i (free_there _ idle)) c.pass_at.ensures.activities free.0 c.carry_out.ensures.activities c.carry_out.ensures.owners
-    (subst (λ (ls : List (Option Link)). Paired (activities_of cs) (owners_of ls) core.exchanges) (sym c.reserve_one.ensures.items) c.self.invariant))
+    subst (λ (xs : List Exchange). ConnectionsAndLinksArePaired (activities_of c.carry_out.new.self.connections.items) (owners_of c.carry_out.new.self.links.items) xs) (sym (ap (λ (k : CoreState). k.exchanges) (rw c.number_at-id.ensures at c.in-Ok.ensures.ok).leaves))
+    (paired_arrived core.table cs c.pass_next_at.new.connections.items c.carry_out.new.self.connections.items c.reserve_one.new.self.items c.carry_out.new.self.links.items core.entries core.exchanges c.args.now i c.args.asked.now c.in-Ok.outcome
+    (inside cs i (free_there _ idle)) c.pass_next_at.ensures.activities free.0 c.carry_out.ensures.activities c.carry_out.ensures.owners
+    (subst (λ (ls : List (Option Link)). ConnectionsAndLinksArePaired (activities_of cs) (owners_of ls) core.exchanges) (sym c.reserve_one.ensures.items) c.self.invariant))

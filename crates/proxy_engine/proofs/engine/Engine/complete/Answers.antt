@@ -1,11 +1,11 @@
 use Rattle.std.proofs.Common.{◌≡◌, ◌+◌, ◌≤◌, ◌^◌, ◌∙◌, ◌++◌, ◌∷◌, [], ℕ, List, Option, None, Some, is_some, length, get_or, set, sym, ap, subst, arith, sum_by}
 use Rattle.proxy_script.specs.declared.effect_list.Effect.{Effect}
 use Rattle.proxy_script.specs.declared.effect_list.Effect.TheVariants.{Drop}
-use Rattle.hx_allow.specs.Lines.{Table}
+use Rattle.hx_allow.specs.TableLines.{Table}
 use Rattle.proxy_engine.specs.EngineModel.{no_link}
-use Rattle.proxy_engine.specs.Due.{Finish, Finishes}
-use Rattle.proxy_engine.specs.Acts.{came_at, came, effects_on, after_on}
-use Rattle.proxy_engine.specs.State.{LinkRepresents, Represents, state, Done, finish_at, link_load}
+use Rattle.proxy_engine.specs.Due.{LinkResult, Finishes}
+use Rattle.proxy_engine.specs.Acts.{outcome_with_address, outcome_by_table, effects_of_outcome, model_after_outcome}
+use Rattle.proxy_engine.specs.State.{LinkRepresents, EngineRepresents, engine_state, EngineDoesAct, link_result_at, link_load}
 use Rattle.proxy_engine.specs.Pairing.{owners_of}
 use Rattle.proxy_engine.specs.declared.endpoints.ends.Link.{Link}
 use Rattle.proxy_engine.proofs.Parts.{both_length, both_at}
@@ -26,8 +26,8 @@ number_at-id-requires g c = let x = c.at.result.now in
     let link = owned_link c.self.inside.ends.connections.items c.self.inside.ends.links.items c.self.inside.core.exchanges c.args.j x there c.self.invariant in
     within_connections c.self.inside.ends.connections.items x.connection c.args.j link
 
-pub upstream_again-requires : goal.upstream_again-requires
-upstream_again-requires g c = let cs = c.self.inside.ends.connections.items in
+pub upstream_for_second_forward-requires : goal.upstream_for_second_forward-requires
+upstream_for_second_forward-requires g c = let cs = c.self.inside.ends.connections.items in
     let ks = c.self.inside.ends.links.items in
     let xs = c.self.inside.core.exchanges in
     let x = c.at.result.now in
@@ -39,7 +39,7 @@ at-requires-2 g c = ap (λ (ls : List (Option Link)). is_some (get_or ls c.args.
 
 pub end-requires-clause-due : goal.end-requires-clause-due
 end-requires-clause-due g c = let here = subst (λ (ls : List (Option Link)). get_or ls c.args.j None ≡ Some c.at-2.result.now) c.reserve_one.ensures.items c.at-2.ensures in
-    ap (λ (o : Option Link). is_some (finish_at o)) (sym here) ∙ (rw (← c.self.view_is) at c.requires.due)
+    ap (λ (o : Option Link). is_some (link_result_at o)) (sym here) ∙ (rw (← c.self.view_is) at c.requires.due)
 
 pub end-requires-clause-open : goal.end-requires-clause-open
 end-requires-clause-open g c = let cs = c.self.inside.ends.connections.items in
@@ -75,7 +75,7 @@ carry_out-requires-clause-left g c = λ goes.
     let link = owned_link cs ks core.exchanges j x there c.self.invariant in
     let ended = (rw c.number_at-id.ensures at c.in_ok-outcome.ensures.ok) in
     let may = goes_given core c.end.new.core c.args.now (x.connection + 1) ended.0 c.in_ok-outcome.outcome (is_open cs ks core.exchanges x.connection j link c.self.invariant) ended.2 goes in
-    let few = (rw (← c.self.view_is) at c.requires.left) ended.0 (ap finish_at here ∙ ended.1) may in
+    let few = (rw (← c.self.view_is) at c.requires.left) ended.0 (ap link_result_at here ∙ ended.1) may in
     omega (arith, few, c.free.ensures.links, ap length same)
 
 pub invariant_of-self-2 : goal.invariant_of-self-2
@@ -95,7 +95,7 @@ pub returns-clause-less : goal.returns-clause-less
 returns-clause-less g c = rw (← c.self.view_is) (
     let rooms = c.reserve_one.new.self.items in
     let ended = (rw c.number_at-id.ensures at c.in_ok-outcome.ensures.ok) in
-    let counts : link_load (get_or rooms c.args.j None) ≡ 2 = link_counts (get_or rooms c.args.j None) ended.0 (ap finish_at c.at-2.ensures ∙ ended.1) in
+    let counts : link_load (get_or rooms c.args.j None) ≡ 2 = link_counts (get_or rooms c.args.j None) ended.0 (ap link_result_at c.at-2.ensures ∙ ended.1) in
     let cs = c.self.inside.ends.connections.items in
     let ks = c.self.inside.ends.links.items in
     let core = c.self.inside.core in
@@ -119,7 +119,7 @@ returns-clause-ok g c = rw (← c.self.view_is) (
     let there = subst (λ (ls : List (Option Link)). get_or ls j None ≡ Some x) items c.at.ensures in
     let here = subst (λ (ls : List (Option Link)). get_or ls j None ≡ Some c.at-2.result.now) items c.at-2.ensures in
     let ended = (rw c.number_at-id.ensures at c.in_ok-outcome.ensures.ok) in
-    let due = ap finish_at here ∙ ended.1 in
+    let due = ap link_result_at here ∙ ended.1 in
     let same : f ≡ ended.0 = one_finish (get_or ks j None) ended.0 f due shown in
     let within = inside ks j (finish_there (get_or ks j None) (rw (← c.self.view_is) at c.requires.due)) in
     let links = both_length LinkRepresents ks s.links h.links in
@@ -132,15 +132,15 @@ returns-clause-ok g c = rw (← c.self.view_is) (
     let is_there = is_open cs ks core.exchanges i j link c.self.invariant in
     let emitted : c.put.new.effects.items ≡ Drop (c.self.inside.ends.first_link + j) ∷ [] = emitted_one c.in_ok-effects.effects.items c.put.new.effects.items _ c.put.ensures.items c.in_ok-effects.ensures.items ∙ ap (λ (n : ℕ). Drop n ∷ []) number in
     let upstream = c.set_address.new.self in
-    let led : came_at upstream.address.items c.in_ok-outcome.outcome ≡ came core.table c.in_ok-outcome.outcome =
-    c.set_address.ensures.came ∙ ap (λ (t : Table). came t c.in_ok-outcome.outcome) (c.config.ensures ∙ ends_table core c.end.new.core c.args.now (i + 1) ended.0 c.in_ok-outcome.outcome ended.2) in
-    let free = c.free.ensures.represents s core c.self.inside.ends.first_link (subst (λ (ls : List (Option Link)). Represents (state cs ls core c.self.inside.ends.first_link) s) (sym items) h) in
+    let led : outcome_with_address upstream.address.items c.in_ok-outcome.outcome ≡ outcome_by_table core.table c.in_ok-outcome.outcome =
+    c.set_address.ensures.came ∙ ap (λ (t : Table). outcome_by_table t c.in_ok-outcome.outcome) (c.config.ensures ∙ ends_table core c.end.new.core c.args.now (i + 1) ended.0 c.in_ok-outcome.outcome ended.2) in
+    let free = c.free.ensures.represents s core c.self.inside.ends.first_link (subst (λ (ls : List (Option Link)). EngineRepresents (engine_state cs ls core c.self.inside.ends.first_link) s) (sym items) h) in
     let fresh = c.free.ensures.links in
-    subst (λ (n : ℕ). Done s c.args.now (Finishes j f) c.carry_out.new.effects.items (state c.carry_out.new.self.connections.items c.carry_out.new.self.links.items c.end.new.core n)) (sym c.carry_out.ensures.first)
-    (subst (λ (x : Finish). Done s c.args.now (Finishes j x) c.carry_out.new.effects.items (state c.carry_out.new.self.connections.items c.carry_out.new.self.links.items c.end.new.core c.self.inside.ends.first_link)) (sym same)
+    subst (λ (n : ℕ). EngineDoesAct s c.args.now (Finishes j f) c.carry_out.new.effects.items (engine_state c.carry_out.new.self.connections.items c.carry_out.new.self.links.items c.end.new.core n)) (sym c.carry_out.ensures.first)
+    (subst (λ (x : LinkResult). EngineDoesAct s c.args.now (Finishes j x) c.carry_out.new.effects.items (engine_state c.carry_out.new.self.connections.items c.carry_out.new.self.links.items c.end.new.core c.self.inside.ends.first_link)) (sym same)
     (finished_done s c.free.new.connections.items c.carry_out.new.self.connections.items c.free.new.links.items c.carry_out.new.self.links.items core c.end.new.core c.self.inside.ends.first_link c.args.now i j upstream.max_body ended.0 c.in_ok-outcome.outcome
     upstream.address.items upstream.to_head c.carry_out.new.effects.items is_there (λ t. let few = (rw (← c.self.view_is) at c.requires.left) ended.0 due t in omega (arith, few, links)) ended.2 led (c.set_address.ensures.max_body ∙ c.in_ok-upstream.ensures.max_body)
     (c.set_address.ensures.to_head ∙ (rw c.number_at-id.ensures at c.in_ok-upstream.ensures.to_head)) (omega (arith, fresh, sizes, links, first_is))
-    (c.carry_out.ensures.effects ∙ ap (λ (b : List Effect). b ++ effects_on i (c.self.inside.ends.first_link + length c.free.new.links.items) (came_at upstream.address.items c.in_ok-outcome.outcome)) emitted)
-    first_is h.core owner.connection free (λ t k most represents. subst (λ (n : ℕ). Represents (state c.carry_out.new.self.connections.items c.carry_out.new.self.links.items k n) (after_on i upstream.to_head (came_at upstream.address.items c.in_ok-outcome.outcome) t)) c.carry_out.ensures.first (c.carry_out.ensures.represents t k most represents))))
+    (c.carry_out.ensures.effects ∙ ap (λ (b : List Effect). b ++ effects_of_outcome i (c.self.inside.ends.first_link + length c.free.new.links.items) (outcome_with_address upstream.address.items c.in_ok-outcome.outcome)) emitted)
+    first_is h.core owner.connection free (λ t k most represents. subst (λ (n : ℕ). EngineRepresents (engine_state c.carry_out.new.self.connections.items c.carry_out.new.self.links.items k n) (model_after_outcome i upstream.to_head (outcome_with_address upstream.address.items c.in_ok-outcome.outcome) t)) c.carry_out.ensures.first (c.carry_out.ensures.represents t k most represents))))
     )

@@ -1,7 +1,7 @@
 use Rattle.std.proofs.Common.{length, subst, ◌≡◌, ◌+◌, ◌^◌, nat_le, true, false, sym, ap, ◌∙◌, arith}
 use Rattle.std.proofs.lemmas.Bool.{leb-true}
-use Rattle.proxy_engine.specs.State.{State, LinkRepresents, finish_at}
-use Rattle.proxy_engine.specs.Actions.{EndFault}
+use Rattle.proxy_engine.specs.State.{State, LinkRepresents, link_result_at}
+use Rattle.proxy_engine.specs.Actions.{IsFaultOfFinishing}
 use Rattle.proxy_engine.specs.declared.work.EngineFault.TheVariants.{OutOfMemory, Spent}
 use Rattle.proxy_engine.proofs.Parts.{both_length}
 use Rattle.proxy_engine.proofs.Changes.{finish_there}
@@ -14,14 +14,14 @@ at-requires g c = finish_there _ (rw (← c.self.view_is) at c.requires.due)
 
 pub returns-then-is_answered-clause-exhausted : goal.returns-then-is_answered-clause-exhausted
 returns-then-is_answered-clause-exhausted g c = λ f shown.
-    let here = ap finish_at (sym c.at.ensures) ∙ (rw (← c.self.view_is) at shown) in
-    subst (λ (e : State). EndFault (nat_le (2 ^ 64) (e.first + length e.links)) f Spent) c.self.view_is
+    let here = ap link_result_at (sym c.at.ensures) ∙ (rw (← c.self.view_is) at shown) in
+    subst (λ (e : State). IsFaultOfFinishing (nat_le (2 ^ 64) (e.first + length e.links)) f Spent) c.self.view_is
     (exhausted_found _ f (sym c.is_exhausted.ensures ∙ c.if-is_exhausted.true) (sym (c.is_answered.ensures f here) ∙ c.if-is_answered.true))
 
 pub returns-then-is_answered-clause-fault : goal.returns-then-is_answered-clause-fault
 returns-then-is_answered-clause-fault g c = rw (← c.self.view_is) (
     λ s f shown due h.
-    let here = ap finish_at (sym c.at.ensures) ∙ shown in
+    let here = ap link_result_at (sym c.at.ensures) ∙ shown in
     let links = both_length LinkRepresents c.self.inside.ends.links.items s.links h.links in
     let first_is : c.self.inside.ends.first_link ≡ s.first = h.first in
     let many = leb-true (2 ^ 64) (c.self.inside.ends.first_link + length c.self.inside.ends.links.items) (sym c.is_exhausted.ensures ∙ c.if-is_exhausted.true) in
@@ -31,10 +31,10 @@ returns-then-is_answered-clause-fault g c = rw (← c.self.view_is) (
 pub returns-in-Err-clause-exhausted : goal.returns-in-Err-clause-exhausted
 returns-in-Err-clause-exhausted g c = λ f shown.
     let there = rw (← c.self.view_is) at shown in
-    subst (λ (e : State). EndFault (nat_le (2 ^ 64) (e.first + length e.links)) f OutOfMemory) c.self.view_is
+    subst (λ (e : State). IsFaultOfFinishing (nat_le (2 ^ 64) (e.first + length e.links)) f OutOfMemory) c.self.view_is
     (memory_found _ f (λ may. elim c.else-is_exhausted.branch [
       | else-is_exhausted-via-then-is_exhausted+else-is_answered w ↦
-          let here = ap finish_at (sym w.at.ensures) ∙ there in
+          let here = ap link_result_at (sym w.at.ensures) ∙ there in
           let yes : false ≡ true = sym w.if-is_answered.false ∙ (w.is_answered.ensures f here ∙ may) in
           absurd (cc)
       | else-is_exhausted-via-else-is_exhausted w ↦ sym c.is_exhausted.ensures ∙ w.if-is_exhausted.false

@@ -1,11 +1,11 @@
 use Rattle.std.proofs.Common.{◌≡◌, ◌+◌, ℕ, List, Option, None, is_some, length, sum_by, ap, sym, subst, ◌∙◌, ◌++◌, get_or, arith}
-use Rattle.hx_allow.specs.Lines.{Table}
+use Rattle.hx_allow.specs.TableLines.{Table}
 use Rattle.proxy_script.specs.declared.effect_list.Effect.{Effect}
 use Rattle.proxy_core.specs.State.{State as CoreState}
-use Rattle.proxy_engine.specs.Acts.{effects_on, came_at, came, after_on}
+use Rattle.proxy_engine.specs.Acts.{effects_of_outcome, outcome_with_address, outcome_by_table, model_after_outcome}
 use Rattle.proxy_engine.specs.Due.{Wakes}
-use Rattle.proxy_engine.specs.State.{Represents, Done, state, link_load, wait_load}
-use Rattle.proxy_engine.specs.Pairing.{Paired, activity_of, activities_of, owners_of}
+use Rattle.proxy_engine.specs.State.{EngineRepresents, EngineDoesAct, engine_state, link_load, load_of_waiting}
+use Rattle.proxy_engine.specs.Pairing.{ConnectionsAndLinksArePaired, activity_of, activities_of, owners_of}
 use Rattle.proxy_engine.specs.declared.endpoints.ends.Link.{Link}
 use Rattle.proxy_engine.proofs.Ending.{woken_remains, one_more}
 use Rattle.proxy_engine.proofs.Pairs.{ready_waits, within_waiting, waits_here, doing_at, paired_woken, wake_refused}
@@ -18,14 +18,14 @@ number_at-id-requires g c =
     let waits = ready_waits (activities_of cs) (owners_of c.self.inside.ends.links.items) c.self.inside.core.exchanges c.args.i (rw (← c.self.view_is) at c.requires.ready) c.self.invariant in
     within_waiting cs c.args.i waits
 
-pub upstream_again-requires : goal.upstream_again-requires
-upstream_again-requires g c = rw c.number_at-id.ensures (ap is_some (rw (← c.self.view_is) at c.requires.ready).is_open)
+pub upstream_for_second_forward-requires : goal.upstream_for_second_forward-requires
+upstream_for_second_forward-requires g c = rw c.number_at-id.ensures (ap is_some (rw (← c.self.view_is) at c.requires.ready).is_open)
 
-pub lacks_memory-requires : goal.lacks_memory-requires
-lacks_memory-requires g c = wake_refused c.self.inside.core.exchanges c.args.now (c.args.i + 1) c.in-Err.fault (rw (← c.self.view_is) at c.requires.ready) c.requires.early (rw c.number_at-id.ensures at c.in-Err.ensures.err)
+pub as_alloc_error-requires : goal.as_alloc_error-requires
+as_alloc_error-requires g c = wake_refused c.self.inside.core.exchanges c.args.now (c.args.i + 1) c.in-Err.fault (rw (← c.self.view_is) at c.requires.ready) c.requires.early (rw c.number_at-id.ensures at c.in-Err.ensures.err)
 
-pub unlink_at-requires : goal.unlink_at-requires
-unlink_at-requires g c =
+pub mark_free_at-requires : goal.mark_free_at-requires
+mark_free_at-requires g c =
     let cs = c.self.inside.ends.connections.items in
     waits_here cs c.args.i (rw (← c.self.view_is) at c.requires.here)
     (ready_waits (activities_of cs) (owners_of c.self.inside.ends.links.items) c.self.inside.core.exchanges c.args.i (rw (← c.self.view_is) at c.requires.ready) c.self.invariant)
@@ -36,9 +36,9 @@ returns-clause-less g c = rw (← c.self.view_is) (
     let core = c.self.inside.core in
     let ready = (rw (← c.self.view_is) at c.requires.ready) in
     let waits = ready_waits (activities_of cs) (owners_of c.self.inside.ends.links.items) core.exchanges c.args.i ready c.self.invariant in
-    let weight : wait_load (activity_of (get_or cs c.args.i None)) ≡ 2 = ap wait_load (sym (doing_at cs c.args.i (within_waiting cs c.args.i waits)) ∙ waits) in
+    let weight : load_of_waiting (activity_of (get_or cs c.args.i None)) ≡ 2 = ap load_of_waiting (sym (doing_at cs c.args.i (within_waiting cs c.args.i waits)) ∙ waits) in
     let few = one_more c.in-Ok.outcome (c.args.i + 1) core.exchanges c.wake.new.self.exchanges (woken_remains core c.wake.new.self c.args.now (c.args.i + 1) c.in-Ok.outcome (ap is_some ready.is_open) (rw c.number_at-id.ensures at c.in-Ok.ensures.ok)) in
-    omega (arith, weight, few, ap (sum_by link_load) c.reserve_one.ensures.items, c.unlink_at.ensures.load, c.carry_out.ensures.load)
+    omega (arith, weight, few, ap (sum_by link_load) c.reserve_one.ensures.items, c.mark_free_at.ensures.load, c.carry_out.ensures.load)
     )
 
 pub returns-clause-ok : goal.returns-clause-ok
@@ -48,17 +48,17 @@ returns-clause-ok g c = rw (← c.self.view_is) (
     let same = c.reserve_one.ensures.items in
     let core = c.self.inside.core in
     let upstream = c.set_address.new.self in
-    let led : came_at upstream.address.items c.in-Ok.outcome ≡ came core.table c.in-Ok.outcome =
-    c.set_address.ensures.came ∙ ap (λ (t : Table). came t c.in-Ok.outcome) (c.config.ensures ∙ ap (λ (k : CoreState). k.table) (rw c.number_at-id.ensures at c.in-Ok.ensures.ok).leaves) in
-    let here = subst (λ (ls : List (Option Link)). Represents (state c.self.inside.ends.connections.items ls core c.self.inside.ends.first_link) s) (sym same) h in
-    subst (λ (n : ℕ). Done s c.args.now (Wakes c.args.i) c.carry_out.new.effects.items (state c.carry_out.new.self.connections.items c.carry_out.new.self.links.items c.wake.new.self n)) (sym c.carry_out.ensures.first)
-    (woken_done s c.unlink_at.new.connections.items c.carry_out.new.self.connections.items ks c.carry_out.new.self.links.items core c.wake.new.self c.self.inside.ends.first_link c.args.now c.args.i upstream.max_body c.in-Ok.outcome
+    let led : outcome_with_address upstream.address.items c.in-Ok.outcome ≡ outcome_by_table core.table c.in-Ok.outcome =
+    c.set_address.ensures.came ∙ ap (λ (t : Table). outcome_by_table t c.in-Ok.outcome) (c.config.ensures ∙ ap (λ (k : CoreState). k.table) (rw c.number_at-id.ensures at c.in-Ok.ensures.ok).leaves) in
+    let here = subst (λ (ls : List (Option Link)). EngineRepresents (engine_state c.self.inside.ends.connections.items ls core c.self.inside.ends.first_link) s) (sym same) h in
+    subst (λ (n : ℕ). EngineDoesAct s c.args.now (Wakes c.args.i) c.carry_out.new.effects.items (engine_state c.carry_out.new.self.connections.items c.carry_out.new.self.links.items c.wake.new.self n)) (sym c.carry_out.ensures.first)
+    (woken_done s c.mark_free_at.new.connections.items c.carry_out.new.self.connections.items ks c.carry_out.new.self.links.items core c.wake.new.self c.self.inside.ends.first_link c.args.now c.args.i upstream.max_body c.in-Ok.outcome
     upstream.address.items upstream.to_head c.carry_out.new.effects.items (rw c.number_at-id.ensures at c.in-Ok.ensures.ok) (omega (arith, (rw (← c.self.view_is) at c.requires.left), ap length same))
     led
     (c.set_address.ensures.max_body ∙ c.in_ok-upstream.ensures.max_body) (c.set_address.ensures.to_head ∙ (rw c.number_at-id.ensures at c.in_ok-upstream.ensures.to_head))
-    (c.carry_out.ensures.effects ∙ ap (λ (b : List Effect). b ++ effects_on c.args.i (c.self.inside.ends.first_link + length ks) (came_at upstream.address.items c.in-Ok.outcome)) c.in_ok-effects.ensures.items)
-    (λ t k most represents. subst (λ (n : ℕ). Represents (state c.carry_out.new.self.connections.items c.carry_out.new.self.links.items k n) (after_on c.args.i upstream.to_head (came_at upstream.address.items c.in-Ok.outcome) t)) c.carry_out.ensures.first (c.carry_out.ensures.represents t k most represents))
-    (c.unlink_at.ensures.represents s ks core c.self.inside.ends.first_link here))
+    (c.carry_out.ensures.effects ∙ ap (λ (b : List Effect). b ++ effects_of_outcome c.args.i (c.self.inside.ends.first_link + length ks) (outcome_with_address upstream.address.items c.in-Ok.outcome)) c.in_ok-effects.ensures.items)
+    (λ t k most represents. subst (λ (n : ℕ). EngineRepresents (engine_state c.carry_out.new.self.connections.items c.carry_out.new.self.links.items k n) (model_after_outcome c.args.i upstream.to_head (outcome_with_address upstream.address.items c.in-Ok.outcome) t)) c.carry_out.ensures.first (c.carry_out.ensures.represents t k most represents))
+    (c.mark_free_at.ensures.represents s ks core c.self.inside.ends.first_link here))
     )
 
 pub invariant_of-self-2 : goal.invariant_of-self-2
@@ -67,7 +67,7 @@ invariant_of-self-2 g c =
     let core = c.self.inside.core in
     let ready = (rw (← c.self.view_is) at c.requires.ready) in
     let there = ap is_some ready.is_open in
-    let paired = subst (λ (ls : List (Option Link)). Paired (activities_of cs) (owners_of ls) core.exchanges) (sym c.reserve_one.ensures.items) c.self.invariant in
-    paired_woken cs c.unlink_at.new.connections.items c.carry_out.new.self.connections.items c.reserve_one.new.self.items c.carry_out.new.self.links.items core.exchanges c.wake.new.self.exchanges c.args.i c.in-Ok.outcome
-    (ready_waits (activities_of cs) (owners_of c.self.inside.ends.links.items) core.exchanges c.args.i ready c.self.invariant) c.unlink_at.ensures.activities c.carry_out.ensures.activities c.carry_out.ensures.owners there
+    let paired = subst (λ (ls : List (Option Link)). ConnectionsAndLinksArePaired (activities_of cs) (owners_of ls) core.exchanges) (sym c.reserve_one.ensures.items) c.self.invariant in
+    paired_woken cs c.mark_free_at.new.connections.items c.carry_out.new.self.connections.items c.reserve_one.new.self.items c.carry_out.new.self.links.items core.exchanges c.wake.new.self.exchanges c.args.i c.in-Ok.outcome
+    (ready_waits (activities_of cs) (owners_of c.self.inside.ends.links.items) core.exchanges c.args.i ready c.self.invariant) c.mark_free_at.ensures.activities c.carry_out.ensures.activities c.carry_out.ensures.owners there
     (woken_remains core c.wake.new.self c.args.now (c.args.i + 1) c.in-Ok.outcome there (rw c.number_at-id.ensures at c.in-Ok.ensures.ok)) paired

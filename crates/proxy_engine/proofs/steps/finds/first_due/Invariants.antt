@@ -1,13 +1,13 @@
 use Rattle.std.proofs.Common.{◌≡◌, ℕ, length, Contains}
-use Rattle.proxy_engine.specs.ReadyList.{IsMarked}
-use Rattle.proxy_engine.specs.Marked.{AtEach}
+use Rattle.proxy_engine.specs.ReadyList.{FlaggedPlacesAreMarked}
+use Rattle.proxy_engine.specs.Marked.{RelatesAtEachPlace}
 use Rattle.proxy_engine.proofs.steps.finds.first_due.Given as goal
 
 abbrev pub invariant-loop-place : goal.invariant-loop-place
 invariant-loop-place g l = record {
-  marked : IsMarked g.E.Endpoint.may_show l.ends l.marked;
+  marked : FlaggedPlacesAreMarked g.E.Endpoint.may_show l.ends l.marked;
   fewer : (q : ℕ) → Contains l.marked.places q → Contains l.initial.marked.places q;
-  alike : AtEach g.E.Endpoint.LooksLike l.initial.ends l.ends;
+  alike : RelatesAtEachPlace g.E.Endpoint.LooksLike l.initial.ends l.ends;
   size : length l.ends.entries ≡ length l.initial.ends.entries;
 }
 

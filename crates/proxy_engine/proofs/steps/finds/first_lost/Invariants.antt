@@ -1,11 +1,11 @@
 use Rattle.std.proofs.Common.{ℕ, length, Contains}
-use Rattle.proxy_engine.specs.ReadyList.{IsMarked}
+use Rattle.proxy_engine.specs.ReadyList.{FlaggedPlacesAreMarked}
 use Rattle.proxy_engine.specs.Marked.{may_be_lost}
 use Rattle.proxy_engine.proofs.steps.finds.first_lost.Given as goal
 
 abbrev pub invariant-loop-i : goal.invariant-loop-i
 invariant-loop-i l = record {
-  marked : IsMarked may_be_lost l.ends l.lost;
+  marked : FlaggedPlacesAreMarked may_be_lost l.ends l.lost;
   fewer : (q : ℕ) → Contains l.lost.places q → Contains l.initial.lost.places q;
 }
 

@@ -2,8 +2,8 @@ use Rattle.std.proofs.Common.{List, Option, None, length, refl, sym, ap, subst, 
 use Rattle.std.proofs.lemmas.List.{map-set}
 use Rattle.std.proofs.Math.ListN.{length-set}
 use Rattle.proxy_engine.specs.EngineModel.{with_link}
-use Rattle.proxy_engine.specs.Acts.{dropping}
-use Rattle.proxy_engine.specs.State.{Represents, state, link_load}
+use Rattle.proxy_engine.specs.Acts.{with_dropped}
+use Rattle.proxy_engine.specs.State.{EngineRepresents, engine_state, link_load}
 use Rattle.proxy_engine.specs.Pairing.{owner_of, owners_of}
 use Rattle.proxy_engine.specs.declared.endpoints.ends.Link.{Link}
 use Rattle.proxy_engine.proofs.Keeping.{inside}
@@ -16,9 +16,9 @@ returns-clause-represents c = λ s core first h.
     let cs = c.args.connections.now.items in
     let ks = c.args.links.now.items in
     let j = c.args.j in
-    c.unlink_at.ensures.represents (with_link s j dropping) c.release.new.self.items core first
-    (subst (λ (ls : List (Option Link)). Represents (state cs ls core first) (with_link s j dropping)) (sym c.release.ensures.items)
-    (changed_link dropping cs ks core first s j None (inside ks j c.requires.link) (λ k q. refl) h))
+    c.mark_free_at.ensures.represents (with_link s j with_dropped) c.release.new.self.items core first
+    (subst (λ (ls : List (Option Link)). EngineRepresents (engine_state cs ls core first) (with_link s j with_dropped)) (sym c.release.ensures.items)
+    (changed_link with_dropped cs ks core first s j None (inside ks j c.requires.link) (λ k q. refl) h))
 
 pub returns-clause-owners : goal.returns-clause-owners
 returns-clause-owners c = ap owners_of c.release.ensures.items ∙ map-set owner_of c.args.links.now.items c.args.j None
@@ -27,7 +27,7 @@ pub returns-clause-load : goal.returns-clause-load
 returns-clause-load c =
     let ks = c.args.links.now.items in
     let sum = sum_changed link_load ks c.args.j None None (inside ks c.args.j c.requires.link) in
-    omega (arith, sum, ap (sum_by link_load) c.release.ensures.items, c.unlink_at.ensures.load)
+    omega (arith, sum, ap (sum_by link_load) c.release.ensures.items, c.mark_free_at.ensures.load)
 
 pub returns-clause-links : goal.returns-clause-links
 returns-clause-links c = ap length c.release.ensures.items ∙ length-set c.args.links.now.items c.args.j None

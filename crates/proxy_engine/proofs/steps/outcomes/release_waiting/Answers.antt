@@ -1,8 +1,8 @@
 use Rattle.std.proofs.Common.{List, Option, None, true, sym, ap, subst, ◌∙◌}
 use Rattle.std.proofs.lemmas.List.{map-set}
 use Rattle.proxy_engine.specs.EngineModel.{with_connection}
-use Rattle.proxy_engine.specs.Acts.{doing}
-use Rattle.proxy_engine.specs.State.{Represents, state}
+use Rattle.proxy_engine.specs.Acts.{with_activity}
+use Rattle.proxy_engine.specs.State.{EngineRepresents, engine_state}
 use Rattle.proxy_engine.specs.Pairing.{activity_of, activities_of}
 use Rattle.proxy_engine.specs.declared.endpoints.ends.Connection.{Connection}
 use Rattle.proxy_engine.specs.declared.endpoints.activities.Activity.TheVariants.{Free}
@@ -14,8 +14,8 @@ pub returns-clause-represents : goal.returns-clause-represents
 returns-clause-represents c = λ s links core first h.
     let cs = c.args.connections.now.items in
     let i = c.args.i in
-    subst (λ (ds : List (Option Connection)). Represents (state ds links core first) (with_connection s i (doing Free))) (sym c.release.ensures)
-    (changed_connection (doing Free) cs links core first s i None (inside cs i (gone_there _ true c.requires)) (λ k q. lost_over _ k c.requires q) h)
+    subst (λ (ds : List (Option Connection)). EngineRepresents (engine_state ds links core first) (with_connection s i (with_activity Free))) (sym c.release.ensures)
+    (changed_connection (with_activity Free) cs links core first s i None (inside cs i (gone_there _ true c.requires)) (λ k q. lost_over _ k c.requires q) h)
 
 pub returns-clause-activities : goal.returns-clause-activities
 returns-clause-activities c = ap activities_of c.release.ensures ∙ map-set activity_of c.args.connections.now.items c.args.i None

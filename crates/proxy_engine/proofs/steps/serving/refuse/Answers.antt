@@ -2,7 +2,7 @@ use Rattle.std.proofs.Common.{true, ap, ◌∙◌, ◌+◌, ◌++◌, List, ℕ,
 use Rattle.proxy_script.specs.declared.effect_list.Effect.{Effect}
 use Rattle.proxy_script.specs.declared.effect_list.Effect.TheVariants.{Client, Close}
 use Rattle.proxy_engine.specs.EngineModel.{with_connection}
-use Rattle.proxy_engine.specs.Acts.{closing}
+use Rattle.proxy_engine.specs.Acts.{with_closed}
 use Rattle.proxy_engine.proofs.Acting.{refused_served}
 use Rattle.proxy_engine.proofs.steps.serving.refuse.Goals as goal
 
@@ -11,8 +11,8 @@ returns-clause-ok c = λ s links core first a w h.
     let i = c.args.i in
     let text = c.in_ok-bytes.ensures in
     record {
-      after = with_connection s i (closing true);
-      does = refused_served s c.args.now i a c.args.why c.args.head c.send_reply.new.effects.items (with_connection s i (closing true)) w record {
+      after = with_connection s i (with_closed true);
+      does = refused_served s c.args.now i a c.args.why c.args.head c.send_reply.new.effects.items (with_connection s i (with_closed true)) w record {
         emitted_is = c.send_reply.ensures.effects ∙ (ap (λ (b : List Effect). b ++ Client (i + 1) c.in_ok-bytes.bytes ∷ Close (i + 1) ∷ []) c.in_ok-effects.ensures.items ∙ ap (λ (b : List ℕ). Client (i + 1) b ∷ Close (i + 1) ∷ []) text);
         after_is = refl;
       };

@@ -1,8 +1,8 @@
 use Rattle.std.proofs.Common.{rules, ◌≡◌, ◌<◌, refl, sym, ap, subst, ◌∙◌, Err}
 use Rattle.hx_fields.specs.declared.limits.TheConstants.{END_OF_TIME}
-use Rattle.proxy_turn.specs.Served.{Serves}
+use Rattle.proxy_turn.specs.Served.{EngineServesTurn}
 use Rattle.proxy_turn.specs.declared.report.TurnFault.TheVariants as faults
-use Rattle.proxy_server.specs.Serving.{HasLinksLeft}
+use Rattle.proxy_server.specs.Serving.{TurnHadLinkNumbersLeft}
 use Rattle.proxy_server.proofs.Living.{served_as}
 use Rattle.proxy_server.proofs.server.Server.serve_at.Goals as goal
 use Rattle.proxy_server.proofs.server.Server.serve_at.Goals.{then-refresh+else-is_err, else-refresh}
@@ -16,7 +16,7 @@ returns-in-Ok g c =
     ] in
     let served = served_as c.min-moment.result c.args.self.now c.if-refresh.self-inside.engine c.turn_at-reported.new.self c.look_ahead.new.self c.turn_at-reported.result
     first c.look_ahead.ensures c.turn_at-reported.ensures in
-    (early, subst HasLinksLeft (sym c.in-Ok.is) tt, served)
+    (early, subst TurnHadLinkNumbersLeft (sym c.in-Ok.is) tt, served)
 
 pub returns-in-Err-Listener : goal.returns-in-Err-Listener
 returns-in-Err-Listener g c =
@@ -30,7 +30,7 @@ returns-in-Err-Listener g c =
     ] in
     let served = served_as c.min-moment.result c.args.self.now c.if-refresh.self-inside.engine c.turn_at-reported.new.self c.look_ahead.new.self c.turn_at-reported.result
     first c.look_ahead.ensures c.turn_at-reported.ensures in
-    (early, subst HasLinksLeft (sym says) tt, served)
+    (early, subst TurnHadLinkNumbersLeft (sym says) tt, served)
 
 pub returns-in-Err-NoMemory : goal.returns-in-Err-NoMemory
 returns-in-Err-NoMemory g c =
@@ -44,7 +44,7 @@ returns-in-Err-NoMemory g c =
     ] in
     let served = served_as c.min-moment.result c.args.self.now c.if-refresh.self-inside.engine c.turn_at-reported.new.self c.look_ahead.new.self c.turn_at-reported.result
     first c.look_ahead.ensures c.turn_at-reported.ensures in
-    (early, subst HasLinksLeft (sym says) tt, served)
+    (early, subst TurnHadLinkNumbersLeft (sym says) tt, served)
 
 pub returns-in-Err-Spent : goal.returns-in-Err-Spent
 returns-in-Err-Spent g c =
@@ -58,7 +58,7 @@ returns-in-Err-Spent g c =
     ] in
     let served = served_as c.min-moment.result c.args.self.now c.if-refresh.self-inside.engine c.turn_at-reported.new.self c.look_ahead.new.self c.turn_at-reported.result
     first c.look_ahead.ensures c.turn_at-reported.ensures in
-    (c.min-moment.result, early, subst (Serves c.min-moment.result c.args.self.now c.look_ahead.new.self) says served)
+    (c.min-moment.result, early, subst (EngineServesTurn c.min-moment.result c.args.self.now c.look_ahead.new.self) says served)
 
 pub returns-in-Some : goal.returns-in-Some
 returns-in-Some g c =

@@ -1,21 +1,21 @@
 use Rattle.std.proofs.Common.{subst}
-use Rattle.proxy_turn.specs.Served.{IsReachable}
+use Rattle.proxy_turn.specs.Served.{EngineIsReachable}
 use Rattle.proxy_server.proofs.Living.{answered_on}
 use Rattle.proxy_server.proofs.server.Server.serve_turn.Goals as goal
 
 pub returns-clause-goes_on : goal.returns-clause-goes_on
 returns-clause-goes_on g c =
-    let laws = c.engines_live_on.ensures in
+    let laws = c.engines_go_on.ensures in
     answered_on laws.stays laws.turns c.args.self.now c.serve_next-served.new.self c.serve_next-served.result c.serve_next-served.ensures
 
 pub returns-clause-table : goal.returns-clause-table
 returns-clause-table g c =
-    let laws = c.engines_live_on.ensures in
+    let laws = c.engines_go_on.ensures in
     let goes = answered_on laws.stays laws.turns c.args.self.now c.serve_next-served.new.self c.serve_next-served.result c.serve_next-served.ensures in
-    (laws.table c.args.self.now c.serve_next-served.new.self goes (subst IsReachable c.self.view_is c.self.invariant)).0
+    (laws.table c.args.self.now c.serve_next-served.new.self goes (subst EngineIsReachable c.self.view_is c.self.invariant)).0
 
 pub returns-clause-limit : goal.returns-clause-limit
 returns-clause-limit g c =
-    let laws = c.engines_live_on.ensures in
+    let laws = c.engines_go_on.ensures in
     let goes = answered_on laws.stays laws.turns c.args.self.now c.serve_next-served.new.self c.serve_next-served.result c.serve_next-served.ensures in
-    (laws.table c.args.self.now c.serve_next-served.new.self goes (subst IsReachable c.self.view_is c.self.invariant)).1
+    (laws.table c.args.self.now c.serve_next-served.new.self goes (subst EngineIsReachable c.self.view_is c.self.invariant)).1

@@ -2,7 +2,7 @@ use Rattle.std.proofs.Common.{◌≡◌, true, false, ℕ, ap, refl, sym, ◌∙
 use Rattle.hx_framing.specs.declared.heads.status_head.StatusHead.{StatusHead}
 use Rattle.hx_framing.specs.declared.heads.status_head.Judged.TheVariants as judged
 use Rattle.hx_framing.specs.Lengths.{is_interim}
-use Rattle.hx_framing.specs.StatusHead.{status_head_of, JudgesAs}
+use Rattle.hx_framing.specs.StatusHead.{status_head_of, ResponseHeadIsJudgedAs}
 use Rattle.hx_framing.proofs.MemoryLemmas.{on_err}
 use Rattle.hx_framing.proofs.HeadLemmas.{status_head_at-is}
 use Rattle.hx_framing.proofs.heads.status_head.ResponseSpansHeadSpans.judge.Goals as goal
@@ -25,6 +25,6 @@ pub returns-in_err-copy_head-clause-memory_last : goal.returns-in_err-copy_head-
 returns-in_err-copy_head-clause-memory_last c =
     let found = c.requires.1 in
     let final : is_interim c.args.self.code ≡ false = sym c.is_interim.ensures ∙ c.if-is_interim.false in
-    let has : (head : StatusHead) × JudgesAs c.args.bytes.now (judged.Final head)
+    let has : (head : StatusHead) × ResponseHeadIsJudgedAs c.args.bytes.now (judged.Final head)
     = (status_head_of found.0, ((found.0, found.1, refl), ap (λ (n : ℕ). is_interim n) (sym found.2.code) ∙ final)) in
     on_err _ has

@@ -1,7 +1,7 @@
 use Rattle.std.proofs.Common.{◌≡◌, sym, ap, ◌∙◌, subst, IfOk, OnErr}
 use Rattle.hx_framing.specs.declared.messages.Request.{Request}
 use Rattle.hx_framing.specs.declared.readers.request_reader.RequestPhase.{RequestPhase}
-use Rattle.hx_framing.specs.Progress.{Progress, moved}
+use Rattle.hx_framing.specs.Progress.{Progress, stream_after_answer}
 use Rattle.hx_framing.specs.RequestStream.{Answers, NeedsMemory}
 use Rattle.hx_framing.specs.RequestState.{State, RepresentsStream}
 use Rattle.hx_framing.proofs.readers.request_reader.RequestReader.next.Goals as goal
@@ -17,7 +17,7 @@ returns-in-BeforeHead-clause-answers c =
 
 pub returns-in-BeforeHead-clause-represents : goal.returns-in-BeforeHead-clause-represents
 returns-in-BeforeHead-clause-represents c =
-    subst (λ (s : State). IfOk c.read_head.result (λ answer. (p : Progress Request) → RepresentsStream s p → RepresentsStream c.read_head.new.self (moved p answer)))
+    subst (λ (s : State). IfOk c.read_head.result (λ answer. (p : Progress Request) → RepresentsStream s p → RepresentsStream c.read_head.new.self (stream_after_answer p answer)))
     (put_back _ _ _ (c.replace.ensures.after ∙ sym c.in-BeforeHead.is ∙ c.replace.ensures.value) c.self.view_is) c.read_head.ensures.represents
 
 pub returns-in-BeforeHead-clause-memory_last : goal.returns-in-BeforeHead-clause-memory_last
@@ -32,7 +32,7 @@ returns-in-InContent-clause-answers c =
 
 pub returns-in-InContent-clause-represents : goal.returns-in-InContent-clause-represents
 returns-in-InContent-clause-represents c =
-    subst (λ (s : State). IfOk c.read_content.result (λ answer. (p : Progress Request) → RepresentsStream s p → RepresentsStream c.read_content.new.self (moved p answer)))
+    subst (λ (s : State). IfOk c.read_content.result (λ answer. (p : Progress Request) → RepresentsStream s p → RepresentsStream c.read_content.new.self (stream_after_answer p answer)))
     (put_back _ _ _ (sym c.in-InContent.is ∙ c.replace.ensures.value) c.self.view_is) c.read_content.ensures.represents
 
 pub returns-in-InContent-clause-memory_last : goal.returns-in-InContent-clause-memory_last

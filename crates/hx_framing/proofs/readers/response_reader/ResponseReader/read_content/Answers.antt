@@ -1,7 +1,7 @@
 use Rattle.std.proofs.Common.{Bool, drop, refl, sym, ap, ◌∙◌, subst}
 use Rattle.hx_framing.specs.declared.messages.Response.{Response}
 use Rattle.hx_framing.specs.Reading.{Spelled}
-use Rattle.hx_framing.specs.ResponseReading.{response_of, Reads}
+use Rattle.hx_framing.specs.ResponseReading.{response_of_head, Reads}
 use Rattle.hx_framing.specs.ResponseState.{State}
 use Rattle.hx_framing.proofs.ContentReadings.{read_of}
 use Rattle.hx_framing.proofs.ResponseMemory.{content_needs}
@@ -29,16 +29,16 @@ returns-in-Ok-Faulty-clause-represents c = λ p h.
 pub returns-in-Ok-Whole-clause-answers : goal.returns-in-Ok-Whole-clause-answers
 returns-in-Ok-Whole-clause-answers c = λ p h.
     let reads = subst (λ (m : Response). Reads p.max_body p.to_head p.ended p.stream (Spelled m (drop c.in-Ok-Whole.field-0-1 c.args.self.now.unread)))
-    (sym (c.response_of.ensures ∙ ap (λ (s : State). response_of s.to_head c.args.head c.in-Ok-Whole.whole) c.self.view_is))
+    (sym (c.response_of_head.ensures ∙ ap (λ (s : State). response_of_head s.to_head c.args.head c.in-Ok-Whole.whole) c.self.view_is))
     (found_reads c.args.self.now p c.args.head _ _ _ (ap (λ (s : State). s.ended) c.self.view_is) (ap (λ (s : State). s.unread) c.self.view_is) c.in-Ok-Whole.field-0-is c.in-Ok-Whole.ensures.reads h) in
-    answers_by p _ (Spelled c.response_of.result (drop c.in-Ok-Whole.field-0-1 c.args.self.now.unread)) (none_given c.args.self.now p c.args.head c.args.content h) h reads
+    answers_by p _ (Spelled c.response_of_head.result (drop c.in-Ok-Whole.field-0-1 c.args.self.now.unread)) (none_given c.args.self.now p c.args.head c.args.content h) h reads
 
 pub returns-in-Ok-Whole-clause-represents : goal.returns-in-Ok-Whole-clause-represents
 returns-in-Ok-Whole-clause-represents c = λ p h.
     let reads = subst (λ (m : Response). Reads p.max_body p.to_head p.ended p.stream (Spelled m (drop c.in-Ok-Whole.field-0-1 c.args.self.now.unread)))
-    (sym (c.response_of.ensures ∙ ap (λ (s : State). response_of s.to_head c.args.head c.in-Ok-Whole.whole) c.self.view_is))
+    (sym (c.response_of_head.ensures ∙ ap (λ (s : State). response_of_head s.to_head c.args.head c.in-Ok-Whole.whole) c.self.view_is))
     (found_reads c.args.self.now p c.args.head _ _ _ (ap (λ (s : State). s.ended) c.self.view_is) (ap (λ (s : State). s.unread) c.self.view_is) c.in-Ok-Whole.field-0-is c.in-Ok-Whole.ensures.reads h) in
-    represents_given _ _ p c.response_of.result _ (record { max_body = ap (λ (s : State). s.max_body) c.self.view_is; to_head = ap (λ (s : State). s.to_head) c.self.view_is; ended = ap (λ (s : State). s.ended) c.self.view_is }) (none_given c.args.self.now p c.args.head c.args.content h) refl reads h
+    represents_given _ _ p c.response_of_head.result _ (record { max_body = ap (λ (s : State). s.max_body) c.self.view_is; to_head = ap (λ (s : State). s.to_head) c.self.view_is; ended = ap (λ (s : State). s.ended) c.self.view_is }) (none_given c.args.self.now p c.args.head c.args.content h) refl reads h
 
 pub returns-in-Err-clause-memory_last : goal.returns-in-Err-clause-memory_last
 returns-in-Err-clause-memory_last c = λ p h. content_needs _ p c.args.head c.args.content refl h

@@ -1,7 +1,7 @@
 use Rattle.std.proofs.Common.{◌≡◌, ℕ, List, drop, refl, sym, ap, ◌∙◌, subst}
 use Rattle.hx_framing.specs.declared.messages.Response.{Response}
-use Rattle.hx_framing.specs.Contents.{IsOpen}
-use Rattle.hx_framing.specs.Queue.{Queue}
+use Rattle.hx_framing.specs.Contents.{IsUnfinishedContent}
+use Rattle.hx_framing.specs.Queue.{ByteQueue}
 use Rattle.hx_framing.specs.Progress.{Progress}
 use Rattle.hx_framing.specs.ResponseState.{State, RepresentsStream}
 use Rattle.hx_framing.specs.ResponseStream.{NeedsMemory}
@@ -36,7 +36,7 @@ returns-in-InContent-clause-represents c = λ p h.
     let at = c.self.view_is ∙ c.look.ensures.same in
     let k = progress_of c.args.self.now _ _ c.in-InContent.is c.in_ok-n.ensures.progress in
     represents_begun c.args.self.now _ p c.in-InContent.head c.in-InContent.content c.in-InContent.n (same_stream _ _ _ at refl) c.requires refl
-    (ap (λ (q : Queue). q.items) c.note_open_line.ensures ∙ c.take_front-in-InContent.ensures.items ∙ ap (λ (s : State). drop c.in-InContent.n s.unread) at) k.2 h
+    (ap (λ (q : ByteQueue). q.items) c.note_open_line.ensures ∙ c.take_front-in-InContent.ensures.items ∙ ap (λ (s : State). drop c.in-InContent.n s.unread) at) k.2 h
 
 pub returns-in-Message-clause-represents : goal.returns-in-Message-clause-represents
 returns-in-Message-clause-represents c = λ p h.
@@ -57,8 +57,8 @@ returns-in-InContent-clause-unfinished c = λ more.
     let at = c.self.view_is ∙ c.look.ensures.same in
     let k = progress_of c.args.self.now _ _ c.in-InContent.is c.in_ok-n.ensures.progress in
     let left : c.note_open_line.new.self.items ≡ drop c.in-InContent.n c.args.self.now.unread
-    = ap (λ (q : Queue). q.items) c.note_open_line.ensures ∙ c.take_front-in-InContent.ensures.items ∙ ap (λ (s : State). drop c.in-InContent.n s.unread) at in
-    let begun : IsOpen c.in-InContent.content c.note_open_line.new.self.items = subst (λ (u : List ℕ). IsOpen c.in-InContent.content u) (sym left) k.3 in
+    = ap (λ (q : ByteQueue). q.items) c.note_open_line.ensures ∙ c.take_front-in-InContent.ensures.items ∙ ap (λ (s : State). drop c.in-InContent.n s.unread) at in
+    let begun : IsUnfinishedContent c.in-InContent.content c.note_open_line.new.self.items = subst (λ (u : List ℕ). IsUnfinishedContent c.in-InContent.content u) (sym left) k.3 in
     record { begun = begun; bounded = open_bounded c.in-InContent.content c.note_open_line.new.self.items begun }
 
 pub returns-in_err-n-clause-memory_last : goal.returns-in_err-n-clause-memory_last

@@ -3,7 +3,7 @@ use Rattle.std.specs.Option.{option_map}
 use Rattle.std.specs.Map.{values_of}
 use Rattle.proxy_core.specs.declared.open.exchange.Exchange.{Exchange}
 use Rattle.proxy_core.specs.Leading.{ready_ids}
-use Rattle.proxy_core.specs.Waiting.{IsReady}
+use Rattle.proxy_core.specs.Waiting.{ExchangeMayBeWoken}
 use Rattle.proxy_core.proofs.Arrivals.{first_found}
 use Rattle.proxy_core.proofs.Releases.{first_is, none_is}
 use Rattle.proxy_core.proofs.open.exchanges.Exchanges.first_ready.Goals as goal
@@ -37,5 +37,5 @@ returns-clause-value c = it_is c ∙ ap (λ (xs : List Exchange). slice_get (rea
 
 pub returns-clause-ready : goal.returns-clause-ready
 returns-clause-ready c =
-    subst (IsReady c.in_ok-get.field-0.now.id) c.self.view_is
+    subst (ExchangeMayBeWoken c.in_ok-get.field-0.now.id) c.self.view_is
     (first_found c.in_ok-get.field-0.now.id c.self.inside.by_arrival.entries c.self.invariant.indexes.ids.apart (it_is c))

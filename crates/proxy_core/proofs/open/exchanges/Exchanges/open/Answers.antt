@@ -4,11 +4,11 @@ use Rattle.std.specs.BTreeMap.{get}
 use Rattle.std.specs.Map.{values_of}
 use Rattle.proxy_core.specs.declared.open.exchange.Exchange.{Exchange}
 use Rattle.proxy_core.specs.Outcomes.{find_exchange}
-use Rattle.proxy_core.specs.Arrivals.{AreIndexed}
+use Rattle.proxy_core.specs.Arrivals.{IndexesMatchExchanges}
 use Rattle.proxy_core.proofs.Gets.{AllIndexed, gets-entered, gets-again, gets-not}
-use Rattle.proxy_core.specs.Waiters.{waits_in}
-use Rattle.proxy_core.specs.Releases.{is_within, ReleasedPass}
-use Rattle.proxy_core.specs.Kept.{AreKept}
+use Rattle.proxy_core.specs.Waiters.{is_in_wait_index}
+use Rattle.proxy_core.specs.Releases.{may_be_released, ReleasedArrivalsPass}
+use Rattle.proxy_core.specs.ExchangeIndexes.{IndexesAreRight}
 use Rattle.proxy_core.proofs.Releases.{pass-entered}
 use Rattle.proxy_core.proofs.Waiters.{waiters-entered, waiters-again, waiters-not}
 use Rattle.proxy_core.proofs.Arrivals.{indexed_opened, indexed_again}
@@ -25,7 +25,7 @@ enter-requires-clause-asks_not c =
 pub settle-requires : goal.settle-requires
 settle-requires c =
     let s = c.self.inside in
-    subst (ReleasedPass (is_within c.enter-in-Ok.new.self)) (sym c.in-Ok.ensures.ok)
+    subst (ReleasedArrivalsPass (may_be_released c.enter-in-Ok.new.self)) (sym c.in-Ok.ensures.ok)
     (pass-entered c.in_ok-arrival.arrival c.args.exchange s.released c.enter-in-Ok.new.self s.by_arrival.entries c.enter-in-Ok.ensures.widened c.enter-in-Ok.ensures.entered c.self.invariant.releases.within)
 
 pub invariant_of-self-in-Ok : goal.invariant_of-self-in-Ok
@@ -37,7 +37,7 @@ invariant_of-self-in-Ok c =
     let i = c.self.invariant.indexes in
     let free : find_exchange x.id (values_of es) ≡ None = ap (find_exchange x.id) c.self.view_is ∙ c.requires in
     record {
-      indexes = subst (λ (zs : List (ℕ × Exchange)). AreIndexed zs (λ id. get nat_cmp c.insert.new.self id) (waits_in c.enter.new.waiting)) (sym c.in-Ok.ensures.ok)
+      indexes = subst (λ (zs : List (ℕ × Exchange)). IndexesMatchExchanges zs (λ id. get nat_cmp c.insert.new.self id) (is_in_wait_index c.enter.new.waiting)) (sym c.in-Ok.ensures.ok)
           (record {
             ids = indexed_opened n x es (λ id. get nat_cmp s.arrivals id) (λ id. get nat_cmp c.insert.new.self id) c.in_ok-arrival.ensures i.ids free (λ q. c.in_ok-insert.ensures.updates.0 q);
             waiters = waiters-entered n x es s.waiting c.enter.new.waiting c.in_ok-arrival.ensures c.in-Ok.ensures.entered i.waiters;
@@ -57,7 +57,7 @@ invariant_of-self-in-Err c =
     let n = c.in_ok-arrival.arrival in
     let i = c.self.invariant.indexes in
     let free : find_exchange x.id (values_of es) ≡ None = ap (find_exchange x.id) c.self.view_is ∙ c.requires in
-    subst (λ (zs : List (ℕ × Exchange)). AreKept zs (λ id. get nat_cmp c.remove.new.self id) c.enter.new.waiting s.released c.enter.new.gets) (sym c.in-Err.ensures.err)
+    subst (λ (zs : List (ℕ × Exchange)). IndexesAreRight zs (λ id. get nat_cmp c.remove.new.self id) c.enter.new.waiting s.released c.enter.new.gets) (sym c.in-Err.ensures.err)
     (record {
       indexes = record {
         ids = indexed_again x.id n es (λ id. get nat_cmp s.arrivals id) (λ id. get nat_cmp c.insert.new.self id) (λ id. get nat_cmp c.remove.new.self id) i.ids free

@@ -4,12 +4,12 @@ use Rattle.std.specs.BTreeMap.{get}
 use Rattle.std.specs.Map.{values_of}
 use Rattle.proxy_core.specs.declared.open.exchange.Exchange.{Exchange}
 use Rattle.proxy_core.specs.Leading.{waits_for}
-use Rattle.proxy_core.specs.State.{release}
-use Rattle.proxy_core.specs.Arrivals.{on_all, AreIndexed}
+use Rattle.proxy_core.specs.State.{released_exchange}
+use Rattle.proxy_core.specs.Arrivals.{map_exchanges, IndexesMatchExchanges}
 use Rattle.std.specs.BTreeSet.{contains}
 use Rattle.proxy_core.proofs.Gets.{AllIndexed, gets-on_all, release-asked}
-use Rattle.proxy_core.specs.Waiters.{waits_in}
-use Rattle.proxy_core.specs.Releases.{is_within, ReleasedPass}
+use Rattle.proxy_core.specs.Waiters.{is_in_wait_index}
+use Rattle.proxy_core.specs.Releases.{may_be_released, ReleasedArrivalsPass}
 use Rattle.proxy_core.proofs.Releases.{pass-freed}
 use Rattle.proxy_core.proofs.ExchangeLists.{release-id}
 use Rattle.proxy_core.proofs.Arrivals.{indexed_on_all, values_on_all}
@@ -17,8 +17,8 @@ use Rattle.proxy_core.proofs.Indexed.{passes}
 use Rattle.proxy_core.proofs.Waiters.{none_released, waiters-released}
 use Rattle.proxy_core.proofs.open.exchanges.Exchanges.release.Goals as goal
 
-all_released : (q : ℕ) (es : List (ℕ × Exchange)) (xs : List Exchange) → values_of es ≡ xs → values_of (on_all (release q) es) ≡ map (release q) xs
-all_released q es xs h = values_on_all (release q) es ∙ ap (map (release q)) h
+all_released : (q : ℕ) (es : List (ℕ × Exchange)) (xs : List Exchange) → values_of es ≡ xs → values_of (map_exchanges (released_exchange q) es) ≡ map (released_exchange q) xs
+all_released q es xs h = values_on_all (released_exchange q) es ∙ ap (map (released_exchange q)) h
 
 pub release_each-requires : goal.release_each-requires
 release_each-requires c =
@@ -28,7 +28,7 @@ release_each-requires c =
 pub settle-requires : goal.settle-requires
 settle-requires c =
     let s = c.self.inside in
-    subst (ReleasedPass (is_within c.enter_all.new.self)) (sym c.release_each.ensures)
+    subst (ReleasedArrivalsPass (may_be_released c.enter_all.new.self)) (sym c.release_each.ensures)
     (pass-freed c.args.leader (contains nat_cmp c.in-Some.waiting) s.released c.enter_all.new.self s.by_arrival.entries c.enter_all.ensures.widened c.enter_all.ensures.entered
     (passes (λ x. waits_for c.args.leader x.stage) _ s.by_arrival.entries c.self.invariant.indexes.ids.apart (λ m. c.in-Some.ensures.all m ∙ c.self.invariant.indexes.waiters c.args.leader m))
     c.self.invariant.releases.within)
@@ -38,19 +38,19 @@ invariant_of-self c =
     let s = c.self.inside in
     let q = c.args.leader in
     record {
-      indexes = subst (λ (zs : List (ℕ × Exchange)). AreIndexed zs (λ id. get nat_cmp s.arrivals id) (waits_in c.take.new.self)) (sym c.release_each.ensures)
+      indexes = subst (λ (zs : List (ℕ × Exchange)). IndexesMatchExchanges zs (λ id. get nat_cmp s.arrivals id) (is_in_wait_index c.take.new.self)) (sym c.release_each.ensures)
           (record {
-            ids = indexed_on_all (release q) (release-id q) s.by_arrival.entries _ c.self.invariant.indexes.ids;
+            ids = indexed_on_all (released_exchange q) (release-id q) s.by_arrival.entries _ c.self.invariant.indexes.ids;
             waiters = waiters-released q s.by_arrival.entries s.waiting c.take.new.self c.take.ensures.emptied c.self.invariant.indexes.waiters;
           });
       releases = c.settle.ensures.settled;
-      asking = subst (AllIndexed s.gets) (sym c.release_each.ensures) (gets-on_all (release q) (release-asked q) s.by_arrival.entries s.gets c.self.invariant.asking);
+      asking = subst (AllIndexed s.gets) (sym c.release_each.ensures) (gets-on_all (released_exchange q) (release-asked q) s.by_arrival.entries s.gets c.self.invariant.asking);
       trim_waits = c.take.ensures.trim c.self.invariant.trim_waits;
       trim_gets = c.self.invariant.trim_gets;
     }
 
 -- none waits for it
-nothing_done : (c : goal.In_default) → on_all (release c.args.leader) c.self.inside.by_arrival.entries ≡ c.self.inside.by_arrival.entries
+nothing_done : (c : goal.In_default) → map_exchanges (released_exchange c.args.leader) c.self.inside.by_arrival.entries ≡ c.self.inside.by_arrival.entries
 nothing_done c =
     none_released c.args.leader c.self.inside.by_arrival.entries
     (passes (λ x. waits_for c.args.leader x.stage) (λ n. false) c.self.inside.by_arrival.entries c.self.invariant.indexes.ids.apart
@@ -61,9 +61,9 @@ invariant_of-self-in_default c =
     let s = c.self.inside in
     let q = c.args.leader in
     record {
-      indexes = subst (λ (zs : List (ℕ × Exchange)). AreIndexed zs (λ id. get nat_cmp s.arrivals id) (waits_in c.take.new.self)) (nothing_done c)
+      indexes = subst (λ (zs : List (ℕ × Exchange)). IndexesMatchExchanges zs (λ id. get nat_cmp s.arrivals id) (is_in_wait_index c.take.new.self)) (nothing_done c)
           (record {
-            ids = indexed_on_all (release q) (release-id q) s.by_arrival.entries _ c.self.invariant.indexes.ids;
+            ids = indexed_on_all (released_exchange q) (release-id q) s.by_arrival.entries _ c.self.invariant.indexes.ids;
             waiters = waiters-released q s.by_arrival.entries s.waiting c.take.new.self c.take.ensures.emptied c.self.invariant.indexes.waiters;
           });
       releases = c.self.invariant.releases;

@@ -5,8 +5,8 @@ use Rattle.std.specs.BTreeMap.{WritesThrough, get_by, is_at}
 use Rattle.std.specs.BTreeSet.{contains}
 use Rattle.hx_target.specs.KeyOrder.{key_cmp}
 use Rattle.proxy_core.specs.declared.open.get_index.GetIndex.{GetIndex}
-use Rattle.proxy_core.specs.Waiters.{set_has}
-use Rattle.proxy_core.specs.Gets.{AreSame}
+use Rattle.proxy_core.specs.Waiters.{set_contains}
+use Rattle.proxy_core.specs.Gets.{AreSameGetIndex}
 use Rattle.proxy_core.proofs.Waiters.{not_nothing, some_has}
 use Rattle.proxy_core.proofs.GetIndices.{entered, put, same, written, trim-same, trim-written}
 use Rattle.proxy_core.proofs.open.get_index.GetIndex.insert_beside.Goals as goal
@@ -19,8 +19,8 @@ returns-in_err-insert-in-Some-clause-err c =
     let new : GetIndex = record { alloc = old.alloc; arrivals = c.get_mut.follows.lender set } in
     let u : WritesThrough key_cmp (key_cmp key) old.arrivals set new.arrivals = search rules in
     let m : get_by (key_cmp key) old.arrivals ≡ Some c.in-Some.arrivals.now = search rules in
-    let k : AreSame old new = same key old new (λ n. contains nat_cmp set n) (written key old new (Some set) (u.3 (ap is_some m)).0)
-    (λ n. ap (list_any (is_at (nat_cmp n))) c.in_err-insert-in-Some.ensures.err ∙ sym (ap (λ o. set_has o n) m)) in
+    let k : AreSameGetIndex old new = same key old new (λ n. contains nat_cmp set n) (written key old new (Some set) (u.3 (ap is_some m)).0)
+    (λ n. ap (list_any (is_at (nat_cmp n))) c.in_err-insert-in-Some.ensures.err ∙ sym (ap (λ o. set_contains o n) m)) in
     search rules
 
 pub returns-in_ok-insert-in-Some-clause-ok : goal.returns-in_ok-insert-in-Some-clause-ok
@@ -32,7 +32,7 @@ returns-in_ok-insert-in-Some-clause-ok c =
     let u : WritesThrough key_cmp (key_cmp key) old.arrivals set new.arrivals = search rules in
     let m : get_by (key_cmp key) old.arrivals ≡ Some c.in-Some.arrivals.now = search rules in
     entered key c.args.arrival old new (λ n. contains nat_cmp set n) (written key old new (Some set) (u.3 (ap is_some m)).0)
-    (λ n. put c.args.arrival c.in-Some.arrivals.now set c.in_ok-insert-in-Some.ensures.updates.0 n ∙ ap (λ b. eqb c.args.arrival n || b) (sym (ap (λ o. set_has o n) m)))
+    (λ n. put c.args.arrival c.in-Some.arrivals.now set c.in_ok-insert-in-Some.ensures.updates.0 n ∙ ap (λ b. eqb c.args.arrival n || b) (sym (ap (λ o. set_contains o n) m)))
 
 pub returns-in_err-insert-in-Some-clause-trim : goal.returns-in_err-insert-in-Some-clause-trim
 returns-in_err-insert-in-Some-clause-trim c o =

@@ -3,13 +3,13 @@ use Rattle.proxy_core.specs.declared.open.get_index.GetIndex.{GetIndex}
 use Rattle.proxy_core.proofs.GetIndices.{same, trim-removed, written}
 use Rattle.proxy_core.proofs.open.get_index.GetIndex.remove.Goals as goal
 
-pub returns-then-take_out : goal.returns-then-take_out
-returns-then-take_out c =
+pub returns-then-remove_from_index : goal.returns-then-remove_from_index
+returns-then-remove_from_index c =
     let key = c.args.key.now in
-    let mid = c.take_out.new.self in
+    let mid = c.remove_from_index.new.self in
     let new : GetIndex = record { alloc = mid.alloc; arrivals = c.remove.new.self } in
     let gone = c.remove.ensures.updates.0 in
     record {
-      taken = λ q m. same key mid new (λ n. false) (written key mid new None gone) (λ n. sym (c.if-take_out.ensures.last n)) q m ∙ c.take_out.ensures.taken q m;
-      trim = λ o. trim-removed key mid new gone (c.take_out.ensures.trim_beside o);
+      taken = λ q m. same key mid new (λ n. false) (written key mid new None gone) (λ n. sym (c.if-remove_from_index.ensures.last n)) q m ∙ c.remove_from_index.ensures.taken q m;
+      trim = λ o. trim-removed key mid new gone (c.remove_from_index.ensures.trim_beside o);
     }

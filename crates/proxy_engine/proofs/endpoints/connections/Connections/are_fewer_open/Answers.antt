@@ -1,10 +1,10 @@
 use Rattle.std.proofs.Common.{ℕ, List, length, nat_lt, sym, ap, ◌∙◌, subst}
-use Rattle.proxy_engine.specs.State.{Both, ConnectionRepresents}
-use Rattle.proxy_engine.specs.ReadyList.{listed}
+use Rattle.proxy_engine.specs.State.{RelatesLists, ConnectionRepresents}
+use Rattle.proxy_engine.specs.ReadyList.{entries_below}
 use Rattle.proxy_engine.specs.Marked.{EndList}
 use Rattle.proxy_engine.specs.declared.endpoints.ends.Connection.{Connection}
 use Rattle.proxy_engine.proofs.Readable.{open_places}
 use Rattle.proxy_engine.proofs.endpoints.connections.Connections.are_fewer_open.Goals as goal
 
 pub returns : goal.returns
-returns c = λ ss both. c.are_fewer_open.ensures ∙ ap (λ (ps : List ℕ). nat_lt (length ps) c.args.most) (open_places (listed c.self.inside.ends c.self.inside.count) ss (subst (λ (v : EndList Connection). Both ConnectionRepresents v.items ss) (sym c.self.view_is) both))
+returns c = λ ss both. c.are_fewer_open.ensures ∙ ap (λ (ps : List ℕ). nat_lt (length ps) c.args.most) (open_places (entries_below c.self.inside.ends c.self.inside.count) ss (subst (λ (v : EndList Connection). RelatesLists ConnectionRepresents v.items ss) (sym c.self.view_is) both))

@@ -1,8 +1,8 @@
 use Rattle.std.proofs.Common.{◌≡◌, ◌≢◌, ◌+◌, ◌^◌, ◌&&◌, nat_lt, inr, ℕ, List, set, refl, sym, ap, ◌∙◌, subst, arith, Option, Some, is_some}
 use Rattle.std.specs.Ordering.{nat_cmp}
 use Rattle.std.specs.BTreeMap.{BTreeMap, get}
-use Rattle.proxy_engine.specs.ReadyList.{listed, IsMarked}
-use Rattle.proxy_engine.specs.Marked.{EndList, may_be_lost, may_want}
+use Rattle.proxy_engine.specs.ReadyList.{entries_below, FlaggedPlacesAreMarked}
+use Rattle.proxy_engine.specs.Marked.{EndList, may_be_lost, connection_may_be_due}
 use Rattle.proxy_engine.specs.declared.endpoints.ends.Connection.{Connection}
 use Rattle.proxy_engine.proofs.Shown.{none_from}
 use Rattle.proxy_engine.proofs.Keeping.{seen_at, listed_set, lent_if, elsewhere}
@@ -13,7 +13,7 @@ pub put-requires : goal.put-requires
 put-requires c = has_room may_be_lost c.self.inside.ends c.self.inside.lost c.args.i c.self.invariant.0 (sym c.contains_key.ensures ∙ c.if-not-contains_key.false)
 
 pub put-requires-2 : goal.put-requires-2
-put-requires-2 c = has_room may_want c.self.inside.ends c.self.inside.waiting c.args.i c.self.invariant.2 (sym c.contains_key.ensures ∙ c.if-not-contains_key.false)
+put-requires-2 c = has_room connection_may_be_due c.self.inside.ends c.self.inside.waiting c.args.i c.self.invariant.2 (sym c.contains_key.ensures ∙ c.if-not-contains_key.false)
 
 pub invariant_of-self-lent : goal.invariant_of-self-lent
 invariant_of-self-lent c = λ r.
@@ -30,15 +30,15 @@ invariant_of-self-lent c = λ r.
           let some = ap is_some updates.1 in (
             marked_put may_be_lost m k c.self.inside.lost c.put.new.self i c.self.invariant.0 others some held.2 c.put.ensures.there c.put.ensures.others c.put.ensures.only c.put.ensures.room c.put.ensures.falls,
             below_put c.self.inside.count c.self.inside.lost.places c.put.new.self.places i c.self.invariant.1 within c.put.ensures.only,
-            marked_put may_want m k c.self.inside.waiting c.put-2.new.self i c.self.invariant.2 others some held.2 c.put-2.ensures.there c.put-2.ensures.others c.put-2.ensures.only c.put-2.ensures.room c.put-2.ensures.falls,
+            marked_put connection_may_be_due m k c.self.inside.waiting c.put-2.new.self i c.self.invariant.2 others some held.2 c.put-2.ensures.there c.put-2.ensures.others c.put-2.ensures.only c.put-2.ensures.room c.put-2.ensures.falls,
             below_put c.self.inside.count c.self.inside.waiting.places c.put-2.new.self.places i c.self.invariant.3 within c.put-2.ensures.only,
           )),
       (
-        subst (λ (k : BTreeMap ℕ Connection). IsMarked may_be_lost k c.put.new.self) (sym c.get_mut.follows.holds-at-none)
+        subst (λ (k : BTreeMap ℕ Connection). FlaggedPlacesAreMarked may_be_lost k c.put.new.self) (sym c.get_mut.follows.holds-at-none)
             (marked_put may_be_lost m m c.self.inside.lost c.put.new.self i c.self.invariant.0 (λ q other. refl) here refl c.put.ensures.there c.put.ensures.others c.put.ensures.only c.put.ensures.room c.put.ensures.falls),
         below_put c.self.inside.count c.self.inside.lost.places c.put.new.self.places i c.self.invariant.1 within c.put.ensures.only,
-        subst (λ (k : BTreeMap ℕ Connection). IsMarked may_want k c.put-2.new.self) (sym c.get_mut.follows.holds-at-none)
-            (marked_put may_want m m c.self.inside.waiting c.put-2.new.self i c.self.invariant.2 (λ q other. refl) here refl c.put-2.ensures.there c.put-2.ensures.others c.put-2.ensures.only c.put-2.ensures.room c.put-2.ensures.falls),
+        subst (λ (k : BTreeMap ℕ Connection). FlaggedPlacesAreMarked connection_may_be_due k c.put-2.new.self) (sym c.get_mut.follows.holds-at-none)
+            (marked_put connection_may_be_due m m c.self.inside.waiting c.put-2.new.self i c.self.invariant.2 (λ q other. refl) here refl c.put-2.ensures.there c.put-2.ensures.others c.put-2.ensures.only c.put-2.ensures.room c.put-2.ensures.falls),
         below_put c.self.inside.count c.self.inside.waiting.places c.put-2.new.self.places i c.self.invariant.3 within c.put-2.ensures.only,
       ),
     )
@@ -55,7 +55,7 @@ returns c =
     let m = c.self.inside.ends in
     let n = c.self.inside.count in
     let i = c.args.i in
-    let old : listed m n ≡ c.args.self.now.items = ap (λ (v : EndList Connection). v.items) c.self.view_is in
+    let old : entries_below m n ≡ c.args.self.now.items = ap (λ (v : EndList Connection). v.items) c.self.view_is in
     let seen = seen_at m n i c.args.self.now.items old c.requires in
     let here = sym c.contains_key.ensures ∙ c.if-not-contains_key.false in
     let within = seen.0 in
@@ -65,6 +65,6 @@ returns c =
           let updates = (c.get_mut.follows.holds w).3 here in
           same_list _ _ _ _ (listed_set m (c.get_mut.follows.lender w) n i (Some w) updates.1 (λ q other. updates.2 q (elsewhere i q other)) ∙ ap (λ (xs : List (Option Connection)). set xs i (Some w)) old)
           (ap (λ (o : Option Connection). nat_lt (n + 1) (2 ^ 64) && is_some o) (updates.2 n (elsewhere i n apart)) ∙ ap (λ (v : EndList Connection). v.has_room) c.self.view_is))
-          (ap {B = EndList Connection} (λ (k : BTreeMap ℕ Connection). record { items = listed k n; has_room = nat_lt (n + 1) (2 ^ 64) && is_some (get nat_cmp k n) }) c.get_mut.follows.holds-at-none ∙ c.self.view_is),
+          (ap {B = EndList Connection} (λ (k : BTreeMap ℕ Connection). record { items = entries_below k n; has_room = nat_lt (n + 1) (2 ^ 64) && is_some (get nat_cmp k n) }) c.get_mut.follows.holds-at-none ∙ c.self.view_is),
       record { writes_back = tt; value = c.get_mut.ensures.value ∙ seen.1 },
     )

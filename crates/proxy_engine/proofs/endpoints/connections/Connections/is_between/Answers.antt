@@ -2,7 +2,7 @@ use Rattle.std.proofs.Common.{arith, ◌≡◌, ◌<◌, ◌∙◌, ap, sym, sub
 use Rattle.proxy_engine.specs.EngineModel.{no_connection}
 use Rattle.proxy_engine.specs.State.{ConnectionRepresents}
 use Rattle.proxy_engine.specs.Marked.{EndList}
-use Rattle.proxy_engine.specs.ReadyList.{listed}
+use Rattle.proxy_engine.specs.ReadyList.{entries_below}
 use Rattle.proxy_engine.specs.declared.endpoints.ends.Connection.{Connection}
 use Rattle.proxy_engine.proofs.Keeping.{seen_at, listed_length}
 use Rattle.proxy_engine.proofs.Parts.{both_at}
@@ -10,7 +10,7 @@ use Rattle.proxy_engine.proofs.endpoints.connections.Connections.is_between.Goal
 
 pub returns-in-Some : goal.returns-in-Some
 returns-in-Some c ss both is =
-    let items : listed c.self.inside.ends c.self.inside.count ≡ c.args.self.now.items = ap (λ (v : EndList Connection). v.items) c.self.view_is in
+    let items : entries_below c.self.inside.ends c.self.inside.count ≡ c.args.self.now.items = ap (λ (v : EndList Connection). v.items) c.self.view_is in
     let none = c.if-i-self.false in
     let count = listed_length c.self.inside.ends c.self.inside.count in
     let here : c.args.i < length c.args.self.now.items = omega (arith, none, count, ap length items) in

@@ -1,6 +1,6 @@
 use Rattle.std.proofs.Common.{◌^◌, nat_lt, cond, ℕ, Option, None, Some, length, sym, ap, ◌∙◌}
 use Rattle.proxy_engine.specs.Marked.{EndList}
-use Rattle.proxy_engine.specs.Numbers.{connection_number}
+use Rattle.proxy_engine.specs.ConnectionNumbers.{connection_number}
 use Rattle.proxy_engine.specs.declared.endpoints.ends.Connection.{Connection}
 use Rattle.proxy_engine.proofs.Keeping.{listed_length}
 use Rattle.proxy_engine.proofs.endpoints.connections.Connections.next_number.Goals as goal

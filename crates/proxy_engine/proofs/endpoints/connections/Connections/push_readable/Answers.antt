@@ -1,7 +1,7 @@
 use Rattle.std.proofs.Common.{◌++◌, List, ℕ, map, sym, ap, ◌∙◌, subst}
-use Rattle.proxy_engine.specs.State.{Both, ConnectionRepresents}
-use Rattle.proxy_engine.specs.Reading.{client_end}
-use Rattle.proxy_engine.specs.ReadyList.{listed}
+use Rattle.proxy_engine.specs.State.{RelatesLists, ConnectionRepresents}
+use Rattle.proxy_engine.specs.Reading.{client_end_at}
+use Rattle.proxy_engine.specs.ReadyList.{entries_below}
 use Rattle.proxy_engine.specs.Marked.{EndList}
 use Rattle.proxy_engine.specs.declared.endpoints.ends.Connection.{Connection}
 use Rattle.proxy_engine.proofs.Readable.{read_places}
@@ -11,5 +11,5 @@ use Rattle.proxy_engine.proofs.endpoints.connections.Connections.push_readable.G
 pub returns : goal.returns
 returns c =
     does_ok c.push_clients.result _ _
-    (λ is ss both. is ∙ ap (λ (ps : List ℕ). c.args.ends.now.items ++ map client_end ps) (read_places (listed c.self.inside.ends c.self.inside.count) ss (subst (λ (v : EndList Connection). Both ConnectionRepresents v.items ss) (sym c.self.view_is) both)))
+    (λ is ss both. is ∙ ap (λ (ps : List ℕ). c.args.ends.now.items ++ map client_end_at ps) (read_places (entries_below c.self.inside.ends c.self.inside.count) ss (subst (λ (v : EndList Connection). RelatesLists ConnectionRepresents v.items ss) (sym c.self.view_is) both)))
     c.push_clients.ensures

@@ -1,5 +1,5 @@
 use Rattle.std.proofs.Common.{length, sym, ◌+◌, ◌^◌, refl, ap, ◌∙◌, arith, is_some}
-use Rattle.proxy_engine.specs.Marked.{EndList, may_be_lost, may_want}
+use Rattle.proxy_engine.specs.Marked.{EndList, may_be_lost, connection_may_be_due}
 use Rattle.proxy_engine.specs.declared.endpoints.ends.Connection.{Connection}
 use Rattle.proxy_engine.proofs.Keeping.{elsewhere, listed_same, listed_length, one_more}
 use Rattle.proxy_engine.proofs.Marking.{marked_room, marked_spare, below_same}
@@ -18,7 +18,7 @@ pub invariant_of-self-in_err-reserve_beside-2 : goal.invariant_of-self-in_err-re
 invariant_of-self-in_err-reserve_beside-2 c = (
   marked_room may_be_lost c.self.inside.ends c.self.inside.ends c.self.inside.lost c.reserve_beside.new.self c.self.invariant.0 refl c.reserve_beside.ensures.places c.reserve_beside.ensures.room,
   below_same c.self.inside.count _ _ c.self.invariant.1 c.reserve_beside.ensures.places,
-  marked_room may_want c.self.inside.ends c.self.inside.ends c.self.inside.waiting c.reserve_beside-2.new.self c.self.invariant.2 refl c.reserve_beside-2.ensures.places c.reserve_beside-2.ensures.room,
+  marked_room connection_may_be_due c.self.inside.ends c.self.inside.ends c.self.inside.waiting c.reserve_beside-2.new.self c.self.invariant.2 refl c.reserve_beside-2.ensures.places c.reserve_beside-2.ensures.room,
   below_same c.self.inside.count _ _ c.self.invariant.3 c.reserve_beside-2.ensures.places,
 )
 
@@ -26,7 +26,7 @@ pub invariant_of-self-in_err-insert : goal.invariant_of-self-in_err-insert
 invariant_of-self-in_err-insert c = (
   marked_room may_be_lost c.self.inside.ends c.insert.new.self c.self.inside.lost c.reserve_beside.new.self c.self.invariant.0 c.in_err-insert.ensures.err c.reserve_beside.ensures.places c.reserve_beside.ensures.room,
   below_same c.self.inside.count _ _ c.self.invariant.1 c.reserve_beside.ensures.places,
-  marked_room may_want c.self.inside.ends c.insert.new.self c.self.inside.waiting c.reserve_beside-2.new.self c.self.invariant.2 c.in_err-insert.ensures.err c.reserve_beside-2.ensures.places c.reserve_beside-2.ensures.room,
+  marked_room connection_may_be_due c.self.inside.ends c.insert.new.self c.self.inside.waiting c.reserve_beside-2.new.self c.self.invariant.2 c.in_err-insert.ensures.err c.reserve_beside-2.ensures.places c.reserve_beside-2.ensures.room,
   below_same c.self.inside.count _ _ c.self.invariant.3 c.reserve_beside-2.ensures.places,
 )
 
@@ -38,7 +38,7 @@ invariant_of-self-2 c =
       marked_spare may_be_lost c.self.inside.ends c.insert.new.self c.self.inside.lost c.reserve_beside.new.self n _ c.self.invariant.0 (λ q other. updates.2 q (elsewhere n q other)) updates.1 refl
           (omega (arith, size, c.in_ok-reserve_beside.ensures.ok)) c.reserve_beside.ensures.places,
       below_same n _ _ c.self.invariant.1 c.reserve_beside.ensures.places,
-      marked_spare may_want c.self.inside.ends c.insert.new.self c.self.inside.waiting c.reserve_beside-2.new.self n _ c.self.invariant.2 (λ q other. updates.2 q (elsewhere n q other)) updates.1 refl
+      marked_spare connection_may_be_due c.self.inside.ends c.insert.new.self c.self.inside.waiting c.reserve_beside-2.new.self n _ c.self.invariant.2 (λ q other. updates.2 q (elsewhere n q other)) updates.1 refl
           (omega (arith, size, c.in_ok-reserve_beside-2.ensures.ok)) c.reserve_beside-2.ensures.places,
       below_same n _ _ c.self.invariant.3 c.reserve_beside-2.ensures.places,
     )

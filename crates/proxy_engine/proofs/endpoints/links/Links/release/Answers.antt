@@ -1,5 +1,5 @@
 use Rattle.std.proofs.Common.{◌≢◌, ◌+◌, ◌^◌, ◌&&◌, nat_lt, set, ap, ◌∙◌, Option, None, is_some, arith}
-use Rattle.proxy_engine.specs.Marked.{EndList, may_finish}
+use Rattle.proxy_engine.specs.Marked.{EndList, link_may_be_due}
 use Rattle.proxy_engine.specs.declared.endpoints.ends.Link.{Link}
 use Rattle.proxy_engine.proofs.Keeping.{elsewhere, listed_set, seen_at, one_less}
 use Rattle.proxy_engine.proofs.Marking.{marked_gone}
@@ -9,7 +9,7 @@ pub invariant_of-self : goal.invariant_of-self
 invariant_of-self c =
     let j = c.args.j in
     let updates = c.remove.ensures.updates in (
-      marked_gone may_finish c.self.inside.ends c.remove.new.self c.self.inside.ready_links c.remove-2.new.self j c.self.invariant.0 (λ q other. updates.2 q (elsewhere j q other)) updates.1 (one_less _ _ _ c.remove.ensures.len)
+      marked_gone link_may_be_due c.self.inside.ends c.remove.new.self c.self.inside.ready_links c.remove-2.new.self j c.self.invariant.0 (λ q other. updates.2 q (elsewhere j q other)) updates.1 (one_less _ _ _ c.remove.ensures.len)
           c.remove-2.ensures.others c.remove-2.ensures.only c.remove-2.ensures.room c.remove-2.ensures.falls,
       (λ q there. c.self.invariant.1 q (c.remove-2.ensures.only q there).1),
     )

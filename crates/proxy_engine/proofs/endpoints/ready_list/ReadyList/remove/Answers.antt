@@ -1,11 +1,11 @@
 use Rattle.std.proofs.Common.{◌≡◌, ◌<◌, ℕ, List, length, get_or, sym, ap, subst, Contains}
-use Rattle.proxy_engine.specs.ReadyList.{Kept, IsBehind}
+use Rattle.proxy_engine.specs.ReadyList.{ReadyPlaces, PlaceBelongsBehind}
 use Rattle.proxy_engine.proofs.Falling.{not_there, remove_only}
 use Rattle.proxy_engine.proofs.endpoints.ready_list.ReadyList.remove.Goals as goal
 
 pub returns-in-Ok-clause-only : goal.returns-in-Ok-clause-only
 returns-in-Ok-clause-only c = λ q h.
-    let was = ap (λ (k : Kept). k.places) c.self.view_is in
+    let was = ap (λ (k : ReadyPlaces). k.places) c.self.view_is in
     let xs = c.self.inside.items.items in
     let at = c.in-Ok.at in
     let there = c.in-Ok.ensures.there in
@@ -16,8 +16,8 @@ returns-in-Ok-clause-only c = λ q h.
 
 pub returns-in-Err-clause-only : goal.returns-in-Err-clause-only
 returns-in-Err-clause-only c = λ q h.
-    let was = ap (λ (k : Kept). k.places) c.self.view_is in
+    let was = ap (λ (k : ReadyPlaces). k.places) c.self.view_is in
     let xs = c.self.inside.items.items in
     let old : Contains xs q = subst (λ (ys : List ℕ). Contains ys q) (sym was) h in
-    let behind : IsBehind xs c.args.place c.in-Err.field-0 = subst (λ (ys : List ℕ). IsBehind ys c.args.place c.in-Err.field-0) c.deref.ensures.value c.in-Err.ensures.behind in
+    let behind : PlaceBelongsBehind xs c.args.place c.in-Err.field-0 = subst (λ (ys : List ℕ). PlaceBelongsBehind ys c.args.place c.in-Err.field-0) c.deref.ensures.value c.in-Err.ensures.behind in
     ((λ e. not_there xs c.in-Err.field-0 c.args.place record { falls = c.self.invariant; behind = behind } (subst (λ (p : ℕ). Contains xs p) e old)), h)

@@ -1,0 +1,11 @@
+use Rattle.std.proofs.Common.{refl}
+use Rattle.std.specs.Fmt.{digits}
+use Rattle.hx_allow.proofs.fault_text_cases.worked_words_of_words.Goals as goal
+
+pub returns-clause-lifetime : goal.returns-clause-lifetime
+unfolding digits
+returns-clause-lifetime c line = refl
+
+pub returns-clause-stale_if_error : goal.returns-clause-stale_if_error
+unfolding digits
+returns-clause-stale_if_error c line = refl

@@ -1,0 +1,127 @@
+//! Why an operator's table is refused.
+ghost use Rattle.std.specs.Prelude.{◌≡◌};
+ghost use Rattle.hx_allow.specs.declared.config_faults.ConfigFault.TheVariants.{OutOfMemory};
+ghost use Rattle.hx_allow.specs.Keys.{fault_number, key_text, word_key};
+
+use hx_fields::Bytes;
+use std::alloc::AllocError;
+
+/// A key of the table that has a number.
+#[derive(Clone, Copy, Debug, PartialEq, Eq, Hash)]
+pub enum NumberKey {
+    /// The version of the table's format, 1, 2 or 3.
+    Version,
+    /// The most entries of the store, 1 to 65,536.
+    Capacity,
+    /// The most bytes of a message's content, at most 16,777,216.
+    MaxBody,
+    /// The most bytes of a stored content, at most 16,777,216.
+    MaxStored,
+}
+
+impl NumberKey {
+    /// The key as it stands in the table.
+    pub fn as_str(self) -> &'static str
+        ensures { result.now ≡ key_text self }
+    {
+        self.row().key
+    }
+}
+
+/// A key of a line of version 3 that says more of caching, in the table's order.
+#[derive(Clone, Copy, Debug, PartialEq, Eq, Hash)]
+pub enum LineWord {
+    /// The lifetime of what states none, 1 to 2,147,483,648 seconds (RFC 9111, section 4.2.2).
+    Lifetime,
+    /// The staleness in which a stored response is sent in place of an error, 0 to 2,147,483,648
+    /// seconds (RFC 5861, section 4).
+    StaleIfError,
+    /// Whether a response with Set-Cookie is stored (RFC 9111, section 7.3).
+    SetCookie,
+    /// Whether a response with a status of an error is stored.
+    Errors,
+    /// Whether a request's no-cache, max-age and min-fresh count (RFC 9111, section 5.2.1).
+    RequestDirectives,
+    /// Whether a GET waits for another that goes forward since what is held is stale (RFC 9111, section 4).
+    Wait,
+    /// Whether an answer that isn't stored tells why (RFC 9211, section 2.8).
+    Explain,
+}
+
+impl LineWord {
+    /// The key as it stands in the table.
+    pub fn as_str(self) -> &'static str
+        ensures { result.now ≡ word_key self }
+    {
+        self.row().key
+    }
+}
+
+/// Why a table is refused, in the order of the faults' numbers. A key that is missing or has a value of
+/// another type has the fault of that key.
+#[derive(Drop)]
+pub enum ConfigFault {
+    /// The text isn't TOML, or has more than 1,048,576 bytes.
+    NotToml,
+    /// A key that isn't known, at the top or in a line: of several the least by its bytes.
+    UnknownKey(Bytes),
+    /// `name` is no lower-case letter followed by at most 31 lower-case letters, digits and `-`.
+    BadName,
+    /// The number of this key isn't in its range.
+    BadNumber(NumberKey),
+    /// `host` of this line, counted from 1, is neither `"*"` nor a host in lower case.
+    BadHost(u16),
+    /// `methods` of this line isn't an array of 1 to 32 texts that are `"*"` or a token of at most 15
+    /// bytes other than CONNECT, TRACE and OPTIONS.
+    BadMethod(u16),
+    /// `path` of this line is no path.
+    BadPath(u16),
+    /// `origin` of this line is neither `"deny"` nor four numbers and a port.
+    BadOrigin(u16),
+    /// `line` is no array of 1 to 256 tables.
+    NoLines,
+    /// Memory ran out.
+    OutOfMemory,
+    /// `cache` of this line is neither `"on"` nor `"off"`, or stands in a line that denies.
+    BadCache(u16),
+    /// This key of this line has a value that it can't have, or stands in a line that denies or has its cache off.
+    BadWord(u16, LineWord),
+}
+
+impl ConfigFault {
+    /// The fault's number, 1 to 12.
+    pub fn number(&self) -> u8
+        ensures { result ≡ fault_number self.now }
+    {
+        match self {
+            ConfigFault::NotToml => 1,
+            ConfigFault::UnknownKey(_) => 2,
+            ConfigFault::BadName => 3,
+            ConfigFault::BadNumber(_) => 4,
+            ConfigFault::BadHost(_) => 5,
+            ConfigFault::BadMethod(_) => 6,
+            ConfigFault::BadPath(_) => 7,
+            ConfigFault::BadOrigin(_) => 8,
+            ConfigFault::NoLines => 9,
+            ConfigFault::OutOfMemory => 10,
+            ConfigFault::BadCache(_) => 11,
+            ConfigFault::BadWord(_, _) => 12,
+        }
+    }
+}
+
+impl From<AllocError> for ConfigFault {
+    ghost from_gives = { λ _ e. e ≡ OutOfMemory };
+
+    fn from(_e: AllocError) -> ConfigFault {
+        ConfigFault::OutOfMemory
+    }
+}
+
+/// A fault of a table as it is found, before anything is copied.
+pub(crate) enum FoundFault<'a> {
+    /// This key isn't known.
+    UnknownKey(&'a str),
+    /// A fault that takes no memory to tell.
+    Other(ConfigFault),
+}

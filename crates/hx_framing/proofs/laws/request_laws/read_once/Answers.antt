@@ -1,5 +1,0 @@
-use Rattle.hx_framing.proofs.RequestOnce.{read_once_lem}
-use Rattle.hx_framing.proofs.laws.request_laws.read_once.Goals as goal
-
-pub returns : goal.returns
-returns c = read_once_lem

@@ -1,0 +1,124 @@
+-- What the reuse rules come to, without their table: which response is chosen, which may be sent, which rule is named
+-- (RFC 9111, section 4).
+--
+-- ResponseIsCandidate, ResponseIsChosen: a held response that matches, the latest of these
+-- ResponseMayBeSent: it, where no rule stands
+-- IsLeastReuseRule: a rule that stands, and none before it
+-- RuleNamesTheResponse: the response that a rule is named with
+-- Below them are the statements that the laws of `src/laws.rt` prove.
+use Rattle.std.specs.Prelude.{◌≡◌, ℕ, ◌<◌, ◌≤◌, ◌⊎◌, true, false, List, Option, Some, None}
+use Rattle.std.specs.List.{Contains}
+use Rattle.hx_target.specs.Keys.{same_key}
+use Rattle.hx_vary.specs.Vary.{vary_matches}
+use Rattle.hx_hop.specs.declared.request_view.Asked.{Asked}
+use Rattle.hx_store.specs.Stored.{Stored}
+use Rattle.hx_policy.specs.declared.words.Policy.{Policy}
+use Rattle.hx_store.specs.Serials.{Distinct}
+use Rattle.hx_store.specs.Shelf.{serials, find_entry}
+use Rattle.hx_reuse.specs.Chosen.{is_more_recent, chosen_of}
+use Rattle.hx_reuse.specs.RuleNames.{reuse_rule_number, reuse_rule_reason, reuse_rule_detail, error_rule_word}
+use Rattle.hx_reuse.specs.Rules.{reuse_rule_applies, names_chosen, decision_of}
+use Rattle.hx_reuse.specs.declared.rule.ReuseRule.{ReuseRule}
+use Rattle.hx_reuse.specs.declared.rule.ReuseRule.TheVariants.{Operator}
+use Rattle.hx_reuse.specs.declared.rule.ErrorRule.{ErrorRule}
+use Rattle.hx_reuse.specs.declared.decision.Decision.TheVariants.{Hit, Forward}
+
+-- the response could answer the request: it is held, for the request's key, and was asked for with the same nominated
+-- values (RFC 9111, sections 4 and 4.1)
+pub record ResponseIsCandidate (held : List Stored) (asked : Asked) (response : Stored) : Type 0 where
+  pub is_held : Contains held response
+  pub has_the_key : same_key response.key asked.target.key ≡ true
+  pub has_the_values : vary_matches response.nominated asked.fields ≡ true
+
+-- of all that could answer none comes later (RFC 9111, section 4)
+pub record ResponseIsChosen (held : List Stored) (asked : Asked) (response : Stored) : Type 0 where
+  pub is_candidate : ResponseIsCandidate held asked response
+  pub none_later : (other : Stored) → ResponseIsCandidate held asked other → is_more_recent other response ≡ false
+
+-- the chosen response has this serial, and no rule stands
+pub record ResponseMayBeSent (policy : Policy) (held : List Stored) (asked : Asked) (now serial : ℕ) : Type 0 where
+  pub response : Stored
+  pub chosen_is : chosen_of held asked ≡ Some response
+  pub serial_is : response.serial ≡ serial
+  pub no_rule : (rule : ReuseRule) → reuse_rule_applies rule policy held asked now ≡ false
+
+-- the rule stands, and none of a smaller number does
+pub record IsLeastReuseRule (policy : Policy) (held : List Stored) (asked : Asked) (now : ℕ)
+    (rule : ReuseRule) : Type 0 where
+  pub it_applies : reuse_rule_applies rule policy held asked now ≡ true
+  pub none_before : (other : ReuseRule) → reuse_rule_number other < reuse_rule_number rule
+      → reuse_rule_applies other policy held asked now ≡ false
+
+-- a rule on the chosen response is named with it, the others are named alone
+abbrev pub RuleNamesTheResponse : List Stored → Asked → ReuseRule → Option ℕ → Type 0
+RuleNamesTheResponse held asked rule named =
+    ((names_chosen rule ≡ false) × (named ≡ None))
+    ⊎ ((names_chosen rule ≡ true)
+    × ((response : Stored) × (chosen_of held asked ≡ Some response) × (named ≡ Some response.serial)))
+
+-- ---- the statements
+
+abbrev pub MostRecentIsChosen : Type 0
+MostRecentIsChosen = (held : List Stored) (asked : Asked) (response : Stored) →
+    chosen_of held asked ≡ Some response → ResponseIsChosen held asked response
+
+-- "the most recent one (as determined by the Date header field)" (RFC 9111, section 4); own: of one
+-- Date the greater serial
+abbrev pub ChosenByDate : Type 0
+ChosenByDate = (held : List Stored) (asked : Asked) (response other : Stored) →
+    chosen_of held asked ≡ Some response → ResponseIsCandidate held asked other →
+    (other.times.date ≤ response.times.date) × (other.times.date ≡ response.times.date → other.serial ≤ response.serial)
+
+abbrev pub OneIsChosenWhereOneCan : Type 0
+OneIsChosenWhereOneCan = (held : List Stored) (asked : Asked) (response : Stored) →
+    chosen_of held asked ≡ None → ResponseIsCandidate held asked response → ⊥
+
+-- where each serial names one response, the latest is one
+abbrev pub NoOtherIsChosen : Type 0
+NoOtherIsChosen = (held : List Stored) (asked : Asked) (response : Stored) →
+    Distinct (serials held) → ResponseIsChosen held asked response → chosen_of held asked ≡ Some response
+
+abbrev pub WhatMayBeSentIsSent : Type 0
+WhatMayBeSentIsSent = (policy : Policy) (held : List Stored) (asked : Asked) (now serial : ℕ) →
+    ResponseMayBeSent policy held asked now serial → decision_of policy held asked now ≡ Hit serial
+
+abbrev pub NothingElseIsSent : Type 0
+NothingElseIsSent = (policy : Policy) (held : List Stored) (asked : Asked) (now serial : ℕ) →
+    decision_of policy held asked now ≡ Hit serial → ResponseMayBeSent policy held asked now serial
+
+-- what is sent is held, for this request
+abbrev pub SentResponseIsHeld : Type 0
+SentResponseIsHeld = (policy : Policy) (held : List Stored) (asked : Asked) (now serial : ℕ) →
+    decision_of policy held asked now ≡ Hit serial
+    → (response : Stored) × ResponseIsChosen held asked response × (response.serial ≡ serial)
+
+-- where each serial names one response, that of a hit finds the chosen one in the store
+abbrev pub SentResponseIsFound : Type 0
+SentResponseIsFound = (policy : Policy) (held : List Stored) (asked : Asked) (now serial : ℕ) →
+    Distinct (serials held) → decision_of policy held asked now ≡ Hit serial
+    → find_entry serial held ≡ chosen_of held asked
+
+abbrev pub LeastReuseRuleIsNamed : Type 0
+LeastReuseRuleIsNamed = (policy : Policy) (held : List Stored) (asked : Asked) (now : ℕ) (rule : ReuseRule)
+    (named : Option ℕ) →
+    decision_of policy held asked now ≡ Forward rule named
+    → IsLeastReuseRule policy held asked now rule × RuleNamesTheResponse held asked rule named
+
+abbrev pub ForwardsWhereARuleApplies : Type 0
+ForwardsWhereARuleApplies = (policy : Policy) (held : List Stored) (asked : Asked) (now : ℕ) (rule : ReuseRule) →
+    IsLeastReuseRule policy held asked now rule → (named : Option ℕ) × (decision_of policy held asked now
+    ≡ Forward rule named)
+
+-- own: what the operator keeps from the store goes forward by its rule, whatever is held
+abbrev pub ForwardsWithoutCache : Type 0
+ForwardsWithoutCache = (policy : Policy) (held : List Stored) (asked : Asked) (now : ℕ) →
+    policy.caches ≡ false → decision_of policy held asked now ≡ Forward Operator None
+
+-- a reader of Cache-Status knows the rule (RFC 9211, sections 2.2 and 2.8)
+abbrev pub WordsOfReuseRulesDiffer : Type 0
+WordsOfReuseRulesDiffer =
+    (rule other : ReuseRule) → reuse_rule_reason rule ≡ reuse_rule_reason other → reuse_rule_detail rule
+    ≡ reuse_rule_detail other → rule ≡ other
+
+abbrev pub WordsOfErrorRulesDiffer : Type 0
+WordsOfErrorRulesDiffer = (rule other : ErrorRule) → error_rule_word rule ≡ error_rule_word other → rule ≡ other

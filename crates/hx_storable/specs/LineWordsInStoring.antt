@@ -1,0 +1,76 @@
+-- What the words of the operator's line keep from the store, and that a line without words keeps
+-- nothing more from it than the other rules do: the statements that the laws of `src/laws.rt`
+-- prove.
+--
+-- facts_with_policy: the same, over another line     rules_without_words: the rules that ask for no word
+use Rattle.std.specs.Prelude.{◌≡◌, ◌≤◌, Bool, not, true, false, List, [], ◌∷◌, find, codes}
+use Rattle.hx_fields.specs.FieldLines.{has_field as has_line}
+use Rattle.hx_directives.specs.declared.names.Directive.TheVariants as directive
+use Rattle.hx_hop.specs.declared.request_view.Asked.{Asked}
+use Rattle.hx_hop.specs.declared.response_view.Answered.{Answered}
+use Rattle.hx_policy.specs.Policies.{is_heuristic, plain}
+use Rattle.hx_policy.specs.declared.words.Policy.{Policy}
+use Rattle.hx_storable.specs.declared.known_facts.StoringFacts.{StoringFacts}
+use Rattle.hx_storable.specs.declared.rule.StoreRule.{StoreRule}
+use Rattle.hx_storable.specs.declared.rule.StoreRule.TheVariants.{Operator, Method, Bypass, Status, MustUnderstand}
+use Rattle.hx_storable.specs.declared.rule.StoreRule.TheVariants.{ResponseNoStore, RequestNoStore, Private}
+use Rattle.hx_storable.specs.declared.rule.StoreRule.TheVariants.{Authorization, NothingAllows, VaryStar}
+use Rattle.hx_storable.specs.declared.rule.StoreRule.TheVariants.{ConnectionField, NothingToReuse, TooLarge, Overtaken}
+use Rattle.hx_storable.specs.declared.rule.StoreRule.TheVariants.{Serials, SetCookie, ErrorStatus}
+use Rattle.hx_storable.specs.Rules.{response_has, storing_rule_applies, storage_rule_of}
+use Rattle.hx_storable.specs.Storable.{ResponseIsStored, ResponseIsWithinTheWords}
+
+-- where the operator stores no cookies, a response that sets one and hasn't public (RFC 9111, section 7.3)
+abbrev pub CookieForbidsStoring : Type 0
+CookieForbidsStoring = (asked : Asked) (answered : Answered) (facts : StoringFacts) →
+    facts.policy.stores_cookies ≡ false → has_line answered.fields (codes "Set-Cookie") ≡ true
+    → response_has answered directive.Public ≡ false →
+    ResponseIsStored asked answered facts → ⊥
+
+-- where he stores no errors, a status of 400 or above that isn't heuristically cacheable
+abbrev pub ErrorForbidsStoring : Type 0
+ErrorForbidsStoring = (asked : Asked) (answered : Answered) (facts : StoringFacts) →
+    facts.policy.stores_errors ≡ false → 400 ≤ answered.status → is_heuristic answered.status ≡ false
+    → ResponseIsStored asked answered facts → ⊥
+
+-- the same, with another policy
+abbrev pub facts_with_policy : StoringFacts → Policy → StoringFacts
+facts_with_policy facts policy = record facts { policy = policy }
+
+-- what is stored is stored with a line that has no words too
+abbrev pub WordsOnlyForbid : Type 0
+WordsOnlyForbid = (asked : Asked) (answered : Answered) (facts : StoringFacts) →
+    ResponseIsStored asked answered facts → ResponseIsStored asked answered (facts_with_policy facts (plain true))
+
+-- and what is stored with such a line is stored, where the words allow it
+abbrev pub WordsForbidNothingElse : Type 0
+WordsForbidNothingElse = (asked : Asked) (answered : Answered) (facts : StoringFacts) →
+    ResponseIsStored asked answered (facts_with_policy facts (plain facts.policy.caches))
+    → ResponseIsWithinTheWords answered facts.policy
+    → ResponseIsStored asked answered facts
+
+-- a line without words stands against what it keeps from the store, and no rule of the words stands
+abbrev pub PlainLineIsTheOperators : Type 0
+PlainLineIsTheOperators = (caches : Bool) (asked : Asked) (answered : Answered) (facts : StoringFacts) →
+    storing_rule_applies Operator asked answered (facts_with_policy facts (plain caches)) ≡ not caches
+
+abbrev pub PlainLineStoresCookies : Type 0
+PlainLineStoresCookies = (caches : Bool) (asked : Asked) (answered : Answered) (facts : StoringFacts) →
+    storing_rule_applies SetCookie asked answered (facts_with_policy facts (plain caches)) ≡ false
+
+abbrev pub PlainLineStoresErrors : Type 0
+PlainLineStoresErrors = (caches : Bool) (asked : Asked) (answered : Answered) (facts : StoringFacts) →
+    storing_rule_applies ErrorStatus asked answered (facts_with_policy facts (plain caches)) ≡ false
+
+-- the rules that ask for no word
+abbrev pub rules_without_words : List StoreRule
+rules_without_words =
+    Operator ∷ Method ∷ Bypass ∷ Status ∷ MustUnderstand ∷ ResponseNoStore ∷ RequestNoStore ∷ Private ∷ Authorization
+    ∷ NothingAllows ∷ VaryStar ∷ ConnectionField ∷ NothingToReuse ∷ TooLarge ∷ Overtaken ∷ Serials ∷ []
+
+-- so the least rule is the least of those
+abbrev pub PlainLineAsksOnlyOtherRules : Type 0
+PlainLineAsksOnlyOtherRules = (caches : Bool) (asked : Asked) (answered : Answered) (facts : StoringFacts) →
+    storage_rule_of asked answered (facts_with_policy facts (plain caches))
+    ≡ find (λ rule. storing_rule_applies rule asked answered
+    (facts_with_policy facts (plain caches))) rules_without_words

@@ -1,0 +1,21 @@
+-- That the tables of the storing rules agree with each other: the list, the numbers, and the rules of the line's words.
+-- Each is a statement that the law `the_tables_of_the_storing_rules_agree` proves.
+use Rattle.std.specs.Prelude.{◌≡◌, ◌==◌, [], ◌∷◌, ◌++◌, map, find, Some}
+use Rattle.hx_storable.specs.Rules.{rules_of_words, storage_rules, storing_rule_number}
+use Rattle.hx_storable.specs.LineWordsInStoring.{rules_without_words}
+use Rattle.hx_storable.specs.declared.rule.StoreRule.{StoreRule}
+
+-- the rules are listed by their numbers, each of which occurs once
+abbrev pub StoringRulesAreInOrder : Type 0
+StoringRulesAreInOrder =
+    map storing_rule_number storage_rules
+    ≡ 0 ∷ 1 ∷ 2 ∷ 3 ∷ 4 ∷ 5 ∷ 6 ∷ 7 ∷ 8 ∷ 9 ∷ 10 ∷ 11 ∷ 12 ∷ 13 ∷ 14 ∷ 15 ∷ 16 ∷ 17 ∷ []
+
+-- and none is left out
+abbrev pub EachStoringRuleIsListed : Type 0
+EachStoringRuleIsListed = (rule : StoreRule) → find
+    (λ other. storing_rule_number other == storing_rule_number rule) storage_rules ≡ Some rule
+
+-- those of the line's words stand behind all others
+abbrev pub RulesOfWordsComeLast : Type 0
+RulesOfWordsComeLast = storage_rules ≡ rules_without_words ++ rules_of_words

@@ -1,0 +1,89 @@
+//! Whether a 304 answers a stored response (RFC 9111, section 4.3.4).
+//!
+//! The definition is in `specs/Answering.antt`. No function here takes memory.
+ghost use Rattle.std.specs.Prelude.{◌≡◌, codes, option_copied};
+ghost use Rattle.hx_vary.specs.Vary.{is_same_value};
+ghost use Rattle.hx_validate.specs.EntityTags.{entity_tag_of};
+ghost use Rattle.hx_validate.specs.Validators.{conditions_of};
+ghost use Rattle.hx_validate.specs.Answering.{validators_agree, tag_agrees_with, answers304, modified_agrees};
+ghost use Rattle.hx_validate.specs.Answering.{are_same_conditions};
+ghost use Rattle.hx_validate.specs.Answering.{tag_agrees};
+
+use crate::entity_tags::{EntityTag, strong_eq, weak_eq};
+use crate::stored_validators::{modified_value, tag_value};
+use hx_fields::{Bytes, Fields};
+use hx_hop::{Answered, Conditions};
+use hx_store::Entry;
+
+fn is_same_value(held: Option<&[u8]>, sent: Option<&Bytes>) -> bool
+    ensures { result ≡ is_same_value (option_copied held.entry) (option_copied sent.entry) }
+{
+    match (held, sent) {
+        (None, None) => true,
+        (Some(held), Some(sent)) => held == sent.as_slice(),
+        _ => false,
+    }
+}
+
+/// Whether the validators that were sent are those of these fields.
+fn validators_are_as_sent(fields: &Fields, sent: &Conditions) -> bool
+    ensures { result ≡ are_same_conditions (conditions_of fields.now) sent.now }
+{
+    is_same_value(tag_value(fields), sent.etag.as_ref())
+        && is_same_value(modified_value(fields), sent.modified.as_ref())
+}
+
+/// Whether a tag of a 304 is equal to the one that was sent, by the strength of its own.
+fn tag_agrees_with(held: &[u8], given: &[u8]) -> bool
+    ensures { result ≡ tag_agrees_with (entity_tag_of given.now) held.now given.now }
+{
+    match EntityTag::of(given) {
+        Some(tag) => {
+            if tag.weak {
+                weak_eq(held, given)
+            } else {
+                strong_eq(held, given)
+            }
+        }
+        None => false,
+    }
+}
+
+fn tag_agrees(held: Option<&Bytes>, given: Option<&[u8]>) -> bool
+    ensures { result ≡ tag_agrees (option_copied held.entry) (option_copied given.entry) }
+{
+    match (held, given) {
+        (Some(held), Some(given)) => tag_agrees_with(held.as_slice(), given),
+        _ => false,
+    }
+}
+
+fn modified_agrees(held: Option<&Bytes>, given: Option<&[u8]>) -> bool
+    ensures { result ≡ modified_agrees (option_copied held.entry) (option_copied given.entry) }
+{
+    match (held, given) {
+        (Some(held), Some(given)) => held.as_slice() == given,
+        _ => false,
+    }
+}
+
+/// Whether the validators of a 304 are those that were sent.
+fn validators_agree(sent: &Conditions, fields: &Fields) -> bool
+    ensures { result ≡ validators_agree sent.now fields.now }
+{
+    if fields.has(b"ETag") {
+        tag_agrees(sent.etag.as_ref(), fields.only_value(b"ETag"))
+    } else if fields.has(b"Last-Modified") {
+        modified_agrees(sent.modified.as_ref(), fields.only_value(b"Last-Modified"))
+    } else {
+        true
+    }
+}
+
+/// Whether a 304 to these conditions answers a stored response, which the caller knows to be held: its validators
+/// are still those that were sent, and those of the 304, if it has any, agree with them.
+pub fn answers(entry: &Entry, sent: &Conditions, answered: &Answered) -> bool
+    ensures { result ≡ answers304 entry.now sent.now answered.now }
+{
+    validators_are_as_sent(&entry.fields, sent) && validators_agree(sent, &answered.fields)
+}

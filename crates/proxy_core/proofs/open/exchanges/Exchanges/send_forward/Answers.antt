@@ -1,0 +1,89 @@
+use Rattle.std.proofs.Common.{◌≡◌, ap, sym, ◌∙◌, subst, List, ℕ, map, Some, None, is_some}
+use Rattle.std.proofs.lemmas.Bool.{false≢true}
+use Rattle.std.specs.Ordering.{nat_cmp}
+use Rattle.std.specs.BTreeMap.{get}
+use Rattle.std.specs.Map.{values_of}
+use Rattle.proxy_core.specs.declared.open.exchange.Exchange.{Exchange}
+use Rattle.proxy_core.specs.State.{exchange_sent_forward}
+use Rattle.proxy_core.specs.Leading.{is_forwarded}
+use Rattle.proxy_core.proofs.Gets as gets
+use Rattle.proxy_core.proofs.Gets.{gets-on_all, sent_out-asked}
+use Rattle.proxy_core.specs.Releases.{may_be_released, ReleasedArrivalsPass}
+use Rattle.proxy_core.proofs.Releases.{pass-changed, released-sent}
+use Rattle.proxy_core.proofs.Waiters.{AllIndexed, waiters-written}
+use Rattle.proxy_core.specs.Arrivals.{map_exchanges, IsIdIndexOf, arrival_of}
+use Rattle.proxy_core.proofs.ExchangeLists.{sent_out-id}
+use Rattle.proxy_core.proofs.Arrivals.{indexed_on_all, values_on_all, sent_out-others, sent_written, same_all, has_number}
+use Rattle.proxy_core.proofs.open.exchanges.Exchanges.send_forward.Goals as goal
+
+pub settle-requires : goal.settle-requires
+settle-requires c =
+    let s = c.self.inside in
+    let is : (c.get_mut.follows.lender c.go_forward.new.self).entries ≡ map_exchanges (exchange_sent_forward c.args.id c.args.now c.args.rule c.args.condition) c.self.inside.by_arrival.entries =
+    (c.get_mut.follows.holds c.go_forward.new.self).0
+    ∙ sent_written c.args.id c.args.now c.args.rule c.args.condition c.in-Some.arrival.now c.in-Some-get_mut.x.now c.go_forward.new.self c.self.inside.by_arrival.entries (λ id. get nat_cmp c.self.inside.arrivals id) c.self.invariant.indexes.ids
+    c.in-Some.ensures.value c.in-Some-get_mut.ensures.value c.go_forward.ensures in
+    subst (ReleasedArrivalsPass (may_be_released s.released)) (sym is)
+    (pass-changed (may_be_released s.released) (exchange_sent_forward c.args.id c.args.now c.args.rule c.args.condition) (released-sent c.args.id c.args.now c.args.rule c.args.condition) s.by_arrival.entries c.self.invariant.releases.within)
+
+pub invariant_of-self : goal.invariant_of-self
+invariant_of-self c =
+    let s = c.self.inside in
+    let is : (c.get_mut.follows.lender c.go_forward.new.self).entries ≡ map_exchanges (exchange_sent_forward c.args.id c.args.now c.args.rule c.args.condition) c.self.inside.by_arrival.entries =
+    (c.get_mut.follows.holds c.go_forward.new.self).0
+    ∙ sent_written c.args.id c.args.now c.args.rule c.args.condition c.in-Some.arrival.now c.in-Some-get_mut.x.now c.go_forward.new.self c.self.inside.by_arrival.entries (λ id. get nat_cmp c.self.inside.arrivals id) c.self.invariant.indexes.ids
+    c.in-Some.ensures.value c.in-Some-get_mut.ensures.value c.go_forward.ensures in
+    record {
+      indexes = record {
+        ids = subst (λ (zs : List (ℕ × Exchange)). IsIdIndexOf zs (λ id. get nat_cmp s.arrivals id)) (sym is)
+            (indexed_on_all (exchange_sent_forward c.args.id c.args.now c.args.rule c.args.condition) (sent_out-id c.args.id c.args.now c.args.rule c.args.condition) s.by_arrival.entries _ c.self.invariant.indexes.ids);
+        waiters = subst (AllIndexed c.leave.new.self) (sym (c.get_mut.follows.holds c.go_forward.new.self).0)
+            (waiters-written c.in-Some.arrival.now c.in-Some-get_mut.x.now c.go_forward.new.self s.by_arrival.entries s.waiting c.leave.new.self (sym c.in-Some-get_mut.ensures.value)
+            (ap (λ (x : Exchange). is_forwarded x.stage) c.go_forward.ensures) c.leave.ensures.left c.self.invariant.indexes.waiters);
+      };
+      releases = c.settle.ensures.settled;
+      asking = subst (gets.AllIndexed s.gets) (sym is) (gets-on_all (exchange_sent_forward c.args.id c.args.now c.args.rule c.args.condition) (sent_out-asked c.args.id c.args.now c.args.rule c.args.condition) s.by_arrival.entries s.gets c.self.invariant.asking);
+      trim_waits = c.leave.ensures.trim c.self.invariant.trim_waits;
+      trim_gets = c.self.invariant.trim_gets;
+    }
+
+pub returns-in-Some-get_mut : goal.returns-in-Some-get_mut
+returns-in-Some-get_mut c =
+    let is : (c.get_mut.follows.lender c.go_forward.new.self).entries ≡ map_exchanges (exchange_sent_forward c.args.id c.args.now c.args.rule c.args.condition) c.self.inside.by_arrival.entries =
+    (c.get_mut.follows.holds c.go_forward.new.self).0
+    ∙ sent_written c.args.id c.args.now c.args.rule c.args.condition c.in-Some.arrival.now c.in-Some-get_mut.x.now c.go_forward.new.self c.self.inside.by_arrival.entries (λ id. get nat_cmp c.self.inside.arrivals id) c.self.invariant.indexes.ids
+    c.in-Some.ensures.value c.in-Some-get_mut.ensures.value c.go_forward.ensures in
+    ap values_of is
+    ∙ (values_on_all (exchange_sent_forward c.args.id c.args.now c.args.rule c.args.condition) c.self.inside.by_arrival.entries
+    ∙ ap (map (exchange_sent_forward c.args.id c.args.now c.args.rule c.args.condition)) c.self.view_is)
+
+pub returns-in_default-get_mut : goal.returns-in_default-get_mut
+returns-in_default-get_mut c =
+    let es = c.self.inside.by_arrival.entries in
+    let id = c.args.id in
+    let here : arrival_of id es ≡ Some c.in-Some.arrival.now = sym (c.self.invariant.indexes.ids.indexed id) ∙ sym c.in-Some.ensures.value in
+    absurd (false≢true (ap is_some c.in_default-get_mut.ensures.value ∙ has_number id c.in-Some.arrival.now es here))
+
+pub returns-in_default : goal.returns-in_default
+returns-in_default c =
+    let es = c.self.inside.by_arrival.entries in
+    let id = c.args.id in
+    let f : Exchange → Exchange = exchange_sent_forward id c.args.now c.args.rule c.args.condition in
+    let none : arrival_of id es ≡ None = sym (c.self.invariant.indexes.ids.indexed id) ∙ sym c.in_default.ensures.value in
+    sym c.self.view_is
+    ∙ (ap values_of (sym (same_all id f (sent_out-others id c.args.now c.args.rule c.args.condition) es none))
+    ∙ (values_on_all f es ∙ ap (map f) c.self.view_is))
+
+pub invariant_of-self-in_default-get_mut : goal.invariant_of-self-in_default-get_mut
+invariant_of-self-in_default-get_mut c =
+    let es = c.self.inside.by_arrival.entries in
+    let id = c.args.id in
+    let here : arrival_of id es ≡ Some c.in-Some.arrival.now = sym (c.self.invariant.indexes.ids.indexed id) ∙ sym c.in-Some.ensures.value in
+    absurd (false≢true (ap is_some c.in_default-get_mut.ensures.value ∙ has_number id c.in-Some.arrival.now es here))
+
+pub invariant_of-self-in_default-get_mut-2 : goal.invariant_of-self-in_default-get_mut-2
+invariant_of-self-in_default-get_mut-2 c =
+    let es = c.self.inside.by_arrival.entries in
+    let id = c.args.id in
+    let here : arrival_of id es ≡ Some c.in-Some.arrival.now = sym (c.self.invariant.indexes.ids.indexed id) ∙ sym c.in-Some.ensures.value in
+    absurd (false≢true (ap is_some c.in_default-get_mut.ensures.value ∙ has_number id c.in-Some.arrival.now es here))

@@ -1,5 +1,0 @@
-use Rattle.proxy_engine.proofs.Doing.{has_one_trace}
-use Rattle.proxy_engine.proofs.laws.a_life_has_one_trace.Goals as goal
-
-pub returns : goal.returns
-returns c = has_one_trace c.a_request_is_asked_in_one_way.ensures

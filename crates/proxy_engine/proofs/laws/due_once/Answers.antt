@@ -1,5 +1,0 @@
-use Rattle.proxy_engine.proofs.Once.{due_first_once}
-use Rattle.proxy_engine.proofs.laws.due_once.Goals as goal
-
-pub returns : goal.returns
-returns c = due_first_once

@@ -1,0 +1,139 @@
+//! The ends that are open, one after another: from which of them bytes may come, and which have failed.
+ghost use Rattle.std.specs.Prelude.{◌≡◌, ◌≢◌, ℕ, ◌+◌, ◌≤◌, ◌^◌, ◌++◌, length, map, nat_lt, true, OnOk, OnErr};
+ghost use Rattle.std.specs.Ordering.{nat_cmp};
+ghost use Rattle.std.specs.BTreeMap.{get};
+ghost use Rattle.proxy_engine.specs.Held.{has_flag, connection_may_send, connection_is_open, link_may_send};
+ghost use Rattle.proxy_engine.specs.Held.{link_failed};
+ghost use Rattle.proxy_engine.specs.Marked.{RelatesAtEachPlace};
+ghost use Rattle.proxy_engine.specs.ReadyList.{entries_below};
+ghost use Rattle.proxy_engine.specs.Reading.{places_with_flag, client_end_at, link_end_at, IsBetweenRequests};
+ghost use Rattle.proxy_engine.specs.State.{ConnectionHolds};
+ghost use Rattle.proxy_engine.specs.EngineModel.{ConnectionModel};
+ghost use Rattle.proxy_engine.specs.Room.{HasSpareBytes, most_bytes_of_read};
+
+use crate::endpoints::endpoint::Endpoint;
+use crate::endpoints::ends::{Connection, Link};
+use crate::endpoints::numbers::{connection_number, link_number};
+use crate::work::End;
+use std::alloc::{AllocError, Global};
+use std::collections::BTreeMap;
+
+/// The most bytes of one read.
+const PIECE: usize = 4096;
+
+/// Whether bytes may come from the client.
+fn reads(connection: &Connection) -> bool
+    ensures { result ≡ connection_may_send connection.now }
+{
+    !connection.gone && !connection.ended && !connection.activity.has_exchange()
+}
+
+/// Whether the client is between two requests.
+pub(crate) fn is_between(connection: &Connection) -> bool
+    ensures { (c : ConnectionModel) → ConnectionHolds connection.now c → result ≡ true → IsBetweenRequests c }
+{
+    reads(connection) && connection.reader.is_between_requests()
+}
+
+/// Whether bytes may come from the origin.
+fn answers(link: &Link) -> bool
+    ensures { result ≡ link_may_send link.now }
+{
+    link.failed.is_none() && !link.ended
+}
+
+/// How many of the connections at places below a count aren't gone.
+pub(crate) fn open_count(ends: &BTreeMap<u64, Connection>, count: u64) -> usize
+    ensures { result ≡ length (places_with_flag (has_flag connection_is_open) 0 (entries_below ends.now count)) }
+{
+    let mut open = 0;
+    for (i, connection) in ends {
+        if *i < count && !connection.gone {
+            open += 1;
+        }
+    }
+    open
+}
+
+/// Whether fewer than this of the connections at places below a count aren't gone. They are counted only where there
+/// are as many ends, without the one at the count, where the next connection will be.
+pub(crate) fn are_fewer_open(ends: &BTreeMap<u64, Connection>, count: u64, most: usize) -> bool
+    ensures { result ≡ nat_lt
+        (length (places_with_flag (has_flag connection_is_open) 0 (entries_below ends.now count))) most }
+{
+    let beyond = if ends.contains_key(&count) { 1 } else { 0 };
+    if ends.len().saturating_sub(beyond) < most {
+        return true;
+    }
+    open_count(ends, count) < most
+}
+
+/// Adds the clients from which bytes may come, of those at places below a count.
+pub(crate) fn push_clients(
+    ends: &BTreeMap<u64, Connection>,
+    count: u64,
+    list: &mut Vec<End>,
+) -> Result<(), AllocError>
+    ensures { OnOk result (list.new.items ≡ list.old.items
+        ++ map client_end_at (places_with_flag (has_flag connection_may_send) 0 (entries_below ends.now count))) }
+{
+    for (i, connection) in ends {
+        if *i < count && reads(connection) {
+            list.push(End::Client(connection_number(*i)))?;
+        }
+    }
+    Ok(())
+}
+
+/// Adds the links from which bytes may come, of those at places below a count. The first link has this number.
+pub(crate) fn push_links(
+    ends: &BTreeMap<u64, Link>,
+    count: u64,
+    first: u64,
+    list: &mut Vec<End>,
+) -> Result<(), AllocError>
+    ensures { OnOk result (first + count ≤ 2 ^ 64 → list.new.items ≡ list.old.items
+        ++ map (link_end_at first) (places_with_flag (has_flag link_may_send) 0 (entries_below ends.now count))) }
+{
+    for (j, link) in ends {
+        if *j < count && answers(link) {
+            list.push(End::Link(link_number(first, *j)))?;
+        }
+    }
+    Ok(())
+}
+
+/// Adds the links that have failed, of those at places below a count. The first link has this number.
+pub(crate) fn push_failed(
+    ends: &BTreeMap<u64, Link>,
+    count: u64,
+    first: u64,
+    list: &mut Vec<End>,
+) -> Result<(), AllocError>
+    ensures { OnOk result (first + count ≤ 2 ^ 64 → list.new.items ≡ list.old.items
+        ++ map (link_end_at first) (places_with_flag (has_flag link_failed) 0 (entries_below ends.now count))) }
+{
+    for (j, link) in ends {
+        if *j < count && link.failed.is_some() {
+            list.push(End::Link(link_number(first, *j)))?;
+        }
+    }
+    Ok(())
+}
+
+/// Makes room for one piece at a place, if an end is there.
+pub(crate) fn reserve_at<E: Endpoint>(
+    ends: &mut BTreeMap<u64, E>,
+    place: u64,
+) -> Result<(), AllocError>
+    ensures grows { RelatesAtEachPlace E.Grows ends.old ends.new }
+    ensures others { (q : ℕ) → q ≢ place → get nat_cmp ends.new q ≡ get nat_cmp ends.old q }
+    ensures size { length ends.new.entries ≡ length ends.old.entries }
+    ensures ok { OnOk result (HasSpareBytes E.spare (get nat_cmp ends.new place) most_bytes_of_read) }
+    ensures err { OnErr result (get nat_cmp ends.new place ≡ get nat_cmp ends.old place) }
+{
+    match ends.get_mut(&place) {
+        Some(end) => end.reserve(PIECE),
+        None => Ok(()),
+    }
+}
