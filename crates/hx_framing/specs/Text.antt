@@ -1,7 +1,7 @@
 -- The bytes of requests and responses that are sent (RFC 9112, sections 3 to 7).
 --
 -- field_line_text, field_lines_text, field_of_added_line, content_length_line, connection_close_line: lines of a head
--- request_text, response_text: whole messages
+-- request_text, response_text, continue_text: whole messages
 use Rattle.std.specs.Prelude.{ℕ, ◌++◌, Bool, true, if◌then◌else◌, List, [], length, codes, decimal, Option, Some, None}
 use Rattle.std.specs.List.{flat_map}
 use Rattle.hx_fields.specs.declared.field_line.Field.{Field}
@@ -58,3 +58,7 @@ abbrev pub response_text : ℕ → List Field → Option ℕ → Bool → List �
 response_text status fields length close content =
     status_line_text status ++ field_lines_text fields ++ content_length_line length ++ connection_close_line close
     ++ crlf ++ content
+
+-- an interim response that asks for the content (RFC 9110, section 15.2.1): a status line with its phrase, and no lines
+abbrev pub continue_text : List ℕ
+continue_text = codes "HTTP/1.1 100 Continue" ++ crlf ++ crlf

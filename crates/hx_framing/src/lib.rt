@@ -54,5 +54,5 @@ pub use crate::messages::{Next, Request, Response};
 pub use crate::readers::request_reader::RequestReader;
 pub use crate::readers::response_reader::ResponseReader;
 pub use crate::writing::{
-    AddedLine, ResponseLines, write_request, write_response, write_response_with,
+    AddedLine, ResponseLines, write_continue, write_request, write_response, write_response_with,
 };

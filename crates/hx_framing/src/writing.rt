@@ -2,7 +2,7 @@
 ghost use Rattle.std.specs.Prelude.{◌≡◌, ◌++◌, map, Option, OnOk, IfOk};
 ghost use Rattle.hx_framing.specs.Text.{field_line_text, field_lines_text, field_of_added_line, content_length_line};
 ghost use Rattle.hx_framing.specs.Text.{connection_close_line, request_line_text};
-ghost use Rattle.hx_framing.specs.Text.{status_line_text, request_text, response_text};
+ghost use Rattle.hx_framing.specs.Text.{status_line_text, request_text, response_text, continue_text};
 
 use crate::messages::Request;
 use hx_fields::{Bytes, Field, Fields};
@@ -177,4 +177,12 @@ pub fn write_response_with(
     text.extend_from_slice(b"\r\n")?;
     text.extend_from_slice(content)?;
     Ok(Bytes::from_vec(text))
+}
+
+/// The bytes of an interim 100 (Continue), for a client that waits for it before it sends a content (RFC 9110,
+/// section 15.2.1).
+pub fn write_continue(alloc: Global) -> Result<Bytes, AllocError>
+    ensures { IfOk result (λ text. text ≡ continue_text) }
+{
+    Bytes::copy_of(alloc, b"HTTP/1.1 100 Continue\r\n\r\n")
 }

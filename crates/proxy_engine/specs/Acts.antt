@@ -4,12 +4,13 @@
 -- effects_of_outcome, model_after_outcome: its effects there, and the model behind it
 -- ActIsDone: an act was done                             ActMayForward: an act that may need a link
 use Rattle.std.specs.Prelude.{◌≤◌, ◌≡◌, ℕ, ◌+◌, ◌<◌, ◌^◌, List, [], ◌∷◌, ◌++◌, length, Bool, true, false, ◌||◌, Option}
-use Rattle.std.specs.Prelude.{None, Some, if◌then◌else◌, slice_set, codes, Result, Ok, Err, unwrap_or}
+use Rattle.std.specs.Prelude.{None, Some, if◌then◌else◌, slice_set, Result, Ok, Err, unwrap_or}
 use Rattle.hx_framing.specs.declared.messages.Request.{Request}
 use Rattle.hx_framing.specs.declared.frame_fault.FrameFault.TheVariants as frame
 use Rattle.hx_framing.specs.declared.messages.Next.{Next}
 use Rattle.hx_framing.specs.declared.messages.Next.TheVariants as next
 use Rattle.hx_framing.specs.Progress.{stream_after_answer}
+use Rattle.hx_framing.specs.Text.{continue_text}
 use Rattle.hx_hop.specs.declared.request_view.Asked.{Asked}
 use Rattle.hx_allow.specs.TableLines.{Table}
 use Rattle.hx_allow.specs.Matching.{origin_of}
@@ -131,10 +132,6 @@ pub record CoreIsStepped (s t : EngineModel) (i : ℕ) (to_head : Bool) (event :
   pub steps : StepIsAccepted s.core event outcome core
   pub emitted_is : emitted ≡ before ++ effects_of_outcome i (next_link_number s) (outcome_by_table s.core.table outcome)
   pub after_is : after ≡ model_after_outcome i to_head (outcome_by_table s.core.table outcome) (with_core t core)
-
--- 100 Continue (RFC 9110, section 15.2.1)
-abbrev pub continue_text : List ℕ
-continue_text = codes "HTTP/1.1 100 Continue\r\n\r\n"
 
 -- the proxy answers by itself, and closes
 pub record RequestIsRefused (s : EngineModel) (now i : ℕ) (why : Cause) (head : Bool) (emitted : List Effect)

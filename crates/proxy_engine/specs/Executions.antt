@@ -9,6 +9,7 @@
 use Rattle.std.specs.Prelude.{◌≡◌, ◌⊎◌, ℕ, ◌+◌, List, [], ◌∷◌, ◌++◌, Bool, true, None, Some, Ok, Err}
 use Rattle.hx_allow.specs.TableLines.{Table}
 use Rattle.hx_framing.specs.declared.messages.Next.TheVariants as next
+use Rattle.hx_framing.specs.Text.{continue_text}
 use Rattle.hx_hop.specs.declared.request_view.Asked.{Asked}
 use Rattle.hx_hop.specs.Moments.{date_text_of}
 use Rattle.hx_status.specs.declared.cause.Cause.{Cause}
@@ -25,7 +26,7 @@ use Rattle.proxy_engine.specs.Admitted.{Refusal, RequestIsAdmittedOrRefused}
 use Rattle.proxy_engine.specs.Happenings.{PlainHappening}
 use Rattle.proxy_engine.specs.EngineModel.{EngineModel, link_at, model_after_happening, happening_fault}
 use Rattle.proxy_engine.specs.Due.{Act, Abandons, Finishes, Wakes, Serves, Gives, Breaks, IsDueFirst}
-use Rattle.proxy_engine.specs.Acts.{drop_effects, ActIsDone, outcome_by_table, effects_of_outcome, continue_text}
+use Rattle.proxy_engine.specs.Acts.{drop_effects, ActIsDone, outcome_by_table, effects_of_outcome}
 use Rattle.proxy_engine.specs.Acts.{next_link_number}
 use Rattle.proxy_engine.specs.State.{new_engine_model}
 

@@ -9,6 +9,7 @@ use Rattle.hx_framing.specs.declared.frame_fault.FrameFault.{FrameFault}
 use Rattle.hx_framing.specs.declared.frame_fault.FrameFault.TheVariants as frame
 use Rattle.hx_framing.specs.declared.messages.Next.TheVariants as next
 use Rattle.hx_framing.specs.declared.messages.Response.{Response}
+use Rattle.hx_framing.specs.Text.{continue_text}
 use Rattle.hx_hop.specs.declared.request_view.Asked.{Asked}
 use Rattle.hx_hop.specs.Asking.{asked_with_judged_target, asked_with_target}
 use Rattle.hx_hop.specs.Moments.{date_text_of}
@@ -35,7 +36,7 @@ use Rattle.proxy_core_laws.proofs.SentMessages.{one_refusal, sends_one_message_e
 use Rattle.proxy_engine.specs.Admitted.{Refusal, RequestIsAdmittedOrRefused}
 use Rattle.proxy_engine.specs.EngineModel.{EngineModel, link_at}
 use Rattle.proxy_engine.specs.Due.{Act, Abandons, Finishes, Wakes, Serves, Gives, Breaks, IsDueFirst}
-use Rattle.proxy_engine.specs.Acts.{RequestArrives, RequestIsRefused as IsRefused, ConnectionIsServed, origin_address_of_line, exchange_asks_head, outcome_by_table, continue_text, drop_effects, effects_of_outcome, next_link_number}
+use Rattle.proxy_engine.specs.Acts.{RequestArrives, RequestIsRefused as IsRefused, ConnectionIsServed, origin_address_of_line, exchange_asks_head, outcome_by_table, drop_effects, effects_of_outcome, next_link_number}
 use Rattle.proxy_engine.specs.State.{new_engine_model}
 use Rattle.proxy_engine.specs.Executions.{ExecutionStep, Took, Worked, IsCoreEventOfAct, IsItemOfAct, StepLeads, StepsLead, drop_effects_of_act, connection_place_of_act, effects_of_steps}
 use Rattle.proxy_engine.proofs.Living.{Runs, executes, step_emitted}

@@ -4,7 +4,7 @@ ghost use Rattle.hx_fields.specs.Examples.{line};
 ghost use Rattle.hx_framing.specs.declared.writing.AddedLine.{AddedLine};
 ghost use Rattle.hx_framing.specs.Examples.{get_request, first_forwarded_request, stored_fields, hit_fields};
 ghost use Rattle.hx_framing.specs.HeadEnd.{empty_lines_length, head_length};
-ghost use Rattle.hx_framing.specs.Text.{field_of_added_line, request_text, response_text};
+ghost use Rattle.hx_framing.specs.Text.{field_of_added_line, request_text, response_text, continue_text};
 
 /// The request that goes to the origin in the first run.
 pub fn worked_forwarded_text()
@@ -27,6 +27,12 @@ pub fn worked_reply_texts()
     ensures closed { response_text 400 [] (Some 0) true []
         ≡ codes "HTTP/1.1 400 \r\nContent-Length: 0\r\nConnection: close\r\n\r\n" }
     ensures no_length { response_text 304 [] None false [] ≡ codes "HTTP/1.1 304 \r\n\r\n" }
+{}
+
+/// What asks a client for its content: 25 bytes.
+pub fn worked_continue_text()
+    ensures text { continue_text ≡ codes "HTTP/1.1 100 Continue\r\n\r\n" }
+    ensures size { length continue_text ≡ 25 }
 {}
 
 /// A head ends behind its first empty line; empty lines in front belong to it.

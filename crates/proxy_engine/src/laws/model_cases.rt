@@ -12,7 +12,7 @@ ghost use Rattle.proxy_engine.specs.EngineModel.{happening_is_kept, link_at};
 ghost use Rattle.proxy_engine.specs.Due.{Breaks, Gives, Abandons, Finishes, Serves, Wakes, link_result_of};
 ghost use Rattle.proxy_engine.specs.Due.{takes_no_request, fail_kind_of_fault};
 ghost use Rattle.proxy_engine.specs.Due.{due_request_action};
-ghost use Rattle.proxy_engine.specs.Acts.{Forwards, Nothing, Queues, Replies, model_after_outcome, continue_text};
+ghost use Rattle.proxy_engine.specs.Acts.{Forwards, Nothing, Queues, Replies, model_after_outcome};
 ghost use Rattle.proxy_engine.specs.Acts.{drop_effects};
 ghost use Rattle.proxy_engine.specs.Acts.{effects_of_outcome, model_after_link_freed, next_link_number};
 ghost use Rattle.proxy_engine.specs.Executions.{Took, Worked, drop_effects_of_act, connection_place_of_act};
@@ -114,7 +114,6 @@ pub fn worked_effects_of_acts()
         ∷ [] }
     ensures waits { effects_of_outcome 2 7 Queues ≡ [] }
     ensures nothing { effects_of_outcome 2 7 Nothing ≡ [] }
-    ensures continues { continue_text ≡ codes "HTTP/1.1 100 Continue\r\n\r\n" }
     ensures drops { drop_effects 5 (Some 2) ≡ effects.Drop 7 ∷ [] }
     ensures drops_none { drop_effects 5 None ≡ [] }
     ensures next { next_link_number model_with_link ≡ 6 }

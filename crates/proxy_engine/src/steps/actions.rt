@@ -1,5 +1,5 @@
 //! What is to be done on a connection where something is due.
-ghost use Rattle.std.specs.Prelude.{◌≡◌, true, IfOk, Some, is_some, codes, bytes_eq};
+ghost use Rattle.std.specs.Prelude.{◌≡◌, true, IfOk, Some, is_some};
 ghost use Rattle.hx_framing.specs.declared.messages.Request.{Request as Spelled};
 ghost use Rattle.hx_framing.specs.declared.messages.Next.{Next as NextRead};
 ghost use Rattle.hx_framing.specs.declared.messages.Next.TheVariants as next;
@@ -8,6 +8,7 @@ ghost use Rattle.proxy_engine.specs.State.{due_request_at};
 ghost use Rattle.proxy_engine.specs.Actions.{IsActionOfMessage, IsActionForNext, action_of_fault};
 
 use crate::endpoints::ends::Connection;
+use http::Method;
 use hx_framing::{FrameFault, Next, Request};
 use hx_hop::{Asked, ask};
 use hx_status::Cause;
@@ -27,12 +28,6 @@ pub(crate) enum Action {
     Close,
 }
 
-fn is_head(request: &Request) -> bool
-    ensures { result ≡ bytes_eq request.now.method (codes "HEAD") }
-{
-    request.method.as_str().as_bytes() == b"HEAD".as_slice()
-}
-
 /// A message arrives as a request, or is refused.
 fn message_action(alloc: Global, request: &Request) -> Result<Action, AllocError>
     ensures { IfOk result (λ action. IsActionOfMessage request.now action) }
@@ -40,7 +35,7 @@ fn message_action(alloc: Global, request: &Request) -> Result<Action, AllocError
     match ask(alloc, request) {
         Ok(asked) => Ok(Action::Arrive(asked)),
         Err(TargetFault::OutOfMemory) => Err(AllocError),
-        Err(fault) => Ok(Action::Refuse(Cause::Target(fault), is_head(request))),
+        Err(fault) => Ok(Action::Refuse(Cause::Target(fault), request.method == Method::HEAD)),
     }
 }
 

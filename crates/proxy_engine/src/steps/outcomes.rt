@@ -27,6 +27,7 @@ use crate::endpoints::marks;
 use crate::endpoints::numbers::link_number;
 use crate::endpoints::open_ends::Ends;
 use crate::endpoints::peeked::Peeked;
+use http::Method;
 use hx_allow::Config;
 use hx_fields::Bytes;
 use hx_framing::ResponseReader;
@@ -126,12 +127,6 @@ fn open_link(
     });
 }
 
-fn is_head(asked: &Asked) -> bool
-    ensures { result ≡ is_head asked.now }
-{
-    asked.method.as_str().as_bytes() == b"HEAD".as_slice()
-}
-
 /// Where a request goes, if it goes forward, and what its link reads. Room for the address is made before the core's
 /// step, whose outcome names the line.
 #[derive(Drop)]
@@ -159,7 +154,7 @@ impl Upstream {
         Ok(Upstream {
             address,
             max_body: config.max_body(),
-            to_head: is_head(asked),
+            to_head: asked.method == Method::HEAD,
         })
     }
 

@@ -27,6 +27,7 @@ use crate::steps::actions::{Action, action_of};
 use crate::steps::outcomes::{Upstream, as_alloc_error, put, room, send_reply};
 use crate::work::EngineFault;
 use hx_fields::Bytes;
+use hx_framing::write_continue;
 use hx_hop::Asked;
 use hx_status::Cause;
 use hx_store::Shelf;
@@ -54,7 +55,7 @@ fn send_continue(
 {
     let mut effects = room(alloc)?;
     let number = connections.number_at(i);
-    let bytes = Bytes::copy_of(alloc, b"HTTP/1.1 100 Continue\r\n\r\n")?;
+    let bytes = write_continue(alloc)?;
     marks::pass_next_at(connections, i);
     put(&mut effects, Effect::Client(number, bytes));
     Ok(effects)
