@@ -277,6 +277,11 @@ fault_if_not_forwarded stage = cond (is_forwarded stage) None (Some NotForwarded
 abbrev pub fault_if_not_released : Stage → Option CoreFault
 fault_if_not_released stage = cond (is_released stage) None (Some NotReady)
 
+-- what stands against any event of an open exchange: it isn't open, or the moment has no date
+abbrev pub fault_at_moment : Option Exchange → ℕ → Option CoreFault
+fault_at_moment None now = Some UnknownId
+fault_at_moment (Some x) now = moment_too_late_fault now
+
 -- the least fault that stands, out of memory aside
 abbrev pub fault_at_exchange : Option Exchange → Event → Option CoreFault
 fault_at_exchange (Some x) (Arrive now id asked) = Some IdTaken

@@ -1,5 +1,7 @@
 //! Why a step is not done.
 
+use std::alloc::AllocError;
+
 /// The least fault that stands. Each leaves the core as it was.
 #[derive(Clone, Copy, Debug, PartialEq, Eq)]
 pub enum CoreFault {
@@ -15,4 +17,15 @@ pub enum CoreFault {
     NotForwarded,
     /// A wake, and the request doesn't wait, or the one that it waits for is open.
     NotReady,
+}
+
+impl From<AllocError> for CoreFault {
+    ghost use Rattle.std.specs.Prelude.{◌≡◌};
+    ghost use Rattle.proxy_core.specs.declared.core_fault.CoreFault.TheVariants.{OutOfMemory};
+
+    ghost from_gives = { λ _ e. e ≡ OutOfMemory };
+
+    fn from(_: AllocError) -> CoreFault {
+        CoreFault::OutOfMemory
+    }
 }

@@ -1,10 +1,14 @@
 //! The core: the operator's table, a shelf, the open exchanges and the next serial.
-ghost use Rattle.std.specs.Prelude.{◌≡◌, ◌≤◌, [], Some, IfOk, IfErr, OnErr, option_copied, slice_get, IfSome};
+ghost use Rattle.std.specs.Prelude.{◌≡◌, ◌≤◌, [], None, Some, IfOk, IfErr, OnErr, OnOk, option_copied, slice_get};
+ghost use Rattle.std.specs.Prelude.{IfSome};
+ghost use Rattle.hx_framing.specs.declared.messages.Response.{Response};
+ghost use Rattle.hx_status.specs.declared.cause.FailKind.{FailKind};
+ghost use Rattle.proxy_core.specs.Moments.{moment_too_late_fault};
 ghost use Rattle.proxy_core.specs.Waiting.{ExchangeMayBeWoken};
 ghost use Rattle.proxy_core.specs.Leading.{ready_ids};
 ghost use Rattle.proxy_core.specs.Outcomes.{find_exchange, step_fault, fault_if_not_forwarded, fault_if_not_released};
-ghost use Rattle.proxy_core.specs.Outcomes.{or_fault};
-ghost use Rattle.proxy_core.specs.declared.event.Event.TheVariants.{Abandon};
+ghost use Rattle.proxy_core.specs.Outcomes.{fault_at_moment};
+ghost use Rattle.proxy_core.specs.declared.event.Event.TheVariants.{Abandon, Answer, Fail, Wake};
 ghost use Rattle.proxy_core.specs.State.{State, StepIsAccepted, StepIsRefusedWith};
 
 use crate::core_fault::CoreFault;
@@ -22,7 +26,7 @@ use std::alloc::{AllocError, Global};
 use std::marker::Model;
 
 /// The fault of an answer or a failure where no origin was asked.
-pub(crate) fn fault_if_not_forwarded(stage: Stage) -> Option<CoreFault>
+fn fault_if_not_forwarded(stage: Stage) -> Option<CoreFault>
     ensures { result ≡ fault_if_not_forwarded stage }
 {
     if is_forwarded(stage) {
@@ -33,23 +37,13 @@ pub(crate) fn fault_if_not_forwarded(stage: Stage) -> Option<CoreFault>
 }
 
 /// The fault of a wake where nothing waits, or what it waits for is open.
-pub(crate) fn fault_if_not_released(stage: Stage) -> Option<CoreFault>
+fn fault_if_not_released(stage: Stage) -> Option<CoreFault>
     ensures { result ≡ fault_if_not_released stage }
 {
     if is_released(stage) {
         None
     } else {
         Some(CoreFault::NotReady)
-    }
-}
-
-/// The first of two faults that stands.
-pub(crate) fn first_fault(fault: Option<CoreFault>, later: Option<CoreFault>) -> Option<CoreFault>
-    ensures { result ≡ or_fault fault later }
-{
-    match fault {
-        Some(fault) => Some(fault),
-        None => later,
     }
 }
 
@@ -133,6 +127,52 @@ impl<S: Shelf> Core<S> {
         self.exchanges.first_ready()
     }
 
+    /// The open exchange of an id, for an event at a moment; else the first fault against any.
+    fn exchange_at(&self, now: u64, id: u64) -> Result<&Exchange, CoreFault>
+        ensures found { IfOk result (λ x. find_exchange id self.now.exchanges ≡ Some x.now) }
+        ensures moment { OnOk result (moment_too_late_fault now ≡ None) }
+        ensures err { IfErr result (λ fault. fault_at_moment (find_exchange id self.now.exchanges) now ≡ Some fault) }
+    {
+        let Some(x) = self.exchanges.find(id) else {
+            return Err(CoreFault::UnknownId);
+        };
+        match moment_fault(now) {
+            None => Ok(x),
+            Some(fault) => Err(fault),
+        }
+    }
+
+    /// The open exchange to which an answer or a failure comes; else the first fault against it.
+    pub(crate) fn exchange_at_origin(&self, now: u64, id: u64) -> Result<&Exchange, CoreFault>
+        ensures found { IfOk result (λ x. find_exchange id self.now.exchanges ≡ Some x.now) }
+        ensures moment { OnOk result (moment_too_late_fault now ≡ None) }
+        ensures forwarded { IfOk result (λ x. fault_if_not_forwarded x.now.stage ≡ None) }
+        ensures err { IfErr result (λ fault. (kind : FailKind) → step_fault self.now.exchanges (Fail now id kind)
+            ≡ Some fault) }
+        ensures err_of_answer { IfErr result (λ fault. (response : Response)
+            → step_fault self.now.exchanges (Answer now id response) ≡ Some fault) }
+    {
+        let x = self.exchange_at(now, id)?;
+        match fault_if_not_forwarded(x.stage) {
+            None => Ok(x),
+            Some(fault) => Err(fault),
+        }
+    }
+
+    /// The open exchange that is woken; else the first fault against it.
+    pub(crate) fn exchange_to_wake(&self, now: u64, id: u64) -> Result<&Exchange, CoreFault>
+        ensures found { IfOk result (λ x. find_exchange id self.now.exchanges ≡ Some x.now) }
+        ensures moment { OnOk result (moment_too_late_fault now ≡ None) }
+        ensures released { IfOk result (λ x. fault_if_not_released x.now.stage ≡ None) }
+        ensures err { IfErr result (λ fault. step_fault self.now.exchanges (Wake now id) ≡ Some fault) }
+    {
+        let x = self.exchange_at(now, id)?;
+        match fault_if_not_released(x.stage) {
+            None => Ok(x),
+            Some(fault) => Err(fault),
+        }
+    }
+
     /// The least fault that stands at an event, out of memory aside.
     pub fn fault(&self, event: &Event) -> Option<CoreFault>
         ensures { result ≡ step_fault self.now.exchanges event.now }
@@ -142,18 +182,9 @@ impl<S: Shelf> Core<S> {
                 Some(_) => Some(CoreFault::IdTaken),
                 None => moment_fault(*now),
             },
-            Event::Answer(now, id, _) => match self.exchanges.find(*id) {
-                Some(x) => first_fault(moment_fault(*now), fault_if_not_forwarded(x.stage)),
-                None => Some(CoreFault::UnknownId),
-            },
-            Event::Fail(now, id, _) => match self.exchanges.find(*id) {
-                Some(x) => first_fault(moment_fault(*now), fault_if_not_forwarded(x.stage)),
-                None => Some(CoreFault::UnknownId),
-            },
-            Event::Wake(now, id) => match self.exchanges.find(*id) {
-                Some(x) => first_fault(moment_fault(*now), fault_if_not_released(x.stage)),
-                None => Some(CoreFault::UnknownId),
-            },
+            Event::Answer(now, id, _) => self.exchange_at_origin(*now, *id).err(),
+            Event::Fail(now, id, _) => self.exchange_at_origin(*now, *id).err(),
+            Event::Wake(now, id) => self.exchange_to_wake(*now, *id).err(),
             Event::Abandon(id) => match self.exchanges.find(*id) {
                 Some(_) => None,
                 None => Some(CoreFault::UnknownId),

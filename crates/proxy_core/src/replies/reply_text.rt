@@ -8,6 +8,7 @@ ghost use Rattle.proxy_core.specs.Replies.{ttl_of_passed_answer, refusal_reply_t
 ghost use Rattle.proxy_core.specs.Replies.{fields_of_refusal, content_unless_head, is_head, length_unless_forbidden};
 
 use crate::replies::origin_answer::OriginAnswer;
+use http::Method;
 use hx_age::{Times, current_age, ttl};
 use hx_directives::Directives;
 use hx_fields::{Bytes, Fields};
@@ -22,7 +23,7 @@ use std::alloc::{AllocError, Global};
 pub(crate) fn is_head(asked: &Asked) -> bool
     ensures { result ≡ is_head asked.now }
 {
-    asked.method.as_str().as_bytes() == b"HEAD".as_slice()
+    asked.method == Method::HEAD
 }
 
 /// What is sent of a content: nothing to HEAD (RFC 9110, section 9.3.2).

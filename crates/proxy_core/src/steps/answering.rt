@@ -15,7 +15,7 @@ ghost use Rattle.proxy_core.specs.Pending.{outcome_of_pending_reply, StoresUnder
 ghost use Rattle.proxy_core.specs.Pending.{outcome_after, AnswerLeavesHeldAsStepDoes, AnswerChangeFits};
 
 use crate::core_fault::CoreFault;
-use crate::core_state::{Core, fault_if_not_forwarded};
+use crate::core_state::Core;
 use crate::moments::moment_fault;
 use crate::outcome::Outcome;
 use crate::replies::origin_answer::OriginAnswer;
@@ -223,35 +223,17 @@ impl<S: Shelf> Core<S> {
         ensures err { IfErr result (λ fault. StepIsRefusedWith self.old (Answer now id response.now) fault) }
         ensures unchanged { OnErr result (self.new ≡ self.old) }
     {
-        let x = match self.exchanges.find(id) {
-            Some(x) => x,
-            None => return Err(CoreFault::UnknownId),
-        };
-        match moment_fault(now) {
-            None => {}
-            Some(fault) => return Err(fault),
-        }
-        match fault_if_not_forwarded(x.stage) {
-            None => {}
-            Some(fault) => return Err(fault),
-        }
+        let x = self.exchange_at_origin(now, id)?;
         let answer = OriginAnswer {
             exchange: x,
             response,
             response_time: now,
         };
-        let invalidated = match answer.key_invalidated(alloc) {
-            Ok(key) => key,
-            Err(_) => return Err(CoreFault::OutOfMemory),
-        };
+        let invalidated = answer.key_invalidated(alloc)?;
         let line = x.line;
-        match self.follow_answer(alloc, &answer) {
-            Ok(AfterAnswer::Ends(pending)) => match self.finish(id, pending, invalidated) {
-                Ok(outcome) => Ok(outcome),
-                Err(_) => Err(CoreFault::OutOfMemory),
-            },
-            Ok(AfterAnswer::GoesOn(bytes)) => Ok(self.go_on(id, now, line, bytes)),
-            Err(_) => Err(CoreFault::OutOfMemory),
+        match self.follow_answer(alloc, &answer)? {
+            AfterAnswer::Ends(pending) => Ok(self.finish(id, pending, invalidated)?),
+            AfterAnswer::GoesOn(bytes) => Ok(self.go_on(id, now, line, bytes)),
         }
     }
 }

@@ -21,13 +21,12 @@ use crate::open::stage::Stage;
 use crate::outcome::Outcome;
 use crate::replies::stored_reply::CacheStatusInfo;
 use crate::steps::condition::condition_about_serial;
-use crate::steps::judging::judge_by;
 use crate::steps::sending::{forward_text, refuse};
 use hx_allow::Verdict;
 use hx_directives::{Directive, Directives};
 use hx_hop::Asked;
 use hx_policy::Policy;
-use hx_reuse::{Decision, ReuseRule};
+use hx_reuse::{Decision, ReuseRule, decide};
 use hx_status::{Cause, How};
 use hx_store::Shelf;
 use std::alloc::{AllocError, Global};
@@ -58,10 +57,7 @@ fn deny_request(alloc: Global, now: u64, cause: Cause, asked: &Asked) -> Result<
     ensures outcome { IfOk result (λ outcome. outcome ≡ outcome_of_refusal now cause asked.now) }
     ensures fault { IfErr result (λ fault. fault ≡ CoreFault.OutOfMemory) }
 {
-    match refuse(alloc, now, cause, asked) {
-        Ok(pending) => Ok(pending.into_outcome()),
-        Err(_) => Err(CoreFault::OutOfMemory),
-    }
+    Ok(refuse(alloc, now, cause, asked)?.into_outcome())
 }
 
 impl<S: Shelf> Core<S> {
@@ -87,10 +83,7 @@ impl<S: Shelf> Core<S> {
             Some(fault) => return Err(fault),
         }
         match self.config.judge(&asked.method, &asked.target) {
-            Verdict::Allowed(line) => match self.serve_allowed(alloc, now, id, asked, line) {
-                Ok(outcome) => Ok(outcome),
-                Err(_) => Err(CoreFault::OutOfMemory),
-            },
+            Verdict::Allowed(line) => Ok(self.serve_allowed(alloc, now, id, asked, line)?),
             Verdict::DeniedBy(line) => deny_request(alloc, now, Cause::Denied(line), asked),
             Verdict::NoLine => deny_request(alloc, now, Cause::NoLine, asked),
         }
@@ -116,7 +109,7 @@ impl<S: Shelf> Core<S> {
     {
         let directives = Directives::of(alloc, &asked.fields)?;
         let policy = self.config.policy(line);
-        match judge_by(alloc, &self.shelf, asked, &directives, now, policy)? {
+        match decide(alloc, asked, &directives, &self.shelf, now, policy)? {
             Decision::Hit(serial) => {
                 let pending = self.send(alloc, serial, now, hit_status_info(policy), asked)?;
                 self.shelf.promote(serial);

@@ -4,8 +4,7 @@ ghost use Rattle.proxy_core.specs.declared.event.Event.TheVariants.{Fail};
 ghost use Rattle.proxy_core.specs.State.{StepIsAccepted, StepIsRefusedWith};
 
 use crate::core_fault::CoreFault;
-use crate::core_state::{Core, fault_if_not_forwarded};
-use crate::moments::moment_fault;
+use crate::core_state::Core;
 use crate::outcome::Outcome;
 use hx_status::FailKind;
 use hx_store::Shelf;
@@ -25,24 +24,8 @@ impl<S: Shelf> Core<S> {
         ensures err { IfErr result (λ fault. StepIsRefusedWith self.old (Fail now id kind) fault) }
         ensures unchanged { OnErr result (self.new ≡ self.old) }
     {
-        let x = match self.exchanges.find(id) {
-            Some(x) => x,
-            None => return Err(CoreFault::UnknownId),
-        };
-        match moment_fault(now) {
-            None => {}
-            Some(fault) => return Err(fault),
-        }
-        match fault_if_not_forwarded(x.stage) {
-            None => {}
-            Some(fault) => return Err(fault),
-        }
-        match self.reply_to_failure(alloc, x, kind, None, now) {
-            Ok(pending) => match self.finish(id, pending, None) {
-                Ok(outcome) => Ok(outcome),
-                Err(_) => Err(CoreFault::OutOfMemory),
-            },
-            Err(_) => Err(CoreFault::OutOfMemory),
-        }
+        let x = self.exchange_at_origin(now, id)?;
+        let pending = self.reply_to_failure(alloc, x, kind, None, now)?;
+        Ok(self.finish(id, pending, None)?)
     }
 }

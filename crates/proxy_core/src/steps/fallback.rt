@@ -10,12 +10,11 @@ use crate::core_state::Core;
 use crate::open::exchange::Exchange;
 use crate::replies::pending::{Change, PendingReply};
 use crate::replies::stored_reply::CacheStatusInfo;
-use crate::steps::judging::judge_by;
 use crate::steps::sending::refuse;
 use hx_directives::Directives;
 use hx_hop::Asked;
 use hx_policy::Policy;
-use hx_reuse::{Decision, ErrorRule, ReuseRule, may_serve_on_error};
+use hx_reuse::{Decision, ErrorRule, ReuseRule, decide, may_serve_on_error};
 use hx_status::{Cause, Detail, FailKind};
 use hx_store::Shelf;
 use std::alloc::{AllocError, Global};
@@ -68,7 +67,7 @@ pub(crate) fn fallback_for<S: Shelf>(
         (decision_of policy (S.entries shelf.now) asked.now now)) }
 {
     let directives = Directives::of(alloc, &asked.fields)?;
-    match judge_by(alloc, shelf, asked, &directives, now, policy)? {
+    match decide(alloc, asked, &directives, shelf, now, policy)? {
         Decision::Hit(serial) => Ok(Fallback::Sends(serial, Detail::ReuseAfterError)),
         Decision::Forward(rule, None) => Ok(Fallback::Refuses(rule, None)),
         Decision::Forward(rule, Some(serial)) => {

@@ -1,6 +1,5 @@
 //! What the reuse rules say of a request over a shelf.
 ghost use Rattle.std.specs.Prelude.{◌≡◌, IfOk};
-ghost use Rattle.hx_directives.specs.Occurrences.{occurrences_of};
 ghost use Rattle.hx_reuse.specs.Rules.{decision_of};
 
 use hx_directives::Directives;
@@ -10,23 +9,8 @@ use hx_reuse::{Decision, decide};
 use hx_store::Shelf;
 use std::alloc::{AllocError, Global};
 
-/// Whether a held response may be sent, and which, or the first rule against it. The request's
-/// directives and the policy of its line are handed in.
-pub(crate) fn judge_by<S: Shelf>(
-    alloc: Global,
-    shelf: &S,
-    asked: &Asked,
-    asked_directives: &Directives,
-    now: u64,
-    policy: Policy,
-) -> Result<Decision, AllocError>
-    requires { asked_directives.now ≡ occurrences_of asked.now.fields }
-    ensures { IfOk result (λ decision. decision ≡ decision_of policy (S.entries shelf.now) asked.now now) }
-{
-    decide(alloc, asked, asked_directives, shelf, now, policy)
-}
-
-/// The same, where the directives aren't read yet.
+/// Whether a held response may be sent, and which, or the first rule against it. The directives of the request are read
+/// first; the policy of its line is handed in.
 pub(crate) fn judge<S: Shelf>(
     alloc: Global,
     shelf: &S,
@@ -37,5 +21,5 @@ pub(crate) fn judge<S: Shelf>(
     ensures { IfOk result (λ decision. decision ≡ decision_of policy (S.entries shelf.now) asked.now now) }
 {
     let directives = Directives::of(alloc, &asked.fields)?;
-    judge_by(alloc, shelf, asked, &directives, now, policy)
+    decide(alloc, asked, &directives, shelf, now, policy)
 }

@@ -10,7 +10,7 @@ ghost use Rattle.proxy_core.specs.declared.event.Event.TheVariants.{Wake};
 ghost use Rattle.proxy_core.specs.State.{StepIsAccepted, StepIsRefusedWith, exchange_sent_forward};
 
 use crate::core_fault::CoreFault;
-use crate::core_state::{Core, fault_if_not_released};
+use crate::core_state::Core;
 use crate::moments::moment_fault;
 use crate::open::exchange::Exchange;
 use crate::outcome::Outcome;
@@ -68,29 +68,14 @@ impl<S: Shelf> Core<S> {
         ensures err { IfErr result (λ fault. StepIsRefusedWith self.old (Wake now id) fault) }
         ensures unchanged { OnErr result (self.new ≡ self.old) }
     {
-        let x = match self.exchanges.find(id) {
-            Some(x) => x,
-            None => return Err(CoreFault::UnknownId),
-        };
-        match moment_fault(now) {
-            None => {}
-            Some(fault) => return Err(fault),
-        }
-        match fault_if_not_released(x.stage) {
-            None => {}
-            Some(fault) => return Err(fault),
-        }
+        let x = self.exchange_to_wake(now, id)?;
         let line = x.line;
-        match self.follow_wake(alloc, x, now) {
-            Ok(AfterWake::Ends(pending)) => match self.finish(id, pending, None) {
-                Ok(outcome) => Ok(outcome),
-                Err(_) => Err(CoreFault::OutOfMemory),
-            },
-            Ok(AfterWake::GoesOut(rule, condition, bytes)) => {
+        match self.follow_wake(alloc, x, now)? {
+            AfterWake::Ends(pending) => Ok(self.finish(id, pending, None)?),
+            AfterWake::GoesOut(rule, condition, bytes) => {
                 self.exchanges.send_forward(id, now, rule, condition);
                 Ok(Outcome::Forward(line, bytes))
             }
-            Err(_) => Err(CoreFault::OutOfMemory),
         }
     }
 }
