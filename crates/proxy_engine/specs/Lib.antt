@@ -18,6 +18,7 @@ pub mod Actions
 pub mod Pairing
 pub mod DueActs
 pub mod OpenEnds
+pub mod EndChanges
 pub mod Orderly
 pub mod Drops
 pub mod Executions

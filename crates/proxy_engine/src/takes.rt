@@ -1,18 +1,20 @@
 //! Taking what happened. Each refusal changes nothing.
 ghost use Rattle.std.specs.Prelude.{◌≡◌, ◌≢◌, ℕ, ◌+◌, ◌-◌, ◌<◌, ◌≤◌, ◌&&◌, ◌||◌, nat_lt, nat_le, ◌==◌, ◌++◌, ◌∷◌, []};
-ghost use Rattle.std.specs.Prelude.{vec_len, vec_capacity, List, length, true, false, is_some, IsOk, IfOk, IfErr, OnOk};
+ghost use Rattle.std.specs.Prelude.{List, length, true, false, is_some, IsOk, IfErr, OnOk};
 ghost use Rattle.std.specs.Prelude.{OnErr, Option, Some, None, Err, MatchOption, slice_index_or};
 ghost use Rattle.proxy_core.specs.State.{State as CoreState};
 ghost use Rattle.proxy_engine.specs.ConnectionNumbers.{connection_number, connection_place, link_place};
 ghost use Rattle.proxy_engine.specs.Happenings.{Accepts, Sends, Hears, Ends, Leaves, Shuts, Fails};
 ghost use Rattle.proxy_engine.specs.EngineModel.{EngineModel, ConnectionModel, LinkModel, connection_after_bytes};
 ghost use Rattle.proxy_engine.specs.EngineModel.{connection_after_end, connection_after_disconnect, link_after_bytes};
-ghost use Rattle.proxy_engine.specs.EngineModel.{link_after_shut, link_after_failure, happening_is_kept};
+ghost use Rattle.proxy_engine.specs.EngineModel.{link_after_shut, link_after_failure};
 ghost use Rattle.proxy_engine.specs.Activities.{has_exchange};
-ghost use Rattle.proxy_engine.specs.Pairing.{owner_of, activities_of, owners_of};
+ghost use Rattle.proxy_engine.specs.Pairing.{activities_of, owners_of};
 ghost use Rattle.proxy_engine.specs.Room.{ConnectionHasSpare, LinkHasSpare};
 ghost use Rattle.proxy_engine.specs.State.{EngineRepresents, ConnectionRepresents, LinkRepresents, engine_state};
-ghost use Rattle.proxy_engine.specs.State.{EngineTakesHappening, IsFaultOfTaking};
+ghost use Rattle.proxy_engine.specs.State.{EngineTakesHappening};
+ghost use Rattle.proxy_engine.specs.EndChanges.{ConnectionsTake, ConnectionsRefuse, ConnectionsKeep};
+ghost use Rattle.proxy_engine.specs.EndChanges.{LinksTake, LinksRefuse, LinksKeep};
 
 use crate::endpoints::activities::Activity;
 use crate::endpoints::connections::Connections;
@@ -144,9 +146,7 @@ pub(crate) fn accept(
     ensures ok { OnOk result ((s : EngineModel) → (links : List (Option Link)) → (core : CoreState) → (first : ℕ)
         → core.table.max_body ≡ max_body → EngineRepresents (engine_state connections.old.items links core first) s
         → EngineTakesHappening s (Accepts n) (engine_state connections.new.items links core first)) }
-    ensures fault { IfErr result (λ e. (s : EngineModel) → (links : List (Option Link)) → (core : CoreState)
-        → (first : ℕ) → EngineRepresents (engine_state connections.old.items links core first) s → IsFaultOfTaking s
-        (Accepts n) e) }
+    ensures fault { IfErr result (ConnectionsRefuse connections.old.items (Accepts n)) }
     ensures activities { OnOk result
         (activities_of connections.new.items ≡ activities_of connections.old.items ++ Activity.Free ∷ []) }
     ensures reserved { connections.old.has_room ≡ true → result ≢ Err EngineFault.OutOfMemory }
@@ -173,15 +173,9 @@ pub(crate) fn take_client_bytes(
     n: u64,
     bytes: &[u8],
 ) -> Result<(), EngineFault>
-    ensures ok { OnOk result ((s : EngineModel) → (links : List (Option Link)) → (core : CoreState) → (first : ℕ)
-        → EngineRepresents (engine_state connections.old.items links core first) s
-        → EngineTakesHappening s (Sends n bytes.now) (engine_state connections.new.items links core first)) }
-    ensures fault { IfErr result (λ e. (s : EngineModel) → (links : List (Option Link)) → (core : CoreState)
-        → (first : ℕ) → EngineRepresents (engine_state connections.old.items links core first) s
-        → IsFaultOfTaking s (Sends n bytes.now) e) }
-    ensures kept { result ≡ Err EngineFault.OutOfMemory → (s : EngineModel) → (links : List (Option Link))
-        → (core : CoreState) → (first : ℕ) → EngineRepresents (engine_state connections.old.items links core first) s
-        → happening_is_kept s (Sends n bytes.now) ≡ true }
+    ensures ok { OnOk result (ConnectionsTake connections.old.items connections.new.items (Sends n bytes.now)) }
+    ensures fault { IfErr result (ConnectionsRefuse connections.old.items (Sends n bytes.now)) }
+    ensures kept { result ≡ Err EngineFault.OutOfMemory → ConnectionsKeep connections.old.items (Sends n bytes.now) }
     ensures reserved { ConnectionHasSpare (slice_index_or connections.old.items (connection_place n) None)
         (length bytes.now)
         → result ≢ Err EngineFault.OutOfMemory }
@@ -201,12 +195,8 @@ pub(crate) fn take_client_bytes(
 }
 
 pub(crate) fn finish_client(connections: &mut Connections, n: u64) -> Result<(), EngineFault>
-    ensures ok { OnOk result ((s : EngineModel) → (links : List (Option Link)) → (core : CoreState) → (first : ℕ)
-        → EngineRepresents (engine_state connections.old.items links core first) s
-        → EngineTakesHappening s (Ends n) (engine_state connections.new.items links core first)) }
-    ensures fault { IfErr result (λ e. (s : EngineModel) → (links : List (Option Link)) → (core : CoreState)
-        → (first : ℕ) → EngineRepresents (engine_state connections.old.items links core first) s → IsFaultOfTaking s
-        (Ends n) e) }
+    ensures ok { OnOk result (ConnectionsTake connections.old.items connections.new.items (Ends n)) }
+    ensures fault { IfErr result (ConnectionsRefuse connections.old.items (Ends n)) }
     ensures memory { IfErr result (λ e. e ≡ EngineFault.NotAccepted) }
     ensures activities { activities_of connections.new.items ≡ activities_of connections.old.items }
     ensures err { OnErr result (connections.new ≡ connections.old) }
@@ -221,12 +211,8 @@ pub(crate) fn finish_client(connections: &mut Connections, n: u64) -> Result<(),
 }
 
 pub(crate) fn disconnect_client(connections: &mut Connections, n: u64) -> Result<(), EngineFault>
-    ensures ok { OnOk result ((s : EngineModel) → (links : List (Option Link)) → (core : CoreState) → (first : ℕ)
-        → EngineRepresents (engine_state connections.old.items links core first) s
-        → EngineTakesHappening s (Leaves n) (engine_state connections.new.items links core first)) }
-    ensures fault { IfErr result (λ e. (s : EngineModel) → (links : List (Option Link)) → (core : CoreState)
-        → (first : ℕ) → EngineRepresents (engine_state connections.old.items links core first) s → IsFaultOfTaking s
-        (Leaves n) e) }
+    ensures ok { OnOk result (ConnectionsTake connections.old.items connections.new.items (Leaves n)) }
+    ensures fault { IfErr result (ConnectionsRefuse connections.old.items (Leaves n)) }
     ensures memory { IfErr result (λ e. e ≡ EngineFault.NotAccepted) }
     ensures activities { activities_of connections.new.items ≡ activities_of connections.old.items }
     ensures err { OnErr result (connections.new ≡ connections.old) }
@@ -248,16 +234,9 @@ pub(crate) fn take_link_bytes(
     l: u64,
     bytes: &[u8],
 ) -> Result<(), EngineFault>
-    ensures ok { OnOk result ((s : EngineModel) → (connections : List (Option Connection)) → (core : CoreState)
-        → EngineRepresents (engine_state connections links.old.items core first) s
-        → EngineTakesHappening s (Hears l bytes.now) (engine_state connections links.new.items core first)) }
-    ensures fault { IfErr result (λ e. (s : EngineModel) → (connections : List (Option Connection)) → (core : CoreState)
-        → EngineRepresents (engine_state connections links.old.items core first) s → IsFaultOfTaking s
-        (Hears l bytes.now) e) }
-    ensures kept { result ≡ Err EngineFault.OutOfMemory → (s : EngineModel) → (connections : List (Option Connection))
-        → (core : CoreState) → EngineRepresents (engine_state connections links.old.items core first) s
-        → happening_is_kept s (Hears l bytes.now)
-        ≡ true }
+    ensures ok { OnOk result (LinksTake first links.old.items links.new.items (Hears l bytes.now)) }
+    ensures fault { IfErr result (LinksRefuse first links.old.items (Hears l bytes.now)) }
+    ensures kept { result ≡ Err EngineFault.OutOfMemory → LinksKeep first links.old.items (Hears l bytes.now) }
     ensures reserved { LinkHasSpare (slice_index_or links.old.items (link_place first l) None) (length bytes.now)
         → result ≢ Err EngineFault.OutOfMemory }
     ensures owners { owners_of links.new.items ≡ owners_of links.old.items }
@@ -276,11 +255,8 @@ pub(crate) fn take_link_bytes(
 }
 
 pub(crate) fn shut_link(links: &mut Links, first: u64, l: u64) -> Result<(), EngineFault>
-    ensures ok { OnOk result ((s : EngineModel) → (connections : List (Option Connection)) → (core : CoreState)
-        → EngineRepresents (engine_state connections links.old.items core first) s
-        → EngineTakesHappening s (Shuts l) (engine_state connections links.new.items core first)) }
-    ensures fault { IfErr result (λ e. (s : EngineModel) → (connections : List (Option Connection)) → (core : CoreState)
-        → EngineRepresents (engine_state connections links.old.items core first) s → IsFaultOfTaking s (Shuts l) e) }
+    ensures ok { OnOk result (LinksTake first links.old.items links.new.items (Shuts l)) }
+    ensures fault { IfErr result (LinksRefuse first links.old.items (Shuts l)) }
     ensures memory { IfErr result (λ e. e ≡ EngineFault.WrongNumber) }
     ensures owners { owners_of links.new.items ≡ owners_of links.old.items }
     ensures err { OnErr result (links.new.items ≡ links.old.items) }
@@ -300,12 +276,8 @@ pub(crate) fn break_link(
     l: u64,
     kind: FailKind,
 ) -> Result<(), EngineFault>
-    ensures ok { OnOk result ((s : EngineModel) → (connections : List (Option Connection)) → (core : CoreState)
-        → EngineRepresents (engine_state connections links.old.items core first) s
-        → EngineTakesHappening s (Fails l kind) (engine_state connections links.new.items core first)) }
-    ensures fault { IfErr result (λ e. (s : EngineModel) → (connections : List (Option Connection)) → (core : CoreState)
-        → EngineRepresents (engine_state connections links.old.items core first) s → IsFaultOfTaking s
-        (Fails l kind) e) }
+    ensures ok { OnOk result (LinksTake first links.old.items links.new.items (Fails l kind)) }
+    ensures fault { IfErr result (LinksRefuse first links.old.items (Fails l kind)) }
     ensures memory { IfErr result (λ e. e ≡ EngineFault.WrongNumber) }
     ensures owners { owners_of links.new.items ≡ owners_of links.old.items }
     ensures err { OnErr result (links.new.items ≡ links.old.items) }

@@ -10,6 +10,7 @@ ghost use Rattle.proxy_engine.specs.EngineModel.{EngineModel, ConnectionModel, w
 ghost use Rattle.proxy_engine.specs.Acts.{with_closed, with_activity, with_next_passed};
 ghost use Rattle.proxy_engine.specs.Pairing.{activity_of, activities_of};
 ghost use Rattle.proxy_engine.specs.State.{EngineRepresents, ConnectionRepresents, engine_state, due_request_at};
+ghost use Rattle.proxy_engine.specs.EndChanges.{ConnectionsChangeAt};
 ghost use Rattle.proxy_engine.specs.State.{is_gone_at, connection_is_free_at};
 ghost use Rattle.proxy_engine.specs.State.{connection_load, load_of_waiting, load_of_due_request};
 ghost use Rattle.proxy_engine.specs.declared.endpoints.ends.Link.{Link};
@@ -89,10 +90,8 @@ pub(crate) fn pass_next_at(connections: &mut Connections, i: u64)
 /// The connection at a place has the link at another one.
 pub(crate) fn link_at(connections: &mut Connections, i: u64, place: u64)
     requires { connection_is_free_at (slice_index_or connections.old.items i None) ≡ true }
-    ensures represents { (s : EngineModel) → (links : List (Option Link)) → (core : CoreState) → (first : ℕ)
-        → EngineRepresents (engine_state connections.old.items links core first) s
-        → EngineRepresents (engine_state connections.new.items links core first)
-        (with_connection s i (with_activity (Activity.Forwarded place))) }
+    ensures represents { ConnectionsChangeAt i connections.old.items connections.new.items (with_activity
+        (Activity.Forwarded place)) }
     ensures activities { activities_of connections.new.items
         ≡ slice_set (activities_of connections.old.items) i (Activity.Forwarded place) }
     ensures load { sum_by connection_load connections.new.items ≡ sum_by connection_load connections.old.items }
@@ -106,10 +105,8 @@ pub(crate) fn link_at(connections: &mut Connections, i: u64, place: u64)
 /// The request of the connection at a place waits for the answer to another.
 pub(crate) fn mark_waiting_at(connections: &mut Connections, i: u64)
     requires { connection_is_free_at (slice_index_or connections.old.items i None) ≡ true }
-    ensures represents { (s : EngineModel) → (links : List (Option Link)) → (core : CoreState) → (first : ℕ)
-        → EngineRepresents (engine_state connections.old.items links core first) s
-        → EngineRepresents (engine_state connections.new.items links core first)
-        (with_connection s i (with_activity Activity.Waiting)) }
+    ensures represents { ConnectionsChangeAt i connections.old.items connections.new.items (with_activity
+        Activity.Waiting) }
     ensures activities { activities_of connections.new.items
         ≡ slice_set (activities_of connections.old.items) i Activity.Waiting }
     ensures load { sum_by connection_load connections.new.items ≡ sum_by connection_load connections.old.items + 2 }
@@ -123,10 +120,8 @@ pub(crate) fn mark_waiting_at(connections: &mut Connections, i: u64)
 /// The connection at a place, which isn't gone, has no open exchange any more.
 pub(crate) fn mark_free_at(connections: &mut Connections, i: u64)
     requires { is_gone_at (slice_index_or connections.old.items i None) ≡ Some false }
-    ensures represents { (s : EngineModel) → (links : List (Option Link)) → (core : CoreState) → (first : ℕ)
-        → EngineRepresents (engine_state connections.old.items links core first) s
-        → EngineRepresents (engine_state connections.new.items links core first)
-        (with_connection s i (with_activity Activity.Free)) }
+    ensures represents { ConnectionsChangeAt i connections.old.items connections.new.items (with_activity
+        Activity.Free) }
     ensures activities { activities_of connections.new.items
         ≡ slice_set (activities_of connections.old.items) i Activity.Free }
     ensures free { connection_is_free_at (slice_index_or connections.new.items i None) ≡ true }
@@ -142,10 +137,7 @@ pub(crate) fn mark_free_at(connections: &mut Connections, i: u64)
 /// The proxy closes the connection at a place, which is over then, or leaves it as it is.
 pub(crate) fn close_at(connections: &mut Connections, i: u64, close: bool)
     requires free { connection_is_free_at (slice_index_or connections.old.items i None) ≡ true }
-    ensures represents { (s : EngineModel) → (links : List (Option Link)) → (core : CoreState) → (first : ℕ)
-        → EngineRepresents (engine_state connections.old.items links core first) s
-        → EngineRepresents (engine_state connections.new.items links core first)
-        (with_connection s i (with_closed close)) }
+    ensures represents { ConnectionsChangeAt i connections.old.items connections.new.items (with_closed close) }
     ensures activities { activities_of connections.new.items ≡ activities_of connections.old.items }
     ensures load { sum_by connection_load connections.new.items ≤ sum_by connection_load connections.old.items }
     ensures less { close ≡ true

@@ -1,11 +1,11 @@
 //! What an outcome of the core does on the proxy's ends. Room is made first, so none of this takes memory.
-ghost use Rattle.std.specs.Prelude.{◌≡◌, ℕ, ◌+◌, ◌<◌, ◌≤◌, ◌^◌, nat_le, ◌++◌, ◌∷◌, [], List, Bool, length, sum_by};
-ghost use Rattle.std.specs.Prelude.{true, false, is_some, Option, IfOk, OnOk, None, Some, vec_len, vec_capacity};
+ghost use Rattle.std.specs.Prelude.{◌≡◌, ℕ, ◌+◌, ◌<◌, ◌≤◌, ◌^◌, nat_le, ◌++◌, ◌∷◌, [], length, sum_by};
+ghost use Rattle.std.specs.Prelude.{true, false, is_some, IfOk, None, Some, vec_len, vec_capacity};
 ghost use Rattle.std.specs.Prelude.{slice_index_or, slice_set};
 ghost use Rattle.proxy_core.specs.Replies.{is_head};
 ghost use Rattle.proxy_core.specs.State.{State as CoreState};
 ghost use Rattle.proxy_engine.specs.ConnectionNumbers.{link_number};
-ghost use Rattle.proxy_engine.specs.EngineModel.{EngineModel, ConnectionModel, with_connection};
+ghost use Rattle.proxy_engine.specs.EngineModel.{EngineModel};
 ghost use Rattle.proxy_engine.specs.Acts.{with_closed, with_activity, outcome_with_address, outcome_by_table};
 ghost use Rattle.proxy_engine.specs.Acts.{HasRoomForAddresses, effects_of_outcome, model_after_outcome};
 ghost use Rattle.proxy_engine.specs.Acts.{model_after_link_freed};
@@ -13,11 +13,11 @@ ghost use Rattle.proxy_engine.specs.Acts.{with_opened_link};
 ghost use Rattle.proxy_engine.specs.Acts.OutcomeOnConnection.{Replies};
 ghost use Rattle.proxy_engine.specs.Pairing.{activities_of, owners_of, activities_after, owners_after};
 ghost use Rattle.proxy_engine.specs.Actions.{outcome_needs_link, acts_due_after_outcome};
-ghost use Rattle.proxy_engine.specs.State.{EngineRepresents, ConnectionRepresents, engine_state, connection_is_free_at};
+ghost use Rattle.proxy_engine.specs.State.{EngineRepresents, engine_state, connection_is_free_at};
+ghost use Rattle.proxy_engine.specs.EndChanges.{ConnectionsChangeAt, EndsChange};
 ghost use Rattle.proxy_engine.specs.State.{is_gone_at, connection_load};
 ghost use Rattle.proxy_engine.specs.State.{link_load, engine_load};
 ghost use Rattle.proxy_engine.specs.OpenEnds.{state_of_ends, load_of_ends};
-ghost use Rattle.proxy_engine.specs.declared.endpoints.ends.Connection.{Connection};
 
 use crate::endpoints::activities::Activity;
 use crate::endpoints::connections::Connections;
@@ -79,10 +79,7 @@ pub(crate) fn send_reply(
     requires free { connection_is_free_at (slice_index_or connections.old.items i None) ≡ true }
     requires room { vec_len effects.old + 2 ≤ vec_capacity effects.old }
     ensures effects { effects.new.items ≡ effects.old.items ++ effects_of_outcome i 0 (Replies bytes close) }
-    ensures represents { (s : EngineModel) → (links : List (Option Link)) → (core : CoreState) → (first : ℕ)
-        → EngineRepresents (engine_state connections.old.items links core first) s
-        → EngineRepresents (engine_state connections.new.items links core first)
-        (with_connection s i (with_closed close)) }
+    ensures represents { ConnectionsChangeAt i connections.old.items connections.new.items (with_closed close) }
     ensures activities { activities_of connections.new.items ≡ activities_of connections.old.items }
     ensures load { sum_by connection_load connections.new.items ≤ sum_by connection_load connections.old.items }
     ensures less { close ≡ true
@@ -179,10 +176,8 @@ impl Upstream {
 pub(crate) fn free(connections: &mut Connections, links: &mut Links, j: u64, i: u64)
     requires link { is_some (slice_index_or links.old.items j None) ≡ true }
     requires connection { is_gone_at (slice_index_or connections.old.items i None) ≡ Some false }
-    ensures represents { (s : EngineModel) → (core : CoreState) → (first : ℕ)
-        → EngineRepresents (engine_state connections.old.items links.old.items core first) s
-        → EngineRepresents (engine_state connections.new.items links.new.items core first)
-        (model_after_link_freed s j i) }
+    ensures represents { EndsChange connections.old.items links.old.items connections.new.items links.new.items (λ s.
+        model_after_link_freed s j i) }
     ensures activities { activities_of connections.new.items
         ≡ slice_set (activities_of connections.old.items) i Activity.Free }
     ensures owners { owners_of links.new.items ≡ slice_set (owners_of links.old.items) j None }
@@ -199,10 +194,8 @@ pub(crate) fn free(connections: &mut Connections, links: &mut Links, j: u64, i: 
 /// The exchange of a request that waited is over, and so is its connection, which is gone.
 pub(crate) fn release_waiting(connections: &mut Connections, i: u64)
     requires { is_gone_at (slice_index_or connections.old.items i None) ≡ Some true }
-    ensures represents { (s : EngineModel) → (links : List (Option Link)) → (core : CoreState) → (first : ℕ)
-        → EngineRepresents (engine_state connections.old.items links core first) s
-        → EngineRepresents (engine_state connections.new.items links core first)
-        (with_connection s i (with_activity Activity.Free)) }
+    ensures represents { ConnectionsChangeAt i connections.old.items connections.new.items (with_activity
+        Activity.Free) }
     ensures activities { activities_of connections.new.items
         ≡ slice_set (activities_of connections.old.items) i Activity.Free }
     ensures load { sum_by connection_load connections.new.items < sum_by connection_load connections.old.items }
@@ -214,10 +207,8 @@ pub(crate) fn release_waiting(connections: &mut Connections, i: u64)
 pub(crate) fn free_lost(connections: &mut Connections, links: &mut Links, j: u64, i: u64)
     requires link { is_some (slice_index_or links.old.items j None) ≡ true }
     requires connection { is_gone_at (slice_index_or connections.old.items i None) ≡ Some true }
-    ensures represents { (s : EngineModel) → (core : CoreState) → (first : ℕ)
-        → EngineRepresents (engine_state connections.old.items links.old.items core first) s
-        → EngineRepresents (engine_state connections.new.items links.new.items core first)
-        (model_after_link_freed s j i) }
+    ensures represents { EndsChange connections.old.items links.old.items connections.new.items links.new.items (λ s.
+        model_after_link_freed s j i) }
     ensures activities { activities_of connections.new.items
         ≡ slice_set (activities_of connections.old.items) i Activity.Free }
     ensures owners { owners_of links.new.items ≡ slice_set (owners_of links.old.items) j None }
