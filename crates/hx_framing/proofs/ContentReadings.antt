@@ -9,6 +9,9 @@ use Rattle.hx_framing.specs.declared.contents.content.ContentProgress.TheVariant
 use Rattle.hx_framing.specs.Body.{ContentFound, Short, Bad, Whole}
 use Rattle.hx_framing.specs.Contents.{content_rest}
 use Rattle.hx_framing.specs.ContentReading.{ContentGoesOn, ContentResumesAs}
+use Rattle.hx_framing.specs.declared.messages.Next.{Next}
+use Rattle.hx_framing.specs.Progress.{next_of_reading}
+use Rattle.hx_framing.specs.ReaderSteps.{answer_of, found_in_content}
 use Rattle.hx_framing.specs.Reading.{StreamReading, Incomplete, Continue, Over, Spelled, Faulty, reading_cut_off, reading_with_content}
 
 -- the fault of a reading that has one
@@ -47,6 +50,13 @@ abbrev pub reading_of : {M : Type 0} → (Option (List ℕ) → M) → List ℕ 
 reading_of make bytes (content_progress.Incomplete n) = Incomplete
 reading_of make bytes (content_progress.Faulty f) = Faulty f
 reading_of make bytes (content_progress.Whole c n) = Spelled (make c) (drop n bytes)
+
+-- it is what is answered
+pub found_answered : {H M : Type 0} (P : Next M → Type 0) (make : Option (List ℕ) → M) (head : H) (new : Content) (bytes : List ℕ) (found : ContentProgress)
+    → P (next_of_reading (reading_of make bytes found)) → P (answer_of (found_in_content make head new found))
+found_answered P make head new bytes (content_progress.Incomplete n) x = x
+found_answered P make head new bytes (content_progress.Faulty f) x = x
+found_answered P make head new bytes (content_progress.Whole c n) x = x
 
 pub content_found : {M : Type 0} (make : Option (List ℕ) → M) (ended closed : Bool) (bytes left : List ℕ) (content new : Content) (s : ContentProgress)
     → ContentGoesOn ended closed bytes content s new left → reading_with_content ended make (content_rest content closed bytes) ≡ reading_of make bytes s

@@ -1,9 +1,9 @@
 -- Streams of requests: bytes that come later, one more request, and what a reader stands for.
-use Rattle.std.proofs.Common.{◌≡◌, ℕ, Bool, true, false, List, [], ◌∷◌, ◌++◌, refl, sym, ap, subst, ◌∙◌, Result, Ok, Err, OnOk}
+use Rattle.std.proofs.Common.{◌≡◌, ℕ, Bool, true, false, List, [], ◌∷◌, ◌++◌, refl, sym, ap, subst, ◌∙◌}
 use Rattle.hx_framing.specs.declared.heads.request_head.Head.{Head}
 use Rattle.hx_framing.specs.declared.contents.content.Content.{Content}
-use Rattle.hx_framing.specs.declared.readers.request_reader.RequestPhase.{RequestPhase}
-use Rattle.hx_framing.specs.declared.readers.request_reader.RequestPhase.TheVariants as phase
+use Rattle.hx_framing.specs.declared.readers.progress.ReaderPhase.{ReaderPhase}
+use Rattle.hx_framing.specs.declared.readers.progress.ReaderPhase.TheVariants as phase
 use Rattle.hx_framing.specs.Body.{ContentFound}
 use Rattle.hx_framing.specs.Contents.{content_rest}
 use Rattle.hx_framing.specs.declared.messages.Request.{Request}
@@ -14,6 +14,7 @@ use Rattle.hx_framing.specs.RequestReading.{request_of_head, Reads}
 use Rattle.hx_framing.specs.RequestHeadProgress.{RequestContentResumes}
 use Rattle.hx_framing.specs.RequestStream.{SpellsRequest, StreamSpells, Answers}
 use Rattle.hx_framing.specs.Progress.{Progress, next_of_reading, stream_with_piece, stream_finished, AnswerIsDue}
+use Rattle.hx_framing.specs.ReaderSteps.{state_with_piece}
 use Rattle.hx_framing.specs.RequestState.{State, RepresentsStream, RequestReaderKeeps}
 use Rattle.hx_framing.proofs.RequestOnce.{read_once_lem}
 use Rattle.hx_framing.proofs.ContentReadings.{resumes_now, resumes_fed}
@@ -88,7 +89,7 @@ answers_by p s r represents reads = record {
 
 -- before a head
 pub before : (s : State) (p : Progress Request) → s.phase ≡ phase.BeforeHead → (represents : RepresentsStream s p) → (s.unread ≡ represents.rest) × (p.continue_sent ≡ false)
-before s p waiting represents = subst (λ (f : RequestPhase). RequestReaderKeeps s p represents.rest f) waiting represents.keeps
+before s p waiting represents = subst (λ (f : ReaderPhase Head). RequestReaderKeeps s p represents.rest f) waiting represents.keeps
 
 -- what is read in the unread bytes is read in the stream
 pub kept_reads : (s : State) (p : Progress Request) (r : StreamReading Request) → s.phase ≡ phase.BeforeHead → (represents : RepresentsStream s p)
@@ -103,7 +104,7 @@ kept_reads s p r waiting represents reads =
 -- in a content
 pub inside : (s : State) (p : Progress Request) (head : Head) (content : Content) → s.phase ≡ phase.InContent head content → (represents : RepresentsStream s p)
     → RequestContentResumes p.max_body p.continue_sent head content represents.rest s.unread
-inside s p head content waiting represents = subst (λ (f : RequestPhase). RequestReaderKeeps s p represents.rest f) waiting represents.keeps
+inside s p head content waiting represents = subst (λ (f : ReaderPhase Head). RequestReaderKeeps s p represents.rest f) waiting represents.keeps
 
 -- what is taken of a content is read in the stream
 pub content_reads : (s : State) (p : Progress Request) (head : Head) (content : Content) (body : ContentFound) → s.phase ≡ phase.InContent head content → (represents : RepresentsStream s p)
@@ -115,30 +116,26 @@ content_reads s p head content body waiting represents is =
 
 -- ---- what the reader is left with
 
-pub keeps_going : (t : State) (p : Progress Request) (head : Head) (content : Content) (rest : List ℕ) → t.phase ≡ phase.InContent head content
-    → RequestContentResumes p.max_body p.continue_sent head content rest t.unread → RequestReaderKeeps t p rest t.phase
-keeps_going t p head content rest going on = subst (λ (f : RequestPhase). RequestReaderKeeps t p rest f) (sym going) on
-
-pub keeps_fault : (t : State) (p : Progress Request) (rest : List ℕ) (f : FrameFault) → t.phase ≡ phase.Faulty f
-    → Reads p.max_body p.ended p.continue_sent rest (Faulty f) → RequestReaderKeeps t p rest t.phase
-keeps_fault t p rest f faulty reads = subst (λ (g : RequestPhase). RequestReaderKeeps t p rest g) (sym faulty) reads
+-- a reader over the same stream
+abbrev pub at : State → List ℕ → ℕ → ReaderPhase Head → State
+at s unread spare f = record s { unread = unread; spare = spare; phase = f }
 
 -- nothing was given
-pub represents_on : (s t : State) (p : Progress Request) → t.max_body ≡ s.max_body → t.ended ≡ s.ended → (represents : RepresentsStream s p)
-    → RequestReaderKeeps t p represents.rest t.phase → RepresentsStream t p
-represents_on s t p max e represents keeps =
-    record { max_body = max ∙ represents.max_body; ended = e ∙ represents.ended; rest = represents.rest; spells = represents.spells; keeps = keeps }
+pub represents_on : (s : State) (p : Progress Request) (unread : List ℕ) (spare : ℕ) (f : ReaderPhase Head) → (represents : RepresentsStream s p)
+    → RequestReaderKeeps (at s unread spare f) p represents.rest f → RepresentsStream (at s unread spare f) p
+represents_on s p unread spare f represents keeps =
+    record { max_body = represents.max_body; ended = represents.ended; rest = represents.rest; spells = represents.spells; keeps = keeps }
 
 -- one more request was given, and rest is left
-pub represents_given : (s t : State) (p : Progress Request) (m : Request) → t.max_body ≡ s.max_body → t.ended ≡ s.ended → t.phase ≡ phase.BeforeHead
-    → (represents : RepresentsStream s p) → Reads p.max_body p.ended p.continue_sent represents.rest (Spelled m t.unread)
-    → RepresentsStream t (record p { given = p.given ++ m ∷ []; continue_sent = false })
-represents_given s t p m max e waiting represents reads = record {
-  max_body = max ∙ represents.max_body;
-  ended = e ∙ represents.ended;
-  rest = t.unread;
-  spells = spells_push p.max_body p.stream p.given m represents.rest t.unread represents.spells (reads_message p.max_body p.ended p.continue_sent represents.rest m t.unread reads);
-  keeps = subst (λ (f : RequestPhase). RequestReaderKeeps t (record p { given = p.given ++ m ∷ []; continue_sent = false }) t.unread f) (sym waiting) (refl, refl);
+pub represents_given : (s : State) (p : Progress Request) (m : Request) (unread : List ℕ) (spare : ℕ) → (represents : RepresentsStream s p)
+    → Reads p.max_body p.ended p.continue_sent represents.rest (Spelled m unread)
+    → RepresentsStream (at s unread spare phase.BeforeHead) (record p { given = p.given ++ m ∷ []; continue_sent = false })
+represents_given s p m unread spare represents reads = record {
+  max_body = represents.max_body;
+  ended = represents.ended;
+  rest = unread;
+  spells = spells_push p.max_body p.stream p.given m represents.rest unread represents.spells (reads_message p.max_body p.ended p.continue_sent represents.rest m unread reads);
+  keeps = (refl, refl);
 }
 
 -- ---- a piece has come
@@ -149,38 +146,38 @@ faulty_fed p rest w f open_still k =
     subst (λ (e : Bool). Reads p.max_body e p.continue_sent (rest ++ w) (Faulty f)) (sym open_still)
     (reads_append p.max_body p.continue_sent rest w (Faulty f) tt (subst (λ (e : Bool). Reads p.max_body e p.continue_sent rest (Faulty f)) open_still k))
 
-pub represents_fed : (s t : State) (p : Progress Request) (piece : List ℕ) → t.max_body ≡ s.max_body → t.ended ≡ s.ended → t.phase ≡ s.phase → t.unread ≡ s.unread ++ piece
-    → p.ended ≡ false → RepresentsStream s p → RepresentsStream t (stream_with_piece p piece)
-represents_fed s t p piece max e same longer open_still represents = record {
-  max_body = max ∙ represents.max_body;
-  ended = e ∙ represents.ended;
+keeps_fed : (s : State) (p : Progress Request) (rest piece : List ℕ) (spare : ℕ) → p.ended ≡ false → (f : ReaderPhase Head)
+    → RequestReaderKeeps s p rest f → RequestReaderKeeps (state_with_piece s f piece spare) (stream_with_piece p piece) (rest ++ piece) f
+keeps_fed s p rest piece spare open_still phase.BeforeHead k = (ap (λ u. u ++ piece) k.0, k.1)
+keeps_fed s p rest piece spare open_still (phase.InContent head content) k =
+    resumes_fed (λ (e : Bool). Reads p.max_body e p.continue_sent) (request_of_head head) (λ (e : Bool). false) content rest s.unread piece k
+keeps_fed s p rest piece spare open_still phase.Given k = k
+keeps_fed s p rest piece spare open_still (phase.Faulty f) k = faulty_fed p rest piece f open_still k
+
+-- a piece changes no more than the unread bytes and their room
+represents_fed_as : (s : State) (p : Progress Request) (piece unread : List ℕ) (spare : ℕ) → (represents : RepresentsStream s p)
+    → RequestReaderKeeps (at s unread spare s.phase) (stream_with_piece p piece) (represents.rest ++ piece) s.phase → RepresentsStream (at s unread spare s.phase) (stream_with_piece p piece)
+represents_fed_as s p piece unread spare represents keeps = record {
+  max_body = represents.max_body;
+  ended = represents.ended;
   rest = represents.rest ++ piece;
   spells = spells_append p.max_body p.stream p.given represents.rest piece represents.spells;
-  keeps = subst (λ (f : RequestPhase). RequestReaderKeeps t (stream_with_piece p piece) (represents.rest ++ piece) f) (sym same) (by_phase s.phase represents.keeps);
+  keeps = keeps;
 }
-  where
-    by_phase : (f : RequestPhase) → RequestReaderKeeps s p represents.rest f → RequestReaderKeeps t (stream_with_piece p piece) (represents.rest ++ piece) f
-    by_phase phase.BeforeHead k = (longer ∙ ap (λ u. u ++ piece) k.0, k.1)
-    by_phase (phase.InContent head content) k =
-        subst (λ (u : List ℕ). RequestContentResumes p.max_body p.continue_sent head content (represents.rest ++ piece) u) (sym longer)
-        (resumes_fed (λ (e : Bool). Reads p.max_body e p.continue_sent) (request_of_head head) (λ (e : Bool). false) content represents.rest s.unread piece k)
-    by_phase (phase.Faulty f) k = faulty_fed p represents.rest piece f open_still k
 
--- after a fault what comes doesn't count
-pub represents_fed_faulty : (s : State) (p : Progress Request) (piece : List ℕ) (f : FrameFault) → s.phase ≡ phase.Faulty f → RepresentsStream s p → p.ended ≡ false
-    → RepresentsStream s (stream_with_piece p piece)
-represents_fed_faulty s p piece f some represents open_still =
-    let k = subst (λ (o : RequestPhase). RequestReaderKeeps s p represents.rest o) some represents.keeps in
-    record {
-      max_body = represents.max_body;
-      ended = represents.ended;
-      rest = represents.rest ++ piece;
-      spells = spells_append p.max_body p.stream p.given represents.rest piece represents.spells;
-      keeps = subst (λ (o : RequestPhase). RequestReaderKeeps s (stream_with_piece p piece) (represents.rest ++ piece) o) (sym some)
-          (subst (λ (e : Bool). Reads p.max_body e p.continue_sent (represents.rest ++ piece) (Faulty f)) (sym open_still)
-          (reads_append p.max_body p.continue_sent represents.rest piece (Faulty f) tt
-          (subst (λ (e : Bool). Reads p.max_body e p.continue_sent represents.rest (Faulty f)) open_still k)));
-    }
+pub represents_fed : (s : State) (p : Progress Request) (piece : List ℕ) (spare : ℕ) → RepresentsStream s p → p.ended ≡ false
+    → RepresentsStream (state_with_piece s s.phase piece spare) (stream_with_piece p piece)
+represents_fed s p piece spare represents open_still = by_phase s.phase refl
+  where
+    keeps : (f : ReaderPhase Head) → s.phase ≡ f → RequestReaderKeeps (state_with_piece s f piece spare) (stream_with_piece p piece) (represents.rest ++ piece) s.phase
+    keeps f is = subst (λ (g : ReaderPhase Head). RequestReaderKeeps (state_with_piece s f piece spare) (stream_with_piece p piece) (represents.rest ++ piece) g) (sym is)
+        (keeps_fed s p represents.rest piece spare open_still f (subst (λ (g : ReaderPhase Head). RequestReaderKeeps s p represents.rest g) is represents.keeps))
+
+    by_phase : (f : ReaderPhase Head) → s.phase ≡ f → RepresentsStream (state_with_piece s f piece spare) (stream_with_piece p piece)
+    by_phase phase.BeforeHead is = represents_fed_as s p piece (s.unread ++ piece) spare represents (keeps phase.BeforeHead is)
+    by_phase (phase.InContent head content) is = represents_fed_as s p piece (s.unread ++ piece) spare represents (keeps (phase.InContent head content) is)
+    by_phase phase.Given is = represents_fed_as s p piece s.unread s.spare represents (keeps phase.Given is)
+    by_phase (phase.Faulty f) is = represents_fed_as s p piece s.unread s.spare represents (keeps (phase.Faulty f) is)
 
 -- ---- the stream has ended
 
@@ -193,17 +190,8 @@ represents_finished s p represents = record {
   keeps = by_phase s.phase represents.keeps;
 }
   where
-    by_phase : (f : RequestPhase) → RequestReaderKeeps s p represents.rest f → RequestReaderKeeps (record s { ended = true }) (stream_finished p) represents.rest f
+    by_phase : (f : ReaderPhase Head) → RequestReaderKeeps s p represents.rest f → RequestReaderKeeps (record s { ended = true }) (stream_finished p) represents.rest f
     by_phase phase.BeforeHead k = k
     by_phase (phase.InContent head content) k = k
+    by_phase phase.Given k = k
     by_phase (phase.Faulty f) k = reads_ended p.max_body p.ended p.continue_sent represents.rest (Faulty f) tt k
-
-pub ended_is : (s : State) (p : Progress Request) → RepresentsStream s p → s.ended ≡ p.ended
-ended_is s p represents = represents.ended
-
--- where the piece found room
-pub represents_fed_by : {A E : Type 0} (s t : State) (piece : List ℕ) {unread : List ℕ} → t.max_body ≡ s.max_body → t.ended ≡ s.ended → t.phase ≡ s.phase → unread ≡ s.unread
-    → (r : Result A E) → OnOk r (t.unread ≡ unread ++ piece)
-    → OnOk r ((p : Progress Request) → RepresentsStream s p → p.ended ≡ false → RepresentsStream t (stream_with_piece p piece))
-represents_fed_by s t piece max e same kept (Ok x) longer = λ p represents open_still. represents_fed s t p piece max e same (longer ∙ ap (λ u. u ++ piece) kept) open_still represents
-represents_fed_by s t piece max e same kept (Err x) longer = tt

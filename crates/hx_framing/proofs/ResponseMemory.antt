@@ -5,7 +5,7 @@ use Rattle.hx_framing.specs.declared.lengths.framing.Framing.{Framing}
 use Rattle.hx_framing.specs.declared.heads.status_head.StatusHead.{StatusHead}
 use Rattle.hx_framing.specs.declared.messages.Response.{Response}
 use Rattle.hx_framing.specs.declared.contents.content.Content.{Content}
-use Rattle.hx_framing.specs.declared.readers.response_reader.ResponsePhase.TheVariants as phase
+use Rattle.hx_framing.specs.declared.readers.progress.ReaderPhase.TheVariants as phase
 use Rattle.hx_framing.specs.declared.messages.Next.{Next}
 use Rattle.hx_framing.specs.Lengths.{framing_of_response}
 use Rattle.hx_framing.specs.Contents.{content_at, content_rest}

@@ -1,13 +1,13 @@
 -- Streams of one response: bytes that come later, and what a reader stands for.
-use Rattle.std.proofs.Common.{◌≡◌, ℕ, Bool, true, false, List, [], ◌∷◌, ◌++◌, drop, refl, sym, ap, subst, ◌∙◌, Result, Ok, Err, OnOk}
+use Rattle.std.proofs.Common.{◌≡◌, ℕ, Bool, true, false, List, [], ◌∷◌, ◌++◌, drop, refl, sym, ap, subst, ◌∙◌}
 use Rattle.hx_framing.specs.declared.heads.status_head.StatusHead.{StatusHead}
 use Rattle.hx_framing.specs.declared.messages.Response.{Response}
 use Rattle.hx_framing.specs.declared.frame_fault.FrameFault.{FrameFault}
 use Rattle.hx_framing.specs.declared.messages.Next.{Next}
 use Rattle.hx_framing.specs.declared.messages.Next.TheVariants.{End}
 use Rattle.hx_framing.specs.declared.contents.content.Content.{Content}
-use Rattle.hx_framing.specs.declared.readers.response_reader.ResponsePhase.{ResponsePhase}
-use Rattle.hx_framing.specs.declared.readers.response_reader.ResponsePhase.TheVariants as phase
+use Rattle.hx_framing.specs.declared.readers.progress.ReaderPhase.{ReaderPhase}
+use Rattle.hx_framing.specs.declared.readers.progress.ReaderPhase.TheVariants as phase
 use Rattle.hx_framing.specs.Body.{ContentFound}
 use Rattle.hx_framing.specs.Contents.{content_rest}
 use Rattle.hx_framing.specs.Reading.{StreamReading, Spelled, Faulty, reading_with_content, ReadingIsSettled, reading_with_more}
@@ -15,6 +15,7 @@ use Rattle.hx_framing.specs.ResponseReading.{response_of_head, PassesInterimResp
 use Rattle.hx_framing.specs.ResponseHeadProgress.{ResponseContentResumes}
 use Rattle.hx_framing.specs.ResponseStream.{OneResponseIsGiven, AnswersAfterGiven, Answers}
 use Rattle.hx_framing.specs.Progress.{Progress, next_of_reading, stream_with_piece, stream_finished, AnswerIsDue}
+use Rattle.hx_framing.specs.ReaderSteps.{state_with_piece}
 use Rattle.hx_framing.specs.ResponseState.{State, RepresentsStream, ResponseReaderKeeps}
 use Rattle.hx_framing.proofs.ResponseOnce.{read_once_lem}
 use Rattle.hx_framing.proofs.ContentReadings.{resumes_now, resumes_fed}
@@ -85,7 +86,7 @@ before_by s p [] k = record { none = refl; passes = k }
 before_by s p (m ∷ more) k = absurd k
 
 pub before : (s : State) (p : Progress Response) → s.phase ≡ phase.BeforeHead → RepresentsStream s p → Before s p p.given
-before s p waiting represents = before_by s p p.given (subst (λ (f : ResponsePhase). ResponseReaderKeeps s p f p.given) waiting represents.keeps)
+before s p waiting represents = before_by s p p.given (subst (λ (f : ReaderPhase StatusHead). ResponseReaderKeeps s p f p.given) waiting represents.keeps)
 
 -- what is read in the unread bytes is read in the stream
 pub kept_reads : (s : State) (p : Progress Response) (r : StreamReading Response) → s.phase ≡ phase.BeforeHead → RepresentsStream s p
@@ -109,7 +110,7 @@ inside_by s p head content (m ∷ more) k = absurd k
 
 pub inside : (s : State) (p : Progress Response) (head : StatusHead) (content : Content) → s.phase ≡ phase.InContent head content → RepresentsStream s p
     → Inside s p head content p.given
-inside s p head content going represents = inside_by s p head content p.given (subst (λ (f : ResponsePhase). ResponseReaderKeeps s p f p.given) going represents.keeps)
+inside s p head content going represents = inside_by s p head content p.given (subst (λ (f : ReaderPhase StatusHead). ResponseReaderKeeps s p f p.given) going represents.keeps)
 
 -- what is taken of a content is read in the stream
 pub content_reads : (s : State) (p : Progress Response) (head : StatusHead) (content : Content) (body : ContentFound) → s.phase ≡ phase.InContent head content → RepresentsStream s p
@@ -125,7 +126,7 @@ content_reads s p head content body going represents is =
 pub answers_end : (s : State) (p : Progress Response) → s.phase ≡ phase.Given → RepresentsStream s p → Answers p End
 answers_end s p given represents = record {
   spells = represents.spells;
-  by = by_given p.given (subst (λ (f : ResponsePhase). ResponseReaderKeeps s p f p.given) given represents.keeps);
+  by = by_given p.given (subst (λ (f : ReaderPhase StatusHead). ResponseReaderKeeps s p f p.given) given represents.keeps);
 }
   where
     by_given : (g : List Response) → ResponseReaderKeeps s p phase.Given g → AnswersAfterGiven p g End
@@ -136,7 +137,7 @@ answers_end s p given represents = record {
 pub answers_fault : (s : State) (p : Progress Response) (f : FrameFault) → s.phase ≡ phase.Faulty f → RepresentsStream s p → Answers p (next_of_reading (Faulty f))
 answers_fault s p f faulty represents = record {
   spells = represents.spells;
-  by = by_given p.given (subst (λ (f : ResponsePhase). ResponseReaderKeeps s p f p.given) faulty represents.keeps);
+  by = by_given p.given (subst (λ (f : ReaderPhase StatusHead). ResponseReaderKeeps s p f p.given) faulty represents.keeps);
 }
   where
     by_given : (g : List Response) → ResponseReaderKeeps s p (phase.Faulty f) g → AnswersAfterGiven p g (next_of_reading (Faulty f))
@@ -146,138 +147,106 @@ answers_fault s p f faulty represents = record {
 -- ---- what the reader is left with
 
 -- a reader over the same stream
-pub record Same (s t : State) : Type 0 where
-  pub max_body : t.max_body ≡ s.max_body
-  pub to_head : t.to_head ≡ s.to_head
-  pub ended : t.ended ≡ s.ended
+abbrev pub at : State → List ℕ → ℕ → ReaderPhase StatusHead → State
+at s unread spare f = record s { unread = unread; spare = spare; phase = f }
 
--- v is s, and t is v but for where it is in its bytes
-pub same_stream : (s v t : State) → v ≡ s → t ≡ record v { unread = t.unread; spare = t.spare; phase = t.phase } → Same s t
-same_stream s v t is shape = record {
-  max_body = ap (λ (s : State). s.max_body) shape ∙ ap (λ (s : State). s.max_body) is;
-  to_head = ap (λ (s : State). s.to_head) shape ∙ ap (λ (s : State). s.to_head) is;
-  ended = ap (λ (s : State). s.ended) shape ∙ ap (λ (s : State). s.ended) is;
-}
-
-represents_on : (s t : State) (p : Progress Response) → Same s t → RepresentsStream s p → ResponseReaderKeeps t p t.phase p.given → RepresentsStream t p
-represents_on s t p same represents keeps = record {
-  max_body = same.max_body ∙ represents.max_body;
-  to_head = same.to_head ∙ represents.to_head;
-  ended = same.ended ∙ represents.ended;
+represents_on : (s : State) (p : Progress Response) (unread : List ℕ) (spare : ℕ) (f : ReaderPhase StatusHead) → RepresentsStream s p
+    → ResponseReaderKeeps (at s unread spare f) p f p.given → RepresentsStream (at s unread spare f) p
+represents_on s p unread spare f represents keeps = record {
+  max_body = represents.max_body;
+  to_head = represents.to_head;
+  ended = represents.ended;
   spells = represents.spells;
   keeps = keeps;
 }
 
 -- interim responses were passed over
-pub represents_passed : (s t : State) (p : Progress Response) (n : ℕ) → Same s t → s.phase ≡ phase.BeforeHead → t.phase ≡ phase.BeforeHead
-    → t.unread ≡ drop n s.unread → (sizes : List ℕ) × PassesInterimResponses s.unread sizes (drop n s.unread) → RepresentsStream s p → RepresentsStream t p
-represents_passed s t p n same waiting still left x represents =
+pub represents_passed : (s : State) (p : Progress Response) (n spare : ℕ) → s.phase ≡ phase.BeforeHead
+    → (sizes : List ℕ) × PassesInterimResponses s.unread sizes (drop n s.unread) → RepresentsStream s p → RepresentsStream (at s (drop n s.unread) spare phase.BeforeHead) p
+represents_passed s p n spare waiting x represents =
     let keeps = before s p waiting represents in
-    let passed : (sizes : List ℕ) × PassesInterimResponses p.stream sizes t.unread
-    = (keeps.passes.0 ++ x.0, subst (λ (u : List ℕ). PassesInterimResponses p.stream (keeps.passes.0 ++ x.0) u) (sym left) (passes_behind p.stream keeps.passes.0 s.unread x.0 (drop n s.unread) keeps.passes.1 x.1)) in
-    represents_on s t p same represents (subst (λ (f : ResponsePhase). ResponseReaderKeeps t p f p.given) (sym still)
-    (subst (λ (g : List Response). ResponseReaderKeeps t p phase.BeforeHead g) (sym keeps.none) passed))
+    let passed : (sizes : List ℕ) × PassesInterimResponses p.stream sizes (drop n s.unread)
+    = (keeps.passes.0 ++ x.0, passes_behind p.stream keeps.passes.0 s.unread x.0 (drop n s.unread) keeps.passes.1 x.1) in
+    represents_on s p (drop n s.unread) spare phase.BeforeHead represents
+    (subst (λ (g : List Response). ResponseReaderKeeps (at s (drop n s.unread) spare phase.BeforeHead) p phase.BeforeHead g) (sym keeps.none) passed)
 
 -- a content goes on
-pub represents_going : (s t : State) (p : Progress Response) (head : StatusHead) (content : Content) → Same s t → p.given ≡ [] → t.phase ≡ phase.InContent head content
-    → ResponseContentResumes p.max_body p.to_head head content p.stream t.unread → RepresentsStream s p → RepresentsStream t p
-represents_going s t p head content same none going on represents =
-    represents_on s t p same represents (subst (λ (f : ResponsePhase). ResponseReaderKeeps t p f p.given) (sym going)
-    (subst (λ (g : List Response). ResponseReaderKeeps t p (phase.InContent head content) g) (sym none) on))
+pub represents_going : (s : State) (p : Progress Response) (head : StatusHead) (content : Content) (unread : List ℕ) (spare : ℕ) → p.given ≡ []
+    → ResponseContentResumes p.max_body p.to_head head content p.stream unread → RepresentsStream s p → RepresentsStream (at s unread spare (phase.InContent head content)) p
+represents_going s p head content unread spare none on represents =
+    represents_on s p unread spare (phase.InContent head content) represents
+    (subst (λ (g : List Response). ResponseReaderKeeps (at s unread spare (phase.InContent head content)) p (phase.InContent head content) g) (sym none) on)
 
 -- a content was begun
-pub represents_begun : (s t : State) (p : Progress Response) (head : StatusHead) (content : Content) (n : ℕ) → Same s t → s.phase ≡ phase.BeforeHead → t.phase ≡ phase.InContent head content
-    → t.unread ≡ drop n s.unread → ResponseContentResumes s.max_body s.to_head head content s.unread (drop n s.unread) → RepresentsStream s p → RepresentsStream t p
-represents_begun s t p head content n same waiting going left on represents =
+pub represents_begun : (s : State) (p : Progress Response) (head : StatusHead) (content : Content) (unread : List ℕ) (spare : ℕ) → s.phase ≡ phase.BeforeHead
+    → ResponseContentResumes s.max_body s.to_head head content s.unread unread → RepresentsStream s p → RepresentsStream (at s unread spare (phase.InContent head content)) p
+represents_begun s p head content unread spare waiting on represents =
     let keeps = before s p waiting represents in
-    let here : ResponseContentResumes s.max_body s.to_head head content p.stream t.unread = λ more ended.
-    reads_behind s.max_body s.to_head ended (p.stream ++ more) keeps.passes.0 (s.unread ++ more) _ (passes_append p.stream keeps.passes.0 s.unread more keeps.passes.1)
-    (subst (λ (u : List ℕ). Reads s.max_body s.to_head ended (s.unread ++ more) (reading_with_content ended (response_of_head s.to_head head) (content_rest content ended (u ++ more)))) (sym left) (on more ended)) in
-    represents_going s t p head content same keeps.none going
-    (subst (λ (m : ℕ). ResponseContentResumes m p.to_head head content p.stream t.unread) represents.max_body
-    (subst (λ (h : Bool). ResponseContentResumes s.max_body h head content p.stream t.unread) represents.to_head here)) represents
+    let here : ResponseContentResumes s.max_body s.to_head head content p.stream unread = λ more ended.
+    reads_behind s.max_body s.to_head ended (p.stream ++ more) keeps.passes.0 (s.unread ++ more) _ (passes_append p.stream keeps.passes.0 s.unread more keeps.passes.1) (on more ended) in
+    represents_going s p head content unread spare keeps.none
+    (subst (λ (m : ℕ). ResponseContentResumes m p.to_head head content p.stream unread) represents.max_body
+    (subst (λ (h : Bool). ResponseContentResumes s.max_body h head content p.stream unread) represents.to_head here)) represents
 
 -- the message was given
-pub represents_given : (s t : State) (p : Progress Response) (m : Response) (rest : List ℕ) → Same s t → p.given ≡ [] → t.phase ≡ phase.Given
-    → Reads p.max_body p.to_head p.ended p.stream (Spelled m rest) → RepresentsStream s p → RepresentsStream t (record p { given = p.given ++ m ∷ []; continue_sent = false })
-represents_given s t p m rest same none given reads represents =
+pub represents_given : (s : State) (p : Progress Response) (m : Response) (rest unread : List ℕ) (spare : ℕ) → p.given ≡ []
+    → Reads p.max_body p.to_head p.ended p.stream (Spelled m rest) → RepresentsStream s p
+    → RepresentsStream (at s unread spare phase.Given) (record p { given = p.given ++ m ∷ []; continue_sent = false })
+represents_given s p m rest unread spare none reads represents =
     let q : Progress Response = record p { given = p.given ++ m ∷ []; continue_sent = false } in
     record {
-      max_body = same.max_body ∙ represents.max_body;
-      to_head = same.to_head ∙ represents.to_head;
-      ended = same.ended ∙ represents.ended;
+      max_body = represents.max_body;
+      to_head = represents.to_head;
+      ended = represents.ended;
       spells = subst (λ (g : List Response). OneResponseIsGiven q (g ++ m ∷ [])) (sym none) (rest, reads);
-      keeps = subst (λ (f : ResponsePhase). ResponseReaderKeeps t q f (p.given ++ m ∷ [])) (sym given)
-          (subst (λ (g : List Response). ResponseReaderKeeps t q phase.Given (g ++ m ∷ [])) (sym none) tt);
+      keeps = subst (λ (g : List Response). ResponseReaderKeeps (at s unread spare phase.Given) q phase.Given (g ++ m ∷ [])) (sym none) tt;
     }
 
 -- the fault is kept
-pub represents_fault : (s t : State) (p : Progress Response) (f : FrameFault) → Same s t → p.given ≡ [] → t.phase ≡ phase.Faulty f
-    → Reads p.max_body p.to_head p.ended p.stream (Faulty f) → RepresentsStream s p → RepresentsStream t p
-represents_fault s t p f same none faulty reads represents =
-    represents_on s t p same represents (subst (λ (g : ResponsePhase). ResponseReaderKeeps t p g p.given) (sym faulty)
-    (subst (λ (g : List Response). ResponseReaderKeeps t p (phase.Faulty f) g) (sym none) reads))
+pub represents_fault : (s : State) (p : Progress Response) (f : FrameFault) (unread : List ℕ) (spare : ℕ) → p.given ≡ []
+    → Reads p.max_body p.to_head p.ended p.stream (Faulty f) → RepresentsStream s p → RepresentsStream (at s unread spare (phase.Faulty f)) p
+represents_fault s p f unread spare none reads represents =
+    represents_on s p unread spare (phase.Faulty f) represents
+    (subst (λ (g : List Response). ResponseReaderKeeps (at s unread spare (phase.Faulty f)) p (phase.Faulty f) g) (sym none) reads)
 
 -- ---- a piece has come, and the stream has ended
 
-pub represents_fed : (s t : State) (p : Progress Response) (piece : List ℕ) → Same s t → t.phase ≡ s.phase → t.unread ≡ s.unread ++ piece → p.ended ≡ false
-    → RepresentsStream s p → RepresentsStream t (stream_with_piece p piece)
-represents_fed s t p piece same kept longer open_still represents = record {
-  max_body = same.max_body ∙ represents.max_body;
-  to_head = same.to_head ∙ represents.to_head;
-  ended = same.ended ∙ represents.ended;
-  spells = given_fed p piece p.given open_still represents.spells;
-  keeps = subst (λ (f : ResponsePhase). ResponseReaderKeeps t (stream_with_piece p piece) f p.given) (sym kept) (by_phase s.phase p.given represents.keeps);
-}
-  where
-    by_phase : (f : ResponsePhase) (g : List Response) → ResponseReaderKeeps s p f g → ResponseReaderKeeps t (stream_with_piece p piece) f g
-    by_phase phase.BeforeHead [] k = (k.0, subst (λ (u : List ℕ). PassesInterimResponses (p.stream ++ piece) k.0 u) (sym longer) (passes_append p.stream k.0 s.unread piece k.1))
-    by_phase phase.BeforeHead (m ∷ more) k = k
-    by_phase (phase.InContent head content) [] k =
-        subst (λ (u : List ℕ). ResponseContentResumes p.max_body p.to_head head content (p.stream ++ piece) u) (sym longer)
-        (resumes_fed (λ (e : Bool). Reads p.max_body p.to_head e) (response_of_head p.to_head head) (λ (e : Bool). e) content p.stream s.unread piece k)
-    by_phase (phase.InContent head content) (m ∷ more) k = k
-    by_phase phase.Given [] k = k
-    by_phase phase.Given (m ∷ more) k = k
-    by_phase (phase.Faulty f) [] k = reads_fed p (Faulty f) piece open_still tt k
-    by_phase (phase.Faulty f) (m ∷ more) k = k
+keeps_fed : (s : State) (p : Progress Response) (piece : List ℕ) (spare : ℕ) → p.ended ≡ false → (f : ReaderPhase StatusHead) (given : List Response)
+    → ResponseReaderKeeps s p f given → ResponseReaderKeeps (state_with_piece s f piece spare) (stream_with_piece p piece) f given
+keeps_fed s p piece spare open_still phase.BeforeHead [] k = (k.0, passes_append p.stream k.0 s.unread piece k.1)
+keeps_fed s p piece spare open_still phase.BeforeHead (m ∷ more) k = k
+keeps_fed s p piece spare open_still (phase.InContent head content) [] k =
+    resumes_fed (λ (e : Bool). Reads p.max_body p.to_head e) (response_of_head p.to_head head) (λ (e : Bool). e) content p.stream s.unread piece k
+keeps_fed s p piece spare open_still (phase.InContent head content) (m ∷ more) k = k
+keeps_fed s p piece spare open_still phase.Given [] k = k
+keeps_fed s p piece spare open_still phase.Given (m ∷ more) k = k
+keeps_fed s p piece spare open_still (phase.Faulty f) [] k = reads_fed p (Faulty f) piece open_still tt k
+keeps_fed s p piece spare open_still (phase.Faulty f) (m ∷ more) k = k
 
--- where the piece found room
-pub represents_fed_by : {A E : Type 0} (s t : State) (piece : List ℕ) {unread : List ℕ} → Same s t → t.phase ≡ s.phase → unread ≡ s.unread
-    → (r : Result A E) → OnOk r (t.unread ≡ unread ++ piece)
-    → OnOk r ((p : Progress Response) → RepresentsStream s p → p.ended ≡ false → RepresentsStream t (stream_with_piece p piece))
-represents_fed_by s t piece same phase_same kept (Ok x) longer = λ p represents open_still. represents_fed s t p piece same phase_same (longer ∙ ap (λ u. u ++ piece) kept) open_still represents
-represents_fed_by s t piece same phase_same kept (Err x) longer = tt
-
-pub represents_fed_given : (s : State) (p : Progress Response) (piece : List ℕ) → s.phase ≡ phase.Given → RepresentsStream s p → p.ended ≡ false
-    → RepresentsStream s (stream_with_piece p piece)
-represents_fed_given s p piece given represents open_still = record {
+-- a piece changes no more than the unread bytes and their room
+represents_fed_as : (s : State) (p : Progress Response) (piece unread : List ℕ) (spare : ℕ) → p.ended ≡ false → RepresentsStream s p
+    → ResponseReaderKeeps (at s unread spare s.phase) (stream_with_piece p piece) s.phase p.given → RepresentsStream (at s unread spare s.phase) (stream_with_piece p piece)
+represents_fed_as s p piece unread spare open_still represents keeps = record {
   max_body = represents.max_body;
   to_head = represents.to_head;
   ended = represents.ended;
   spells = given_fed p piece p.given open_still represents.spells;
-  keeps = subst (λ (f : ResponsePhase). ResponseReaderKeeps s (stream_with_piece p piece) f p.given) (sym given)
-      (by_given p.given (subst (λ (f : ResponsePhase). ResponseReaderKeeps s p f p.given) given represents.keeps));
+  keeps = keeps;
 }
-  where
-    by_given : (g : List Response) → ResponseReaderKeeps s p phase.Given g → ResponseReaderKeeps s (stream_with_piece p piece) phase.Given g
-    by_given [] k = k
-    by_given (m ∷ more) k = k
 
-pub represents_fed_faulty : (s : State) (p : Progress Response) (piece : List ℕ) (f : FrameFault) → s.phase ≡ phase.Faulty f → RepresentsStream s p → p.ended ≡ false
-    → RepresentsStream s (stream_with_piece p piece)
-represents_fed_faulty s p piece f faulty represents open_still = record {
-  max_body = represents.max_body;
-  to_head = represents.to_head;
-  ended = represents.ended;
-  spells = given_fed p piece p.given open_still represents.spells;
-  keeps = subst (λ (f : ResponsePhase). ResponseReaderKeeps s (stream_with_piece p piece) f p.given) (sym faulty)
-      (by_given p.given (subst (λ (f : ResponsePhase). ResponseReaderKeeps s p f p.given) faulty represents.keeps));
-}
+pub represents_fed : (s : State) (p : Progress Response) (piece : List ℕ) (spare : ℕ) → RepresentsStream s p → p.ended ≡ false
+    → RepresentsStream (state_with_piece s s.phase piece spare) (stream_with_piece p piece)
+represents_fed s p piece spare represents open_still = by_phase s.phase refl
   where
-    by_given : (g : List Response) → ResponseReaderKeeps s p (phase.Faulty f) g → ResponseReaderKeeps s (stream_with_piece p piece) (phase.Faulty f) g
-    by_given [] k = reads_fed p (Faulty f) piece open_still tt k
-    by_given (m ∷ more) k = k
+    keeps : (f : ReaderPhase StatusHead) → s.phase ≡ f → ResponseReaderKeeps (state_with_piece s f piece spare) (stream_with_piece p piece) s.phase p.given
+    keeps f is = subst (λ (g : ReaderPhase StatusHead). ResponseReaderKeeps (state_with_piece s f piece spare) (stream_with_piece p piece) g p.given) (sym is)
+        (keeps_fed s p piece spare open_still f p.given (subst (λ (g : ReaderPhase StatusHead). ResponseReaderKeeps s p g p.given) is represents.keeps))
+
+    by_phase : (f : ReaderPhase StatusHead) → s.phase ≡ f → RepresentsStream (state_with_piece s f piece spare) (stream_with_piece p piece)
+    by_phase phase.BeforeHead is = represents_fed_as s p piece (s.unread ++ piece) spare open_still represents (keeps phase.BeforeHead is)
+    by_phase (phase.InContent head content) is = represents_fed_as s p piece (s.unread ++ piece) spare open_still represents (keeps (phase.InContent head content) is)
+    by_phase phase.Given is = represents_fed_as s p piece s.unread s.spare open_still represents (keeps phase.Given is)
+    by_phase (phase.Faulty f) is = represents_fed_as s p piece s.unread s.spare open_still represents (keeps (phase.Faulty f) is)
 
 pub represents_finished : (s : State) (p : Progress Response) → RepresentsStream s p → RepresentsStream (record s { ended = true }) (stream_finished p)
 represents_finished s p represents = record {
@@ -288,7 +257,7 @@ represents_finished s p represents = record {
   keeps = by_phase s.phase p.given represents.keeps;
 }
   where
-    by_phase : (f : ResponsePhase) (g : List Response) → ResponseReaderKeeps s p f g → ResponseReaderKeeps (record s { ended = true }) (stream_finished p) f g
+    by_phase : (f : ReaderPhase StatusHead) (g : List Response) → ResponseReaderKeeps s p f g → ResponseReaderKeeps (record s { ended = true }) (stream_finished p) f g
     by_phase phase.BeforeHead [] k = k
     by_phase phase.BeforeHead (m ∷ more) k = k
     by_phase (phase.InContent head content) [] k = k
@@ -297,6 +266,3 @@ represents_finished s p represents = record {
     by_phase phase.Given (m ∷ more) k = k
     by_phase (phase.Faulty f) [] k = reads_ended p.max_body p.to_head p.ended p.stream (Faulty f) tt k
     by_phase (phase.Faulty f) (m ∷ more) k = k
-
-pub ended_is : (s : State) (p : Progress Response) → RepresentsStream s p → s.ended ≡ p.ended
-ended_is s p represents = represents.ended

@@ -1,24 +1,11 @@
 -- What streams of requests and of responses have in common.
 use Rattle.std.proofs.Common.{◌≡◌, ℕ, List, refl}
 use Rattle.hx_framing.specs.declared.frame_fault.FrameFault.{FrameFault}
-use Rattle.hx_framing.specs.declared.messages.Next.{Next}
-use Rattle.hx_framing.specs.declared.messages.Next.TheVariants as next
-use Rattle.hx_framing.specs.declared.readers.progress.HeadProgress.{HeadProgress}
-use Rattle.hx_framing.specs.declared.readers.progress.HeadProgress.TheVariants as head_progress
 use Rattle.hx_framing.specs.Progress.{next_of_reading, AnswerIsDue}
 use Rattle.hx_framing.specs.Reading.{StreamReading, Incomplete, Continue, Over, Spelled, Faulty, ReadingIsSettled, reading_with_more}
 
 pub same_fault : {M : Type 0} (f g : FrameFault) → ◌≡◌ {A = StreamReading M} (Faulty f) (Faulty g) → f ≡ g
 same_fault f g e = cc
-
--- what is answered where that is found before a head
-abbrev pub answer_of : {H M : Type 0} → HeadProgress H M → Next M
-answer_of (head_progress.Incomplete n) = next.More
-answer_of (head_progress.NeedsContinue head content n) = next.NeedsContinue
-answer_of (head_progress.InContent head content n) = next.More
-answer_of (head_progress.Message m n) = next.Message m
-answer_of (head_progress.Faulty f) = next.Refused f
-answer_of head_progress.Ended = next.End
 
 -- more bytes behind a reading change no answer
 pub next_extended : {M : Type 0} (r : StreamReading M) (w : List ℕ) → next_of_reading (reading_with_more r w) ≡ next_of_reading r

@@ -13,6 +13,9 @@ pub mod HeadLines
 pub mod GivenFields
 pub mod RequestReading
 pub mod RequestHeadProgress
+pub mod ReaderState
+pub mod ReaderKind
+pub mod ReaderSteps
 pub mod RequestStream
 pub mod RequestState
 pub mod StatusHead

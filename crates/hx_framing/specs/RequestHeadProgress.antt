@@ -20,7 +20,7 @@ RequestContentResumes max_body continue_sent head content bytes unread = Content
 -- it is what the bytes read as, before a continue was given
 abbrev pub IsHeadProgress : ℕ → Bool → List ℕ → HeadProgress Head Request → Type 0
 IsHeadProgress max_body ended bytes (head_progress.Incomplete n) =
-    Reads max_body ended false bytes Incomplete × IsOpenHead bytes
+    (n ≡ 0) × Reads max_body ended false bytes Incomplete × IsOpenHead bytes
 IsHeadProgress max_body ended bytes (head_progress.NeedsContinue head content n) =
     IsIndexBehindBytes bytes n × Reads max_body ended false bytes Continue
     × RequestContentResumes max_body true head content bytes (drop n bytes)

@@ -1,28 +1,24 @@
 -- What a response reader keeps, and which streams it stands for.
-use Rattle.std.specs.Prelude.{◌≡◌, ℕ, ◌+◌, ◌*◌, ◌≤◌, Bool, cond, List, [], ◌∷◌, length}
+use Rattle.std.specs.Prelude.{◌≡◌, ℕ, ◌+◌, ◌*◌, ◌≤◌, cond, List, [], ◌∷◌, length}
+use Rattle.hx_framing.specs.declared.heads.status_head.StatusHead.{StatusHead}
 use Rattle.hx_framing.specs.declared.messages.Response.{Response}
-use Rattle.hx_framing.specs.declared.readers.response_reader.ResponsePhase.{ResponsePhase}
-use Rattle.hx_framing.specs.declared.readers.response_reader.ResponsePhase.TheVariants as phase
-use Rattle.hx_framing.specs.HeadEnd.{IsOpenHead, most_head_bytes}
-use Rattle.hx_framing.specs.Contents.{IsUnfinishedContent}
+use Rattle.hx_framing.specs.declared.readers.progress.ReaderPhase.{ReaderPhase}
+use Rattle.hx_framing.specs.declared.readers.progress.ReaderPhase.TheVariants as phase
 use Rattle.hx_framing.specs.Reading.{Faulty}
-use Rattle.hx_framing.specs.ResponseReading.{PassesInterimResponses, Reads}
-use Rattle.hx_framing.specs.ResponseHeadProgress.{ResponseContentResumes}
-use Rattle.hx_framing.specs.ResponseStream.{OneResponseIsGiven}
-use Rattle.hx_framing.specs.Progress.{Progress}
+use Rattle.hx_framing.specs.ReaderKind.{ReaderKind}
+use Rattle.hx_framing.specs.ReaderState.{ReaderState}
+use Rattle.hx_framing.specs.ResponseReading.{response_of_head, PassesInterimResponses, Reads}
+use Rattle.hx_framing.specs.ResponseHeadProgress.{ResponseContentResumes, IsHeadProgress, FinalHeadStands}
+use Rattle.hx_framing.specs.ResponseStream.{OneResponseIsGiven, Answers, NeedsMemory}
+use Rattle.hx_framing.specs.Progress.{Progress, AnswerIsDue, cost_of_answer}
 
--- what contracts see of a reader; spare: how many more bytes find room without new memory
-pub record State : Type 0 where
-  pub max_body : ℕ
-  pub to_head : Bool
-  pub unread : List ℕ
-  pub spare : ℕ
-  pub ended : Bool
-  pub phase : ResponsePhase
+-- what contracts see of a reader
+abbrev pub State : Type 0
+State = ReaderState StatusHead
 
 -- before the head the reader keeps the stream but for interim responses, in the content what is still to come of it;
 -- behind the message, or from a fault on, what comes doesn't count
-abbrev pub ResponseReaderKeeps : State → Progress Response → ResponsePhase → List Response → Type 0
+abbrev pub ResponseReaderKeeps : State → Progress Response → ReaderPhase StatusHead → List Response → Type 0
 ResponseReaderKeeps s p phase.BeforeHead [] = (sizes : List ℕ) × PassesInterimResponses p.stream sizes s.unread
 ResponseReaderKeeps s p phase.BeforeHead (message ∷ more) = ⊥
 ResponseReaderKeeps s p (phase.InContent head content) []
@@ -41,25 +37,8 @@ pub record RepresentsStream (s : State) (p : Progress Response) : Type 0 where
   pub spells : OneResponseIsGiven p p.given
   pub keeps : ResponseReaderKeeps s p s.phase p.given
 
--- the bytes of the stream that the reader keeps, but for those of a content
-abbrev pub kept : State → List ℕ
-kept s = s.unread
-
--- what is begun there: a head, or a line of a content or the CRLF behind data; whatever was whole is taken
-abbrev pub ResponsePartIsBegun : ResponsePhase → List ℕ → Type 0
-ResponsePartIsBegun phase.BeforeHead bytes = IsOpenHead bytes
-ResponsePartIsBegun (phase.InContent head content) bytes = IsUnfinishedContent content bytes
-ResponsePartIsBegun phase.Given bytes = ⊥
-ResponsePartIsBegun (phase.Faulty f) bytes = ⊥
-
--- no head, interim or final, size line, data byte, CRLF behind data or trailer line is whole in
--- what is kept, so it is bounded
-pub record IsUnfinished (s : State) : Type 0 where
-  pub begun : ResponsePartIsBegun s.phase (kept s)
-  pub bounded : length (kept s) ≤ most_head_bytes
-
 -- what may still be due, by where the reader is
-abbrev pub weight_in_phase : State → ResponsePhase → ℕ
+abbrev pub weight_in_phase : State → ReaderPhase StatusHead → ℕ
 weight_in_phase s phase.BeforeHead = 2 * length s.unread + cond s.ended 1 0
 weight_in_phase s (phase.InContent head content) = 2 * length s.unread + 2 + cond s.ended 1 0
 weight_in_phase s phase.Given = 1
@@ -68,3 +47,18 @@ weight_in_phase s (phase.Faulty f) = 1
 -- a bound on what is still to come of what was fed: 0 where nothing came
 abbrev pub weight : State → ℕ
 weight s = weight_in_phase s s.phase
+
+-- responses, as a reader has them: a content may run until the close, and there is one message
+abbrev pub response_kind : ReaderKind StatusHead Response
+response_kind = record {
+  RepresentsStream = RepresentsStream;
+  Answers = Answers;
+  NeedsMemory = NeedsMemory;
+  weight = weight;
+  DueIsWeighed = λ left answer. AnswerIsDue answer → 1 ≤ left + cost_of_answer answer;
+  FrontIsFound = IsHeadProgress;
+  HeadStands = FinalHeadStands;
+  message_of = response_of_head;
+  is_closed_by = λ ended. ended;
+  behind_message = phase.Given;
+}

@@ -51,8 +51,8 @@ mod writing;
 
 pub use crate::frame_fault::FrameFault;
 pub use crate::messages::{Next, Request, Response};
-pub use crate::readers::request_reader::RequestReader;
-pub use crate::readers::response_reader::ResponseReader;
+pub use crate::readers::message_head::MessageHead;
+pub use crate::readers::message_reader::{MessageReader, RequestReader, ResponseReader};
 pub use crate::writing::{
     AddedLine, ResponseLines, write_continue, write_request, write_response, write_response_with,
 };

@@ -4,12 +4,12 @@ use Rattle.hx_framing.specs.declared.messages.Request.{Request}
 use Rattle.hx_framing.specs.declared.messages.Response.{Response}
 use Rattle.hx_framing.specs.declared.messages.Next.{Next}
 use Rattle.hx_framing.specs.declared.messages.Next.TheVariants as next
-use Rattle.hx_framing.specs.declared.readers.response_reader.ResponsePhase.{ResponsePhase}
-use Rattle.hx_framing.specs.declared.readers.response_reader.ResponsePhase.TheVariants as phase
+use Rattle.hx_framing.specs.declared.heads.request_head.Head.{Head}
+use Rattle.hx_framing.specs.declared.heads.status_head.StatusHead.{StatusHead}
+use Rattle.hx_framing.specs.declared.readers.progress.ReaderPhase.{ReaderPhase}
+use Rattle.hx_framing.specs.declared.readers.progress.ReaderPhase.TheVariants as phase
 use Rattle.hx_framing.specs.Progress.{Progress, no_stream, stream_with_piece, stream_finished, stream_after_answer, AnswerIsDue}
 use Rattle.hx_framing.specs.Reading.{Incomplete}
-use Rattle.hx_framing.specs.declared.readers.request_reader.RequestPhase.{RequestPhase}
-use Rattle.hx_framing.specs.declared.readers.request_reader.RequestPhase.TheVariants as requests
 use Rattle.hx_framing.specs.RequestState.{State as RequestState, RepresentsStream as RequestRepresentsStream, RequestReaderKeeps as RequestKeeps}
 use Rattle.hx_framing.specs.RequestReading.{Reads}
 use Rattle.hx_framing.specs.RequestStream.{StreamSpells, Answers as RequestAnswers}
@@ -72,17 +72,18 @@ finished_ahead RepresentsStream Answers r s (Due next.End) p finish due h = (fin
 
 -- ---- a reader with more room stands for the same streams
 
-request_spare_keeps : (r : RequestState) (k : ℕ) (p : Progress Request) (rest : List ℕ) (ph : RequestPhase) → RequestKeeps r p rest ph → RequestKeeps (record r { spare = k }) p rest ph
-request_spare_keeps r k p rest requests.BeforeHead h = h
-request_spare_keeps r k p rest (requests.InContent head content) h = h
-request_spare_keeps r k p rest (requests.Faulty f) h = h
+request_spare_keeps : (r : RequestState) (k : ℕ) (p : Progress Request) (rest : List ℕ) (ph : ReaderPhase Head) → RequestKeeps r p rest ph → RequestKeeps (record r { spare = k }) p rest ph
+request_spare_keeps r k p rest phase.BeforeHead h = h
+request_spare_keeps r k p rest (phase.InContent head content) h = h
+request_spare_keeps r k p rest phase.Given h = h
+request_spare_keeps r k p rest (phase.Faulty f) h = h
 
 pub request_spare_represents : (r s : RequestState) (p : Progress Request) → s ≡ record r { spare = s.spare } → RequestRepresentsStream r p → RequestRepresentsStream s p
 request_spare_represents r s p same h =
     subst (λ (t : RequestState). RequestRepresentsStream t p) (sym same)
     (record { max_body = h.max_body; ended = h.ended; rest = h.rest; spells = h.spells; keeps = request_spare_keeps r s.spare p h.rest r.phase h.keeps })
 
-spare_keeps : (r : State) (k : ℕ) (p : Progress Response) (ph : ResponsePhase) (given : List Response) → ResponseReaderKeeps r p ph given → ResponseReaderKeeps (record r { spare = k }) p ph given
+spare_keeps : (r : State) (k : ℕ) (p : Progress Response) (ph : ReaderPhase StatusHead) (given : List Response) → ResponseReaderKeeps r p ph given → ResponseReaderKeeps (record r { spare = k }) p ph given
 spare_keeps r k p phase.BeforeHead [] h = h
 spare_keeps r k p phase.BeforeHead (message ∷ more) h = h
 spare_keeps r k p (phase.InContent head content) [] h = h
@@ -96,18 +97,3 @@ pub spare_represents : (r s : State) (p : Progress Response) → s ≡ record r 
 spare_represents r s p same h =
     subst (λ (t : State). RepresentsStream t p) (sym same)
     (record { max_body = h.max_body; to_head = h.to_head; ended = h.ended; spells = h.spells; keeps = spare_keeps r s.spare p r.phase p.given h.keeps })
-
--- ---- each byte that came is of a message given, and more may come
-
-pub not_true : (b : Bool) → not b ≡ true → b ≡ false
-not_true true e = cc
-not_true false e = refl
-
-pub quiet_answers : (p : Progress Request) → p.ended ≡ false → StreamSpells p.max_body p.stream p.given [] → RequestAnswers p next.More
-quiet_answers p still spells = record {
-  rest = [];
-  reading = Incomplete;
-  spells = spells;
-  reads = subst (λ (e : Bool). Reads p.max_body e p.continue_sent [] Incomplete) (sym still) refl;
-  answer_is = refl;
-}

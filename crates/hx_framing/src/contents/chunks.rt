@@ -13,7 +13,7 @@ use std::mem;
 
 /// How far the content has come.
 #[derive(Drop)]
-pub(crate) struct Chunks {
+pub struct Chunks {
     place: ChunkState,
     content: Vec<u8>,
 }

@@ -24,7 +24,7 @@ pub(crate) enum ContentProgress {
 }
 
 /// A content that was begun. Its bytes are taken as they come, and each once.
-pub(crate) enum Content {
+pub enum Content {
     Nothing,
     /// As many bytes as were announced.
     Announced(Plain),

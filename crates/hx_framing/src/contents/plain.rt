@@ -10,7 +10,7 @@ use std::mem;
 
 /// The content so far. Where it is full, room is made for as much again, but for no more than may come.
 #[derive(Drop)]
-pub(crate) struct Plain {
+pub struct Plain {
     /// So many bytes may still come.
     left: u64,
     content: Vec<u8>,

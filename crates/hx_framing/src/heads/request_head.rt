@@ -21,7 +21,7 @@ use hx_fields::{Bytes, Fields};
 use std::alloc::{AllocError, Global};
 
 /// A head: its request line and its field lines.
-pub(crate) struct Head {
+pub struct Head {
     pub(crate) method: Method,
     pub(crate) target: Bytes,
     pub(crate) minor: u8,

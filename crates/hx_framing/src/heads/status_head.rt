@@ -18,7 +18,7 @@ use std::alloc::{AllocError, Global};
 
 /// A head: the status, the minor version and the field lines.
 #[derive(Drop)]
-pub(crate) struct StatusHead {
+pub struct StatusHead {
     pub(crate) status: u16,
     pub(crate) minor: u8,
     pub(crate) fields: Fields,

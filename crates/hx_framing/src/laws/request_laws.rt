@@ -3,7 +3,7 @@ ghost use Rattle.std.specs.Prelude.{◌≡◌, ◌≤◌, ◌+◌, ◌*◌, ◌+
 ghost use Rattle.hx_framing.specs.declared.contents.content.Content.{Content};
 ghost use Rattle.hx_framing.specs.declared.contents.content.Content.TheVariants as content;
 ghost use Rattle.hx_framing.specs.declared.heads.request_head.Head.{Head};
-ghost use Rattle.hx_framing.specs.declared.readers.request_reader.RequestPhase.TheVariants as phase;
+ghost use Rattle.hx_framing.specs.declared.readers.progress.ReaderPhase.TheVariants as phase;
 ghost use Rattle.hx_framing.specs.declared.messages.Request.{Request};
 ghost use Rattle.hx_framing.specs.declared.messages.Next.{Next};
 ghost use Rattle.hx_framing.specs.declared.frame_fault.FrameFault.{FrameFault};
@@ -14,9 +14,10 @@ ghost use Rattle.hx_framing.specs.HeadEnd.{head_length};
 ghost use Rattle.hx_framing.specs.PlainContent.{PlainContent};
 ghost use Rattle.hx_framing.specs.Reading.{StreamReading, Faulty, ReadingIsSettled, reading_with_more};
 ghost use Rattle.hx_framing.specs.RequestReading.{Reads};
-ghost use Rattle.hx_framing.specs.RequestStream.{StreamSpells, Answers};
+ghost use Rattle.hx_framing.specs.RequestStream.{StreamSpells, Answers, NeedsMemory};
 ghost use Rattle.hx_framing.specs.Progress.{Progress, AnswerIsDue, stream_with_piece, stream_finished};
-ghost use Rattle.hx_framing.specs.RequestState.{State, RepresentsStream, IsUnfinished, weight};
+ghost use Rattle.hx_framing.specs.RequestState.{State, RepresentsStream, weight, request_kind};
+ghost use Rattle.hx_framing.specs.ReaderState.{IsUnfinished};
 
 /// One thing stands at the front of the unread bytes.
 pub fn one_reading_stands_in_front()
@@ -97,4 +98,15 @@ pub fn readers_have_weights()
     ensures begun { (s : State) → (head : Head) → (content : Content) → s.phase ≡ phase.InContent head content
         → weight s ≡ 2 * length s.unread + 1 }
     ensures fault { (s : State) → (f : FrameFault) → s.phase ≡ phase.Faulty f → weight s ≡ 2 * length s.unread }
+{}
+
+/// What the contracts of a reader say by its kind, they say of requests.
+pub fn readers_of_requests_keep_to_requests()
+    ensures represents { (s : State) → (p : Progress Request) → request_kind.RepresentsStream s p
+        → RepresentsStream s p }
+    ensures represented { (s : State) → (p : Progress Request) → RepresentsStream s p
+        → request_kind.RepresentsStream s p }
+    ensures answers { (p : Progress Request) → (a : Next Request) → request_kind.Answers p a → Answers p a }
+    ensures memory { (p : Progress Request) → request_kind.NeedsMemory p → NeedsMemory p }
+    ensures weight { (s : State) → request_kind.weight s ≡ weight s }
 {}

@@ -3,7 +3,7 @@ ghost use Rattle.std.specs.Prelude.{◌≡◌, ◌≤◌, ◌+◌, ◌*◌, ◌+
 ghost use Rattle.hx_fields.specs.declared.field_line.Field.{Field};
 ghost use Rattle.hx_framing.specs.declared.contents.content.Content.{Content};
 ghost use Rattle.hx_framing.specs.declared.contents.content.Content.TheVariants as content;
-ghost use Rattle.hx_framing.specs.declared.readers.response_reader.ResponsePhase.TheVariants as phase;
+ghost use Rattle.hx_framing.specs.declared.readers.progress.ReaderPhase.TheVariants as phase;
 ghost use Rattle.hx_framing.specs.declared.messages.Response.{Response};
 ghost use Rattle.hx_framing.specs.declared.heads.status_head.StatusHead.{StatusHead};
 ghost use Rattle.hx_framing.specs.declared.messages.Next.{Next};
@@ -16,9 +16,10 @@ ghost use Rattle.hx_framing.specs.HeadEnd.{head_length};
 ghost use Rattle.hx_framing.specs.PlainContent.{PlainContent};
 ghost use Rattle.hx_framing.specs.Reading.{StreamReading, Faulty, ReadingIsSettled, Spelled, reading_with_more};
 ghost use Rattle.hx_framing.specs.ResponseReading.{Reads};
-ghost use Rattle.hx_framing.specs.ResponseStream.{SpellsResponse, OneResponseIsGiven, Answers};
-ghost use Rattle.hx_framing.specs.Progress.{Progress, AnswerIsDue, stream_with_piece, stream_finished};
-ghost use Rattle.hx_framing.specs.ResponseState.{State, RepresentsStream, IsUnfinished, weight};
+ghost use Rattle.hx_framing.specs.ResponseStream.{SpellsResponse, OneResponseIsGiven, Answers, NeedsMemory};
+ghost use Rattle.hx_framing.specs.Progress.{Progress, AnswerIsDue, cost_of_answer, stream_with_piece, stream_finished};
+ghost use Rattle.hx_framing.specs.ResponseState.{State, RepresentsStream, weight, response_kind};
+ghost use Rattle.hx_framing.specs.ReaderState.{IsUnfinished};
 
 /// A stream has one response: behind it nothing is given but the end.
 pub fn one_response_is_given()
@@ -120,4 +121,17 @@ pub fn readers_have_weights()
         → s.phase ≡ phase.InContent head content → s.ended ≡ true → weight s ≡ 2 * length s.unread + 3 }
     ensures given { (s : State) → s.phase ≡ phase.Given → weight s ≡ 1 }
     ensures fault { (s : State) → (f : FrameFault) → s.phase ≡ phase.Faulty f → weight s ≡ 1 }
+{}
+
+/// What the contracts of a reader say by its kind, they say of responses.
+pub fn readers_of_responses_keep_to_responses()
+    ensures represents { (s : State) → (p : Progress Response) → response_kind.RepresentsStream s p
+        → RepresentsStream s p }
+    ensures represented { (s : State) → (p : Progress Response) → RepresentsStream s p
+        → response_kind.RepresentsStream s p }
+    ensures answers { (p : Progress Response) → (a : Next Response) → response_kind.Answers p a → Answers p a }
+    ensures memory { (p : Progress Response) → response_kind.NeedsMemory p → NeedsMemory p }
+    ensures weight { (s : State) → response_kind.weight s ≡ weight s }
+    ensures due { (left : ℕ) → (a : Next Response) → response_kind.DueIsWeighed left a → AnswerIsDue a
+        → 1 ≤ left + cost_of_answer a }
 {}

@@ -1,11 +1,11 @@
-//! What a reader finds in its unread bytes.
+//! What a reader finds in its unread bytes, and where in its stream it is then.
 
 use crate::contents::content::Content;
 use crate::frame_fault::FrameFault;
 
 /// The bytes of a stream that no message has taken, and what they are read by.
 #[derive(Clone, Copy)]
-pub(crate) struct Rest<'a> {
+pub struct Rest<'a> {
     /// Bytes of content that a message may have.
     pub(crate) max_body: u64,
     /// No more bytes come.
@@ -16,7 +16,7 @@ pub(crate) struct Rest<'a> {
 /// How far a message has come in unread bytes, from its head on: what is due, and how many of them
 /// it takes. H is a head, M a message.
 #[derive(Drop)]
-pub(crate) enum HeadProgress<H, M> {
+pub enum HeadProgress<H, M> {
     /// Nothing yet; so many bytes of interim responses stand in front.
     Incomplete(usize),
     /// A continue is due, before the content.
@@ -27,4 +27,16 @@ pub(crate) enum HeadProgress<H, M> {
     Faulty(FrameFault),
     /// The stream has ended before a head.
     Ended,
+}
+
+/// Where a reader is in its stream. H is a head.
+#[derive(Drop)]
+pub enum ReaderPhase<H> {
+    /// Before a head, or in it.
+    BeforeHead,
+    /// Behind a head, in its content. Its continue was given, if it wants one.
+    InContent(H, Content),
+    /// Behind the only message.
+    Given,
+    Faulty(FrameFault),
 }

@@ -14,9 +14,11 @@ use crate::heads::request_head::Head;
 use crate::lengths::framing::{RequestBody, request_body_of};
 use crate::limits::MOST_HEAD_BYTES;
 use crate::messages::Request;
-use crate::readers::progress::{HeadProgress, Rest};
+use crate::readers::message_head::MessageHead;
+use crate::readers::progress::{HeadProgress, ReaderPhase, Rest};
 use crate::slices::rest_from;
 use httparse::spans::RequestSpans;
+use hx_fields::Bytes;
 use std::alloc::{AllocError, Global};
 
 /// Where no head ends within the limit.
@@ -66,7 +68,7 @@ fn with_request_body(
 }
 
 /// What stands at the front of the unread bytes, before a continue was given. A head takes `head_length` of them.
-pub(crate) fn read_request(
+fn read_request(
     alloc: Global,
     rest: &Rest<'_>,
     head_length: Option<usize>,
@@ -85,5 +87,36 @@ pub(crate) fn read_request(
             Err(fault) => Ok(HeadProgress::Faulty(fault)),
             Ok(body) => with_request_body(alloc, rest, at, head, body),
         },
+    }
+}
+
+impl MessageHead for Head {
+    ghost use Rattle.hx_framing.specs.RequestState.{request_kind};
+
+    type Message = Request;
+
+    ghost kind = { request_kind };
+
+    fn read_front(
+        alloc: Global,
+        rest: &Rest<'_>,
+        _to_head: bool,
+        head_length: Option<usize>,
+    ) -> Result<HeadProgress<Head, Request>, AllocError> {
+        read_request(alloc, rest, head_length)
+    }
+
+    /// No content of a request runs until the close.
+    fn is_closed_by(_ended: bool) -> bool {
+        false
+    }
+
+    fn into_message(self, _alloc: Global, _to_head: bool, content: Option<Bytes>) -> Request {
+        self.into_request(content)
+    }
+
+    /// The next request may follow.
+    fn behind_message() -> ReaderPhase<Head> {
+        ReaderPhase::BeforeHead
     }
 }

@@ -17,7 +17,8 @@ use crate::lengths::framing::{
 };
 use crate::limits::MOST_HEAD_BYTES;
 use crate::messages::Response;
-use crate::readers::progress::{HeadProgress, Rest};
+use crate::readers::message_head::MessageHead;
+use crate::readers::progress::{HeadProgress, ReaderPhase, Rest};
 use crate::slices::rest_from;
 use httparse::spans::ResponseSpans;
 use hx_fields::Bytes;
@@ -25,7 +26,7 @@ use std::alloc::{AllocError, Global};
 
 /// How far the search for the head of the final response has come, behind the interim ones in front.
 #[derive(Drop)]
-pub(crate) enum FinalHead {
+enum FinalHead {
     /// They take so many bytes, and no head ends behind them.
     Incomplete(usize),
     Faulty(FrameFault),
@@ -44,7 +45,7 @@ fn content_bytes_of(alloc: Global, content: Option<Bytes>) -> Bytes
 }
 
 /// A head with its content, without its length fields.
-pub(crate) fn response_of_head(
+fn response_of_head(
     alloc: Global,
     to_head: bool,
     head: StatusHead,
@@ -135,7 +136,7 @@ fn with_framing(
 }
 
 /// What stands at the front of the unread bytes. The first head takes `head_length` of them.
-pub(crate) fn read_response(
+fn read_response(
     alloc: Global,
     rest: &Rest<'_>,
     to_head: bool,
@@ -154,5 +155,35 @@ pub(crate) fn read_response(
                 Ok(framing) => with_framing(alloc, rest, to_head, at, head, framing),
             }
         }
+    }
+}
+
+impl MessageHead for StatusHead {
+    ghost use Rattle.hx_framing.specs.ResponseState.{response_kind};
+
+    type Message = Response;
+
+    ghost kind = { response_kind };
+
+    fn read_front(
+        alloc: Global,
+        rest: &Rest<'_>,
+        to_head: bool,
+        head_length: Option<usize>,
+    ) -> Result<HeadProgress<StatusHead, Response>, AllocError> {
+        read_response(alloc, rest, to_head, head_length)
+    }
+
+    fn is_closed_by(ended: bool) -> bool {
+        ended
+    }
+
+    fn into_message(self, alloc: Global, to_head: bool, content: Option<Bytes>) -> Response {
+        response_of_head(alloc, to_head, self, content)
+    }
+
+    /// A link carries one response.
+    fn behind_message() -> ReaderPhase<StatusHead> {
+        ReaderPhase::Given
     }
 }

@@ -96,12 +96,16 @@ impl Unread {
         }
     }
 
-    /// Takes the first n bytes away. No memory is taken, and room that was made stays.
+    /// Takes the first n bytes away. No memory is taken, and room that was made stays. Where there are none to take, it
+    /// stays known how far the bytes were searched.
     pub(crate) fn take_front(&mut self, n: usize)
         requires { n ≤ length self.old.items }
         ensures items { self.new.items ≡ drop n self.old.items }
         ensures room { self.old.spare ≤ self.new.spare }
     {
+        if n == 0 {
+            return;
+        }
         self.search = UNSEARCHED;
         self.line = 0;
         self.taken += n;

@@ -1,10 +1,10 @@
-//! What asking a reader ahead needs of it, whatever its messages are. Both readers of hx_framing keep to it.
+//! What asking a reader ahead needs of it, whatever its messages are. Each reader of hx_framing keeps to it.
 ghost use Rattle.std.specs.Prelude.{◌≡◌, ℕ, ◌+◌, ◌≤◌, true, IfOk, OnErr};
 ghost use Rattle.hx_framing.specs.Progress.{Progress, stream_after_answer, cost_of_answer};
 ghost use Rattle.hx_framing.specs.declared.messages.Next.{Next};
 ghost use Rattle.hx_framing.specs.declared.messages.Next.TheVariants as next;
 
-use hx_framing::{Next, Request, RequestReader, Response, ResponseReader};
+use hx_framing::{MessageHead, MessageReader, Next};
 use std::alloc::{AllocError, Global};
 
 /// A reader of a stream of messages.
@@ -34,47 +34,20 @@ pub trait Reader: Drop {
         ensures err { OnErr result (self.new ≡ self.old) };
 }
 
-impl Reader for RequestReader {
-    type Message = Request;
+impl<H: MessageHead> Reader for MessageReader<H> {
+    type Message = H::Message;
 
-    ghost use Rattle.hx_framing.specs.RequestState.{RepresentsStream as RequestRepresentsStream};
-    ghost use Rattle.hx_framing.specs.RequestState.{weight as request_weight};
-    ghost use Rattle.hx_framing.specs.RequestStream.{Answers as RequestAnswers};
+    ghost RepresentsStream = { H.kind.RepresentsStream };
 
-    ghost RepresentsStream = { RequestRepresentsStream };
+    ghost Answers = { H.kind.Answers };
 
-    ghost Answers = { RequestAnswers };
-
-    ghost weight = { request_weight };
-
-    /// Each byte that came belongs to a request that was given, and more may come.
-    fn is_quiet(&self) -> bool {
-        self.is_between_requests() && !self.has_ended()
-    }
-
-    fn next(&mut self, alloc: Global) -> Result<Next<Request>, AllocError> {
-        self.next(alloc)
-    }
-}
-
-impl Reader for ResponseReader {
-    type Message = Response;
-
-    ghost use Rattle.hx_framing.specs.ResponseState.{RepresentsStream as ResponseRepresentsStream};
-    ghost use Rattle.hx_framing.specs.ResponseState.{weight as response_weight};
-    ghost use Rattle.hx_framing.specs.ResponseStream.{Answers as ResponseAnswers};
-
-    ghost RepresentsStream = { ResponseRepresentsStream };
-
-    ghost Answers = { ResponseAnswers };
-
-    ghost weight = { response_weight };
+    ghost weight = { H.kind.weight };
 
     fn is_quiet(&self) -> bool {
-        false
+        self.is_quiet()
     }
 
-    fn next(&mut self, alloc: Global) -> Result<Next<Response>, AllocError> {
+    fn next(&mut self, alloc: Global) -> Result<Next<H::Message>, AllocError> {
         self.next(alloc)
     }
 }
