@@ -1,9 +1,10 @@
 -- Which rules keep a stored response from being sent (RFC 9111, sections 4 and 5.2.1), and which is the first.
 --
--- Situation: what the rules on a chosen response read     asks_to_validate, above_max_age, below_min_fresh,
--- asks_for_freshness: what a request wants                rule_condition: the condition of each of these rules
--- reuse_rule_applies: the condition of each rule                     reuse_rules: the rules by their numbers
--- reuse_rule_of: the least that stands                   decision_of: what is done with a request
+-- Situation: what the rules on a chosen response read
+-- asks_to_validate, is_above_max_age_limit, is_below_min_fresh_limit, asks_for_freshness: what a request wants
+-- rule_condition: the condition of each of these rules     reuse_rule_applies: the condition of each rule
+-- reuse_rules: the rules by their numbers                  reuse_rule_of: the least that applies
+-- decision_of: what is done with a request
 use Rattle.std.specs.Prelude.{ℕ, ◌+◌, ◌==◌, nat_lt, if◌then◌else◌, Bool, true, false, not, ◌&&◌, ◌||◌, List, [], ◌∷◌}
 use Rattle.std.specs.Prelude.{length, find, codes, bytes_eq, Option, Some, None, is_some, is_none, option_map}
 use Rattle.hx_directives.specs.Occurrences.{occurrences_of}

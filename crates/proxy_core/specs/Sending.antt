@@ -1,7 +1,7 @@
 -- When a request reaches the cache or its origin, and when a stored response is sent: in the words
 -- of the RFCs, over what is held and open.
 --
--- MayBeReused of hx_reuse: what RFC 9111 lets be sent
+-- ResponseMayBeReused of hx_reuse: what RFC 9111 lets be sent
 -- MayBeSentInsteadOfError: what RFC 5861 lets be sent in place of an error
 -- StoredResponseMayBeSentAt: what may be sent at an event
 -- ReplyIsThatStoredResponse: what is sent is that response

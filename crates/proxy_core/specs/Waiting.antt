@@ -3,8 +3,10 @@
 -- RequestCouldWait: a request that may wait, for the first that leads (`Leading.antt`)
 -- RequestWaitsWhereOneLeads, RequestWaitsNowhereElse, OnlyOneGoesForwardForKey: who waits, and what for
 -- ExchangeMayBeWoken: an exchange that may be woken
--- WaitsUntilItsLeaderEnds, WokenOnceBehindItsLeader, ReadyInOrderOfArrival, WokenExactlyWhereReady,
--- WokenRequestIsJudgedAnew: how it ends The laws of `src/laws.rt` prove the statements.
+-- RequestWaitsUntilItsLeaderEnds, RequestIsWokenOnceBehindItsLeader, ReleasedAreInOrderOfArrival,
+-- WakeIsAcceptedExactlyWhereReady, WokenRequestIsJudgedAnew: how it ends
+--
+-- The laws of `src/laws.rt` prove the statements.
 use Rattle.std.specs.Prelude.{◌≡◌, ◌⊎◌, ℕ, ◌==◌, ◌&&◌, ◌||◌, not, Bool, true, false, List, [], ◌∷◌, ◌++◌, Option, Some}
 use Rattle.std.specs.Prelude.{None, option_map, cond}
 use Rattle.std.specs.List.{AllByRecursion}

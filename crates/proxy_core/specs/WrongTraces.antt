@@ -1,6 +1,5 @@
--- Traces that the headline must not let by: each goes well up to its last item. And what that last
--- item should have been isn't said
--- here: the law `the_headline_refuses` shows of each that it is refused.
+-- Traces that the headline must not let by: each goes well up to its last item. What that item should have been isn't
+-- said here: the laws whose names begin with `the_headline_refuses` show of each that it is refused.
 --
 -- edge_table: an operator's table
 -- trace_of_good_events: these events, latest first, each with the outcome of its case

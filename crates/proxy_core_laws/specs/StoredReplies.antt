@@ -43,14 +43,14 @@ pub record StoredIsSendable (e : Stored) : Type 0 where
   pub codings : has_field e.fields (codes "transfer-encoding") ≡ false
   pub without : response_has_no_content false e.status ≡ true → e.content ≡ []
 
--- its lines as they are sent: these of them, Age, and what Cache-Status tells (`lines_sent` of the core, whatever is
--- told)
+-- its lines as they are sent: these of them, Age, and what Cache-Status tells (`fields_of_sent_response` of the core,
+-- whatever is shown)
 abbrev pub fields_as_sent : List ℕ → List Field → Stored → ℕ → Status → List Field
 fields_as_sent name fields e now shown =
     (fields ++ line (codes "Age") (decimal (age_of e.times now)) ∷ [])
     ++ line (codes "Cache-Status") (member_text name shown) ∷ []
 
--- it as it is sent whole (`whole_text` of the core), and as a 304 (`not_modified_text`)
+-- it as it is sent whole (`whole_stored_text` of the core), and as a 304 (`not_modified_text`)
 abbrev pub stored_sent_whole : List ℕ → Stored → ℕ → Status → Asked → SentResponse
 stored_sent_whole name e now shown asked = record {
   status = e.status;

@@ -1,7 +1,7 @@
 -- What is due at the ends of the proxy, and which act is due first.
 --
 -- LinkResult, link_result_of: what stands on a link
--- IsLostConnection, Stood, IsDueOnConnection: what is due at one end
+-- IsLostConnection, IsDueOnLink, IsDueOnConnection: what is due at one end
 -- first_ready_id: the first request that may be woken      Act, IsDueFirst: the first act that is due, or that none is
 use Rattle.std.specs.Prelude.{◌≡◌, ℕ, ◌<◌, List, length, Bool, true, false, ◌||◌, Option, None, Some, if◌then◌else◌}
 use Rattle.std.specs.Prelude.{slice_index_or, ◌+◌, ◌&&◌, slice_get}

@@ -1,9 +1,9 @@
 -- What an engine lives through, and the run of its core: whoever takes happenings and does what is due.
 --
--- ExecutionStep, Lives: steps one after another, the latest first     effects_of_steps: what they did
+-- ExecutionStep, StepsLead: steps one after another, the latest first     effects_of_steps: what they did
 -- IsCoreEventOfAct, ActAsksCoreNothing: what an act asks the core, or that it asks nothing
 -- IsItemOfAct, IsEffectsWithoutCoreStep: a step of the core with its effects, or effects without one
--- StepAddsToTrace, Tells: each act is its step of the core, and tells it
+-- StepAddsToTrace, StepsHaveTrace: each act is its step of the core, and has its effects
 -- StepsAreAGoodRun: the steps of the core are a good run
 -- ActIsDoneInOneWay, StepsHaveOneTrace, ExecutionsAreRuns: the laws
 use Rattle.std.specs.Prelude.{◌≡◌, ◌⊎◌, ℕ, ◌+◌, List, [], ◌∷◌, ◌++◌, Bool, true, None, Some, Ok, Err}

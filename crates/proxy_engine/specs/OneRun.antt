@@ -1,9 +1,8 @@
 -- What a run refuses: what the steps of an engine didn't do. So `StepsAreAGoodRun` is met by what was done, and by
--- nothing beside
--- it.
+-- nothing beside it.
 --
 -- moment_of_event: of an event     count_of_acts: how many acts are among steps
--- NoOtherEffects and what follows it: the statements
+-- RunHasNoOtherEffects and what follows it: the statements
 use Rattle.std.specs.Prelude.{◌≡◌, ◌≢◌, ℕ, ◌+◌, ◌≤◌, List, [], ◌∷◌, length, Option, Some, None}
 use Rattle.hx_allow.specs.TableLines.{Table}
 use Rattle.proxy_core.specs.declared.event.Event.{Event}

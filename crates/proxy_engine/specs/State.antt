@@ -3,9 +3,8 @@
 -- State: what contracts see of an engine
 -- EngineRepresents: the models
 -- EngineTakesHappening, IsFaultOfTaking: a happening
--- link_result_at, due_request_at: what a look has found  Found, FoundLinks, FoundConnections: the first place at which
--- it found
--- something
+-- link_result_at, due_request_at: what a look has found
+-- IsFirstFound, IsFirstFoundLink, IsFirstFoundConnection: the first place at which it found something
 -- engine_load: a bound on the acts still to come
 -- FirstDueActWasDone, NoActWasDoneSince, WorkLessensLoad: what a call of work did, or why it did nothing
 use Rattle.std.specs.Prelude.{◌≡◌, ℕ, ◌+◌, ◌*◌, ◌<◌, ◌≤◌, ◌^◌, List, [], ◌∷◌, length, sum_by, ◌&&◌, ◌||◌, not, Bool}

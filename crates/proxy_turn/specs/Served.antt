@@ -5,7 +5,7 @@
 -- ModelReaches, EngineGoesOn: what it lived through since
 -- steps_of_taking, IsLostEnd, LossesAreTaken, EngineTakesLosses: ends that were lost
 -- TurnIsServedBehindLosses, steps_of_served_turn: a turn behind them, and its steps
--- BeginsReachable and what follows it: the laws
+-- NewEngineIsReachable and what follows it: the laws
 use Rattle.std.specs.Prelude.{◌≡◌, ℕ, List, [], ◌∷◌, Result}
 use Rattle.std.specs.List.{AllByRecursion}
 use Rattle.hx_allow.specs.TableLines.{Table}
