@@ -26,14 +26,16 @@
 //! | `Chunks`, `Chunking` | content in chunks, a byte at a time, each fault at its byte | 9112, 7.1 |
 //! | `SizeLine` | which lines are sizes of chunks, and their limits | 9112, 7.1 and 7.1.1 |
 //! | `Fault` | the faults' numbers | |
-//! | `RequestState`, `ResponseState` | what `kept` and `weight` count, | |
-//! | | and what is unfinished (`IsUnfinished`), by `IsOpen` of `Contents` and `IsUnfinishedLine` of `ChunkTokens` | |
+//! | `ReaderState` | what `kept` counts, and what is unfinished (`IsUnfinished`), | |
+//! | | by `IsUnfinishedContent` of `Contents` and `IsUnfinishedLine` of `ChunkTokens` | |
+//! | `RequestState`, `ResponseState` | what `weight` counts, and what a reader's contracts say of its kind | |
+//! | | (`request_kind`, `response_kind`), in the words of `ReaderKind` | |
 //! | `Text` | the bytes of messages that are sent | 9112, 3 to 7 |
 //!
 //! The laws' own words are in `ChunkGrammar` (chunks as trees), `ChunkFaults`, `HeadLines`,
 //! `GivenFields`, `FaultOrder`, `Written`, `WrittenResponse`, `Examples`, `LengthExamples` and
 //! `ReadingExamples`. The rest serves the proofs alone and needs no trust: `RequestHeadProgress`,
-//! `ResponseHeadProgress`, `ContentReading`, `Decoding`, `PlainContent`, `ByteQueue`, `Searching`, what
+//! `ResponseHeadProgress`, `ReaderSteps`, `ContentReading`, `Decoding`, `PlainContent`, `ByteQueue`, `Searching`, what
 //! else is in `ChunkTokens`; and so does `RepresentsStream`, which may be any relation that holds of a new
 //! reader and that each call keeps.
 #![tactic(auto)]
