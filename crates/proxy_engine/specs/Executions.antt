@@ -6,7 +6,7 @@
 -- StepAddsToTrace, Tells: each act is its step of the core, and tells it
 -- StepsAreAGoodRun: the steps of the core are a good run
 -- ActIsDoneInOneWay, StepsHaveOneTrace, ExecutionsAreRuns: the laws
-use Rattle.std.specs.Prelude.{◌≡◌, ◌⊎◌, ℕ, ◌+◌, List, [], ◌∷◌, ◌++◌, Bool, true, None, Some, Ok, Err}
+use Rattle.std.specs.Prelude.{◌≡◌, ◌⊎◌, ℕ, List, [], ◌∷◌, ◌++◌, Bool, true, None, Some, Ok, Err}
 use Rattle.hx_allow.specs.TableLines.{Table}
 use Rattle.hx_framing.specs.declared.messages.Next.TheVariants as next
 use Rattle.hx_hop.specs.declared.request_view.Asked.{Asked}
