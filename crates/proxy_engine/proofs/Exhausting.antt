@@ -1,7 +1,5 @@
 -- Out of memory never hides that no link number is left.
-use Rattle.std.proofs.Common.{◌≡◌, ◌≢◌, ◌⊎◌, inl, inr, ℕ, ◌+◌, ◌<◌, ◌≤◌, ◌^◌, List, length, get_or, refl, sym, ap, ◌∙◌, subst, arith, true, Option, None, Some, nat_le, Contains, Result, Err}
-use Rattle.std.specs.Ordering.{nat_cmp}
-use Rattle.std.specs.BTreeMap.{BTreeMap, get}
+use Rattle.std.proofs.Common.{◌≡◌, ◌≢◌, ◌⊎◌, inl, inr, ℕ, ◌+◌, ◌<◌, ◌≤◌, ◌^◌, List, length, get_or, refl, sym, ap, ◌∙◌, subst, arith, true, Option, None, Some, nat_le, Result, Err}
 use Rattle.std.proofs.lemmas.Bool.{cases_lt, leb-false}
 use Rattle.proxy_engine.specs.EngineModel.{EngineModel, no_connection, no_link}
 use Rattle.proxy_engine.specs.Due.{Abandons, Finishes, Wakes, Serves, LinkResult, Gives, Breaks, IsFirstAtWhich, IsDueFirst, IsLostConnection, IsDueOnLink, first_ready_id}
@@ -9,15 +7,13 @@ use Rattle.proxy_engine.specs.Acts.{ActMayForward, next_link_number}
 use Rattle.proxy_engine.specs.State.{State, EngineRepresents, LinkRepresents}
 use Rattle.proxy_engine.specs.Exhausted.{IsKeptWithFlag, lookahead_is_unknown, link_unknown, LookStoppedForMemory, ReportsLinkNumbersExhausted, MemoryHidesNoExhaustedWake, MemoryHidesNoExhaustedAnswer}
 use Rattle.proxy_engine.specs.Actions.{IsFaultOfFinishing}
-use Rattle.proxy_engine.specs.ReadyList.{entries_below, PlacesAreBelow}
-use Rattle.proxy_engine.specs.Marked.{NoneHasFlagBelow, link_may_be_due}
+use Rattle.proxy_engine.specs.Marked.{item_at, NoneHasFlagBelow, link_may_be_due}
 use Rattle.proxy_engine.specs.declared.endpoints.lookahead.Lookahead.{Lookahead}
 use Rattle.proxy_engine.specs.declared.endpoints.lookahead.Lookahead.TheVariants.{Unknown, Quiet, Due}
 use Rattle.proxy_engine.specs.declared.endpoints.ends.Link.{Link}
 use Rattle.proxy_engine.specs.declared.work.EngineFault.{EngineFault}
 use Rattle.proxy_engine.specs.declared.work.EngineFault.TheVariants.{OutOfMemory}
 use Rattle.proxy_engine.proofs.Parts.{both_length}
-use Rattle.proxy_engine.proofs.Keeping.{listed_at}
 use Rattle.proxy_engine.proofs.Searching.{before_none}
 use Rattle.proxy_engine.proofs.Marking.{no_finish_due, no_finish_due_over}
 use Rattle.proxy_engine.proofs.Once.{due_first_once, finish_due_same, finish_due_once}
@@ -78,15 +74,13 @@ end_found e new s j f fault h emitted memory first = end_memory e new s j f h (s
     same : fault ≡ OutOfMemory
     same = cc
 
--- what a search over the map of open links tells where it stopped
-pub stops_at : (m : BTreeMap ℕ Link) (n : ℕ) (places : List ℕ) → PlacesAreBelow n places
-    → (place : ℕ) × IsKeptWithFlag link_unknown (get nat_cmp m place) × NoneHasFlagBelow link_may_be_due m place × Contains places place → LookStoppedForMemory (entries_below m n)
-stops_at m n places below h =
-    let within : h.0 < n = below h.0 h.3 in record {
-      place = h.0;
-      unknown = subst (IsKeptWithFlag link_unknown) (sym (listed_at m n h.0 None within)) h.1;
-      before = before_none LinkRepresents IsDueOnLink link_may_be_due no_link m n no_finish_due no_finish_due_over h.0 within h.2;
-    }
+-- what a search over the open links tells where it stopped
+pub stops_at : (xs : List (Option Link)) → (place : ℕ) × IsKeptWithFlag link_unknown (item_at xs place) × NoneHasFlagBelow link_may_be_due (item_at xs) place × (place < length xs) → LookStoppedForMemory xs
+stops_at xs h = record {
+  place = h.0;
+  unknown = h.1;
+  before = before_none LinkRepresents IsDueOnLink link_may_be_due no_link xs no_finish_due no_finish_due_over h.0 h.3 h.2;
+}
 
 -- ---- what isn't so
 

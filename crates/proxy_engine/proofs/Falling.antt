@@ -11,7 +11,7 @@ pub falls_none : (xs : List ℕ) → xs ≡ [] → PlacesDescend xs
 falls_none xs e = subst PlacesDescend (sym e) record { falls = λ i j l m. absurd (omega (arith, m)) }
 
 -- within the list the stand-in doesn't matter
-at_any : (xs : List ℕ) (i d : ℕ) → i < length xs → get_or xs i 0 ≡ get_or xs i d
+pub at_any : (xs : List ℕ) (i d : ℕ) → i < length xs → get_or xs i 0 ≡ get_or xs i d
 at_any [] i d l = absurd (omega (arith, l))
 at_any (x ∷ xs) zero d l = refl
 at_any (x ∷ xs) (suc i) d l = at_any xs i d (omega (arith, l))

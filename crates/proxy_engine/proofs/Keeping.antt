@@ -1,7 +1,7 @@
 -- What a map has at each place below a count.
-use Rattle.std.proofs.Common.{◌≡◌, ◌≢◌, inl, inr, ℕ, zero, suc, ◌+◌, ◌<◌, ◌≤◌, List, [], ◌∷◌, ◌++◌, length, get_or, set, refl, sym, ap, ◌∙◌, arith, Bool, true, false, cond, Option, None, Some, is_some, MutBor, Contains, Result, Ok, Err, IfOk, OnOk, OnErr, ◌&&◌}
+use Rattle.std.proofs.Common.{◌≡◌, ◌≢◌, inl, inr, ℕ, zero, suc, ◌+◌, ◌<◌, ◌≤◌, List, [], ◌∷◌, ◌++◌, length, get_or, set, map, refl, sym, ap, ◌∙◌, subst, arith, Bool, true, false, cond, Option, None, Some, is_some, Bor, MutBor, Contains, Result, Ok, Err, IfOk, OnOk, OnErr}
 use Rattle.std.proofs.Math.Path.{fun_ext}
-use Rattle.std.specs.Option.{ghost_name_of}
+use Rattle.std.specs.Option.{ghost_name_of, option_copied}
 use Rattle.std.specs.Ordering.{nat_cmp, is_eq}
 use Rattle.std.specs.declared.cmp.Ordering.TheVariants.{Less, Equal, Greater}
 use Rattle.std.specs.Map.{lookup, remove_entry}
@@ -9,10 +9,13 @@ use Rattle.std.specs.BTreeMap.{BTreeMap, get, is_at}
 use Rattle.std.specs.Cmp.{nat_cmp_is}
 use Rattle.std.proofs.lemmas.Bool.{cases_eq, cases_order}
 use Rattle.std.proofs.lemmas.List.{ext_get_or, get_or-set_same, get_or-set_other}
-use Rattle.std.proofs.lemmas.List.FromFn.{length-map-range_with_len, get_or-map-range_with_len, map-range_with_len_more}
+use Rattle.std.proofs.lemmas.List.FromFn.{length-map-range_with_len, get_or-map-range_with_len, map-range_with_len_more, sum_by-map-range_with_len_more}
+use Rattle.std.specs.List.{range_with_len}
 use Rattle.std.proofs.Math.ListN.{length-set}
 use borrow.Follows.Closed.{read_of}
+use Rattle.proxy_engine.proofs.Falling.{at_any}
 use Rattle.proxy_engine.specs.ReadyList.{entries_below}
+use Rattle.proxy_engine.specs.Marked.{kept_count}
 
 -- a query finds its place and no other
 pub here_at : (p k : ℕ) → k ≡ p → is_at (nat_cmp p) k ≡ true
@@ -24,6 +27,15 @@ elsewhere p k other = elim (cases_order p k) [
   | inr (inl less) ↦ ap is_eq (sym (nat_cmp_is p k Less less))
   | inr (inr more) ↦ ap is_eq (sym (nat_cmp_is p k Greater more))
 ]
+
+-- one that is kept counts
+abbrev pub one_if_some : {A : Type 0} → Option A → ℕ
+one_if_some o = cond (is_some o) 1 0
+
+-- what is borrowed is there
+pub copied_some : {A : Type 0} (r : Option (Bor A)) (o : Option A) → option_copied r ≡ o → is_some r ≡ true → is_some o ≡ true
+copied_some None o e h = absurd (cc)
+copied_some (Some x) o e h = sym (ap is_some e)
 
 module _ {A : Type 0} where
   pub listed_length : (m : BTreeMap ℕ A) (n : ℕ) → length (entries_below m n) ≡ n
@@ -103,13 +115,43 @@ module _ {A : Type 0} where
       (λ q c. ap is_some (lookup_left p q (not_first q c) es) ∙ there q (suc c.0, omega (arith, c.1), c.2)) in
       omega (arith, one, rest)
     where
-      get_or_zero : (xs : List ℕ) (i d : ℕ) → i < length xs → get_or xs i 0 ≡ get_or xs i d
-      get_or_zero [] i d l = absurd (omega (arith, l))
-      get_or_zero (x ∷ xs) zero d l = refl
-      get_or_zero (x ∷ xs) (suc i) d l = get_or_zero xs i d (omega (arith, l))
-
       not_first : (q : ℕ) → Contains ps q → q ≢ p
-      not_first q c e = apart 0 (suc c.0) (omega arith) (omega (arith, c.1)) (get_or_zero ps c.0 q c.1 ∙ (c.2 ∙ e))
+      not_first q c e = apart 0 (suc c.0) (omega arith) (omega (arith, c.1)) (at_any ps c.0 q c.1 ∙ (c.2 ∙ e))
+
+  -- no more are kept at the places below a count than a map has
+  kept_within : (n : ℕ) (es : List (ℕ × A)) → kept_count (map (λ q. lookup (is_at (nat_cmp q)) es) (range_with_len 0 n)) ≤ length es
+  kept_within zero es = omega arith
+  kept_within (suc n) es =
+      let next : n + 1 ≡ suc n = omega arith in
+      subst (λ (k : ℕ). kept_count (map (λ q. lookup (is_at (nat_cmp q)) es) (range_with_len 0 k)) ≤ length es) next (by_last (lookup (is_at (nat_cmp n)) es) refl (kept_within n es) (kept_within n (remove_entry (is_at (nat_cmp n)) es)))
+    where
+      at : List (ℕ × A) → ℕ → Option A
+      at fs q = lookup (is_at (nat_cmp q)) fs
+
+      left : List (ℕ × A)
+      left = remove_entry (is_at (nat_cmp n)) es
+
+      more : kept_count (map (at es) (range_with_len 0 (n + 1))) ≡ kept_count (map (at es) (range_with_len 0 n)) + one_if_some (at es n)
+      more = sum_by-map-range_with_len_more one_if_some (at es) 0 n n (omega arith)
+
+      same : map (at left) (range_with_len 0 n) ≡ map (at es) (range_with_len 0 n)
+      same =
+          ext_get_or None _ _ (length-map-range_with_len (at left) 0 n ∙ sym (length-map-range_with_len (at es) 0 n)) (λ q l.
+          let count = length-map-range_with_len (at left) 0 n in
+          let within : q < n = omega (arith, l, count) in
+          get_or-map-range_with_len (at left) 0 n q q None within (omega arith) ∙ (lookup_left n q (λ e. absurd (omega (arith, e, within))) es ∙ sym (get_or-map-range_with_len (at es) 0 n q q None within (omega arith))))
+
+      by_last : (o : Option A) → at es n ≡ o → kept_count (map (at es) (range_with_len 0 n)) ≤ length es → kept_count (map (at left) (range_with_len 0 n)) ≤ length left → kept_count (map (at es) (range_with_len 0 (n + 1))) ≤ length es
+      by_last None e few fewer =
+          let none = ap one_if_some e in
+          omega (arith, few, more, none)
+      by_last (Some x) e few fewer =
+          let one = removed_length (is_at (nat_cmp n)) es (ap is_some e) in
+          let some = ap one_if_some e in
+          omega (arith, fewer, one, more, some, ap kept_count same)
+
+  pub kept_listed : (m : BTreeMap ℕ A) (n : ℕ) → kept_count (entries_below m n) ≤ length m.entries
+  kept_listed m n = kept_within n m.entries
 
 -- ---- what a map answers
 
@@ -135,11 +177,6 @@ pub surely_size : {A E : Type 0} (r : Result (Option A) E) (o : Option A) (n m :
 surely_size (Ok (Some x)) o n m same size none there = omega (arith, size)
 surely_size (Ok None) o n m same size none there = absurd (none_some o (sym same) there)
 surely_size (Err e) o n m same size none there = absurd (none_some o none there)
-
-pub both_true : (a b : Bool) → a && b ≡ true → (a ≡ true) × (b ≡ true)
-both_true true true e = (refl, refl)
-both_true true false e = absurd (cc)
-both_true false b e = absurd (cc)
 
 -- ---- what is lent
 

@@ -9,6 +9,7 @@ pub mod Taking
 pub mod Searching
 pub mod Falling
 pub mod Marking
+pub mod Losing
 pub mod Finding
 pub mod Once
 pub mod Ending

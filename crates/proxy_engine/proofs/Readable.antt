@@ -197,11 +197,6 @@ links_emitted flag cs ks core first s h before emitted none is =
 pub found_in : (e d : State) (x y : Happening) → x ≡ y → d ≡ e → HappeningFindsMemory e (plain_happening x) → HappeningFindsMemory d (plain_happening y)
 found_in e d x y same view found = subst (λ (h : Happening). HappeningFindsMemory d (plain_happening h)) same (subst (λ (f : State). HappeningFindsMemory f (plain_happening x)) (sym view) found)
 
-pub both_so : (a b : Bool) → a ≡ true → b ≡ true → a && b ≡ true
-both_so true true e f = refl
-both_so true false e f = absurd cc
-both_so false b e f = absurd cc
-
 -- the number behind the last, where one is left
 pub number_shown : (o : Option ℕ) (n m : ℕ) → n ≡ m → SomeIff o (n + 1 < 2 ^ 64) (n + 1) → o ≡ cond (nat_lt (m + 1) (2 ^ 64)) (Some (m + 1)) None
 number_shown None n m same none =

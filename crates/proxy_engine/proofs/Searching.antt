@@ -1,48 +1,43 @@
 -- A search for the first place at which something stands.
-use Rattle.std.proofs.Common.{◌≡◌, ℕ, suc, ◌+◌, ◌<◌, ◌≤◌, List, [], ◌∷◌, length, get_or, set, refl, sym, ap, ◌∙◌, subst, arith, Bool, true, false, Option, None, Some, is_some, sum_by, map}
-use Rattle.std.specs.Ordering.{nat_cmp}
-use Rattle.std.specs.BTreeMap.{BTreeMap, get}
+use Rattle.std.proofs.Common.{◌≡◌, ℕ, suc, ◌+◌, ◌<◌, ◌≤◌, List, [], ◌∷◌, length, get_or, set, refl, ap, ◌∙◌, arith, Bool, true, false, Option, None, Some, is_some, sum_by, map}
 use Rattle.std.proofs.lemmas.List.Sums.{sum_by-cons, sum_by-set}
 use Rattle.std.proofs.Math.Seq.{map-set_same}
 use Rattle.proxy_engine.specs.Due.{IsFirstAtWhich}
 use Rattle.proxy_engine.specs.State.{RelatesLists}
-use Rattle.proxy_engine.specs.ReadyList.{entries_below}
-use Rattle.proxy_engine.specs.Marked.{RelatesOptions, RelatesAtEachPlace, NoneHasFlagBelow, NoneHasFlag}
+use Rattle.proxy_engine.specs.Marked.{item_at, RelatesOptions, RelatesAtEachPlace, NoneHasFlagBelow, NoneHasFlag}
 use Rattle.proxy_engine.proofs.Parts.{both_length, both_at}
-use Rattle.proxy_engine.proofs.Keeping.{listed_length, listed_at}
 
 pub some_from : {C : Type 0} (o : Option C) → true ≡ is_some o → (c : C) × (o ≡ Some c)
 some_from None e = cc
 some_from (Some c) e = (c, refl)
 
-module _ {A B C : Type 0} (R : Option A → B → Type 0) (P : B → Option C → Type 0) (flag : A → Bool) (d : B) (m : BTreeMap ℕ A) (n : ℕ)
+module _ {A B C : Type 0} (R : Option A → B → Type 0) (P : B → Option C → Type 0) (flag : A → Bool) (d : B) (xs : List (Option A))
     (hidden : (x : A) (y : B) → flag x ≡ false → R (Some x) y → P y None) (over : (y : B) → R None y → P y None) where
-  passed : (j : ℕ) (y : B) (o : Option A) → get nat_cmp m j ≡ o → ((x : A) → get nat_cmp m j ≡ Some x → flag x ≡ false) → R o y → P y None
+  passed : (j : ℕ) (y : B) (o : Option A) → item_at xs j ≡ o → ((x : A) → item_at xs j ≡ Some x → flag x ≡ false) → R o y → P y None
   passed j y None e none r = over y r
   passed j y (Some x) e none r = hidden x y (none x e) r
 
-  at_place : (ys : List B) → RelatesLists R (entries_below m n) ys → (j : ℕ) → j < n → R (get nat_cmp m j) (get_or ys j d)
-  at_place ys both j l = subst (λ (o : Option A). R o (get_or ys j d)) (listed_at m n j None l) (both_at R (entries_below m n) ys j None d both (omega (arith, l, listed_length m n)))
+  at_place : (ys : List B) → RelatesLists R xs ys → (j : ℕ) → j < length xs → R (item_at xs j) (get_or ys j d)
+  at_place ys both j l = both_at R xs ys j None d both l
 
   -- nothing that is open before i has the flag
-  pub before_none : (i : ℕ) → i < n → NoneHasFlagBelow flag m i → (ys : List B) → RelatesLists R (entries_below m n) ys → (j : ℕ) → j < i → P (get_or ys j d) None
-  before_none i within before ys both j l = passed j (get_or ys j d) (get nat_cmp m j) refl (λ x e. before j x l e) (at_place ys both j (omega (arith, l, within)))
+  pub before_none : (i : ℕ) → i < length xs → NoneHasFlagBelow flag (item_at xs) i → (ys : List B) → RelatesLists R xs ys → (j : ℕ) → j < i → P (get_or ys j d) None
+  before_none i within before ys both j l = passed j (get_or ys j d) (item_at xs j) refl (λ x e. before j x l e) (at_place ys both j (omega (arith, l, within)))
 
   -- what is open at i shows c, and nothing before it has the flag
-  pub found_first : (i : ℕ) (c : C) → i < n → ((y : B) → R (get nat_cmp m i) y → P y (Some c)) → NoneHasFlagBelow flag m i → (ys : List B) → RelatesLists R (entries_below m n) ys → IsFirstAtWhich P d ys (Some (i, c))
+  pub found_first : (i : ℕ) (c : C) → i < length xs → ((y : B) → R (item_at xs i) y → P y (Some c)) → NoneHasFlagBelow flag (item_at xs) i → (ys : List B) → RelatesLists R xs ys → IsFirstAtWhich P d ys (Some (i, c))
   found_first i c within here before ys both =
-      let same = both_length R (entries_below m n) ys both in (
-        omega (arith, within, same, listed_length m n),
+      let same = both_length R xs ys both in (
+        omega (arith, within, same),
         here (get_or ys i d) (at_place ys both i within),
         before_none i within before ys both,
       )
 
   -- nothing has the flag
-  pub none_first : NoneHasFlag flag m → (ys : List B) → RelatesLists R (entries_below m n) ys → IsFirstAtWhich P d ys None
+  pub none_first : NoneHasFlag flag (item_at xs) → (ys : List B) → RelatesLists R xs ys → IsFirstAtWhich P d ys None
   none_first none ys both j l =
-      let same = both_length R (entries_below m n) ys both in
-      let within : j < n = omega (arith, l, same, listed_length m n) in
-      passed j (get_or ys j d) (get nat_cmp m j) refl (λ x e. none j x e) (at_place ys both j within)
+      let same = both_length R xs ys both in
+      passed j (get_or ys j d) (item_at xs j) refl (λ x e. none j x e) (at_place ys both j (omega (arith, l, same)))
 
 -- ---- what a look at each place leaves
 
@@ -53,24 +48,16 @@ module _ {A B : Type 0} (R : A → A → Type 0) (S : Option A → B → Type 0)
   kept_one (Some x) None r s h = absurd r
   kept_one (Some x) (Some y) r s h = keep x y r s h
 
-  both_alike : (xs ys : List (Option A)) → length ys ≡ length xs → ((i : ℕ) → i < length xs → RelatesOptions R (get_or xs i None) (get_or ys i None)) → (ss : List B) → RelatesLists S xs ss → RelatesLists S ys ss
+  pub both_alike : (xs ys : List (Option A)) → length ys ≡ length xs → RelatesAtEachPlace R (item_at xs) (item_at ys) → (ss : List B) → RelatesLists S xs ss → RelatesLists S ys ss
   both_alike [] [] e each ss h = h
   both_alike [] (y ∷ ys) e each ss h = absurd (omega (arith, e))
   both_alike (x ∷ xs) [] e each ss h = absurd (omega (arith, e))
   both_alike (x ∷ xs) (y ∷ ys) e each [] h = absurd h
-  both_alike (x ∷ xs) (y ∷ ys) e each (s ∷ ss) h = (kept_one x y (each 0 (omega arith)) s h.0, both_alike xs ys (omega (arith, e)) (λ i l. each (suc i) (omega (arith, l))) ss h.1)
-
-each_listed : {A : Type 0} (R : A → A → Type 0) (m k : BTreeMap ℕ A) (n : ℕ) → RelatesAtEachPlace R m k → (i : ℕ) → i < length (entries_below m n) → RelatesOptions R (get_or (entries_below m n) i None) (get_or (entries_below k n) i None)
-each_listed {A} R m k n alike i l =
-    let within : i < n = omega (arith, l, listed_length m n) in
-    subst (λ (o : Option A). RelatesOptions R o (get_or (entries_below k n) i None)) (sym (listed_at m n i None within)) (subst (λ (o : Option A). RelatesOptions R (get nat_cmp m i) o) (sym (listed_at k n i None within)) (alike i))
-
-pub both_listed : {A B : Type 0} (R : A → A → Type 0) (S : Option A → B → Type 0) → ((x y : A) → R x y → (s : B) → S (Some x) s → S (Some y) s) → (m k : BTreeMap ℕ A) (n : ℕ) → RelatesAtEachPlace R m k → (ss : List B) → RelatesLists S (entries_below m n) ss → RelatesLists S (entries_below k n) ss
-both_listed R S keep m k n alike ss h = both_alike R S keep (entries_below m n) (entries_below k n) (listed_length k n ∙ sym (listed_length m n)) (each_listed R m k n alike) ss h
+  both_alike (x ∷ xs) (y ∷ ys) e each (s ∷ ss) h = (kept_one x y (each 0) s h.0, both_alike xs ys (omega (arith, e)) (λ i. each (suc i)) ss h.1)
 
 -- what is read of each is as it was
-pub map_listed : {A B : Type 0} (R : A → A → Type 0) (f : Option A → B) → ((x y : A) → R x y → f (Some y) ≡ f (Some x)) → (m k : BTreeMap ℕ A) (n : ℕ) → RelatesAtEachPlace R m k → map f (entries_below k n) ≡ map f (entries_below m n)
-map_listed {A} R f same m k n alike = by_list (entries_below m n) (entries_below k n) (listed_length k n ∙ sym (listed_length m n)) (each_listed R m k n alike)
+pub map_alike : {A B : Type 0} (R : A → A → Type 0) (f : Option A → B) → ((x y : A) → R x y → f (Some y) ≡ f (Some x)) → (xs ys : List (Option A)) → length ys ≡ length xs → RelatesAtEachPlace R (item_at xs) (item_at ys) → map f ys ≡ map f xs
+map_alike {A} R f same = by_list
   where
     one : (o p : Option A) → RelatesOptions R o p → f p ≡ f o
     one None None r = refl
@@ -78,15 +65,15 @@ map_listed {A} R f same m k n alike = by_list (entries_below m n) (entries_below
     one (Some x) None r = absurd r
     one (Some x) (Some y) r = same x y r
 
-    by_list : (xs ys : List (Option A)) → length ys ≡ length xs → ((i : ℕ) → i < length xs → RelatesOptions R (get_or xs i None) (get_or ys i None)) → map f ys ≡ map f xs
+    by_list : (xs ys : List (Option A)) → length ys ≡ length xs → RelatesAtEachPlace R (item_at xs) (item_at ys) → map f ys ≡ map f xs
     by_list [] [] e each = refl
     by_list [] (y ∷ ys) e each = absurd (omega (arith, e))
     by_list (x ∷ xs) [] e each = absurd (omega (arith, e))
-    by_list (x ∷ xs) (y ∷ ys) e each = ap (λ b. b ∷ map f ys) (one x y (each 0 (omega arith))) ∙ ap (λ bs. f x ∷ bs) (by_list xs ys (omega (arith, e)) (λ i l. each (suc i) (omega (arith, l))))
+    by_list (x ∷ xs) (y ∷ ys) e each = ap (λ b. b ∷ map f ys) (one x y (each 0)) ∙ ap (λ bs. f x ∷ bs) (by_list xs ys (omega (arith, e)) (λ i. each (suc i)))
 
 -- a sum over what is read of each is no greater
-pub sum_listed : {A : Type 0} (R : A → A → Type 0) (f : Option A → ℕ) → ((x y : A) → R x y → f (Some y) ≤ f (Some x)) → (m k : BTreeMap ℕ A) (n : ℕ) → RelatesAtEachPlace R m k → sum_by f (entries_below k n) ≤ sum_by f (entries_below m n)
-sum_listed {A} R f less m k n alike = by_list (entries_below m n) (entries_below k n) (listed_length k n ∙ sym (listed_length m n)) (each_listed R m k n alike)
+pub sum_alike : {A : Type 0} (R : A → A → Type 0) (f : Option A → ℕ) → ((x y : A) → R x y → f (Some y) ≤ f (Some x)) → (xs ys : List (Option A)) → length ys ≡ length xs → RelatesAtEachPlace R (item_at xs) (item_at ys) → sum_by f ys ≤ sum_by f xs
+sum_alike {A} R f less = by_list
   where
     one : (o p : Option A) → RelatesOptions R o p → f p ≤ f o
     one None None r = omega arith
@@ -94,13 +81,13 @@ sum_listed {A} R f less m k n alike = by_list (entries_below m n) (entries_below
     one (Some x) None r = absurd r
     one (Some x) (Some y) r = less x y r
 
-    by_list : (xs ys : List (Option A)) → length ys ≡ length xs → ((i : ℕ) → i < length xs → RelatesOptions R (get_or xs i None) (get_or ys i None)) → sum_by f ys ≤ sum_by f xs
+    by_list : (xs ys : List (Option A)) → length ys ≡ length xs → RelatesAtEachPlace R (item_at xs) (item_at ys) → sum_by f ys ≤ sum_by f xs
     by_list [] [] e each = omega arith
     by_list [] (y ∷ ys) e each = absurd (omega (arith, e))
     by_list (x ∷ xs) [] e each = absurd (omega (arith, e))
     by_list (x ∷ xs) (y ∷ ys) e each =
-        let head = one x y (each 0 (omega arith)) in
-        let tail = by_list xs ys (omega (arith, e)) (λ i l. each (suc i) (omega (arith, l))) in
+        let head = one x y (each 0) in
+        let tail = by_list xs ys (omega (arith, e)) (λ i. each (suc i)) in
         omega (arith, head, tail, sum_by-cons f x xs, sum_by-cons f y ys)
 
 -- ---- one changes

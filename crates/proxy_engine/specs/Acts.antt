@@ -3,7 +3,7 @@
 -- OutcomeOnConnection: an outcome of the core, on a connection
 -- effects_of_outcome, model_after_outcome: its effects there, and the model behind it
 -- ActIsDone: an act was done                             ActMayForward: an act that may need a link
-use Rattle.std.specs.Prelude.{◌≤◌, ◌≡◌, ℕ, ◌+◌, ◌<◌, ◌^◌, List, [], ◌∷◌, ◌++◌, length, Bool, true, false, ◌||◌, Option}
+use Rattle.std.specs.Prelude.{◌≤◌, ◌≡◌, ℕ, ◌<◌, ◌^◌, List, [], ◌∷◌, ◌++◌, length, Bool, true, false, ◌||◌, Option}
 use Rattle.std.specs.Prelude.{None, Some, if◌then◌else◌, slice_set, Result, Ok, Err, unwrap_or}
 use Rattle.hx_framing.specs.declared.messages.Request.{Request}
 use Rattle.hx_framing.specs.declared.frame_fault.FrameFault.TheVariants as frame

@@ -3,7 +3,7 @@
 -- link_dropped_by_effect: the link that an effect drops
 -- OnlyFirstEffectDropsALink: an act drops one link at most, before all else
 -- ActHasFewEffects, EachDroppedLinkIsEmitted, HappeningsDropNoLink: the laws
-use Rattle.std.specs.Prelude.{◌≡◌, ◌⊎◌, ℕ, ◌+◌, ◌<◌, ◌≤◌, List, [], ◌∷◌, length, true, Option, None, Some}
+use Rattle.std.specs.Prelude.{◌≡◌, ◌⊎◌, ℕ, ◌<◌, ◌≤◌, List, [], ◌∷◌, length, true, Option, None, Some}
 use Rattle.std.specs.List.{AllByRecursion}
 use Rattle.proxy_script.specs.declared.effect_list.Effect.{Effect}
 use Rattle.proxy_script.specs.declared.effect_list.Effect.TheVariants as effects

@@ -4,7 +4,7 @@
 -- IsLostConnection, IsDueOnLink, IsDueOnConnection: what is due at one end
 -- first_ready_id: the first request that may be woken      Act, IsDueFirst: the first act that is due, or that none is
 use Rattle.std.specs.Prelude.{◌≡◌, ℕ, ◌<◌, List, length, Bool, true, false, ◌||◌, Option, None, Some, if◌then◌else◌}
-use Rattle.std.specs.Prelude.{slice_index_or, ◌+◌, ◌&&◌, slice_get}
+use Rattle.std.specs.Prelude.{slice_index_or, ◌&&◌, slice_get}
 use Rattle.std.specs.Option.{option_map}
 use Rattle.hx_framing.specs.declared.messages.Request.{Request}
 use Rattle.hx_framing.specs.declared.messages.Response.{Response}

@@ -5,7 +5,7 @@
 -- model_after_happening: what a happening adds
 -- happening_fault: why one isn't taken
 -- happening_is_kept: whether anything of a happening is kept
-use Rattle.std.specs.Prelude.{ℕ, ◌+◌, ◌-◌, List, [], ◌∷◌, ◌++◌, length, Bool, true, false, ◌&&◌, ◌||◌, ◌==◌, not}
+use Rattle.std.specs.Prelude.{ℕ, List, [], ◌∷◌, ◌++◌, length, Bool, true, false, ◌&&◌, ◌||◌, ◌==◌, not}
 use Rattle.std.specs.Prelude.{nat_lt, nat_le, Option, None, Some, is_some, if◌then◌else◌, slice_set, slice_index_or}
 use Rattle.hx_framing.specs.declared.messages.Request.{Request}
 use Rattle.hx_framing.specs.declared.messages.Response.{Response}

@@ -6,7 +6,7 @@
 -- StepAddsToTrace, StepsHaveTrace: each act is its step of the core, and has its effects
 -- StepsAreAGoodRun: the steps of the core are a good run
 -- ActIsDoneInOneWay, StepsHaveOneTrace, ExecutionsAreRuns: the laws
-use Rattle.std.specs.Prelude.{◌≡◌, ◌⊎◌, ℕ, ◌+◌, List, [], ◌∷◌, ◌++◌, Bool, true, None, Some, Ok, Err}
+use Rattle.std.specs.Prelude.{◌≡◌, ◌⊎◌, ℕ, List, [], ◌∷◌, ◌++◌, Bool, true, None, Some, Ok, Err}
 use Rattle.hx_allow.specs.TableLines.{Table}
 use Rattle.hx_framing.specs.declared.messages.Next.TheVariants as next
 use Rattle.hx_framing.specs.Text.{continue_text}

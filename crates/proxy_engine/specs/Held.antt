@@ -1,11 +1,9 @@
 -- What is asked of the ends that are kept, one after another.
 --
 -- flagged_places: the places below a count at which something has the flag
--- ConnectionOnlyGainsRoom, LinkOnlyGainsRoom: room was made
-use Rattle.std.specs.Prelude.{◌≡◌, ℕ, List, [], ◌∷◌, Bool, false, ◌&&◌, not, nat_lt, is_some, Option, None, Some}
+use Rattle.std.specs.Prelude.{ℕ, List, [], ◌∷◌, Bool, false, ◌&&◌, not, nat_lt, is_some, Option, None, Some}
 use Rattle.std.specs.Prelude.{if◌then◌else◌}
 use Rattle.proxy_engine.specs.Activities.{has_exchange}
-use Rattle.proxy_engine.specs.Marked.{ConnectionAfterLook, LinkAfterLook}
 use Rattle.proxy_engine.specs.declared.endpoints.ends.Connection.{Connection}
 use Rattle.proxy_engine.specs.declared.endpoints.ends.Link.{Link}
 
@@ -30,13 +28,3 @@ flagged_places flag n (e ∷ es) = if nat_lt e.0 n && flag e.1 then e.0 ∷ flag
 abbrev pub has_flag : {A : Type 0} → (A → Bool) → Option A → Bool
 has_flag flag None = false
 has_flag flag (Some x) = flag x
-
--- it represents the same models, and as much is known of it
-pub record ConnectionOnlyGainsRoom (old new : Connection) : Type 0 where
-  pub alike : ConnectionAfterLook old new
-  pub ahead : new.reader.ahead ≡ old.reader.ahead
-
-pub record LinkOnlyGainsRoom (old new : Link) : Type 0 where
-  pub alike : LinkAfterLook old new
-  pub ahead : new.reader.ahead ≡ old.reader.ahead
-  pub failed : new.failed ≡ old.failed

@@ -1,14 +1,14 @@
 -- What is kept of the proxy's ends, and at which of them something may be due.
 --
--- EndList: what contracts see of the connections and links
+-- EndList, item_at, kept_count: what contracts see of the connections and links
 -- may_be_lost, connection_may_be_due, link_may_be_due: something may be due there
--- ConnectionAfterLook, LinkAfterLook, RelatesAtEachPlace: what a look leaves
+-- ConnectionAfterLook, LinkAfterLook, RelatesAtEachPlace: what a look leaves     OnlyGainsRoom: where room was made
 -- NoneHasFlagBelow, NoneHasFlag: nothing may be due
 -- lost_connection_at, LinkIsDueAsLookShows, ConnectionIsDueAsLookShows: something is
-use Rattle.std.specs.Prelude.{◌≡◌, ℕ, ◌<◌, ◌≤◌, List, Bool, true, false, ◌&&◌, ◌||◌, not, Option, None, Some, is_some}
-use Rattle.std.specs.Prelude.{if◌then◌else◌}
-use Rattle.std.specs.Ordering.{nat_cmp}
-use Rattle.std.specs.BTreeMap.{BTreeMap, get}
+-- LostAreMarked: where a connection may be lost
+use Rattle.std.specs.Prelude.{◌≡◌, ℕ, ◌+◌, ◌<◌, ◌≤◌, List, Bool, true, false, ◌&&◌, ◌||◌, not, Option, None, Some}
+use Rattle.std.specs.Prelude.{is_some, if◌then◌else◌, slice_index_or, sum_by}
+use Rattle.proxy_engine.specs.ReadyList.{ReadyPlaces, FlaggedPlacesAreMarked}
 use Rattle.proxy_engine.specs.Activities.{link_place_of_activity, has_exchange}
 use Rattle.proxy_engine.specs.Lookahead.{lookahead_may_be_due}
 use Rattle.proxy_engine.specs.EngineModel.{ConnectionModel, LinkModel}
@@ -24,6 +24,14 @@ use Rattle.proxy_engine.specs.declared.endpoints.ends.Link.{Link}
 pub record EndList (A : Type 0) : Type 0 where
   pub items : List (Option A)
   pub has_room : Bool
+
+-- the end at a place, if it isn't over
+abbrev pub item_at : {A : Type 0} → List (Option A) → ℕ → Option A
+item_at items i = slice_index_or items i None
+
+-- how many aren't over
+abbrev pub kept_count : {A : Type 0} → List (Option A) → ℕ
+kept_count items = sum_by (λ o. if is_some o then 1 else 0) items
 
 -- it is gone with an open exchange
 abbrev pub may_be_lost : Connection → Bool
@@ -49,6 +57,11 @@ pub record LinkAfterLook (old new : Link) : Type 0 where
   pub connection : new.connection ≡ old.connection
   pub load : link_load (Some new) ≤ link_load (Some old)
 
+-- room was made for bytes: it is alike, and as much may be due
+pub record OnlyGainsRoom {A : Type 0} (Alike : A → A → Type 0) (flag : A → Bool) (old new : A) : Type 0 where
+  pub alike : Alike old new
+  pub shows : flag new ≡ flag old
+
 -- both have nothing, or R holds of what they have
 abbrev pub RelatesOptions : {A : Type 0} → (A → A → Type 0) → Option A → Option A → Type 0
 RelatesOptions R None None = Unit {0}
@@ -57,16 +70,16 @@ RelatesOptions R (Some x) None = ⊥
 RelatesOptions R (Some x) (Some y) = R x y
 
 -- at each place
-abbrev pub RelatesAtEachPlace : {A : Type 0} → (A → A → Type 0) → BTreeMap ℕ A → BTreeMap ℕ A → Type 0
-RelatesAtEachPlace R old new = (i : ℕ) → RelatesOptions R (get nat_cmp old i) (get nat_cmp new i)
+abbrev pub RelatesAtEachPlace : {A : Type 0} → (A → A → Type 0) → (ℕ → Option A) → (ℕ → Option A) → Type 0
+RelatesAtEachPlace R old new = (i : ℕ) → RelatesOptions R (old i) (new i)
 
 -- nothing that is open below that place has the flag
-abbrev pub NoneHasFlagBelow : {A : Type 0} → (A → Bool) → BTreeMap ℕ A → ℕ → Type 0
-NoneHasFlagBelow {A} flag open_ends n = (j : ℕ) (x : A) → j < n → get nat_cmp open_ends j ≡ Some x → flag x ≡ false
+abbrev pub NoneHasFlagBelow : {A : Type 0} → (A → Bool) → (ℕ → Option A) → ℕ → Type 0
+NoneHasFlagBelow {A} flag end_at n = (j : ℕ) (x : A) → j < n → end_at j ≡ Some x → flag x ≡ false
 
 -- nothing that is open has it
-abbrev pub NoneHasFlag : {A : Type 0} → (A → Bool) → BTreeMap ℕ A → Type 0
-NoneHasFlag {A} flag open_ends = (j : ℕ) (x : A) → get nat_cmp open_ends j ≡ Some x → flag x ≡ false
+abbrev pub NoneHasFlag : {A : Type 0} → (A → Bool) → (ℕ → Option A) → Type 0
+NoneHasFlag {A} flag end_at = (j : ℕ) (x : A) → end_at j ≡ Some x → flag x ≡ false
 
 -- the connection is gone with an open exchange: its link, if its request went forward
 abbrev pub lost_connection_at : Option Connection → Option (Option ℕ)
@@ -84,3 +97,9 @@ LinkIsDueAsLookShows k = IsDueAsLookShows LinkRepresents IsDueOnLink link_result
 
 abbrev pub ConnectionIsDueAsLookShows : Option Connection → Type 0
 ConnectionIsDueAsLookShows c = IsDueAsLookShows ConnectionRepresents IsDueOnConnection due_request_at c
+
+-- A connection that may be lost is at one of the places, and there is room for the marks of as many as aren't over, and
+-- of one more where there is room for it.
+pub record LostAreMarked (connections : EndList Connection) (kept : ReadyPlaces) : Type 0 where
+  pub marked : FlaggedPlacesAreMarked may_be_lost (item_at connections.items) (kept_count connections.items) kept
+  pub next : connections.has_room ≡ true → kept_count connections.items + 1 ≤ kept.room

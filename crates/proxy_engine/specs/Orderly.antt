@@ -4,7 +4,7 @@
 -- EffectsNameOpenEnds: no effect names a connection that is closed or gone, or a link that was dropped
 -- EndedStaysEnded: what is closed, gone or dropped stays so
 -- NewModelIsOrderly, HappeningKeepsOrder, ActKeepsOrder, HappeningKeepsEnded, ActKeepsEnded: the laws
-use Rattle.std.specs.Prelude.{◌≡◌, ℕ, ◌+◌, List, [], ◌∷◌, map, true, false, Option, None, Some, if◌then◌else◌, ◌<◌, ◌≤◌}
+use Rattle.std.specs.Prelude.{◌≡◌, ℕ, List, [], ◌∷◌, map, true, false, Option, None, Some, if◌then◌else◌, ◌<◌, ◌≤◌}
 use Rattle.std.specs.Prelude.{length}
 use Rattle.proxy_core.specs.State.{State as CoreState}
 use Rattle.proxy_script.specs.declared.effect_list.Effect.{Effect}

@@ -4,7 +4,7 @@
 -- forwarded_or_waiting_at: whether an exchange is open, and its request at the origin
 -- ConnectionsAndLinksArePaired: connections, links and open exchanges belong together
 -- IsPaired: those of an engine do
-use Rattle.std.specs.Prelude.{◌≡◌, ℕ, ◌+◌, Bool, List, [], ◌∷◌, ◌++◌, map, Option, None, Some, slice_set}
+use Rattle.std.specs.Prelude.{◌≡◌, ℕ, Bool, List, [], ◌∷◌, ◌++◌, map, Option, None, Some, slice_set}
 use Rattle.std.specs.Prelude.{slice_index_or}
 use Rattle.std.specs.Option.{option_map}
 use Rattle.proxy_core.specs.Leading.{is_forwarded}

@@ -41,9 +41,9 @@ pub record PlaceIsLeast (places : List ℕ) (place : ℕ) : Type 0 where
 
 -- What is open and has the flag is at one of the places, something is open at each of them, and there is room for as
 -- many as are open.
-pub record FlaggedPlacesAreMarked {A : Type 0} (flag : A → Bool) (open_ends : BTreeMap ℕ A)
+pub record FlaggedPlacesAreMarked {A : Type 0} (flag : A → Bool) (end_at : ℕ → Option A) (open_count : ℕ)
     (kept : ReadyPlaces) : Type 0 where
-  pub marked : (i : ℕ) (x : A) → get nat_cmp open_ends i ≡ Some x → flag x ≡ true → Contains kept.places i
-  pub filled : (i : ℕ) → Contains kept.places i → is_some (get nat_cmp open_ends i) ≡ true
-  pub room : length open_ends.entries ≤ kept.room
+  pub marked : (i : ℕ) (x : A) → end_at i ≡ Some x → flag x ≡ true → Contains kept.places i
+  pub filled : (i : ℕ) → Contains kept.places i → is_some (end_at i) ≡ true
+  pub room : open_count ≤ kept.room
   pub falls : PlacesDescend kept.places

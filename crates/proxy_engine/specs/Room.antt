@@ -3,7 +3,7 @@
 -- HasSpareBytes, ConnectionHasSpare, LinkHasSpare: so many bytes of an end do
 -- HappeningFindsMemory: a happening does
 -- NextHappeningFindsMemory: the next one of an end does
-use Rattle.std.specs.Prelude.{◌≡◌, ℕ, ◌-◌, ◌+◌, ◌≤◌, ◌^◌, ◌⊎◌, length, true, Option, None, Some, slice_index_or}
+use Rattle.std.specs.Prelude.{◌≡◌, ℕ, ◌≤◌, ◌^◌, ◌⊎◌, length, true, Option, None, Some, slice_index_or}
 use Rattle.proxy_engine.specs.ConnectionNumbers.{connection_number, connection_place, link_place}
 use Rattle.proxy_engine.specs.Happenings.{PlainHappening, Accepts, Sends, Hears, Ends, Leaves, Shuts, Fails}
 use Rattle.proxy_engine.specs.State.{State}

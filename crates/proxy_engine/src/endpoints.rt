@@ -6,6 +6,7 @@ pub(crate) mod endpoint;
 pub(crate) mod ends;
 pub(crate) mod links;
 pub(crate) mod lookahead;
+pub(crate) mod marked_ends;
 pub(crate) mod marks;
 pub(crate) mod numbers;
 pub(crate) mod open_ends;

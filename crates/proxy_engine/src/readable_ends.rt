@@ -4,7 +4,7 @@ ghost use Rattle.std.specs.Ordering.{nat_cmp};
 ghost use Rattle.std.specs.BTreeMap.{get};
 ghost use Rattle.proxy_engine.specs.Held.{has_flag, connection_may_send, connection_is_open, link_may_send};
 ghost use Rattle.proxy_engine.specs.Held.{link_failed};
-ghost use Rattle.proxy_engine.specs.Marked.{RelatesAtEachPlace};
+ghost use Rattle.proxy_engine.specs.Marked.{OnlyGainsRoom, RelatesAtEachPlace};
 ghost use Rattle.proxy_engine.specs.ReadyList.{entries_below};
 ghost use Rattle.proxy_engine.specs.Reading.{places_with_flag, client_end_at, link_end_at, IsBetweenRequests};
 ghost use Rattle.proxy_engine.specs.State.{ConnectionHolds};
@@ -126,7 +126,8 @@ pub(crate) fn reserve_at<E: Endpoint>(
     ends: &mut BTreeMap<u64, E>,
     place: u64,
 ) -> Result<(), AllocError>
-    ensures grows { RelatesAtEachPlace E.Grows ends.old ends.new }
+    ensures grows { RelatesAtEachPlace (OnlyGainsRoom E.LooksLike E.may_show) (get nat_cmp ends.old)
+        (get nat_cmp ends.new) }
     ensures others { (q : ℕ) → q ≢ place → get nat_cmp ends.new q ≡ get nat_cmp ends.old q }
     ensures size { length ends.new.entries ≡ length ends.old.entries }
     ensures ok { OnOk result (HasSpareBytes E.spare (get nat_cmp ends.new place) most_bytes_of_read) }

@@ -16,48 +16,33 @@ ghost use Rattle.proxy_engine.specs.State.{RelatesLists, ConnectionRepresents, i
 ghost use Rattle.proxy_engine.specs.State.{IsFirstFoundConnection};
 ghost use Rattle.proxy_engine.specs.State.{connection_load};
 
-use crate::endpoints::activities::Activity;
 use crate::endpoints::ends::Connection;
+use crate::endpoints::marked_ends::MarkedEnds;
 use crate::endpoints::numbers::{connection_number, next_connection};
-use crate::endpoints::peeked::Peeked;
 use crate::endpoints::ready_list::ReadyList;
 use crate::readable_ends;
-use crate::steps::finds::{first_due, first_lost};
+use crate::steps::finds::first_lost;
 use crate::work::End;
-use hx_framing::RequestReader;
 use std::alloc::{AllocError, Global};
-use std::collections::BTreeMap;
 use std::marker::Model;
 
-/// The connections that aren't over, and how many were ever accepted. Where one may be gone with an open exchange, or
-/// its stream may ask for something, its place is marked; whatever changes one marks it. So a search looks at marked
-/// places alone. Behind the last stands an empty one where there is room for one more.
+/// The connections that aren't over, and how many were ever accepted. Where a stream may ask for something its place is
+/// marked, and beside that where a connection may be gone with an open exchange: those are looked for first.
 #[derive(Drop)]
 pub(crate) struct Connections {
-    ends: BTreeMap<u64, Connection>,
-    count: u64,
+    ends: MarkedEnds<Connection>,
     lost: ReadyList,
-    waiting: ReadyList,
 }
 
 impl Model for Connections {
-    ghost use Rattle.std.specs.Prelude.{◌&&◌, ◌+◌, ◌^◌, nat_lt, is_some};
-    ghost use Rattle.std.specs.Ordering.{nat_cmp};
-    ghost use Rattle.std.specs.BTreeMap.{get};
-    ghost use Rattle.proxy_engine.specs.ReadyList.{entries_below, PlacesAreBelow, FlaggedPlacesAreMarked};
-    ghost use Rattle.proxy_engine.specs.Marked.{EndList, may_be_lost, connection_may_be_due};
+    ghost use Rattle.proxy_engine.specs.Marked.{EndList, LostAreMarked};
     ghost use Rattle.proxy_engine.specs.declared.endpoints.ends.Connection.{Connection};
 
     ghost Value = { EndList Connection };
 
-    ghost view = { λ c. record {
-      items = entries_below c.ends c.count;
-      has_room = nat_lt (c.count + 1) (2 ^ 64)
-          && is_some (get nat_cmp c.ends c.count);
-    } };
+    ghost view = { λ c. c.ends };
 
-    ghost invariant = { λ c. FlaggedPlacesAreMarked may_be_lost c.ends c.lost × PlacesAreBelow c.count c.lost.places
-        × FlaggedPlacesAreMarked connection_may_be_due c.ends c.waiting × PlacesAreBelow c.count c.waiting.places };
+    ghost invariant = { λ c. LostAreMarked c.ends c.lost };
 }
 
 impl Connections {
@@ -68,10 +53,8 @@ impl Connections {
         ensures { result.items ≡ [] }
     {
         Connections {
-            ends: BTreeMap::new(alloc),
-            count: 0,
+            ends: MarkedEnds::new(alloc),
             lost: ReadyList::new(alloc),
-            waiting: ReadyList::new(alloc),
         }
     }
 
@@ -79,7 +62,7 @@ impl Connections {
     pub(crate) fn len(&self) -> u64
         ensures { result ≡ length self.now.items }
     {
-        self.count
+        self.ends.len()
     }
 
     /// The connection at a place, which isn't over.
@@ -87,7 +70,7 @@ impl Connections {
         requires { is_some (slice_index_or self.now.items i None) ≡ true }
         ensures { slice_index_or self.now.items i None ≡ Some result.now }
     {
-        &self.ends[&i]
+        self.ends.at(i)
     }
 
     /// The number of the connection at a place, and the id of its exchange.
@@ -105,7 +88,7 @@ impl Connections {
         requires { i < length self.now.items }
         ensures { result ≡ has_exchange (activity_of (slice_index_or self.now.items i None)) }
     {
-        match self.ends.get(&i) {
+        match self.ends.get(i) {
             Some(connection) => connection.activity.has_exchange(),
             None => false,
         }
@@ -116,10 +99,7 @@ impl Connections {
         ensures { (ss : List ConnectionModel) → RelatesLists ConnectionRepresents self.now.items ss → result ≡ true
             → IsBetweenRequests (slice_index_or ss i no_connection) }
     {
-        if i >= self.count {
-            return false;
-        }
-        match self.ends.get(&i) {
+        match self.ends.get(i) {
             Some(connection) => readable_ends::is_between(connection),
             None => false,
         }
@@ -132,59 +112,36 @@ impl Connections {
             (λ w. record { items = slice_set self.old.items i (Some w); has_room = self.old.has_room }) self.old) }
         ensures value { option_copied_mut result ≡ slice_index_or self.old.items i None }
     {
-        if !self.ends.contains_key(&i) {
+        if self.ends.get(i).is_none() {
             return None;
         }
         self.lost.put(i);
-        self.waiting.put(i);
-        self.ends.get_mut(&i)
+        self.ends.at_mut(i)
     }
 
-    /// Makes room for one more, and for the marks at its place. An empty connection stands there until then.
+    /// Makes room for one more, and for the marks at its place.
     pub(crate) fn reserve_one(&mut self, alloc: Global) -> Result<(), AllocError>
-        requires { length self.old.items + 1 < 2 ^ 64 }
         ensures items { self.new.items ≡ self.old.items }
         ensures ok { OnOk result (self.new.has_room ≡ true) }
         ensures reserved { self.old.has_room ≡ true → IsOk result }
         ensures err { OnErr result (self.new ≡ self.old) }
     {
-        let place = self.count;
-        if self.ends.contains_key(&place) {
+        if self.ends.has_room() {
             return Ok(());
         }
-        self.lost.reserve_beside(&self.ends)?;
-        self.waiting.reserve_beside(&self.ends)?;
-        let empty = Connection {
-            reader: Peeked::new(RequestReader::new(alloc, 0)),
-            ended: false,
-            gone: true,
-            activity: Activity::Free,
-        };
-        self.ends.insert(place, empty)?;
-        Ok(())
+        self.ends.reserve_marks(&mut self.lost)?;
+        self.ends.reserve_one(alloc)
     }
 
-    /// Puts a connection at the place behind the last, and marks it. There is room, so no memory is taken.
-    pub(crate) fn put(&mut self, connection: Connection)
-        requires { self.old.has_room ≡ true }
-        ensures { self.new.items ≡ self.old.items ++ Some connection ∷ [] }
-    {
-        let place = self.count;
-        self.lost.put(place);
-        self.waiting.put(place);
-        let _ = self.ends.insert(place, connection);
-        self.count = place + 1;
-    }
-
-    /// Puts a connection at the place behind the last. Where there is room for it, memory isn't wanted.
+    /// Puts a connection at the place behind the last, and marks it. Where there is room for it, memory isn't wanted.
     pub(crate) fn accept(&mut self, alloc: Global, connection: Connection) -> Result<(), AllocError>
-        requires { length self.old.items + 1 < 2 ^ 64 }
         ensures ok { OnOk result (self.new.items ≡ self.old.items ++ Some connection ∷ []) }
         ensures reserved { self.old.has_room ≡ true → IsOk result }
         ensures err { OnErr result (self.new ≡ self.old) }
     {
         self.reserve_one(alloc)?;
-        self.put(connection);
+        self.lost.put(self.ends.len());
+        self.ends.put(connection);
         Ok(())
     }
 
@@ -193,7 +150,7 @@ impl Connections {
         ensures { result ≡ (if nat_lt (connection_number (length self.now.items))
             (2 ^ 64) then Some (connection_number (length self.now.items)) else None) }
     {
-        next_connection(self.count)
+        next_connection(self.ends.len())
     }
 
     /// How many are open: neither closed nor gone.
@@ -201,7 +158,8 @@ impl Connections {
         ensures { (ss : List ConnectionModel) → RelatesLists ConnectionRepresents self.now.items ss → result
             ≡ length (places_with_flag connection_is_open_in_model 0 ss) }
     {
-        readable_ends::open_count(&self.ends, self.count)
+        let open = &self.ends;
+        readable_ends::open_count(&open.ends, open.count)
     }
 
     /// Whether fewer than this are open.
@@ -209,7 +167,8 @@ impl Connections {
         ensures { (ss : List ConnectionModel) → RelatesLists ConnectionRepresents self.now.items ss → result
             ≡ nat_lt (length (places_with_flag connection_is_open_in_model 0 ss)) most }
     {
-        readable_ends::are_fewer_open(&self.ends, self.count, most)
+        let open = &self.ends;
+        readable_ends::are_fewer_open(&open.ends, open.count, most)
     }
 
     /// Adds the clients from which bytes may come.
@@ -218,7 +177,8 @@ impl Connections {
             → ends.new.items ≡ ends.old.items ++ map client_end_at
             (places_with_flag connection_may_send_request 0 ss)) }
     {
-        readable_ends::push_clients(&self.ends, self.count, ends)
+        let open = &self.ends;
+        readable_ends::push_clients(&open.ends, open.count, ends)
     }
 
     /// Makes room for one piece of the client's bytes at a place, if the connection isn't over.
@@ -229,10 +189,7 @@ impl Connections {
         ensures activities { activities_of self.new.items ≡ activities_of self.old.items }
         ensures err { OnErr result (self.new ≡ self.old) }
     {
-        if i >= self.count {
-            return Ok(());
-        }
-        readable_ends::reserve_at(&mut self.ends, i)
+        self.ends.reserve_bytes(i)
     }
 
     /// Lets go of the connection at a place, which is over.
@@ -240,9 +197,8 @@ impl Connections {
         requires { i < length self.old.items }
         ensures { self.new.items ≡ slice_set self.old.items i None }
     {
-        let _ = self.ends.remove(&i);
+        self.ends.release(i);
         self.lost.remove(i);
-        self.waiting.remove(i);
     }
 
     /// The first connection that is gone with an open exchange, and its link, if its request went forward.
@@ -267,6 +223,6 @@ impl Connections {
         ensures activities { activities_of self.new.items ≡ activities_of self.old.items }
         ensures load { sum_by connection_load self.new.items ≤ sum_by connection_load self.old.items }
     {
-        first_due(&mut self.ends, &mut self.waiting, alloc)
+        self.ends.find(alloc)
     }
 }

@@ -1,7 +1,11 @@
 //! What a connection and a link have in common: something may be due there, and bytes may come.
 ghost use Rattle.std.specs.Prelude.{◌≡◌, ℕ, ◌≤◌, Bool, true, false, Option, Some, IfOk, OnOk, OnErr};
+ghost use Rattle.proxy_engine.specs.Marked.{OnlyGainsRoom};
 
+use crate::endpoints::activities::Activity;
 use crate::endpoints::ends::{Connection, Link};
+use crate::endpoints::peeked::Peeked;
+use hx_framing::{RequestReader, ResponseReader};
 use std::alloc::{AllocError, Global};
 
 /// A connection that isn't over, or a link that isn't dropped.
@@ -15,14 +19,15 @@ pub(crate) trait Endpoint: Drop {
     /// What `poll` may change: the new one represents the same models, and no more is to come of it.
     ghost LooksLike: { Self → Self → Type 0 };
 
-    /// What is left where room for bytes is made.
-    ghost Grows: { Self → Self → Type 0 };
-
     /// For how many bytes there is room.
     ghost spare: { Self → ℕ };
 
     /// Nothing is known of it: it wasn't asked, or found no memory.
     ghost is_unknown: { Self → Bool };
+
+    /// One at which nothing is due. It stands for none.
+    fn empty(alloc: Global) -> Self
+        ensures { may_show result ≡ false };
 
     /// Whether something is due there. What is found is kept, so nothing is read twice.
     fn poll(&mut self, alloc: Global) -> Result<bool, AllocError>
@@ -33,19 +38,16 @@ pub(crate) trait Endpoint: Drop {
 
     /// Makes room for so many bytes. An `Err` changes nothing.
     fn reserve(&mut self, n: usize) -> Result<(), AllocError>
-        ensures grows { Grows self.old self.new }
+        ensures grows { OnlyGainsRoom LooksLike may_show self.old self.new }
         ensures ok { OnOk result (n ≤ spare self.new) }
         ensures err { OnErr result (self.new ≡ self.old) };
 
     ghost looks_like_itself: { (x : Self) → LooksLike x x };
 
     ghost looks_on: { (x y z : Self) → LooksLike x y → LooksLike y z → LooksLike x z };
-
-    ghost grows_by_nothing: { (x : Self) → Grows x x };
 }
 
 impl Endpoint for Connection {
-    ghost use Rattle.proxy_engine.specs.Held.{ConnectionOnlyGainsRoom};
     ghost use Rattle.proxy_engine.specs.Marked.{connection_may_be_due, ConnectionAfterLook, ConnectionIsDueAsLookShows};
     ghost use Rattle.proxy_engine.specs.Exhausted.{connection_unknown};
     ghost use Rattle.std.proofs.Common.{refl, ◌∙◌};
@@ -57,11 +59,18 @@ impl Endpoint for Connection {
 
     ghost LooksLike = { ConnectionAfterLook };
 
-    ghost Grows = { ConnectionOnlyGainsRoom };
-
     ghost spare = { λ c. c.reader.inner.spare };
 
     ghost is_unknown = { connection_unknown };
+
+    fn empty(alloc: Global) -> Self {
+        Connection {
+            reader: Peeked::new(RequestReader::new(alloc, 0)),
+            ended: false,
+            gone: true,
+            activity: Activity::Free,
+        }
+    }
 
     fn poll(&mut self, alloc: Global) -> Result<bool, AllocError> {
         if self.gone || self.activity.has_exchange() {
@@ -83,20 +92,9 @@ impl Endpoint for Connection {
       activity = q.activity ∙ r.activity;
       load = le_trans q.load r.load;
     } };
-
-    ghost grows_by_nothing = { λ c. record {
-      alike = record {
-        represents = λ s h. h;
-        gone = refl;
-        activity = refl;
-        load = le_refl _;
-      };
-      ahead = refl;
-    } };
 }
 
 impl Endpoint for Link {
-    ghost use Rattle.proxy_engine.specs.Held.{LinkOnlyGainsRoom};
     ghost use Rattle.proxy_engine.specs.Marked.{link_may_be_due, LinkAfterLook, LinkIsDueAsLookShows};
     ghost use Rattle.proxy_engine.specs.Exhausted.{link_unknown};
     ghost use Rattle.std.proofs.Common.{refl, ◌∙◌};
@@ -108,11 +106,18 @@ impl Endpoint for Link {
 
     ghost LooksLike = { LinkAfterLook };
 
-    ghost Grows = { LinkOnlyGainsRoom };
-
     ghost spare = { λ k. k.reader.inner.spare };
 
     ghost is_unknown = { link_unknown };
+
+    fn empty(alloc: Global) -> Self {
+        Link {
+            reader: Peeked::new(ResponseReader::new(alloc, 0, false)),
+            ended: false,
+            failed: None,
+            connection: 0,
+        }
+    }
 
     fn poll(&mut self, alloc: Global) -> Result<bool, AllocError> {
         self.reader.look_ahead(alloc)?;
@@ -129,11 +134,5 @@ impl Endpoint for Link {
       represents = λ s h. q.represents s (r.represents s h);
       connection = q.connection ∙ r.connection;
       load = le_trans q.load r.load;
-    } };
-
-    ghost grows_by_nothing = { λ k. record {
-      alike = record { represents = λ s h. h; connection = refl; load = le_refl _ };
-      ahead = refl;
-      failed = refl;
     } };
 }

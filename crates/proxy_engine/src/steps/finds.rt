@@ -6,19 +6,20 @@ ghost use Rattle.std.specs.BTreeMap.{get};
 ghost use Rattle.proxy_engine.specs.ReadyList.{FlaggedPlacesAreMarked};
 ghost use Rattle.proxy_engine.specs.Exhausted.{IsKeptWithFlag};
 ghost use Rattle.proxy_engine.specs.Marked.{may_be_lost, RelatesAtEachPlace, NoneHasFlagBelow, NoneHasFlag};
-ghost use Rattle.proxy_engine.specs.Marked.{lost_connection_at};
+ghost use Rattle.proxy_engine.specs.Marked.{lost_connection_at, item_at, LostAreMarked};
 
 use crate::endpoints::endpoint::Endpoint;
 use crate::endpoints::ends::Connection;
+use crate::endpoints::marked_ends::MarkedEnds;
 use crate::endpoints::ready_list::ReadyList;
 use std::alloc::{AllocError, Global};
 use std::collections::BTreeMap;
 
 /// Whether the connection at a place is gone with an open exchange, and its link, if its request went forward.
-fn lost_link(ends: &BTreeMap<u64, Connection>, i: u64) -> Option<Option<u64>>
-    ensures { result ≡ lost_connection_at (get nat_cmp ends.now i) }
+fn lost_link(ends: &MarkedEnds<Connection>, i: u64) -> Option<Option<u64>>
+    ensures { result ≡ lost_connection_at (item_at ends.now.items i) }
 {
-    match ends.get(&i) {
+    match ends.get(i) {
         Some(connection) => {
             if connection.gone && connection.activity.has_exchange() {
                 Some(connection.activity.link())
@@ -33,15 +34,14 @@ fn lost_link(ends: &BTreeMap<u64, Connection>, i: u64) -> Option<Option<u64>>
 /// The first connection that is gone with an open exchange, and its link, if its request went forward. Places are
 /// dropped where none is.
 pub(crate) fn first_lost(
-    ends: &BTreeMap<u64, Connection>,
+    ends: &MarkedEnds<Connection>,
     lost: &mut ReadyList,
 ) -> Option<(u64, Option<u64>)>
-    requires { FlaggedPlacesAreMarked may_be_lost ends.now lost.old }
-    ensures marked { FlaggedPlacesAreMarked may_be_lost ends.now lost.new }
-    ensures fewer { (q : ℕ) → Contains lost.new.places q → Contains lost.old.places q }
-    ensures none { IfNone result (NoneHasFlag may_be_lost ends.now) }
-    ensures some { IfSome result (λ p. (lost_connection_at (get nat_cmp ends.now p.0) ≡ Some p.1)
-        × NoneHasFlagBelow may_be_lost ends.now p.0 × Contains lost.old.places p.0) }
+    requires { LostAreMarked ends.now lost.old }
+    ensures marked { LostAreMarked ends.now lost.new }
+    ensures none { IfNone result (NoneHasFlag may_be_lost (item_at ends.now.items)) }
+    ensures some { IfSome result (λ p. (lost_connection_at (item_at ends.now.items p.0) ≡ Some p.1)
+        × NoneHasFlagBelow may_be_lost (item_at ends.now.items) p.0) }
 {
     while let Some(i) = lost.least() {
         if let Some(link) = lost_link(ends, i) {
@@ -58,7 +58,7 @@ fn poll_at<E: Endpoint>(
     place: u64,
     alloc: Global,
 ) -> Result<bool, AllocError>
-    ensures alike { RelatesAtEachPlace E.LooksLike ends.old ends.new }
+    ensures alike { RelatesAtEachPlace E.LooksLike (get nat_cmp ends.old) (get nat_cmp ends.new) }
     ensures others { (q : ℕ) → q ≢ place → get nat_cmp ends.new q ≡ get nat_cmp ends.old q }
     ensures size { length ends.new.entries ≡ length ends.old.entries }
     ensures yes { IfOk result (λ b. b ≡ true → E.IsShown (get nat_cmp ends.new place)) }
@@ -77,16 +77,16 @@ pub(crate) fn first_due<E: Endpoint>(
     marked: &mut ReadyList,
     alloc: Global,
 ) -> Result<Option<u64>, AllocError>
-    requires { FlaggedPlacesAreMarked E.may_show ends.old marked.old }
-    ensures marked { FlaggedPlacesAreMarked E.may_show ends.new marked.new }
+    requires { FlaggedPlacesAreMarked E.may_show (get nat_cmp ends.old) (length ends.old.entries) marked.old }
+    ensures marked { FlaggedPlacesAreMarked E.may_show (get nat_cmp ends.new) (length ends.new.entries) marked.new }
     ensures fewer { (q : ℕ) → Contains marked.new.places q → Contains marked.old.places q }
-    ensures alike { RelatesAtEachPlace E.LooksLike ends.old ends.new }
+    ensures alike { RelatesAtEachPlace E.LooksLike (get nat_cmp ends.old) (get nat_cmp ends.new) }
     ensures size { length ends.new.entries ≡ length ends.old.entries }
-    ensures found { IfOk result (λ found. MatchOption found (NoneHasFlag E.may_show ends.new)
-        (λ place. E.IsShown (get nat_cmp ends.new place) × NoneHasFlagBelow E.may_show ends.new place
+    ensures found { IfOk result (λ found. MatchOption found (NoneHasFlag E.may_show (get nat_cmp ends.new))
+        (λ place. E.IsShown (get nat_cmp ends.new place) × NoneHasFlagBelow E.may_show (get nat_cmp ends.new) place
         × Contains marked.old.places place)) }
     ensures failed { OnErr result ((place : ℕ) × IsKeptWithFlag E.is_unknown (get nat_cmp ends.new place)
-        × NoneHasFlagBelow E.may_show ends.new place × Contains marked.old.places place) }
+        × NoneHasFlagBelow E.may_show (get nat_cmp ends.new) place × Contains marked.old.places place) }
 {
     while let Some(place) = marked.least() {
         if poll_at(ends, place, alloc)? {

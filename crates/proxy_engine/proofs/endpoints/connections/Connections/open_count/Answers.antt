@@ -7,4 +7,4 @@ use Rattle.proxy_engine.proofs.Readable.{open_places}
 use Rattle.proxy_engine.proofs.endpoints.connections.Connections.open_count.Goals as goal
 
 pub returns : goal.returns
-returns c = λ ss both. c.open_count.ensures ∙ ap length (open_places (entries_below c.self.inside.ends c.self.inside.count) ss (subst (λ (v : EndList Connection). RelatesLists ConnectionRepresents v.items ss) (sym c.self.view_is) both))
+returns c = λ ss both. c.open_count.ensures ∙ ap length (open_places (entries_below c.open.inside.ends c.open.inside.count) ss (subst (λ (v : EndList Connection). RelatesLists ConnectionRepresents v.items ss) (sym (c.open.view_is ∙ c.self.view_is)) both))
