@@ -1,12 +1,16 @@
 //! The operator's table, read.
 ghost use Rattle.std.specs.Prelude.{◌≡◌, ◌≤◌, ℕ, [], length, Err, unwrap_or};
-ghost use Rattle.hx_allow.specs.Matching.{verdict_of, origin_of, policy_of, longest_origin, VerdictNamesAnOrigin};
+ghost use Rattle.std.specs.Option.{option_copied, option_map};
+ghost use Rattle.std.specs.Net.Text.{socket_v4_text};
+ghost use Rattle.hx_allow.specs.Matching.{verdict_of, origin_of, origin_address_of, policy_of, longest_origin};
+ghost use Rattle.hx_allow.specs.Matching.{VerdictNamesAnOrigin};
 ghost use Rattle.hx_allow.specs.NeverReached.{first_line_taking};
 ghost use Rattle.hx_allow.specs.Tables.{BytesReadAs};
 
 use crate::host_index::HostIndex;
 use crate::lines::{Line, is_never_allowed};
 use crate::matching::{line_at, verdict_among};
+use crate::origins::Origin;
 use crate::shadows::first_taking;
 use crate::{ConfigFault, Verdict, config_reading};
 use http::Method;
@@ -14,6 +18,7 @@ use hx_policy::Policy;
 use hx_target::Target;
 use std::alloc::Global;
 use std::marker::Model;
+use std::net::SocketAddrV4;
 
 /// The operator's table: the proxy's name, its limits, which requests go to which origin, and which of them may be
 /// answered from the store.
@@ -90,18 +95,30 @@ impl Config {
         verdict_among(&self.lines, numbers, method, target.table_path.as_slice())
     }
 
+    fn origin_at(&self, line: u16) -> Option<&Origin>
+        ensures { option_copied result ≡ origin_of self.now.lines line }
+    {
+        line_at(&self.lines, line)?.origin.as_ref()
+    }
+
     /// The address of the origin of a line, counted from 1: four numbers and a port. It is empty where the table has no
     /// such line, or the line denies.
     pub fn origin(&self, line: u16) -> &str
         ensures { result.now ≡ unwrap_or (origin_of self.now.lines line) [] }
     {
-        match line_at(&self.lines, line) {
-            Some(line) => match &line.origin {
-                Some(origin) => origin.as_str(),
-                None => "",
-            },
+        match self.origin_at(line) {
+            Some(origin) => origin.text(),
             None => "",
         }
+    }
+
+    /// The address of the origin of a line, counted from 1. There is none where the table has no such line, or the line
+    /// denies.
+    pub fn origin_address(&self, line: u16) -> Option<SocketAddrV4>
+        ensures address { result ≡ origin_address_of self.now.lines line }
+        ensures text { option_map socket_v4_text result ≡ origin_of self.now.lines line }
+    {
+        Some(self.origin_at(line)?.address())
     }
 
     /// The bytes of the longest address of an origin: room for that of any line.

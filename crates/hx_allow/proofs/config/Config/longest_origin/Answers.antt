@@ -2,7 +2,7 @@ use Rattle.std.proofs.Common.{◌≤◌, ℕ, [], length, sym, subst}
 use Rattle.std.specs.Prelude.{unwrap_or}
 use Rattle.hx_allow.specs.TableLines.{Table}
 use Rattle.hx_allow.specs.Matching.{origin_of, longest_origin}
-use Rattle.hx_allow.proofs.Origins.{no_longer}
+use Rattle.hx_allow.proofs.LongestOrigins.{no_longer}
 use Rattle.hx_allow.proofs.config.Config.longest_origin.Goals as goal
 
 pub returns-clause-each : goal.returns-clause-each
