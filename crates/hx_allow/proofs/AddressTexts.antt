@@ -1,6 +1,6 @@
 -- An address that a text spells has that text.
-use Rattle.std.proofs.Common.{◌≡◌, ◌<◌, ◌≤◌, ◌^◌, ◌==◌, ◌&&◌, ℕ, Bool, true, false, cond, List, [], ◌∷◌, ◌++◌, length, Option, Some, None, refl, ap, sym, ◌∙◌, arith, rules, append_assoc, codes}
-use Rattle.std.specs.Prelude.{nat_le, nat_lt, not, decimal, option_map, slice_index}
+use Rattle.std.proofs.Common.{◌≡◌, ◌<◌, ◌≤◌, ◌==◌, ◌&&◌, ℕ, Bool, true, false, cond, List, [], ◌∷◌, ◌++◌, length, Option, Some, None, refl, ap, ◌∙◌, arith, rules, append_assoc}
+use Rattle.std.specs.Prelude.{nat_le, not, decimal, option_map}
 use Rattle.std.specs.Option.{option_and_then}
 use Rattle.std.specs.List.{list_all}
 use Rattle.std.specs.Char.{is_ascii_digit}
@@ -12,7 +12,7 @@ use Rattle.std.proofs.lemmas.Fmt.{decimal-digits_value}
 use Rattle.std.proofs.lemmas.Str.Parse.{IsNumeralModel, numerals_by_value, digits_value_short}
 use Rattle.hx_fields.specs.Names.{cut_at}
 use Rattle.hx_target.specs.Hosts.{short_number}
-use Rattle.hx_allow.specs.Addresses.{has_leading_zero, is_within_bounds, is_decimal_within, decimal_within, octet_and_rest, octet_before, address_of_numbers, address_of}
+use Rattle.hx_allow.specs.Addresses.{has_leading_zero, is_within_bounds, decimal_within, octet_and_rest, octet_before, address_of_numbers, address_of}
 
 -- what stands before and behind a byte gives the text
 cut_back : (separator : ℕ) (text : List ℕ) (p : List ℕ × List ℕ) → cut_at separator text ≡ Some p → p.0 ++ separator ∷ p.1 ≡ text

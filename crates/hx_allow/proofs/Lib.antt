@@ -8,7 +8,6 @@ pub mod Readings
 pub mod TablePaths
 pub mod Versions
 pub mod WordsRead
-pub mod LongestOrigins
 pub mod PathTails
 pub mod LeastUnknown
 pub mod Deciding

@@ -3,9 +3,8 @@
 -- matches_line: a line's host, a method and its path match
 -- verdict_of: the first line that matches
 -- origin_of, origin_address_of, policy_of: what the line of a number says
--- longest_origin: the most bytes of an origin's address
 use Rattle.std.specs.Prelude.{◌≤◌, IsSome, ℕ, ◌+◌, ◌-◌, ◌==◌, nat_lt, Bool, true, false, not, ◌&&◌, ◌||◌, if◌then◌else◌}
-use Rattle.std.specs.Prelude.{List, [], ◌∷◌, length, max, fold, take, slice_index, slice_get, codes, bytes_eq, Option}
+use Rattle.std.specs.Prelude.{List, [], ◌∷◌, length, take, slice_index, slice_get, codes, bytes_eq, Option}
 use Rattle.std.specs.Prelude.{Some, None, is_some, unwrap_or, option_map}
 use Rattle.std.specs.Option.{option_and_then}
 use Rattle.std.specs.List.{list_any}
@@ -74,10 +73,6 @@ origin_of lines n = option_and_then (λ (line : Line). line.origin) (line_of_num
 -- its address
 abbrev pub origin_address_of : List Line → ℕ → Option SocketAddrV4
 origin_address_of lines n = option_and_then address_of (origin_of lines n)
-
--- the bytes of the longest address of an origin
-abbrev pub longest_origin : List Line → ℕ
-longest_origin lines = fold (λ n (line : Line). max n (length (unwrap_or line.origin []))) 0 lines
 
 -- what the line with this number says of caching; what no line says anything of isn't kept
 unfoldable pub policy_of : List Line → ℕ → Policy

@@ -1,9 +1,8 @@
 //! The operator's table, read.
-ghost use Rattle.std.specs.Prelude.{◌≡◌, ◌≤◌, ℕ, [], length, Err, unwrap_or};
+ghost use Rattle.std.specs.Prelude.{◌≡◌, ◌≤◌, [], length, Err, unwrap_or};
 ghost use Rattle.std.specs.Option.{option_copied, option_map};
 ghost use Rattle.std.specs.Net.Text.{socket_v4_text};
-ghost use Rattle.hx_allow.specs.Matching.{verdict_of, origin_of, origin_address_of, policy_of, longest_origin};
-ghost use Rattle.hx_allow.specs.Matching.{VerdictNamesAnOrigin};
+ghost use Rattle.hx_allow.specs.Matching.{verdict_of, origin_of, origin_address_of, policy_of, VerdictNamesAnOrigin};
 ghost use Rattle.hx_allow.specs.NeverReached.{first_line_taking};
 ghost use Rattle.hx_allow.specs.Tables.{BytesReadAs};
 
@@ -27,8 +26,6 @@ pub struct Config {
     pub(crate) capacity: usize,
     pub(crate) max_body: u64,
     pub(crate) max_stored: u64,
-    /// The bytes of the longest address of an origin.
-    pub(crate) longest_origin: usize,
     pub(crate) lines: Vec<Line>,
     /// Which of the lines a host can match.
     pub(crate) by_host: HostIndex,
@@ -42,7 +39,6 @@ impl Drop for Config {
             capacity: _,
             max_body: _,
             max_stored: _,
-            longest_origin: _,
             lines: _,
             by_host: _,
         } = self;
@@ -52,7 +48,6 @@ impl Drop for Config {
 impl Model for Config {
     ghost use Rattle.std.specs.Prelude.{string_bytes, length, ◌≤◌, ◌≡◌};
     ghost use Rattle.hx_allow.specs.TableLines.{Table};
-    ghost use Rattle.hx_allow.specs.Matching.{longest_origin as longest_among};
     ghost use Rattle.hx_allow.specs.Index.{IsHostIndexOf};
 
     ghost Value = { Table };
@@ -65,8 +60,7 @@ impl Model for Config {
       lines = c.lines.items;
     } };
 
-    ghost invariant = { λ c. (length c.lines.items ≤ 256) × (c.longest_origin ≡ longest_among c.lines.items)
-        × IsHostIndexOf c.lines.items c.by_host };
+    ghost invariant = { λ c. (length c.lines.items ≤ 256) × IsHostIndexOf c.lines.items c.by_host };
 }
 
 impl Config {
@@ -119,14 +113,6 @@ impl Config {
         ensures text { option_map socket_v4_text result ≡ origin_of self.now.lines line }
     {
         Some(self.origin_at(line)?.address())
-    }
-
-    /// The bytes of the longest address of an origin: room for that of any line.
-    pub fn longest_origin(&self) -> usize
-        ensures longest { result ≡ longest_origin self.now.lines }
-        ensures each { (line : ℕ) → length (unwrap_or (origin_of self.now.lines line) []) ≤ result }
-    {
-        self.longest_origin
     }
 
     /// What a line, counted from 1, says of caching. A line that the table doesn't have caches

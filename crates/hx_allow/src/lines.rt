@@ -1,10 +1,9 @@
 //! A line of the table, and which requests it matches.
-ghost use Rattle.std.specs.Prelude.{◌≡◌, ◌≤◌, [], length, drop, unwrap_or};
+ghost use Rattle.std.specs.Prelude.{◌≡◌};
 ghost use Rattle.std.specs.Option.{option_copied};
 ghost use Rattle.std.specs.List.{list_any};
 ghost use Rattle.hx_allow.specs.Matching.{matches_host, is_never_allowed, is_star_or_same, matches_path};
 ghost use Rattle.hx_allow.specs.Matching.{path_continues};
-ghost use Rattle.hx_allow.specs.Matching.{longest_origin};
 ghost use Rattle.hx_allow.specs.Index.{can_match, matches_beside_host};
 
 use crate::origins::Origin;
@@ -94,27 +93,7 @@ pub(crate) fn path_continues(path: &[u8], asked: &[u8]) -> bool
     path.len() < asked.len() && &asked[..path.len()] == path && asked[path.len()] == b'/'
 }
 
-/// The most bytes of an origin's address among lines.
-pub fn longest_origin(lines: &[Line]) -> usize
-    ensures { result ≡ longest_origin lines.now }
-{
-    let mut longest = 0;
-    for line in lines {
-        longest = longest.max(line.origin_len());
-    }
-    longest
-}
-
 impl Line {
-    fn origin_len(&self) -> usize
-        ensures { result ≡ length (unwrap_or self.now.origin []) }
-    {
-        match &self.origin {
-            Some(origin) => origin.text().len(),
-            None => 0,
-        }
-    }
-
     /// Whether the line can match a host, or where none is given one that no line names.
     pub fn can_match(&self, host: Option<&[u8]>) -> bool
         ensures { result ≡ can_match self.now (option_copied host.entry) }

@@ -12,7 +12,7 @@ ghost use Rattle.hx_allow.specs.Index.{line_numbers_of, verdict_among};
 ghost use Rattle.hx_allow.specs.Keys.{fault_number, key_text};
 ghost use Rattle.hx_allow.specs.LineTables.{are_line_methods, is_line_host, is_line_method, is_line_origin};
 ghost use Rattle.hx_allow.specs.LineTables.{is_line_path};
-ghost use Rattle.hx_allow.specs.Matching.{policy_of, longest_origin, matches_host, matches_method, matches_path};
+ghost use Rattle.hx_allow.specs.Matching.{policy_of, matches_host, matches_method, matches_path};
 ghost use Rattle.hx_allow.specs.Matching.{origin_of, origin_address_of, verdict_of};
 ghost use Rattle.hx_allow.specs.PathTails.{path_may_match_tail, path_tail_of};
 ghost use Rattle.hx_allow.specs.NeverReached.{first_line_taking, takes_each_request_of};
@@ -360,16 +360,12 @@ pub fn worked_lines_with_cache()
     ensures none { policy_of first_line_denies 0 ≡ plain false }
 {}
 
-/// The origin of a line, and the longest of all.
+/// The origin of a line.
 pub fn worked_origins_of_line_numbers()
     ensures denying { origin_of first_line_denies 1 ≡ None }
     ensures allowing { origin_of first_line_denies 2 ≡ origin_8081 }
     ensures behind_the_last { origin_of first_line_denies 3 ≡ None }
     ensures none { origin_of line_without_cache 0 ≡ None }
-    ensures longest { longest_origin first_line_denies ≡ 14 }
-    ensures longest_of_the_first { longest_origin (line_with_method None (codes "GET") (codes "/") origin_8081
-        ∷ line_with_method None (codes "GET") (codes "/") None ∷ []) ≡ 14 }
-    ensures longest_of_none { longest_origin [] ≡ 0 }
 {}
 
 /// The last byte of a line's path has to stand where it stands there; `/` asks for none.

@@ -24,7 +24,7 @@ use crate::endpoints::connections::Connections;
 use crate::endpoints::marks;
 use crate::engine::Engine;
 use crate::steps::actions::{Action, action_of};
-use crate::steps::outcomes::{Upstream, as_alloc_error, put, room, send_reply};
+use crate::steps::outcomes::{as_alloc_error, is_head, put, room, send_reply};
 use crate::work::EngineFault;
 use hx_fields::Bytes;
 use hx_hop::Asked;
@@ -33,7 +33,6 @@ use hx_store::Shelf;
 use proxy_core::refused;
 use proxy_script::Effect;
 use std::alloc::{AllocError, Global};
-use std::mem::replace;
 
 /// The client may send the content of its request.
 fn send_continue(
@@ -137,17 +136,15 @@ impl<S: Shelf> Engine<S> {
     {
         let mut effects = room(alloc)?;
         self.ends.links.reserve_one(alloc)?;
-        let address = replace(&mut self.ends.address, Vec::new(alloc));
-        let mut upstream = Upstream::new(address, self.core.config(), asked)?;
         let id = self.ends.connections.number_at(i);
         let outcome = match self.core.arrive(alloc, now, id, asked) {
             Ok(outcome) => outcome,
             Err(fault) => return Err(as_alloc_error(fault)),
         };
-        upstream.set_address(self.core.config(), &outcome);
         marks::pass_next_at(&mut self.ends.connections, i);
+        let config = self.core.config();
         self.ends
-            .carry_out(&mut effects, alloc, i, upstream, outcome);
+            .carry_out(&mut effects, alloc, config, i, is_head(asked), outcome);
         Ok(effects)
     }
 
