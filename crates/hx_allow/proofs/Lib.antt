@@ -1,5 +1,6 @@
 pub mod FirstFaults
 pub mod HostIndices
+pub mod AddressTexts
 pub mod Items
 pub mod KeysListed
 pub mod LinesRead
@@ -7,7 +8,6 @@ pub mod Readings
 pub mod TablePaths
 pub mod Versions
 pub mod WordsRead
-pub mod Origins
 pub mod PathTails
 pub mod LeastUnknown
 pub mod Deciding

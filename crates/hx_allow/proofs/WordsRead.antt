@@ -1,14 +1,16 @@
 -- A line without fault that has a word of the third version allows and has its cache on.
 use Rattle.std.proofs.Common.{◌≡◌, inl, inr, ℕ, Bool, true, false, List, codes, Option, Some, None, refl, ap, sym, ◌∙◌}
 use Rattle.std.specs.Prelude.{Ok, not, ◌&&◌, ◌||◌, is_none, is_some, bytes_eq, option_map}
+use Rattle.std.specs.Option.{option_and_then}
 use Rattle.std.specs.List.{All}
 use Rattle.toml.specs.Data.{Data, Members, get_member}
+use Rattle.hx_allow.specs.Addresses.{is_address, address_text}
 use Rattle.hx_allow.specs.TableLines.{Table}
 use Rattle.hx_allow.specs.LineWords.{key_has_text, line_takes_words}
 use Rattle.hx_allow.specs.Rows.{Row, word_row, fault_of_line_key}
 use Rattle.hx_allow.specs.LineTables.{is_line_origin, is_of_kind, is_good_at, first_bad_key, line_fault, line_read}
 use Rattle.hx_allow.specs.Tables.{version_of, judge_table}
-use Rattle.hx_allow.specs.Values.{first_unknown, text_at, is_some_and, text_unless}
+use Rattle.hx_allow.specs.Values.{first_unknown, text_at, is_some_and}
 use Rattle.hx_allow.specs.Versions.{LineHasNoWord, LineTakesItsWords}
 use Rattle.hx_allow.specs.declared.config_faults.ConfigFault.TheVariants.{UnknownKey}
 use Rattle.hx_allow.specs.declared.rows.LineKey.{LineKey}
@@ -45,9 +47,11 @@ no_words ms untaken none = λ word.
     absent (word_row word).place (word_row word) ms (each_key is_caching_word refl (Word word)) untaken (each_good ms none (Word word))
 
 -- a line that takes words has an origin and its cache on
-has_origin : (text : Option (List ℕ)) → is_some_and is_line_origin text ≡ true → is_some_and (λ t. bytes_eq t (codes "deny")) text ≡ false → is_some (text_unless (codes "deny") text) ≡ true
+has_origin : (text : Option (List ℕ)) → is_some_and is_line_origin text ≡ true → is_some_and (λ t. bytes_eq t (codes "deny")) text ≡ false → is_some (option_and_then address_text text) ≡ true
 has_origin None good other = cc
-has_origin (Some text) good other = rw other refl
+has_origin (Some text) good other =
+    let spelled : is_address text ≡ true = sym (ap (λ b. b || is_address text) other) ∙ good in
+    rw spelled refl
 
 both_hold : (a b : Bool) → not a && not b ≡ true → (a ≡ false) × (b ≡ false)
 both_hold true b e = cc

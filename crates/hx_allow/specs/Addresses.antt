@@ -1,7 +1,10 @@
 -- Addresses of origins: four decimal numbers and a port.
-use Rattle.std.specs.Prelude.{ℕ, nat_le, ◌==◌, nat_lt, Bool, false, not, ◌&&◌, if◌then◌else◌, List, length, slice_index}
-use Rattle.std.specs.Prelude.{Option, Some, None}
+--
+-- address_of: the address that a text spells          is_address: a text spells one
+use Rattle.std.specs.Prelude.{ℕ, nat_le, ◌==◌, nat_lt, Bool, false, not, ◌&&◌, if◌then◌else◌, List, [], ◌∷◌, length}
+use Rattle.std.specs.Prelude.{slice_index, Option, Some, None, is_some, option_map}
 use Rattle.std.specs.Option.{option_and_then}
+use Rattle.std.specs.declared.net.socket_addr.SocketAddrV4.{SocketAddrV4}
 use Rattle.hx_fields.specs.Names.{cut_at}
 use Rattle.hx_target.specs.Hosts.{short_number}
 
@@ -17,23 +20,39 @@ is_within_bounds low high (Some n) = nat_le low n && nat_le n high
 abbrev pub is_decimal_within : ℕ → ℕ → List ℕ → Bool
 is_decimal_within low high text = not (has_leading_zero text) && is_within_bounds low high (short_number text)
 
-abbrev pub rest_after_octet : List ℕ × List ℕ → Option (List ℕ)
-rest_after_octet p = if is_decimal_within 0 255 p.0 then Some p.1 else None
+-- that number
+abbrev pub decimal_within : ℕ → ℕ → List ℕ → Option ℕ
+decimal_within low high text = if is_decimal_within low high text then short_number text else None
 
--- what follows a number from 0 to 255 and this byte
-abbrev pub after_octet : ℕ → List ℕ → Option (List ℕ)
-after_octet separator text = option_and_then rest_after_octet (cut_at separator text)
+abbrev pub octet_and_rest : List ℕ × List ℕ → Option (ℕ × List ℕ)
+octet_and_rest p = option_map (λ n. (n, p.1)) (decimal_within 0 255 p.0)
 
--- what follows three numbers with a dot each, and one with a colon
-abbrev pub port_after_octets : List ℕ → Option (List ℕ)
-port_after_octets text =
-    option_and_then (after_octet 58)
-    (option_and_then (after_octet 46) (option_and_then (after_octet 46) (after_octet 46 text)))
+-- a number from 0 to 255 in front of this byte, and what follows the byte
+abbrev pub octet_before : ℕ → List ℕ → Option (ℕ × List ℕ)
+octet_before separator text = option_and_then octet_and_rest (cut_at separator text)
 
-abbrev pub is_port_text : Option (List ℕ) → Bool
-is_port_text None = false
-is_port_text (Some text) = is_decimal_within 1 65535 text
+-- the address of four numbers and a port
+abbrev pub address_of_numbers : ℕ → ℕ → ℕ → ℕ → ℕ → SocketAddrV4
+address_of_numbers a b c d port = record { ip = record { octets = a ∷ b ∷ c ∷ d ∷ [] }; port = port }
 
--- four numbers from 0 to 255 joined by `.`, then `:` and a port
-unfoldable pub is_address : List ℕ → Bool
-is_address text = is_port_text (port_after_octets text)
+infixl 10 ◌>>=◌
+abbrev ◌>>=◌ : {A B : Type 0} → Option A → (A → Option B) → Option B
+o >>= f = option_and_then f o
+
+-- the address that a text spells: four numbers from 0 to 255 joined by `.`, then `:` and a port
+unfoldable pub address_of : List ℕ → Option SocketAddrV4
+address_of text = do
+  a ← octet_before 46 text
+  b ← octet_before 46 a.1
+  c ← octet_before 46 b.1
+  d ← octet_before 58 c.1
+  port ← decimal_within 1 65535 d.1
+  Some (address_of_numbers a.0 b.0 c.0 d.0 port)
+
+-- a text spells an address
+abbrev pub is_address : List ℕ → Bool
+is_address text = is_some (address_of text)
+
+-- the text, where it spells an address
+abbrev pub address_text : List ℕ → Option (List ℕ)
+address_text text = if is_address text then Some text else None

@@ -2,6 +2,7 @@
 use Rattle.std.specs.Prelude.{ℕ, ◌+◌, ◌-◌, ◌==◌, nat_le, Bool, not, ◌&&◌, ◌||◌, List, [], ◌∷◌, length}
 use Rattle.std.specs.Prelude.{slice_index, codes, bytes_eq, Option, Some, None, is_none, unwrap_or}
 use Rattle.std.specs.Prelude.{option_map, find, is_some, false}
+use Rattle.std.specs.Option.{option_and_then}
 use Rattle.std.specs.List.{list_any, list_all}
 use Rattle.std.specs.Char.{is_ascii_uppercase}
 use Rattle.http_uri.specs.ByteClasses.{slash, hash_sign, question_mark}
@@ -9,7 +10,7 @@ use Rattle.toml.specs.Data.{Items, no_items, item, table, Members, get_member, a
 use Rattle.hx_fields.specs.Tokens.{is_token}
 use Rattle.hx_target.specs.Hosts.{is_host}
 use Rattle.hx_target.specs.Paths.{has_bad_escape, has_dot_segment, table_path_of}
-use Rattle.hx_allow.specs.Addresses.{is_address}
+use Rattle.hx_allow.specs.Addresses.{is_address, address_text}
 use Rattle.hx_allow.specs.TableLines.{Line as PlainLine}
 use Rattle.hx_allow.specs.LineWords.{key_has_one_of_two, line_denies, line_takes_words, policy_of_line_table}
 use Rattle.hx_allow.specs.Matching.{is_never_allowed}
@@ -99,7 +100,7 @@ line_read ms = record {
   host = text_unless (codes "*") (text_at (codes "host") ms);
   methods = texts_of (unwrap_or (items_at (codes "methods") ms) no_items);
   path = table_path_of (unwrap_or (text_at (codes "path") ms) []);
-  origin = text_unless (codes "deny") (text_at (codes "origin") ms);
+  origin = option_and_then address_text (text_at (codes "origin") ms);
   policy = policy_of_line_table ms;
 }
 

@@ -2,15 +2,17 @@
 --
 -- matches_line: a line's host, a method and its path match
 -- verdict_of: the first line that matches
--- origin_of, policy_of: what the line of a number says     longest_origin: the most bytes of an origin's address
+-- origin_of, origin_address_of, policy_of: what the line of a number says
 use Rattle.std.specs.Prelude.{◌≤◌, IsSome, ℕ, ◌+◌, ◌-◌, ◌==◌, nat_lt, Bool, true, false, not, ◌&&◌, ◌||◌, if◌then◌else◌}
-use Rattle.std.specs.Prelude.{List, [], ◌∷◌, length, max, fold, take, slice_index, slice_get, codes, bytes_eq, Option}
+use Rattle.std.specs.Prelude.{List, [], ◌∷◌, length, take, slice_index, slice_get, codes, bytes_eq, Option}
 use Rattle.std.specs.Prelude.{Some, None, is_some, unwrap_or, option_map}
 use Rattle.std.specs.Option.{option_and_then}
 use Rattle.std.specs.List.{list_any}
+use Rattle.std.specs.declared.net.socket_addr.SocketAddrV4.{SocketAddrV4}
 use Rattle.hx_target.specs.declared.targets.Target.{Target}
 use Rattle.hx_policy.specs.declared.words.Policy.{Policy}
 use Rattle.hx_policy.specs.Policies.{plain}
+use Rattle.hx_allow.specs.Addresses.{address_of}
 use Rattle.hx_allow.specs.TableLines.{Line}
 use Rattle.hx_allow.specs.declared.verdicts.Verdict.{Verdict}
 use Rattle.hx_allow.specs.declared.verdicts.Verdict.TheVariants.{Allowed, DeniedBy, NoLine}
@@ -68,9 +70,9 @@ line_of_number lines n = if n == 0 then None else slice_get lines (n - 1)
 abbrev pub origin_of : List Line → ℕ → Option (List ℕ)
 origin_of lines n = option_and_then (λ (line : Line). line.origin) (line_of_number lines n)
 
--- the bytes of the longest address of an origin
-abbrev pub longest_origin : List Line → ℕ
-longest_origin lines = fold (λ n (line : Line). max n (length (unwrap_or line.origin []))) 0 lines
+-- its address
+abbrev pub origin_address_of : List Line → ℕ → Option SocketAddrV4
+origin_address_of lines n = option_and_then address_of (origin_of lines n)
 
 -- what the line with this number says of caching; what no line says anything of isn't kept
 unfoldable pub policy_of : List Line → ℕ → Policy

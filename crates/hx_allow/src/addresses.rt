@@ -1,11 +1,11 @@
 //! Addresses of origins: four decimal numbers and a port.
-ghost use Rattle.std.specs.Prelude.{◌≡◌};
-ghost use Rattle.std.specs.Option.{option_map, option_copied};
-ghost use Rattle.hx_allow.specs.Addresses.{has_leading_zero, is_decimal_within, after_octet, port_after_octets};
-ghost use Rattle.hx_allow.specs.Addresses.{is_address};
+ghost use Rattle.std.specs.Prelude.{◌≡◌, ◌≤◌, IfSome};
+ghost use Rattle.std.specs.Option.{option_map};
+ghost use Rattle.hx_allow.specs.Addresses.{has_leading_zero, decimal_within, octet_before, address_of};
 
 use hx_fields::cut_at;
 use hx_target::short_number;
+use std::net::{Ipv4Addr, SocketAddrV4};
 
 fn has_leading_zero(text: &[u8]) -> bool
     ensures { result ≡ has_leading_zero text.now }
@@ -13,45 +13,38 @@ fn has_leading_zero(text: &[u8]) -> bool
     text.len() > 1 && text[0] == b'0'
 }
 
-/// Whether a text is a decimal number within bounds, without leading zeros.
-fn is_decimal_within(low: u32, high: u32, text: &[u8]) -> bool
-    ensures { result ≡ is_decimal_within low high text.now }
+/// A decimal number within bounds, without leading zeros.
+fn decimal_within(low: u32, high: u32, text: &[u8]) -> Option<u32>
+    ensures number { result ≡ decimal_within low high text.now }
+    ensures within { IfSome result (λ n. n ≤ high) }
 {
     if has_leading_zero(text) {
-        return false;
+        return None;
     }
     match short_number(text) {
-        Some(n) => low <= n && n <= high,
-        None => false,
-    }
-}
-
-/// What follows a number from 0 to 255 and a separator.
-fn after_octet(separator: u8, text: &[u8]) -> Option<&[u8]>
-    ensures { option_copied result ≡ after_octet separator text.now }
-{
-    match cut_at(separator, text) {
-        Some((octet, rest)) if is_decimal_within(0, 255, octet) => Some(rest),
+        Some(n) if low <= n && n <= high => Some(n),
         _ => None,
     }
 }
 
-fn port_after_octets(text: &[u8]) -> Option<&[u8]>
-    ensures { option_copied result ≡ port_after_octets text.now }
+/// A number from 0 to 255 in front of a byte, and what follows the byte.
+fn octet_before(separator: u8, text: &[u8]) -> Option<(u8, &[u8])>
+    ensures { option_map (λ p. (p.0, p.1.now)) result ≡ octet_before separator text.now }
 {
-    let rest = after_octet(b'.', text)?;
-    let rest = after_octet(b'.', rest)?;
-    let rest = after_octet(b'.', rest)?;
-    after_octet(b':', rest)
+    let (digits, rest) = cut_at(separator, text)?;
+    let octet = decimal_within(0, 255, digits)?;
+    Some((octet as u8, rest))
 }
 
-/// Whether a text is four numbers from 0 to 255 joined by `.`, then `:` and a port.
-#[tactic(auto, unfolding(crate::specs::Addresses::is_address))]
-pub fn is_address(text: &[u8]) -> bool
-    ensures { result ≡ is_address text.now }
+/// The address that a text spells: four numbers from 0 to 255 joined by `.`, then `:` and a port.
+#[tactic(auto, unfolding(crate::specs::Addresses::address_of))]
+pub fn address_of(text: &[u8]) -> Option<SocketAddrV4>
+    ensures { result ≡ address_of text.now }
 {
-    match port_after_octets(text) {
-        Some(port) => is_decimal_within(1, 65_535, port),
-        None => false,
-    }
+    let (a, rest) = octet_before(b'.', text)?;
+    let (b, rest) = octet_before(b'.', rest)?;
+    let (c, rest) = octet_before(b'.', rest)?;
+    let (d, rest) = octet_before(b':', rest)?;
+    let port = decimal_within(1, 65_535, rest)?;
+    Some(SocketAddrV4::new(Ipv4Addr::new(a, b, c, d), port as u16))
 }

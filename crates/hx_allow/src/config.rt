@@ -1,12 +1,15 @@
 //! The operator's table, read.
-ghost use Rattle.std.specs.Prelude.{◌≡◌, ◌≤◌, ℕ, [], length, Err, unwrap_or};
-ghost use Rattle.hx_allow.specs.Matching.{verdict_of, origin_of, policy_of, longest_origin, VerdictNamesAnOrigin};
+ghost use Rattle.std.specs.Prelude.{◌≡◌, ◌≤◌, [], length, Err, unwrap_or};
+ghost use Rattle.std.specs.Option.{option_copied, option_map};
+ghost use Rattle.std.specs.Net.Text.{socket_v4_text};
+ghost use Rattle.hx_allow.specs.Matching.{verdict_of, origin_of, origin_address_of, policy_of, VerdictNamesAnOrigin};
 ghost use Rattle.hx_allow.specs.NeverReached.{first_line_taking};
 ghost use Rattle.hx_allow.specs.Tables.{BytesReadAs};
 
 use crate::host_index::HostIndex;
 use crate::lines::{Line, is_never_allowed};
 use crate::matching::{line_at, verdict_among};
+use crate::origins::Origin;
 use crate::shadows::first_taking;
 use crate::{ConfigFault, Verdict, config_reading};
 use http::Method;
@@ -14,6 +17,7 @@ use hx_policy::Policy;
 use hx_target::Target;
 use std::alloc::Global;
 use std::marker::Model;
+use std::net::SocketAddrV4;
 
 /// The operator's table: the proxy's name, its limits, which requests go to which origin, and which of them may be
 /// answered from the store.
@@ -22,8 +26,6 @@ pub struct Config {
     pub(crate) capacity: usize,
     pub(crate) max_body: u64,
     pub(crate) max_stored: u64,
-    /// The bytes of the longest address of an origin.
-    pub(crate) longest_origin: usize,
     pub(crate) lines: Vec<Line>,
     /// Which of the lines a host can match.
     pub(crate) by_host: HostIndex,
@@ -37,7 +39,6 @@ impl Drop for Config {
             capacity: _,
             max_body: _,
             max_stored: _,
-            longest_origin: _,
             lines: _,
             by_host: _,
         } = self;
@@ -47,7 +48,6 @@ impl Drop for Config {
 impl Model for Config {
     ghost use Rattle.std.specs.Prelude.{string_bytes, length, ◌≤◌, ◌≡◌};
     ghost use Rattle.hx_allow.specs.TableLines.{Table};
-    ghost use Rattle.hx_allow.specs.Matching.{longest_origin as longest_among};
     ghost use Rattle.hx_allow.specs.Index.{IsHostIndexOf};
 
     ghost Value = { Table };
@@ -60,8 +60,7 @@ impl Model for Config {
       lines = c.lines.items;
     } };
 
-    ghost invariant = { λ c. (length c.lines.items ≤ 256) × (c.longest_origin ≡ longest_among c.lines.items)
-        × IsHostIndexOf c.lines.items c.by_host };
+    ghost invariant = { λ c. (length c.lines.items ≤ 256) × IsHostIndexOf c.lines.items c.by_host };
 }
 
 impl Config {
@@ -90,26 +89,30 @@ impl Config {
         verdict_among(&self.lines, numbers, method, target.table_path.as_slice())
     }
 
+    fn origin_at(&self, line: u16) -> Option<&Origin>
+        ensures { option_copied result ≡ origin_of self.now.lines line }
+    {
+        line_at(&self.lines, line)?.origin.as_ref()
+    }
+
     /// The address of the origin of a line, counted from 1: four numbers and a port. It is empty where the table has no
     /// such line, or the line denies.
     pub fn origin(&self, line: u16) -> &str
         ensures { result.now ≡ unwrap_or (origin_of self.now.lines line) [] }
     {
-        match line_at(&self.lines, line) {
-            Some(line) => match &line.origin {
-                Some(origin) => origin.as_str(),
-                None => "",
-            },
+        match self.origin_at(line) {
+            Some(origin) => origin.text(),
             None => "",
         }
     }
 
-    /// The bytes of the longest address of an origin: room for that of any line.
-    pub fn longest_origin(&self) -> usize
-        ensures longest { result ≡ longest_origin self.now.lines }
-        ensures each { (line : ℕ) → length (unwrap_or (origin_of self.now.lines line) []) ≤ result }
+    /// The address of the origin of a line, counted from 1. There is none where the table has no such line, or the line
+    /// denies.
+    pub fn origin_address(&self, line: u16) -> Option<SocketAddrV4>
+        ensures address { result ≡ origin_address_of self.now.lines line }
+        ensures text { option_map socket_v4_text result ≡ origin_of self.now.lines line }
     {
-        self.longest_origin
+        Some(self.origin_at(line)?.address())
     }
 
     /// What a line, counted from 1, says of caching. A line that the table doesn't have caches

@@ -18,6 +18,7 @@ mod line_word_cases;
 mod line_words;
 mod lines;
 mod matching;
+mod origins;
 mod path_tails;
 mod rows;
 mod shadows;
@@ -57,8 +58,9 @@ pub use verdicts::Verdict;
 pub use worked_cases::{
     a_line_has_1_to_32_methods, bounds_of_the_numbers, faults_have_these_numbers,
     lines_of_a_host_decide, numbers_are_whole_and_within_bounds, several_lines_decide,
-    texts_are_strings, the_first_line_denies, worked_addresses_of_origins, worked_hosts_of_lines,
-    worked_hosts_that_match, worked_keys_at_the_top, worked_keys_of_a_line, worked_keys_of_numbers,
+    texts_are_strings, the_first_line_denies, worked_addresses_of_origins,
+    worked_addresses_that_are_read, worked_hosts_of_lines, worked_hosts_that_match,
+    worked_keys_at_the_top, worked_keys_of_a_line, worked_keys_of_numbers,
     worked_lines_never_reached, worked_lines_with_cache, worked_methods_of_lines,
     worked_methods_that_match, worked_names_of_proxies, worked_numbers_in_addresses,
     worked_origins_of_line_numbers, worked_origins_of_lines, worked_paths_of_lines,

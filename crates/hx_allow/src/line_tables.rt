@@ -1,11 +1,12 @@
 //! The lines of a TOML table: the first fault among them, and what they say.
-ghost use Rattle.std.specs.Prelude.{◌≡◌, ◌≤◌, ◌+◌, length, IfOk, Some, true, codes, unwrap_or, [], string_bytes};
-ghost use Rattle.std.specs.Option.{option_copied, option_map};
+ghost use Rattle.std.specs.Prelude.{◌≡◌, ◌≤◌, ◌+◌, length, IfOk, Some, true, codes, unwrap_or, []};
+ghost use Rattle.std.specs.Option.{option_and_then, option_copied, option_map};
 ghost use Rattle.toml.specs.Data.{as_str, as_table, no_items};
 ghost use Rattle.hx_target.specs.Paths.{table_path_of};
 ghost use Rattle.std.specs.List.{list_any, list_all};
 ghost use Rattle.std.specs.Char.{is_ascii_uppercase};
 ghost use Rattle.toml.specs.View.{table_view, array_view, items_view, view};
+ghost use Rattle.hx_allow.specs.Addresses.{address_text};
 ghost use Rattle.hx_allow.specs.Values.{is_some_and, items_at, text_unless, texts_of};
 ghost use Rattle.hx_allow.specs.LineTables.{is_line_host, is_line_method, are_line_methods, is_path_byte};
 ghost use Rattle.hx_allow.specs.LineTables.{does_not_end_with_slash};
@@ -15,10 +16,11 @@ ghost use Rattle.hx_allow.specs.LineTables.{line_fault, line_read, lines_fault, 
 ghost use Rattle.hx_allow.specs.LineTables.{config_fault_found};
 
 use crate::ConfigFault;
-use crate::addresses::is_address;
+use crate::addresses::address_of;
 use crate::config_faults::FoundFault;
 use crate::line_words::{key_has_one_of_two, line_denies, line_takes_words, policy_of_line_table};
 use crate::lines::{Line, is_never_allowed};
+use crate::origins::Origin;
 use crate::path_tails::PathTail;
 use crate::rows::{Kind, LINE_KEYS, LineKey, Place, Row};
 use crate::values::{
@@ -134,7 +136,7 @@ fn is_good_origin(text: Option<&str>) -> bool
     ensures { result ≡ is_some_and is_line_origin (option_copied text.entry) }
 {
     match text {
-        Some(text) => text == "deny" || is_address(text.as_bytes()),
+        Some(text) => text == "deny" || address_of(text.as_bytes()).is_some(),
         None => false,
     }
 }
@@ -201,14 +203,13 @@ fn host_rule(alloc: Global, text: Option<&str>) -> Result<Option<Bytes>, AllocEr
     }
 }
 
-/// The address of an origin, but for the word that denies.
-fn origin_rule(alloc: Global, text: Option<&str>) -> Result<Option<String>, AllocError>
-    ensures { IfOk result (λ origin. option_map string_bytes origin
-        ≡ text_unless (codes "deny") (option_copied text.entry)) }
+/// The address of an origin, which the word that denies is none of.
+fn origin_rule(alloc: Global, text: Option<&str>) -> Result<Option<Origin>, AllocError>
+    ensures { IfOk result (λ origin. origin ≡ option_and_then address_text (option_copied text.entry)) }
 {
     match text {
-        Some(text) if text != "deny" => Ok(Some(String::from_str(alloc, text)?)),
-        _ => Ok(None),
+        Some(text) => Origin::of(alloc, text),
+        None => Ok(None),
     }
 }
 

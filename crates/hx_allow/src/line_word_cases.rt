@@ -42,7 +42,7 @@ pub fn worked_keys_of_words()
 {}
 
 /// Seconds of a line: whole numbers within their bounds, and no text.
-#[tactic(auto, unfolding(crate::specs::LineTables::line_fault, crate::specs::LineTables::is_line_host, crate::specs::LineTables::is_line_method, crate::specs::LineTables::is_line_path, crate::specs::Addresses::is_address, hx_target::specs::Hosts::is_host, hx_target::specs::Hosts::short_number, hx_target::specs::Paths::has_dot_segment))]
+#[tactic(auto, unfolding(crate::specs::LineTables::line_fault, crate::specs::LineTables::is_line_host, crate::specs::LineTables::is_line_method, crate::specs::LineTables::is_line_path, crate::specs::Addresses::address_of, hx_target::specs::Hosts::is_host, hx_target::specs::Hosts::short_number, hx_target::specs::Paths::has_dot_segment))]
 pub fn worked_seconds_of_a_line()
     ensures least { line_fault Three 1 (line_table_with_keys (key_with_number (codes "lifetime") 1 ∷ [])) ≡ None }
     ensures most { line_fault Three 1 (line_table_with_keys (key_with_number (codes "lifetime") 2147483648 ∷ [])) ≡ None }
@@ -66,7 +66,7 @@ pub fn worked_seconds_of_a_line()
 {}
 
 /// Texts of a line: two words each, in lower case.
-#[tactic(auto, unfolding(crate::specs::LineTables::line_fault, crate::specs::LineTables::is_line_host, crate::specs::LineTables::is_line_method, crate::specs::LineTables::is_line_path, crate::specs::Addresses::is_address, hx_target::specs::Hosts::is_host, hx_target::specs::Hosts::short_number, hx_target::specs::Paths::has_dot_segment))]
+#[tactic(auto, unfolding(crate::specs::LineTables::line_fault, crate::specs::LineTables::is_line_host, crate::specs::LineTables::is_line_method, crate::specs::LineTables::is_line_path, crate::specs::Addresses::address_of, hx_target::specs::Hosts::is_host, hx_target::specs::Hosts::short_number, hx_target::specs::Paths::has_dot_segment))]
 pub fn worked_texts_of_a_line()
     ensures cookies_stored { line_fault Three 1
         (line_table_with_keys (key_with_text (codes "set-cookie") (codes "stored") ∷ [])) ≡ None }
@@ -105,7 +105,7 @@ pub fn worked_texts_of_a_line()
 {}
 
 /// A line that denies or has its cache off takes no word. The words are looked at in the table's order, behind `cache`.
-#[tactic(auto, unfolding(crate::specs::LineTables::line_fault, crate::specs::LineTables::is_line_host, crate::specs::LineTables::is_line_method, crate::specs::LineTables::is_line_path, crate::specs::Addresses::is_address, hx_target::specs::Hosts::is_host, hx_target::specs::Hosts::short_number, hx_target::specs::Paths::has_dot_segment))]
+#[tactic(auto, unfolding(crate::specs::LineTables::line_fault, crate::specs::LineTables::is_line_host, crate::specs::LineTables::is_line_method, crate::specs::LineTables::is_line_path, crate::specs::Addresses::address_of, hx_target::specs::Hosts::is_host, hx_target::specs::Hosts::short_number, hx_target::specs::Paths::has_dot_segment))]
 pub fn worked_places_of_words()
     ensures denying { line_fault Three 2 (denying_line_table_with (key_with_number (codes "lifetime") 60 ∷ [])) ≡ Some
         (BadWord 2 Lifetime) }
@@ -173,7 +173,7 @@ pub fn worked_policies_of_words()
 {}
 
 /// A whole table of version 3.
-#[tactic(auto, unfolding(toml::proofs::OnLiterals::toml_on_literals, crate::specs::Tables::judge_table, crate::specs::Tables::table_fault, crate::specs::Tables::table_read, crate::specs::Tables::is_name, crate::specs::LineTables::line_fault, crate::specs::LineTables::line_read, crate::specs::LineTables::is_line_host, crate::specs::LineTables::is_line_method, crate::specs::LineTables::is_line_path, crate::specs::Addresses::is_address, hx_target::specs::Hosts::is_host, hx_target::specs::Hosts::short_number, hx_target::specs::Paths::has_dot_segment))]
+#[tactic(auto, unfolding(toml::proofs::OnLiterals::toml_on_literals, crate::specs::Tables::judge_table, crate::specs::Tables::table_fault, crate::specs::Tables::table_read, crate::specs::Tables::is_name, crate::specs::LineTables::line_fault, crate::specs::LineTables::line_read, crate::specs::LineTables::is_line_host, crate::specs::LineTables::is_line_method, crate::specs::LineTables::is_line_path, crate::specs::Addresses::address_of, hx_target::specs::Hosts::is_host, hx_target::specs::Hosts::short_number, hx_target::specs::Paths::has_dot_segment))]
 pub fn a_table_with_words_is_read()
     ensures { option_map judge_table (parse_document (codes "version = 3\nname = \"edge\"\ncapacity = 2\nmax_body = 1000\nmax_stored = 1000\n\n[[line]]\nhost = \"*\"\nmethods = [\"GET\"]\npath = \"/\"\norigin = \"127.0.0.1:8081\"\nlifetime = 60\nstale-if-error = 600\nset-cookie = \"not-stored\"\nerrors = \"not-stored\"\nrequest-directives = \"ignored\"\nwait = \"missing-or-stale\"\nexplain = \"storing\"\n")) ≡ Some (Ok (record {
       name = codes "edge";

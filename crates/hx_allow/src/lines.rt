@@ -1,12 +1,12 @@
 //! A line of the table, and which requests it matches.
-ghost use Rattle.std.specs.Prelude.{◌≡◌, ◌≤◌, [], length, drop, option_map, string_bytes, unwrap_or};
+ghost use Rattle.std.specs.Prelude.{◌≡◌};
 ghost use Rattle.std.specs.Option.{option_copied};
 ghost use Rattle.std.specs.List.{list_any};
 ghost use Rattle.hx_allow.specs.Matching.{matches_host, is_never_allowed, is_star_or_same, matches_path};
 ghost use Rattle.hx_allow.specs.Matching.{path_continues};
-ghost use Rattle.hx_allow.specs.Matching.{longest_origin};
 ghost use Rattle.hx_allow.specs.Index.{can_match, matches_beside_host};
 
+use crate::origins::Origin;
 use crate::path_tails::PathTail;
 use hx_fields::Bytes;
 use hx_policy::Policy;
@@ -23,14 +23,14 @@ pub struct Line {
     pub methods: Vec<Bytes>,
     /// The path that it matches, with all that is below it.
     pub path: Bytes,
-    /// The address of the origin, or none where the line denies.
-    pub origin: Option<String>,
+    /// Where the line's requests go, or none where the line denies.
+    pub origin: Option<Origin>,
     /// What it says of caching.
     pub policy: Policy,
 }
 
 impl Model for Line {
-    ghost use Rattle.std.specs.Prelude.{◌≡◌, option_map, string_bytes};
+    ghost use Rattle.std.specs.Prelude.{◌≡◌};
     ghost use Rattle.hx_allow.specs.TableLines.{Line as PlainLine};
     ghost use Rattle.hx_allow.specs.PathTails.{path_tail_of};
 
@@ -40,7 +40,7 @@ impl Model for Line {
       host = l.host;
       methods = l.methods.items;
       path = l.path;
-      origin = option_map string_bytes l.origin;
+      origin = l.origin;
       policy = l.policy;
     } };
 
@@ -93,27 +93,7 @@ pub(crate) fn path_continues(path: &[u8], asked: &[u8]) -> bool
     path.len() < asked.len() && &asked[..path.len()] == path && asked[path.len()] == b'/'
 }
 
-/// The most bytes of an origin's address among lines.
-pub fn longest_origin(lines: &[Line]) -> usize
-    ensures { result ≡ longest_origin lines.now }
-{
-    let mut longest = 0;
-    for line in lines {
-        longest = longest.max(line.origin_len());
-    }
-    longest
-}
-
 impl Line {
-    fn origin_len(&self) -> usize
-        ensures { result ≡ length (unwrap_or self.now.origin []) }
-    {
-        match &self.origin {
-            Some(origin) => origin.len(),
-            None => 0,
-        }
-    }
-
     /// Whether the line can match a host, or where none is given one that no line names.
     pub fn can_match(&self, host: Option<&[u8]>) -> bool
         ensures { result ≡ can_match self.now (option_copied host.entry) }

@@ -17,7 +17,7 @@ ghost use Rattle.hx_allow.specs.declared.config_faults.NumberKey.TheVariants.{Ve
 ghost use Rattle.hx_allow.specs.declared.values.TableVersion.TheVariants.{One, Two, Three};
 
 /// The faults of a line in their order: with each that is mended the next one is told.
-#[tactic(auto, unfolding(crate::specs::LineTables::line_fault, crate::specs::LineTables::is_line_host, crate::specs::LineTables::is_line_method, crate::specs::LineTables::is_line_path, crate::specs::Addresses::is_address, hx_target::specs::Hosts::is_host, hx_target::specs::Hosts::short_number, hx_target::specs::Paths::has_dot_segment))]
+#[tactic(auto, unfolding(crate::specs::LineTables::line_fault, crate::specs::LineTables::is_line_host, crate::specs::LineTables::is_line_method, crate::specs::LineTables::is_line_path, crate::specs::Addresses::address_of, hx_target::specs::Hosts::is_host, hx_target::specs::Hosts::short_number, hx_target::specs::Paths::has_dot_segment))]
 pub fn faults_of_a_line_in_order()
     ensures unknown { line_fault One 3 (table_of_pairs (key_with_text (codes "colour") (codes "red") ∷ key_with_text
         (codes "host") (codes "H")
@@ -30,7 +30,7 @@ pub fn faults_of_a_line_in_order()
 {}
 
 /// A key that is missing has the fault of that key, as one of another type.
-#[tactic(auto, unfolding(crate::specs::LineTables::line_fault, crate::specs::LineTables::is_line_host, crate::specs::LineTables::is_line_method, crate::specs::LineTables::is_line_path, crate::specs::Addresses::is_address, hx_target::specs::Hosts::is_host, hx_target::specs::Hosts::short_number, hx_target::specs::Paths::has_dot_segment))]
+#[tactic(auto, unfolding(crate::specs::LineTables::line_fault, crate::specs::LineTables::is_line_host, crate::specs::LineTables::is_line_method, crate::specs::LineTables::is_line_path, crate::specs::Addresses::address_of, hx_target::specs::Hosts::is_host, hx_target::specs::Hosts::short_number, hx_target::specs::Paths::has_dot_segment))]
 pub fn missing_keys_of_a_line()
     ensures all { line_fault One 1 no_members ≡ Some (BadHost 1) }
     ensures methods { line_fault One 1 (table_of_pairs (key_with_text (codes "host") (codes "*") ∷ key_with_text
@@ -49,7 +49,7 @@ pub fn missing_keys_of_a_line()
 
 /// `cache` in a line: two words, in the second version, and not in a line that denies. It is looked
 /// at behind the origin.
-#[tactic(auto, unfolding(crate::specs::LineTables::line_fault, crate::specs::LineTables::is_line_host, crate::specs::LineTables::is_line_method, crate::specs::LineTables::is_line_path, crate::specs::Addresses::is_address, hx_target::specs::Hosts::is_host, hx_target::specs::Hosts::short_number, hx_target::specs::Paths::has_dot_segment))]
+#[tactic(auto, unfolding(crate::specs::LineTables::line_fault, crate::specs::LineTables::is_line_host, crate::specs::LineTables::is_line_method, crate::specs::LineTables::is_line_path, crate::specs::Addresses::address_of, hx_target::specs::Hosts::is_host, hx_target::specs::Hosts::short_number, hx_target::specs::Paths::has_dot_segment))]
 pub fn worked_cache_of_a_line()
     ensures on { line_fault Two 1 (line_table_with_keys (key_with_text (codes "cache") (codes "on") ∷ [])) ≡ None }
     ensures off { line_fault Two 1 (line_table_with_keys (key_with_text (codes "cache") (codes "off") ∷ [])) ≡ None }
@@ -71,7 +71,7 @@ pub fn worked_cache_of_a_line()
 {}
 
 /// What lines say: `*` is no host, `deny` no origin, a path is a table path, and each is cached that doesn't say `off`.
-#[tactic(auto, unfolding(crate::specs::LineTables::line_read))]
+#[tactic(auto, unfolding(crate::specs::LineTables::line_read, crate::specs::Addresses::address_of, hx_target::specs::Hosts::short_number))]
 pub fn worked_lines()
     ensures every_host { line_read (line_table (codes "*") (codes "GET") (codes "/") (codes "127.0.0.1:8081"))
         ≡ line_with_method None (codes "GET") (codes "/") origin_8081 }
@@ -93,7 +93,7 @@ pub fn worked_lines()
 {}
 
 /// Lines are read in their order and counted from 1, and the first at fault is told.
-#[tactic(auto, unfolding(crate::specs::LineTables::line_fault, crate::specs::LineTables::line_read, crate::specs::LineTables::is_line_host, crate::specs::LineTables::is_line_method, crate::specs::LineTables::is_line_path, crate::specs::Addresses::is_address, hx_target::specs::Hosts::is_host, hx_target::specs::Hosts::short_number, hx_target::specs::Paths::has_dot_segment))]
+#[tactic(auto, unfolding(crate::specs::LineTables::line_fault, crate::specs::LineTables::line_read, crate::specs::LineTables::is_line_host, crate::specs::LineTables::is_line_method, crate::specs::LineTables::is_line_path, crate::specs::Addresses::address_of, hx_target::specs::Hosts::is_host, hx_target::specs::Hosts::short_number, hx_target::specs::Paths::has_dot_segment))]
 pub fn lines_in_their_order()
     ensures first { lines_fault One 1 (array_of_values (table (line_table (codes "*") (codes "GET") (codes "/a/")
         (codes "deny")) ∷ table (line_table (codes "H") (codes "GET") (codes "/") (codes "deny")) ∷ []))
@@ -131,7 +131,7 @@ pub fn worked_versions_of_tables()
 {}
 
 /// The faults of a table in their order: with each that is mended the next one is told.
-#[tactic(auto, unfolding(crate::specs::Tables::judge_table, crate::specs::Tables::table_fault, crate::specs::Tables::is_name, crate::specs::LineTables::line_fault, crate::specs::LineTables::is_line_host, crate::specs::LineTables::is_line_method, crate::specs::LineTables::is_line_path, crate::specs::Addresses::is_address, hx_target::specs::Hosts::is_host, hx_target::specs::Hosts::short_number, hx_target::specs::Paths::has_dot_segment))]
+#[tactic(auto, unfolding(crate::specs::Tables::judge_table, crate::specs::Tables::table_fault, crate::specs::Tables::is_name, crate::specs::LineTables::line_fault, crate::specs::LineTables::is_line_host, crate::specs::LineTables::is_line_method, crate::specs::LineTables::is_line_path, crate::specs::Addresses::address_of, hx_target::specs::Hosts::is_host, hx_target::specs::Hosts::short_number, hx_target::specs::Paths::has_dot_segment))]
 pub fn faults_of_a_table_in_order()
     ensures unknown { judge_table (table_of_pairs (key_with_number (codes "colour") 1 ∷ [])) ≡ Err (UnknownKey (codes "colour")) }
     ensures name { judge_table no_members ≡ Err BadName }
@@ -163,7 +163,7 @@ pub fn faults_of_a_table_in_order()
 {}
 
 /// What a table without a fault says.
-#[tactic(auto, unfolding(crate::specs::Tables::judge_table, crate::specs::Tables::table_fault, crate::specs::Tables::table_read, crate::specs::Tables::is_name, crate::specs::LineTables::line_fault, crate::specs::LineTables::line_read, crate::specs::LineTables::is_line_host, crate::specs::LineTables::is_line_method, crate::specs::LineTables::is_line_path, crate::specs::Addresses::is_address, hx_target::specs::Hosts::is_host, hx_target::specs::Hosts::short_number, hx_target::specs::Paths::has_dot_segment))]
+#[tactic(auto, unfolding(crate::specs::Tables::judge_table, crate::specs::Tables::table_fault, crate::specs::Tables::table_read, crate::specs::Tables::is_name, crate::specs::LineTables::line_fault, crate::specs::LineTables::line_read, crate::specs::LineTables::is_line_host, crate::specs::LineTables::is_line_method, crate::specs::LineTables::is_line_path, crate::specs::Addresses::address_of, hx_target::specs::Hosts::is_host, hx_target::specs::Hosts::short_number, hx_target::specs::Paths::has_dot_segment))]
 pub fn worked_tables()
     ensures first { judge_table (top_table 1 2 (repeated_value 1 (table (line_table_with_keys [])))) ≡ Ok (record {
       name = codes "edge";
@@ -203,7 +203,7 @@ pub fn which_faults_take_memory()
 {}
 
 /// The faults of whole texts: a key that isn't known in front of others, a path that ends with a slash, and no line.
-#[tactic(auto, unfolding(toml::proofs::OnLiterals::toml_on_literals, crate::specs::Tables::judge_table, crate::specs::Tables::table_fault, crate::specs::Tables::is_name, crate::specs::LineTables::line_fault, crate::specs::LineTables::is_line_host, crate::specs::LineTables::is_line_method, crate::specs::LineTables::is_line_path, crate::specs::Addresses::is_address, hx_target::specs::Hosts::is_host, hx_target::specs::Hosts::short_number, hx_target::specs::Paths::has_dot_segment))]
+#[tactic(auto, unfolding(toml::proofs::OnLiterals::toml_on_literals, crate::specs::Tables::judge_table, crate::specs::Tables::table_fault, crate::specs::Tables::is_name, crate::specs::LineTables::line_fault, crate::specs::LineTables::is_line_host, crate::specs::LineTables::is_line_method, crate::specs::LineTables::is_line_path, crate::specs::Addresses::address_of, hx_target::specs::Hosts::is_host, hx_target::specs::Hosts::short_number, hx_target::specs::Paths::has_dot_segment))]
 pub fn worked_faults_of_texts()
     ensures unknown { option_map judge_table (parse_document (codes "colour = 1\nversion = 1\nname = \"edge\"\ncapacity = 2\nmax_body = 1000\nmax_stored = 1000\n\n[[line]]\nhost = \"*\"\nmethods = [\"GET\", \"HEAD\", \"POST\"]\npath = \"/\"\norigin = \"127.0.0.1:8081\"\n")) ≡ Some (Err (UnknownKey (codes "colour"))) }
     ensures least { option_map judge_table (parse_document (codes "zeta = 1\nalpha = 2\n")) ≡ Some (Err (UnknownKey (codes "alpha"))) }

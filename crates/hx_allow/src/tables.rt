@@ -13,7 +13,6 @@ use crate::config_faults::FoundFault;
 use crate::host_index::HostIndex;
 use crate::limits::MOST_LINES;
 use crate::line_tables::{lines_fault, lines_read};
-use crate::lines::longest_origin;
 use crate::rows::{TOP_KEYS, TopKey};
 use crate::values::{
     Scope, TableVersion, array_at, first_unknown, has_one_to_most, number_in, text_at,
@@ -153,7 +152,6 @@ fn config_of(alloc: Global, table: &Table) -> Result<Config, AllocError>
         capacity: number_at(table, NumberKey::Capacity).unwrap_or(0) as usize,
         max_body: u64::from(number_at(table, NumberKey::MaxBody).unwrap_or(0)),
         max_stored: u64::from(number_at(table, NumberKey::MaxStored).unwrap_or(0)),
-        longest_origin: longest_origin(&lines),
         by_host: HostIndex::of(alloc, &lines)?,
         lines,
     })

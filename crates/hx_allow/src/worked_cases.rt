@@ -3,7 +3,7 @@
 ghost use Rattle.std.specs.Prelude.{◌≡◌, ◌∷◌, ◌++◌, [], Some, None, true, false, codes, pos, negsuc};
 ghost use Rattle.toml.specs.Data.{string, integer, boolean, array, table, no_items, no_members};
 ghost use Rattle.hx_policy.specs.Policies.{plain};
-ghost use Rattle.hx_allow.specs.Addresses.{is_address, is_decimal_within};
+ghost use Rattle.hx_allow.specs.Addresses.{address_of, address_of_numbers, is_address, is_decimal_within};
 ghost use Rattle.hx_allow.specs.Examples.{target_for_path, repeated_byte, first_line_denies, indexed_lines};
 ghost use Rattle.hx_allow.specs.Examples.{line_without_cache, repeated_value};
 ghost use Rattle.hx_allow.specs.Examples.{key_with_number, array_of_values, table_of_pairs, origin_8081};
@@ -12,8 +12,8 @@ ghost use Rattle.hx_allow.specs.Index.{line_numbers_of, verdict_among};
 ghost use Rattle.hx_allow.specs.Keys.{fault_number, key_text};
 ghost use Rattle.hx_allow.specs.LineTables.{are_line_methods, is_line_host, is_line_method, is_line_origin};
 ghost use Rattle.hx_allow.specs.LineTables.{is_line_path};
-ghost use Rattle.hx_allow.specs.Matching.{policy_of, longest_origin, matches_host, matches_method, matches_path};
-ghost use Rattle.hx_allow.specs.Matching.{origin_of, verdict_of};
+ghost use Rattle.hx_allow.specs.Matching.{policy_of, matches_host, matches_method, matches_path};
+ghost use Rattle.hx_allow.specs.Matching.{origin_of, origin_address_of, verdict_of};
 ghost use Rattle.hx_allow.specs.PathTails.{path_may_match_tail, path_tail_of};
 ghost use Rattle.hx_allow.specs.NeverReached.{first_line_taking, takes_each_request_of};
 ghost use Rattle.hx_allow.specs.Tables.{is_name, number_at};
@@ -229,7 +229,7 @@ pub fn worked_numbers_in_addresses()
 {}
 
 /// Addresses of origins.
-#[tactic(auto, unfolding(crate::specs::Addresses::is_address, hx_target::specs::Hosts::short_number))]
+#[tactic(auto, unfolding(crate::specs::Addresses::address_of, hx_target::specs::Hosts::short_number))]
 pub fn worked_addresses_of_origins()
     ensures first_run { is_address (codes "127.0.0.1:8081") ≡ true }
     ensures least { is_address (codes "0.0.0.0:1") ≡ true }
@@ -251,8 +251,18 @@ pub fn worked_addresses_of_origins()
     ensures dots { is_address (codes "1.2.3.4.80") ≡ false }
 {}
 
+/// The addresses that texts and lines spell.
+#[tactic(auto, unfolding(crate::specs::Addresses::address_of, hx_target::specs::Hosts::short_number))]
+pub fn worked_addresses_that_are_read()
+    ensures first_run { address_of (codes "127.0.0.1:8081") ≡ Some (address_of_numbers 127 0 0 1 8081) }
+    ensures five_numbers { address_of (codes "1.20.255.0:65535") ≡ Some (address_of_numbers 1 20 255 0 65535) }
+    ensures none { address_of (codes "1.2.3.4:0") ≡ None }
+    ensures allowing { origin_address_of first_line_denies 2 ≡ Some (address_of_numbers 127 0 0 1 8081) }
+    ensures denying { origin_address_of first_line_denies 1 ≡ None }
+{}
+
 /// Origins of lines: `deny`, or an address.
-#[tactic(auto, unfolding(crate::specs::Addresses::is_address, hx_target::specs::Hosts::short_number))]
+#[tactic(auto, unfolding(crate::specs::Addresses::address_of, hx_target::specs::Hosts::short_number))]
 pub fn worked_origins_of_lines()
     ensures deny { is_line_origin (codes "deny") ≡ true }
     ensures address { is_line_origin (codes "127.0.0.1:8081") ≡ true }
@@ -350,16 +360,12 @@ pub fn worked_lines_with_cache()
     ensures none { policy_of first_line_denies 0 ≡ plain false }
 {}
 
-/// The origin of a line, and the longest of all.
+/// The origin of a line.
 pub fn worked_origins_of_line_numbers()
     ensures denying { origin_of first_line_denies 1 ≡ None }
     ensures allowing { origin_of first_line_denies 2 ≡ origin_8081 }
     ensures behind_the_last { origin_of first_line_denies 3 ≡ None }
     ensures none { origin_of line_without_cache 0 ≡ None }
-    ensures longest { longest_origin first_line_denies ≡ 14 }
-    ensures longest_of_the_first { longest_origin (line_with_method None (codes "GET") (codes "/") origin_8081
-        ∷ line_with_method None (codes "GET") (codes "/") None ∷ []) ≡ 14 }
-    ensures longest_of_none { longest_origin [] ≡ 0 }
 {}
 
 /// The last byte of a line's path has to stand where it stands there; `/` asks for none.

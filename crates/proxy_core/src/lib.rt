@@ -62,7 +62,7 @@ pub use crate::open::exchange::Exchange;
 pub use crate::open::ids::Ids;
 pub use crate::open::stage::Stage;
 pub use crate::outcome::{Outcome, Reply, Run};
-pub use crate::replies::reply_text::refused;
+pub use crate::replies::reply_text::{is_head, refused};
 pub use crate::runs::run;
 pub use crate::steps::condition::Condition;
 pub use crate::steps::fallback::Fallback;

@@ -23,7 +23,7 @@ use Rattle.proxy_engine.specs.declared.endpoints.lookahead.Lookahead.TheVariants
 use Rattle.proxy_engine.specs.declared.endpoints.activities.Activity.TheVariants.{Free}
 use Rattle.proxy_engine.specs.EngineModel.{EngineModel, link_at, with_connection, with_core}
 use Rattle.proxy_engine.specs.Due.{Abandons, LinkResult, Gives, Breaks, Finishes, Wakes, Serves, IsDueFirst}
-use Rattle.proxy_engine.specs.Acts.{OutcomeOnConnection, CoreIsStepped, LinkIsFinished, exchange_asks_head, outcome_by_table, outcome_with_address, with_activity, with_next_passed, model_after_link_freed, effects_of_outcome, model_after_outcome, next_link_number}
+use Rattle.proxy_engine.specs.Acts.{OutcomeOnConnection, CoreIsStepped, LinkIsFinished, exchange_asks_head, outcome_by_table, with_activity, with_next_passed, model_after_link_freed, effects_of_outcome, model_after_outcome, next_link_number}
 use Rattle.proxy_engine.specs.State.{LinkRepresents, EngineRepresents, engine_state, link_result_seen, link_result_at, load_of_link_result, link_load, EngineDoesAct, NoActWasDoneSince}
 use Rattle.proxy_engine.specs.Actions.{is_whole_answer, ExchangeIsFinishedBy, IsFaultOfFinishing}
 use Rattle.proxy_engine.specs.declared.work.EngineFault.TheVariants.{OutOfMemory, Spent}
@@ -33,21 +33,23 @@ use Rattle.proxy_engine.proofs.Parts.{both_length}
 use Rattle.proxy_engine.proofs.Changes.{changed_core}
 
 -- a request has arrived
-pub arrived_done : (s : EngineModel) (cs1 cs2 : List (Option Connection)) (ks1 ks2 : List (Option Link)) (core core1 : CoreState) (first now i max_body : ℕ) (r : Request) (asked : Asked) (o : Outcome) (address : List ℕ) (to_head : Bool) (emitted : List Effect)
+pub arrived_done : (s : EngineModel) (cs1 cs2 : List (Option Connection)) (ks1 ks2 : List (Option Link)) (core core1 : CoreState) (first now i : ℕ) (r : Request) (asked : Asked) (o : Outcome) (table : Table) (to_head : Bool) (emitted : List Effect)
     → RequestIsAdmittedOrRefused r (Ok asked) → StepIsAccepted core (events.Arrive now (i + 1) asked) o core1 → first + length ks1 < 2 ^ 64
-    → outcome_with_address address o ≡ outcome_by_table core.table o → max_body ≡ core.table.max_body → to_head ≡ is_head asked
-    → emitted ≡ effects_of_outcome i (first + length ks1) (outcome_with_address address o)
-    → ((t : EngineModel) (k : CoreState) → k.table.max_body ≡ max_body → EngineRepresents (engine_state cs1 ks1 k first) t → EngineRepresents (engine_state cs2 ks2 k first) (model_after_outcome i to_head (outcome_with_address address o) t))
+    → table ≡ core.table → to_head ≡ is_head asked
+    → emitted ≡ effects_of_outcome i (first + length ks1) (outcome_by_table table o)
+    → ((t : EngineModel) (k : CoreState) → k.table.max_body ≡ table.max_body → EngineRepresents (engine_state cs1 ks1 k first) t → EngineRepresents (engine_state cs2 ks2 k first) (model_after_outcome i to_head (outcome_by_table table o) t))
     → EngineRepresents (engine_state cs1 ks1 core first) (with_connection s i (with_next_passed (next.Message r))) → EngineDoesAct s now (Serves i (next.Message r)) emitted (engine_state cs2 ks2 core1 first)
-arrived_done s cs1 cs2 ks1 ks2 core core1 first now i max_body r asked o address to_head emitted is_asked steps small upstream most head has_trace applies before =
+arrived_done s cs1 cs2 ks1 ks2 core core1 first now i r asked o table to_head emitted is_asked steps small same head has_trace applies before =
+    let upstream : outcome_by_table table o ≡ outcome_by_table core.table o = ap (λ (t : Table). outcome_by_table t o) same in
+    let most : table.max_body ≡ core.table.max_body = ap (λ (t : Table). t.max_body) same in
     let passed = with_connection s i (with_next_passed (next.Message r)) in
     let core_is : core ≡ s.core = before.core in
     let stepped : EngineRepresents (engine_state cs1 ks1 core1 first) (with_core passed core1) = changed_core cs1 ks1 core first core1 passed before in
-    let coming : outcome_with_address address o ≡ outcome_by_table s.core.table o = upstream ∙ ap (λ (k : CoreState). outcome_by_table k.table o) core_is in
+    let coming : outcome_by_table table o ≡ outcome_by_table s.core.table o = upstream ∙ ap (λ (k : CoreState). outcome_by_table k.table o) core_is in
     let links : length ks1 ≡ length s.links = both_length LinkRepresents ks1 s.links before.links in
     let first_is : first ≡ s.first = before.first in
     let number : first + length ks1 ≡ next_link_number s = omega (arith, links, first_is) in
-    let most_after : core1.table.max_body ≡ max_body = ap (λ (k : CoreState). k.table.max_body) steps.leaves ∙ sym most in
+    let most_after : core1.table.max_body ≡ table.max_body = ap (λ (k : CoreState). k.table.max_body) steps.leaves ∙ sym most in
     let done = applies (with_core passed core1) core1 most_after stepped in
     record {
       after = model_after_outcome i (is_head asked) (outcome_by_table s.core.table o) (with_core passed core1);
@@ -60,7 +62,7 @@ arrived_done s cs1 cs2 ks1 ks2 core core1 first now i max_body r asked o address
             outcome = o;
             core = core1;
             steps = subst (λ (k : CoreState). StepIsAccepted k (events.Arrive now (i + 1) asked) o core1) core_is steps;
-            emitted_is = has_trace ∙ (ap (λ n. effects_of_outcome i n (outcome_with_address address o)) number ∙ ap (effects_of_outcome i (next_link_number s)) coming);
+            emitted_is = has_trace ∙ (ap (λ n. effects_of_outcome i n (outcome_by_table table o)) number ∙ ap (effects_of_outcome i (next_link_number s)) coming);
             after_is = refl;
           },
         ),
@@ -109,22 +111,24 @@ given_up_done s cs1 ks1 core core1 first now i o emitted steps is core_is h =
     }
 
 -- a request that waited was judged anew
-pub woken_done : (s : EngineModel) (cs1 cs2 : List (Option Connection)) (ks1 ks2 : List (Option Link)) (core core1 : CoreState) (first now i max_body : ℕ) (o : Outcome) (address : List ℕ) (to_head : Bool) (emitted : List Effect)
+pub woken_done : (s : EngineModel) (cs1 cs2 : List (Option Connection)) (ks1 ks2 : List (Option Link)) (core core1 : CoreState) (first now i : ℕ) (o : Outcome) (table : Table) (to_head : Bool) (emitted : List Effect)
     → StepIsAccepted core (events.Wake now (i + 1)) o core1 → first + length ks1 < 2 ^ 64
-    → outcome_with_address address o ≡ outcome_by_table core.table o → max_body ≡ core.table.max_body → to_head ≡ exchange_asks_head (find_exchange (i + 1) core.exchanges)
-    → emitted ≡ effects_of_outcome i (first + length ks1) (outcome_with_address address o)
-    → ((t : EngineModel) (k : CoreState) → k.table.max_body ≡ max_body → EngineRepresents (engine_state cs1 ks1 k first) t → EngineRepresents (engine_state cs2 ks2 k first) (model_after_outcome i to_head (outcome_with_address address o) t))
+    → table ≡ core.table → to_head ≡ exchange_asks_head (find_exchange (i + 1) core.exchanges)
+    → emitted ≡ effects_of_outcome i (first + length ks1) (outcome_by_table table o)
+    → ((t : EngineModel) (k : CoreState) → k.table.max_body ≡ table.max_body → EngineRepresents (engine_state cs1 ks1 k first) t → EngineRepresents (engine_state cs2 ks2 k first) (model_after_outcome i to_head (outcome_by_table table o) t))
     → EngineRepresents (engine_state cs1 ks1 core first) (with_connection s i (with_activity Free)) → EngineDoesAct s now (Wakes i) emitted (engine_state cs2 ks2 core1 first)
-woken_done s cs1 cs2 ks1 ks2 core core1 first now i max_body o address to_head emitted steps small upstream most head has_trace applies before =
+woken_done s cs1 cs2 ks1 ks2 core core1 first now i o table to_head emitted steps small same head has_trace applies before =
+    let upstream : outcome_by_table table o ≡ outcome_by_table core.table o = ap (λ (t : Table). outcome_by_table t o) same in
+    let most : table.max_body ≡ core.table.max_body = ap (λ (t : Table). t.max_body) same in
     let free = with_connection s i (with_activity Free) in
     let core_is : core ≡ s.core = before.core in
     let stepped : EngineRepresents (engine_state cs1 ks1 core1 first) (with_core free core1) = changed_core cs1 ks1 core first core1 free before in
-    let coming : outcome_with_address address o ≡ outcome_by_table s.core.table o = upstream ∙ ap (λ (k : CoreState). outcome_by_table k.table o) core_is in
+    let coming : outcome_by_table table o ≡ outcome_by_table s.core.table o = upstream ∙ ap (λ (k : CoreState). outcome_by_table k.table o) core_is in
     let heads : to_head ≡ exchange_asks_head (find_exchange (i + 1) s.core.exchanges) = head ∙ ap (λ (k : CoreState). exchange_asks_head (find_exchange (i + 1) k.exchanges)) core_is in
     let links : length ks1 ≡ length s.links = both_length LinkRepresents ks1 s.links before.links in
     let first_is : first ≡ s.first = before.first in
     let number : first + length ks1 ≡ next_link_number s = omega (arith, links, first_is) in
-    let most_after : core1.table.max_body ≡ max_body = ap (λ (k : CoreState). k.table.max_body) steps.leaves ∙ sym most in
+    let most_after : core1.table.max_body ≡ table.max_body = ap (λ (k : CoreState). k.table.max_body) steps.leaves ∙ sym most in
     let done = applies (with_core free core1) core1 most_after stepped in
     record {
       after = model_after_outcome i (exchange_asks_head (find_exchange (i + 1) s.core.exchanges)) (outcome_by_table s.core.table o) (with_core free core1);
@@ -134,7 +138,7 @@ woken_done s cs1 cs2 ks1 ks2 core core1 first now i max_body o address to_head e
           outcome = o;
           core = core1;
           steps = subst (λ (k : CoreState). StepIsAccepted k (events.Wake now (i + 1)) o core1) core_is steps;
-          emitted_is = has_trace ∙ (ap (λ n. effects_of_outcome i n (outcome_with_address address o)) number ∙ ap (effects_of_outcome i (next_link_number s)) coming);
+          emitted_is = has_trace ∙ (ap (λ n. effects_of_outcome i n (outcome_by_table table o)) number ∙ ap (effects_of_outcome i (next_link_number s)) coming);
           after_is = refl;
         },
       );
@@ -166,16 +170,18 @@ ends_table core core1 now id (Gives r) o h = ap (λ (k : CoreState). k.table) h.
 ends_table core core1 now id (Breaks kind) o h = ap (λ (k : CoreState). k.table) h.leaves
 
 -- an exchange was finished, or goes forward once more
-pub finished_done : (s : EngineModel) (cs1 cs2 : List (Option Connection)) (ks1 ks2 : List (Option Link)) (core core1 : CoreState) (first now i j max_body : ℕ) (f : LinkResult) (o : Outcome) (address : List ℕ) (to_head : Bool) (emitted : List Effect)
-    → is_some (find_exchange (i + 1) core.exchanges) ≡ true → (is_whole_answer f ≡ true → next_link_number s < 2 ^ 64) → ExchangeIsFinishedBy core now (i + 1) f o core1 → outcome_with_address address o ≡ outcome_by_table core.table o → max_body ≡ core.table.max_body
-    → to_head ≡ exchange_asks_head (find_exchange (i + 1) core.exchanges) → first + length ks1 ≡ next_link_number s → emitted ≡ effects.Drop (first + j) ∷ effects_of_outcome i (first + length ks1) (outcome_with_address address o) → first ≡ s.first → core ≡ s.core → i ≡ (link_at s j).connection
-    → EngineRepresents (engine_state cs1 ks1 core first) (model_after_link_freed s j i) → ((t : EngineModel) (k : CoreState) → k.table.max_body ≡ max_body → EngineRepresents (engine_state cs1 ks1 k first) t → EngineRepresents (engine_state cs2 ks2 k first) (model_after_outcome i to_head (outcome_with_address address o) t))
+pub finished_done : (s : EngineModel) (cs1 cs2 : List (Option Connection)) (ks1 ks2 : List (Option Link)) (core core1 : CoreState) (first now i j : ℕ) (f : LinkResult) (o : Outcome) (table : Table) (to_head : Bool) (emitted : List Effect)
+    → is_some (find_exchange (i + 1) core.exchanges) ≡ true → (is_whole_answer f ≡ true → next_link_number s < 2 ^ 64) → ExchangeIsFinishedBy core now (i + 1) f o core1 → table ≡ core.table
+    → to_head ≡ exchange_asks_head (find_exchange (i + 1) core.exchanges) → first + length ks1 ≡ next_link_number s → emitted ≡ effects.Drop (first + j) ∷ effects_of_outcome i (first + length ks1) (outcome_by_table table o) → first ≡ s.first → core ≡ s.core → i ≡ (link_at s j).connection
+    → EngineRepresents (engine_state cs1 ks1 core first) (model_after_link_freed s j i) → ((t : EngineModel) (k : CoreState) → k.table.max_body ≡ table.max_body → EngineRepresents (engine_state cs1 ks1 k first) t → EngineRepresents (engine_state cs2 ks2 k first) (model_after_outcome i to_head (outcome_by_table table o) t))
     → EngineDoesAct s now (Finishes j f) emitted (engine_state cs2 ks2 core1 first)
-finished_done s cs1 cs2 ks1 ks2 core core1 first now i j max_body f o address to_head emitted there left steps upstream most head number is first_is core_is owner gone applies =
+finished_done s cs1 cs2 ks1 ks2 core core1 first now i j f o table to_head emitted there left steps same head number is first_is core_is owner gone applies =
+    let upstream : outcome_by_table table o ≡ outcome_by_table core.table o = ap (λ (t : Table). outcome_by_table t o) same in
+    let most : table.max_body ≡ core.table.max_body = ap (λ (t : Table). t.max_body) same in
     let behind = with_core (model_after_link_freed s j i) core1 in
     let has_trace : emitted ≡ effects.Drop (first + j) ∷ effects_of_outcome i (next_link_number s) (outcome_by_table core.table o) =
-    is ∙ (ap (λ n. effects.Drop (first + j) ∷ effects_of_outcome i n (outcome_with_address address o)) number ∙ ap (λ (q : OutcomeOnConnection). effects.Drop (first + j) ∷ effects_of_outcome i (next_link_number s) q) upstream) in
-    let most_after : core1.table.max_body ≡ max_body = ap (λ (t : Table). t.max_body) (ends_table core core1 now (i + 1) f o steps) ∙ sym most in
+    is ∙ (ap (λ n. effects.Drop (first + j) ∷ effects_of_outcome i n (outcome_by_table table o)) number ∙ ap (λ (q : OutcomeOnConnection). effects.Drop (first + j) ∷ effects_of_outcome i (next_link_number s) q) upstream) in
+    let most_after : core1.table.max_body ≡ table.max_body = ap (λ (t : Table). t.max_body) (ends_table core core1 now (i + 1) f o steps) ∙ sym most in
     let stepped = applies behind core1 most_after (changed_core cs1 ks1 core first core1 (model_after_link_freed s j i) gone) in
     let emitted_way : EngineRepresents (engine_state cs2 ks2 core1 first) (model_after_outcome i to_head (outcome_by_table s.core.table o) behind) =
     subst (λ (q : OutcomeOnConnection). EngineRepresents (engine_state cs2 ks2 core1 first) (model_after_outcome i to_head q behind)) (upstream ∙ ap (λ (k : CoreState). outcome_by_table k.table o) core_is) stepped in

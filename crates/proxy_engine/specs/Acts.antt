@@ -3,8 +3,9 @@
 -- OutcomeOnConnection: an outcome of the core, on a connection
 -- effects_of_outcome, model_after_outcome: its effects there, and the model behind it
 -- ActIsDone: an act was done                             ActMayForward: an act that may need a link
-use Rattle.std.specs.Prelude.{◌≤◌, ◌≡◌, ℕ, ◌<◌, ◌^◌, List, [], ◌∷◌, ◌++◌, length, Bool, true, false, ◌||◌, Option}
+use Rattle.std.specs.Prelude.{◌≡◌, ℕ, ◌<◌, ◌^◌, List, [], ◌∷◌, ◌++◌, length, Bool, true, false, ◌||◌, Option}
 use Rattle.std.specs.Prelude.{None, Some, if◌then◌else◌, slice_set, Result, Ok, Err, unwrap_or}
+use Rattle.std.specs.declared.net.socket_addr.SocketAddrV4.{SocketAddrV4}
 use Rattle.hx_framing.specs.declared.messages.Request.{Request}
 use Rattle.hx_framing.specs.declared.frame_fault.FrameFault.TheVariants as frame
 use Rattle.hx_framing.specs.declared.messages.Next.{Next}
@@ -13,7 +14,8 @@ use Rattle.hx_framing.specs.Progress.{stream_after_answer}
 use Rattle.hx_framing.specs.Text.{continue_text}
 use Rattle.hx_hop.specs.declared.request_view.Asked.{Asked}
 use Rattle.hx_allow.specs.TableLines.{Table}
-use Rattle.hx_allow.specs.Matching.{origin_of}
+use Rattle.hx_allow.specs.Addresses.{address_of_numbers}
+use Rattle.hx_allow.specs.Matching.{origin_address_of}
 use Rattle.hx_status.specs.declared.cause.Cause.{Cause}
 use Rattle.hx_status.specs.declared.cause.Cause.TheVariants as cause
 use Rattle.hx_hop.specs.Moments.{date_text_of}
@@ -39,24 +41,13 @@ use Rattle.proxy_engine.specs.declared.endpoints.activities.Activity.TheVariants
 -- an answer to the client, a request to the origin at an address, a request that waits, or nothing
 pub data OutcomeOnConnection : Type 0 where
   Replies : (bytes : List ℕ) (close : Bool) → OutcomeOnConnection
-  Forwards : (address bytes : List ℕ) → OutcomeOnConnection
+  Forwards : (address : SocketAddrV4) (bytes : List ℕ) → OutcomeOnConnection
   Queues : OutcomeOnConnection
   Nothing : OutcomeOnConnection
 
--- the address of the origin of a line
-abbrev pub origin_address_of_line : Table → ℕ → List ℕ
-origin_address_of_line table line = unwrap_or (origin_of table.lines line) []
-
--- as many bytes hold the address of each line's origin
-abbrev pub HasRoomForAddresses : Table → ℕ → Type 0
-HasRoomForAddresses table bytes = (line : ℕ) → length (origin_address_of_line table line) ≤ bytes
-
--- an outcome, where a request goes forward to that address
-abbrev pub outcome_with_address : List ℕ → Outcome → OutcomeOnConnection
-outcome_with_address address (outcomes.Reply r) = Replies r.bytes r.close
-outcome_with_address address (outcomes.Forward line bytes) = Forwards address bytes
-outcome_with_address address (outcomes.Waits leader) = Queues
-outcome_with_address address outcomes.Ended = Nothing
+-- the address of the origin of a line; 0.0.0.0:0 of one that has none, by which no request comes
+abbrev pub origin_address_of_line : Table → ℕ → SocketAddrV4
+origin_address_of_line table line = unwrap_or (origin_address_of table.lines line) (address_of_numbers 0 0 0 0 0)
 
 -- an outcome by this table
 abbrev pub outcome_by_table : Table → Outcome → OutcomeOnConnection

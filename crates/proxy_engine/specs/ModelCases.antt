@@ -1,13 +1,19 @@
 -- The models and messages that the laws of worked cases speak of.
-use Rattle.std.specs.Prelude.{false, [], codes, None}
+use Rattle.std.specs.Prelude.{false, [], ◌∷◌, codes, None, Some}
 use Rattle.hx_framing.specs.declared.messages.Request.{Request}
 use Rattle.hx_framing.specs.declared.messages.Response.{Response}
 use Rattle.proxy_core.specs.Traces.{initial_state as core_begun}
-use Rattle.proxy_core.specs.Cases.{table}
+use Rattle.hx_allow.specs.TableLines.{Table}
+use Rattle.proxy_core.specs.Cases.{line_with_no_cache, table}
 use Rattle.proxy_engine.specs.Happenings.{Accepts, Sends}
 use Rattle.proxy_engine.specs.EngineModel.{EngineModel, model_after_happening, with_link}
 use Rattle.proxy_engine.specs.Acts.{with_dropped, with_opened_link}
 use Rattle.proxy_engine.specs.State.{new_engine_model}
+
+-- two lines, each with an origin of its own
+abbrev pub table_of_two_origins : Table
+table_of_two_origins =
+    record table { lines = line_with_no_cache ∷ record line_with_no_cache { origin = Some (codes "10.0.0.2:80") } ∷ [] }
 
 -- nothing has happened; links begin at 5
 abbrev pub empty_model : EngineModel

@@ -74,7 +74,6 @@ impl<S: Shelf> Engine<S> {
                 connections: Connections::new(alloc),
                 links: Links::new(alloc),
                 first_link,
-                address: Vec::new(alloc),
             },
             core: Core::new(alloc, config, shelf, first_serial),
         }

@@ -18,8 +18,8 @@ pub use crate::endpoints::peeked::Peeked;
 pub use crate::endpoints::readers::Reader;
 pub use crate::engine::Engine;
 pub use crate::laws::model_cases::{
-    worked_due_acts, worked_effects_of_acts, worked_effects_of_steps, worked_faults_of_happenings,
-    worked_happenings,
+    worked_addresses_of_outcomes, worked_due_acts, worked_effects_of_acts, worked_effects_of_steps,
+    worked_faults_of_happenings, worked_happenings,
 };
 pub use crate::laws::run_laws::a_run_refuses_what_was_not_done;
 pub use crate::laws::{

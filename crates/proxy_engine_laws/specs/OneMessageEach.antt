@@ -7,6 +7,7 @@
 -- CoreIsHandedWhatWasRead: what its core is handed
 -- EachForwardIsOneRequest, EachReplyIsOneResponse, ClientsGetOneResponseEach: the statements
 use Rattle.std.specs.Prelude.{◌≡◌, ◌⊎◌, ℕ, ◌+◌, ◌<◌, Bool, false, bytes_eq, List, [], ◌∷◌, codes, All, Contains}
+use Rattle.std.specs.declared.net.socket_addr.SocketAddrV4.{SocketAddrV4}
 use Rattle.hx_fields.specs.declared.limits.TheConstants.{END_OF_TIME}
 use Rattle.hx_allow.specs.TableLines.{Table}
 use Rattle.hx_framing.specs.declared.messages.Next.TheVariants as next
@@ -70,7 +71,8 @@ abbrev pub EachForwardIsOneRequest : Type 0
 EachForwardIsOneRequest =
     (table : Table) (limit first link : ℕ) (steps : List ExecutionStep) (t : EngineModel) → TableWasRead table
     → StepsLead (new_engine_model (core_begun table limit first) link) steps t
-    → (l : ℕ) (address bytes : List ℕ) → Contains (effects_of_steps steps) (effects.Forward l address bytes)
+    → (l : ℕ) (address : SocketAddrV4) (bytes : List ℕ)
+    → Contains (effects_of_steps steps) (effects.Forward l address bytes)
     → BytesAreOneRequest table.name bytes
 
 -- And whatever act it does then, what a client gets for it is a continue or one response, for a client that knows

@@ -1,6 +1,7 @@
 -- The text of what a proxy does.
 use Rattle.std.specs.Prelude.{ℕ, List, ◌++◌, length, codes, decimal}
 use Rattle.std.specs.List.{flat_map}
+use Rattle.std.specs.Net.Text.{socket_v4_text}
 use Rattle.proxy_script.specs.declared.effect_list.Effect.{Effect}
 use Rattle.proxy_script.specs.declared.effect_list.Effect.TheVariants.{Client, Forward, Close, Drop}
 
@@ -11,7 +12,7 @@ block_text bytes = decimal (length bytes) ++ codes "\n" ++ bytes ++ codes "\n"
 abbrev pub effect_text : Effect → List ℕ
 effect_text (Client n bytes) = codes "client " ++ decimal n ++ codes " " ++ block_text bytes
 effect_text (Forward l address bytes) =
-    codes "forward " ++ decimal l ++ codes " " ++ address ++ codes " " ++ block_text bytes
+    codes "forward " ++ decimal l ++ codes " " ++ socket_v4_text address ++ codes " " ++ block_text bytes
 effect_text (Close n) = codes "close " ++ decimal n ++ codes "\n"
 effect_text (Drop l) = codes "drop " ++ decimal l ++ codes "\n"
 

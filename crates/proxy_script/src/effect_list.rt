@@ -1,21 +1,26 @@
 //! What a proxy does, and its text.
 ghost use Rattle.std.specs.Prelude.{◌≡◌, ◌++◌, OnOk, IfOk, decimal};
+ghost use Rattle.std.specs.Net.Text.{socket_v4_text};
 ghost use Rattle.proxy_script.specs.Effects.{block_text, effect_text, effects_text};
 
 use hx_fields::Bytes;
 use itoa::Buffer;
 use std::alloc::{AllocError, Global};
+use std::net::SocketAddrV4;
 
 /// The most bytes of an effect's line beside an address: a word, two numbers, and what stands between and behind them.
 const MOST_LINE: usize = 53;
+
+/// The most bytes of an address, four numbers and a port.
+const MOST_ADDRESS: usize = 21;
 
 /// What a proxy does.
 #[derive(Drop)]
 pub enum Effect {
     /// Bytes go to a client.
     Client(u64, Bytes),
-    /// A link is opened to an address, four numbers and a port, and bytes go to it.
-    Forward(u64, Bytes, Bytes),
+    /// A link is opened to an address, and bytes go to it.
+    Forward(u64, SocketAddrV4, Bytes),
     /// A client's connection is closed.
     Close(u64),
     /// A link is dropped.
@@ -27,6 +32,21 @@ pub(crate) fn push_number(text: &mut Vec<u8>, n: u64) -> Result<(), AllocError>
 {
     let mut digits = Buffer::new();
     text.extend_from_slice(digits.format(n).as_bytes())
+}
+
+fn push_address(text: &mut Vec<u8>, address: SocketAddrV4) -> Result<(), AllocError>
+    ensures { OnOk result (text.new.items ≡ text.old.items ++ socket_v4_text address) }
+{
+    let [a, b, c, d] = address.ip().octets();
+    push_number(text, u64::from(a))?;
+    text.extend_from_slice(b".")?;
+    push_number(text, u64::from(b))?;
+    text.extend_from_slice(b".")?;
+    push_number(text, u64::from(c))?;
+    text.extend_from_slice(b".")?;
+    push_number(text, u64::from(d))?;
+    text.extend_from_slice(b":")?;
+    push_number(text, u64::from(address.port()))
 }
 
 fn push_block(text: &mut Vec<u8>, bytes: &[u8]) -> Result<(), AllocError>
@@ -52,7 +72,7 @@ fn push_effect(text: &mut Vec<u8>, effect: &Effect) -> Result<(), AllocError>
             text.extend_from_slice(b"forward ")?;
             push_number(text, *l)?;
             text.extend_from_slice(b" ")?;
-            text.extend_from_slice(address.as_slice())?;
+            push_address(text, *address)?;
             text.extend_from_slice(b" ")?;
             push_block(text, bytes.as_slice())
         }
@@ -76,7 +96,7 @@ fn length_bound_of_effects(effects: &[Effect]) -> usize {
     for effect in effects {
         room = room.saturating_add(MOST_LINE).saturating_add(match effect {
             Effect::Client(_, bytes) => bytes.len(),
-            Effect::Forward(_, address, bytes) => address.len().saturating_add(bytes.len()),
+            Effect::Forward(_, _, bytes) => MOST_ADDRESS.saturating_add(bytes.len()),
             Effect::Close(_) => 0,
             Effect::Drop(_) => 0,
         });

@@ -85,7 +85,8 @@ pub fn worked_effects_are_spelled()
     ensures closes { effects_text (effect.Close 1 ∷ effect.Drop 2 ∷ []) ≡ codes "close 1\ndrop 2\n" }
     ensures bytes { effects_text (effect.Client 3 (codes "hi") ∷ effect.Close 3 ∷ [])
         ≡ codes "client 3 2\nhi\nclose 3\n" }
-    ensures forward { effect_text (effect.Forward 7 (codes "127.0.0.1:80") (codes "GET"))
+    ensures forward { effect_text
+        (effect.Forward 7 (record { ip = record { octets = 127 ∷ 0 ∷ 0 ∷ 1 ∷ [] }; port = 80 }) (codes "GET"))
         ≡ codes "forward 7 127.0.0.1:80 3\nGET\n" }
     ensures nothing { effects_text [] ≡ [] }
 {}

@@ -25,10 +25,10 @@ use mio::{Events, Interest, Poll};
 use proxy_log::Lines;
 use proxy_turn::{End, MOST_WORKS, Received, Report, SocketFailed, Sockets, TurnFault};
 use std::alloc::{AllocError, Global};
+use std::io;
 use std::io::ErrorKind;
-use std::net::{Net, SocketAddr};
+use std::net::{Net, SocketAddr, SocketAddrV4};
 use std::time::Duration;
-use std::{io, str};
 
 /// The most events of one wait.
 const MOST_EVENTS: usize = 1024;
@@ -83,26 +83,16 @@ pub struct LiveSockets<'a, R: Net> {
     pub(crate) failures: u64,
 }
 
-fn address_of(text: &[u8]) -> Option<SocketAddr> {
-    match str::from_utf8(text) {
-        Ok(text) => text.parse::<SocketAddr>().ok(),
-        Err(_) => None,
-    }
-}
-
 /// Begins a connection to an origin. A refusal near by is known at once.
 fn begin_link<R: Net>(
     net: &R,
     alloc: Global,
     poll: &Poll,
     l: u64,
-    address: &[u8],
+    address: SocketAddrV4,
     now: u64,
 ) -> io::Result<Peer<TcpStream>> {
-    let Some(address) = address_of(address) else {
-        return Err(io::Error::from(ErrorKind::InvalidInput));
-    };
-    let stream = TcpStream::connect(net, address)?;
+    let stream = TcpStream::connect(net, SocketAddr::V4(address))?;
     let mut peer = Peer::connecting(alloc, stream, now);
     if let Some(e) = peer.take_error()? {
         return Err(e);
@@ -227,9 +217,8 @@ impl<'a, R: Net> LiveSockets<'a, R> {
         // A table has 256 lines at most.
         let last = table.lines().min(256) as u16;
         for line in 1..=last {
-            let origin = table.origin(line).as_bytes();
-            if !origin.is_empty() {
-                let _ = self.links.origins.place(origin)?;
+            if let Some(address) = table.origin_address(line) {
+                let _ = self.links.origins.place(address)?;
             }
         }
         self.replies = Some(ReplyCounts::new());
@@ -607,7 +596,7 @@ impl<'a, R: Net> LiveSockets<'a, R> {
     }
 
     /// Begins a link. Where no descriptor is left an idle client gives way to it.
-    fn begin(&mut self, l: u64, address: &[u8]) -> io::Result<Peer<TcpStream>>
+    fn begin(&mut self, l: u64, address: SocketAddrV4) -> io::Result<Peer<TcpStream>>
         ensures accepts { self.new.accepts ≡ self.old.accepts }
         ensures reads { self.new.reads ≡ self.old.reads }
         ensures failures { self.new.failures ≡ self.old.failures }
@@ -620,7 +609,7 @@ impl<'a, R: Net> LiveSockets<'a, R> {
         }
     }
 
-    fn connect_link(&mut self, l: u64, address: &[u8]) -> Result<(), SocketFailed>
+    fn connect_link(&mut self, l: u64, address: SocketAddrV4) -> Result<(), SocketFailed>
         ensures accepts { self.new.accepts ≡ self.old.accepts }
         ensures reads { self.new.reads ≡ self.old.reads }
         ensures failures { self.new.failures ≡ self.old.failures }
@@ -717,7 +706,7 @@ impl<'a, R: Net> Sockets for LiveSockets<'a, R> {
         written
     }
 
-    fn connect(&mut self, link: u64, address: &[u8]) -> Result<(), SocketFailed> {
+    fn connect(&mut self, link: u64, address: SocketAddrV4) -> Result<(), SocketFailed> {
         let connected = self.connect_link(link, address);
         if connected.is_err() {
             self.failures = self.failures.saturating_add(1);

@@ -2,15 +2,15 @@
 
 use crate::counts::count;
 use crate::sorts::{Cause, ReplySort};
-use hx_fields::Bytes;
 use std::alloc::{AllocError, Global};
-use std::str;
+use std::net::SocketAddrV4;
 
 /// An origin, and what was counted of it.
 #[derive(Drop)]
 pub(crate) struct Origin {
-    /// Its address, as the table has it.
-    pub(crate) address: Bytes,
+    address: SocketAddrV4,
+    /// The text of its address.
+    name: String,
     /// Links that were begun, and of these the ones that are open.
     pub(crate) begun: u64,
     pub(crate) open: u64,
@@ -41,9 +41,10 @@ pub(crate) const FAILURE_KINDS: [&str; 6] = [
 pub(crate) const COVERED_FAILURES: usize = 5;
 
 impl Origin {
-    fn new(address: Bytes) -> Origin {
-        Origin {
+    fn new(alloc: Global, address: SocketAddrV4) -> Result<Origin, AllocError> {
+        Ok(Origin {
             address,
+            name: format!(in alloc; "{address}")?,
             begun: 0,
             open: 0,
             lasted: 0,
@@ -51,15 +52,12 @@ impl Origin {
             written: 0,
             answers: [0; 4],
             failures: [0; 6],
-        }
+        })
     }
 
-    /// Its address, which is text.
+    /// Its name in figures and in the log: the text of its address.
     pub(crate) fn name(&self) -> &str {
-        match str::from_utf8(self.address.as_slice()) {
-            Ok(text) => text,
-            Err(_) => "",
-        }
+        self.name.as_str()
     }
 
     fn count_answer(&mut self, status: u16) {
@@ -99,14 +97,13 @@ impl Origins {
     }
 
     /// The place of an address, which is added where it is new.
-    pub(crate) fn place(&mut self, address: &[u8]) -> Result<usize, AllocError> {
+    pub(crate) fn place(&mut self, address: SocketAddrV4) -> Result<usize, AllocError> {
         for i in 0..self.items.len() {
-            if self.items[i].address.as_slice() == address {
+            if self.items[i].address == address {
                 return Ok(i);
             }
         }
-        self.items
-            .push(Origin::new(Bytes::copy_of(self.alloc, address)?))?;
+        self.items.push(Origin::new(self.alloc, address)?)?;
         Ok(self.items.len().saturating_sub(1))
     }
 
@@ -114,18 +111,14 @@ impl Origins {
         self.items.as_slice()
     }
 
-    fn address_at(&self, place: usize) -> &[u8] {
-        match self.items.get(place) {
-            Some(origin) => origin.address.as_slice(),
-            None => b"",
-        }
-    }
-
-    /// The address at a place; empty where there is none.
-    pub(crate) fn address(&self, place: Option<usize>) -> &[u8] {
+    /// The name of the origin at a place; empty where there is none.
+    pub(crate) fn name(&self, place: Option<usize>) -> &str {
         match place {
-            Some(place) => self.address_at(place),
-            None => b"",
+            Some(place) => match self.items.get(place) {
+                Some(origin) => origin.name(),
+                None => "",
+            },
+            None => "",
         }
     }
 

@@ -21,6 +21,7 @@ use hx_status::FailKind;
 use proxy_script::Happening;
 use proxy_turn::{End, Received, SocketFailed, Sockets, happening_of_lost_end, happening_of_read};
 use std::io::Write;
+use std::net::SocketAddrV4;
 
 /// Sockets, and the record of what they give, where one is written.
 #[derive(Drop)]
@@ -287,7 +288,7 @@ impl<K: Sockets + Drop, W: Write + Drop> Sockets for Recording<K, W> {
         self.pass_on(written, end, FailKind::Closed)
     }
 
-    fn connect(&mut self, link: u64, address: &[u8]) -> Result<(), SocketFailed> {
+    fn connect(&mut self, link: u64, address: SocketAddrV4) -> Result<(), SocketFailed> {
         let connected = self.sockets.connect(link, address);
         self.pass_on(connected, End::Link(link), FailKind::Refused)
     }

@@ -62,7 +62,7 @@ impl<'a, R: Net> LiveSockets<'a, R> {
             moment: self.moment,
             facts,
             took,
-            origin: self.links.origins.address(origin),
+            origin: self.links.origins.name(origin).as_bytes(),
         };
         log_reply(&mut self.log, &mut self.clients, n, &reply);
     }

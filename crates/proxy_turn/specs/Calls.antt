@@ -4,6 +4,7 @@
 -- Call: a call
 -- accept_outcome_of, read_outcome_of: of what they returned
 use Rattle.std.specs.Prelude.{ℕ, List, take, Bool, true, false, Result, Ok, Err}
+use Rattle.std.specs.declared.net.socket_addr.SocketAddrV4.{SocketAddrV4}
 use Rattle.proxy_engine.specs.declared.work.End.{End}
 use Rattle.proxy_turn.specs.declared.sockets.SocketFailed.{SocketFailed}
 use Rattle.proxy_turn.specs.declared.sockets.Received.{Received}
@@ -23,7 +24,7 @@ pub data Call : Type 0 where
   Accept : (n : ℕ) (answer : AcceptOutcome) → Call
   Read : (end : End) (given : ReadOutcome) → Call
   Write : (end : End) (bytes : List ℕ) (done : Bool) → Call
-  Connect : (link : ℕ) (address : List ℕ) (done : Bool) → Call
+  Connect : (link : ℕ) (address : SocketAddrV4) (done : Bool) → Call
   Shut : (end : End) (done : Bool) → Call
 
 abbrev pub accept_outcome_of : Result Bool SocketFailed → AcceptOutcome

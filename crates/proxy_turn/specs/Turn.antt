@@ -10,6 +10,7 @@
 use Rattle.std.specs.Prelude.{◌≡◌, ℕ, ◌+◌, ◌≤◌, List, [], ◌∷◌, ◌++◌, length, sum_by, map, Bool, true, false, ◌&&◌, ◌==◌}
 use Rattle.std.specs.Prelude.{nat_lt, Option, None, Some, is_some, cond, Result, Ok, Err, ◌⊎◌}
 use Rattle.std.specs.List.{list_any}
+use Rattle.std.specs.declared.net.socket_addr.SocketAddrV4.{SocketAddrV4}
 use Rattle.hx_status.specs.declared.cause.FailKind.{FailKind}
 use Rattle.hx_status.specs.declared.cause.FailKind.TheVariants as kinds
 use Rattle.proxy_script.specs.declared.effect_list.Effect.{Effect}
@@ -188,7 +189,7 @@ abbrev pub calls_of_reads : List EndRead → List Call
 calls_of_reads reads = map (λ (r : EndRead). call.Read r.end r.given) reads
 
 -- A link is told as refused where its connect failed; then nothing is written. Otherwise the write failed.
-abbrev pub calls_of_failed_forward : ℕ → List ℕ → List ℕ → FailKind → List Call
+abbrev pub calls_of_failed_forward : ℕ → SocketAddrV4 → List ℕ → FailKind → List Call
 calls_of_failed_forward l address bytes kinds.Refused = call.Connect l address false ∷ []
 calls_of_failed_forward l address bytes other = call.Connect l address true ∷ call.Write (ends.Link l) bytes false ∷ []
 

@@ -21,6 +21,7 @@ use hx_store::Shelf;
 use proxy_engine::{End, Engine, Happening, what_ends_stays_ended};
 use proxy_script::Effect;
 use std::alloc::Global;
+use std::net::SocketAddrV4;
 
 /// Takes what happened, if anything did.
 pub(crate) fn take<S: Shelf>(
@@ -63,10 +64,10 @@ fn end_is_lost(failed: &[End], end: End) -> bool
 fn open<K: Sockets>(
     sockets: &mut K,
     link: u64,
-    address: &[u8],
+    address: SocketAddrV4,
     bytes: &[u8],
 ) -> Result<(), FailKind>
-    ensures did { K.Did sockets.old (calls_of_effect (Forward link address.now bytes.now)
+    ensures did { K.Did sockets.old (calls_of_effect (Forward link address bytes.now)
         (fate_of result)) sockets.new }
     ensures kinds { IfErr result (λ kind. (kind ≡ Refused) ⊎ (kind ≡ Closed)) }
     ensures accepts { K.accepts sockets.new ≡ K.accepts sockets.old }
@@ -93,7 +94,7 @@ fn call<K: Sockets>(sockets: &mut K, effect: &Effect) -> Result<(), FailKind>
     let done = match effect {
         Effect::Client(n, bytes) => sockets.write(End::Client(*n), bytes.as_slice()),
         Effect::Forward(l, address, bytes) => {
-            return open(sockets, *l, address.as_slice(), bytes.as_slice());
+            return open(sockets, *l, *address, bytes.as_slice());
         }
         Effect::Close(n) => sockets.shut(End::Client(*n)),
         Effect::Drop(l) => sockets.shut(End::Link(*l)),

@@ -17,6 +17,7 @@ use hx_fields::Bytes;
 use hx_store::Shelf;
 use proxy_engine::{End, Engine};
 use std::alloc::Global;
+use std::net::SocketAddrV4;
 
 /// What a read gave.
 #[derive(Debug, Drop)]
@@ -33,7 +34,7 @@ pub enum LoggedCall {
     Accept(u64, Result<bool, SocketFailed>),
     Read(End, LoggedReadOutcome),
     Write(End, Bytes, bool),
-    Connect(u64, Bytes, bool),
+    Connect(u64, SocketAddrV4, bool),
     Shut(End, bool),
 }
 
@@ -116,17 +117,6 @@ impl<K: Sockets + Drop> LoggedSockets<K> {
             Err(_) => self.lost = true,
         }
     }
-
-    fn keep_connect(&mut self, link: u64, address: &[u8], done: bool)
-        ensures sockets { self.new.sockets ≡ self.old.sockets }
-        ensures kept { LogGrewByCalls self.old.lost self.old.calls.items self.new.lost self.new.calls.items
-            (call.Connect link address.now done ∷ []) }
-    {
-        match Bytes::copy_of(self.alloc, address) {
-            Ok(address) => self.keep_call(LoggedCall::Connect(link, address, done)),
-            Err(_) => self.lost = true,
-        }
-    }
 }
 
 impl<K: Sockets + Drop> Sockets for LoggedSockets<K> {
@@ -161,9 +151,9 @@ impl<K: Sockets + Drop> Sockets for LoggedSockets<K> {
         written
     }
 
-    fn connect(&mut self, link: u64, address: &[u8]) -> Result<(), SocketFailed> {
+    fn connect(&mut self, link: u64, address: SocketAddrV4) -> Result<(), SocketFailed> {
         let connected = self.sockets.connect(link, address);
-        self.keep_connect(link, address, connected.is_ok());
+        self.keep_call(LoggedCall::Connect(link, address, connected.is_ok()));
         connected
     }
 

@@ -5,6 +5,7 @@ ghost use Rattle.proxy_turn.specs.Counts.{CountRisesBy, failed};
 ghost use Rattle.proxy_turn.specs.Received.{FitsTheBuffer};
 
 use proxy_engine::End;
+use std::net::SocketAddrV4;
 
 /// A call on a socket failed. No further call is made on its end.
 #[derive(Clone, Copy, Debug, PartialEq, Eq)]
@@ -58,9 +59,9 @@ pub trait Sockets {
         ensures reads { reads self.new ≡ reads self.old }
         ensures failures { CountRisesBy (failures self.old) (failures self.new) (failed result) };
 
-    /// Opens the link of this number to an address, four numbers and a port.
-    fn connect(&mut self, link: u64, address: &[u8]) -> Result<(), SocketFailed>
-        ensures did { Did self.old (Connect link address.now (is_ok result) ∷ []) self.new }
+    /// Opens the link of this number to an address.
+    fn connect(&mut self, link: u64, address: SocketAddrV4) -> Result<(), SocketFailed>
+        ensures did { Did self.old (Connect link address (is_ok result) ∷ []) self.new }
         ensures accepts { accepts self.new ≡ accepts self.old }
         ensures reads { reads self.new ≡ reads self.old }
         ensures failures { CountRisesBy (failures self.old) (failures self.new) (failed result) };

@@ -2,6 +2,7 @@
 //! refuses: each function's contract is the cases, and its body is empty.
 
 ghost use Rattle.std.specs.Prelude.{◌≡◌, ◌∷◌, [], Some, None, true, false, codes};
+ghost use Rattle.hx_allow.specs.Addresses.{address_of_numbers};
 ghost use Rattle.hx_status.specs.declared.cause.FailKind.TheVariants as kinds;
 ghost use Rattle.proxy_script.specs.declared.effect_list.Effect.TheVariants as effects;
 ghost use Rattle.proxy_engine.specs.Happenings.{Accepts, Sends, Hears, Ends, Leaves, Shuts, Fails};
@@ -28,12 +29,13 @@ pub fn worked_calls_of_effects()
     ensures failed_reply { calls_of_effect (effects.Client 1 (codes "x")) (Lost kinds.Closed)
         ≡ call.Write (ends.Client 1) (codes "x") false ∷ [] }
     ensures close { calls_of_effect (effects.Close 1) Carried ≡ call.Shut (ends.Client 1) true ∷ [] }
-    ensures forward { calls_of_effect (effects.Forward 5 (codes "o") (codes "x")) Carried
-        ≡ call.Connect 5 (codes "o") true ∷ call.Write (ends.Link 5) (codes "x") true ∷ [] }
-    ensures refused { calls_of_effect (effects.Forward 5 (codes "o") (codes "x")) (Lost kinds.Refused)
-        ≡ call.Connect 5 (codes "o") false ∷ [] }
-    ensures cut { calls_of_effect (effects.Forward 5 (codes "o") (codes "x")) (Lost kinds.Closed)
-        ≡ call.Connect 5 (codes "o") true ∷ call.Write (ends.Link 5) (codes "x") false ∷ [] }
+    ensures forward { calls_of_effect (effects.Forward 5 (address_of_numbers 127 0 0 1 80) (codes "x")) Carried
+        ≡ call.Connect 5 (address_of_numbers 127 0 0 1 80) true ∷ call.Write (ends.Link 5) (codes "x") true ∷ [] }
+    ensures refused { calls_of_effect (effects.Forward 5 (address_of_numbers 127 0 0 1 80) (codes "x"))
+        (Lost kinds.Refused)
+        ≡ call.Connect 5 (address_of_numbers 127 0 0 1 80) false ∷ [] }
+    ensures cut { calls_of_effect (effects.Forward 5 (address_of_numbers 127 0 0 1 80) (codes "x")) (Lost kinds.Closed)
+        ≡ call.Connect 5 (address_of_numbers 127 0 0 1 80) true ∷ call.Write (ends.Link 5) (codes "x") false ∷ [] }
     ensures drop { calls_of_effect (effects.Drop 5) Carried ≡ call.Shut (ends.Link 5) true ∷ [] }
     ensures passed { calls_of_effect (effects.Client 1 (codes "x")) Passed ≡ [] }
     ensures in_order { calls_of_effects (effects.Client 1 (codes "x") ∷ effects.Close 1 ∷ []) (Carried ∷ Carried ∷ [])

@@ -20,7 +20,8 @@ use hx_status::{Cause, How, Status, member, refusal};
 use hx_storable::StoreRule;
 use std::alloc::{AllocError, Global};
 
-pub(crate) fn is_head(asked: &Asked) -> bool
+/// Whether a request is a HEAD, whose answers have no content (RFC 9110, section 9.3.2).
+pub fn is_head(asked: &Asked) -> bool
     ensures { result ≡ is_head asked.now }
 {
     asked.method == Method::HEAD

@@ -10,6 +10,4 @@ pub(crate) struct Ends {
     pub(crate) links: Links,
     /// The number of the link at the first place.
     pub(crate) first_link: u64,
-    /// Room for the address of an origin. It is kept until a request goes forward, and made anew by the next act.
-    pub(crate) address: Vec<u8>,
 }

@@ -5,6 +5,8 @@ ghost use Rattle.std.specs.Prelude.{◌≡◌, ◌∷◌, [], length, map, Some,
 ghost use Rattle.hx_framing.specs.declared.messages.Next.TheVariants as next;
 ghost use Rattle.hx_framing.specs.declared.frame_fault.FrameFault.TheVariants as frame;
 ghost use Rattle.hx_status.specs.declared.cause.FailKind.TheVariants as kinds;
+ghost use Rattle.hx_allow.specs.Addresses.{address_of_numbers};
+ghost use Rattle.proxy_core.specs.declared.outcome.Outcome.TheVariants as outcomes;
 ghost use Rattle.proxy_script.specs.declared.effect_list.Effect.TheVariants as effects;
 ghost use Rattle.proxy_engine.specs.Happenings.{Accepts, Sends, Hears, Ends, Leaves, Shuts, Fails};
 ghost use Rattle.proxy_engine.specs.EngineModel.{connection_at, happening_fault, model_after_happening};
@@ -13,13 +15,13 @@ ghost use Rattle.proxy_engine.specs.Due.{Breaks, Gives, Abandons, Finishes, Serv
 ghost use Rattle.proxy_engine.specs.Due.{takes_no_request, fail_kind_of_fault};
 ghost use Rattle.proxy_engine.specs.Due.{due_request_action};
 ghost use Rattle.proxy_engine.specs.Acts.{Forwards, Nothing, Queues, Replies, model_after_outcome};
-ghost use Rattle.proxy_engine.specs.Acts.{drop_effects};
+ghost use Rattle.proxy_engine.specs.Acts.{drop_effects, origin_address_of_line, outcome_by_table};
 ghost use Rattle.proxy_engine.specs.Acts.{effects_of_outcome, model_after_link_freed, next_link_number};
 ghost use Rattle.proxy_engine.specs.Executions.{Took, Worked, drop_effects_of_act, connection_place_of_act};
 ghost use Rattle.proxy_engine.specs.Executions.{effects_of_steps};
 ghost use Rattle.proxy_engine.specs.ModelCases.{answer_200, model_with_dropped_link, empty_model};
 ghost use Rattle.proxy_engine.specs.ModelCases.{model_with_connection, model_with_link, request_of_a};
-ghost use Rattle.proxy_engine.specs.ModelCases.{model_after_two_sends};
+ghost use Rattle.proxy_engine.specs.ModelCases.{model_after_two_sends, table_of_two_origins};
 ghost use Rattle.proxy_engine.specs.declared.endpoints.activities.Activity.TheVariants.{Forwarded, Free, Waiting};
 ghost use Rattle.proxy_engine.specs.declared.work.EngineFault.TheVariants.{NotAccepted, WrongNumber};
 
@@ -103,6 +105,16 @@ pub fn worked_due_acts()
     ensures waiting { takes_no_request false false Waiting ≡ true }
 {}
 
+/// A request goes forward to the origin of the line that its outcome names.
+#[tactic(auto, unfolding(hx_allow::specs::Addresses::address_of, hx_target::specs::Hosts::short_number))]
+pub fn worked_addresses_of_outcomes()
+    ensures first { outcome_by_table table_of_two_origins (outcomes.Forward 1 (codes "x"))
+        ≡ Forwards (address_of_numbers 127 0 0 1 8081) (codes "x") }
+    ensures second { outcome_by_table table_of_two_origins (outcomes.Forward 2 (codes "x"))
+        ≡ Forwards (address_of_numbers 10 0 0 2 80) (codes "x") }
+    ensures no_line { origin_address_of_line table_of_two_origins 3 ≡ address_of_numbers 0 0 0 0 0 }
+{}
+
 /// What acts tell: a reply to its connection, with a close behind it where it says so; a forward on the next link;
 /// nothing of one that waits. And what they leave.
 pub fn worked_effects_of_acts()
@@ -110,16 +122,17 @@ pub fn worked_effects_of_acts()
     ensures last_reply { effects_of_outcome 2 7 (Replies (codes "x") true) ≡ effects.Client 3 (codes "x")
         ∷ effects.Close 3
         ∷ [] }
-    ensures forward { effects_of_outcome 2 7 (Forwards (codes "o") (codes "x")) ≡ effects.Forward 7 (codes "o") (codes "x")
-        ∷ [] }
+    ensures forward { effects_of_outcome 2 7 (Forwards (address_of_numbers 127 0 0 1 80) (codes "x"))
+        ≡ effects.Forward 7 (address_of_numbers 127 0 0 1 80) (codes "x") ∷ [] }
     ensures waits { effects_of_outcome 2 7 Queues ≡ [] }
     ensures nothing { effects_of_outcome 2 7 Nothing ≡ [] }
     ensures drops { drop_effects 5 (Some 2) ≡ effects.Drop 7 ∷ [] }
     ensures drops_none { drop_effects 5 None ≡ [] }
     ensures next { next_link_number model_with_link ≡ 6 }
-    ensures opened { length (model_after_outcome 0 false (Forwards [] []) model_with_connection).links ≡ 1 }
+    ensures opened { length (model_after_outcome 0 false
+        (Forwards (address_of_numbers 127 0 0 1 80) []) model_with_connection).links ≡ 1 }
     ensures on_its_link { (connection_at (model_after_outcome 0 false
-        (Forwards [] []) model_with_connection) 0).activity ≡ Forwarded 0 }
+        (Forwards (address_of_numbers 127 0 0 1 80) []) model_with_connection) 0).activity ≡ Forwarded 0 }
     ensures queued { (connection_at (model_after_outcome 0 false Queues model_with_connection) 0).activity ≡ Waiting }
     ensures closes { (connection_at (model_after_outcome 0 false (Replies [] true) model_with_connection) 0).closed
         ≡ true }

@@ -1,11 +1,9 @@
 //! An exchange ends: its origin has answered or failed, or its client is gone.
-ghost use Rattle.std.specs.Prelude.{◌≡◌, ℕ, ◌+◌, ◌<◌, ◌≤◌, ◌^◌, nat_le, List, [], None, length, vec_len, vec_capacity};
+ghost use Rattle.std.specs.Prelude.{◌≡◌, ℕ, ◌+◌, ◌<◌, ◌^◌, nat_le, None, length};
 ghost use Rattle.std.specs.Prelude.{true, false, Some, is_some, IfOk, IfErr, OnOk, OnErr, slice_index_or};
 ghost use Rattle.hx_fields.specs.declared.limits.TheConstants.{END_OF_TIME};
-ghost use Rattle.hx_framing.specs.declared.messages.Response.{Response as AnswerRead};
-ghost use Rattle.hx_framing.specs.declared.messages.Next.{Next as Answer};
 ghost use Rattle.proxy_core.specs.declared.event.Event.TheVariants.{Fail};
-ghost use Rattle.proxy_core.specs.State.{State as CoreState, StepIsAccepted};
+ghost use Rattle.proxy_core.specs.State.{StepIsAccepted};
 ghost use Rattle.proxy_engine.specs.EngineModel.{EngineModel};
 ghost use Rattle.proxy_engine.specs.Due.{Abandons, LinkResult, Finishes, fail_kind_of_fault, IsDueFirst};
 ghost use Rattle.proxy_engine.specs.State.{EngineRepresents, link_result_at, is_gone_at, NoConnectionIsLost};
@@ -13,24 +11,22 @@ ghost use Rattle.proxy_engine.specs.State.{load_of_state, EngineDoesAct, NoActWa
 ghost use Rattle.proxy_core.specs.Outcomes.{find_exchange};
 ghost use Rattle.proxy_engine.specs.Activities.{link_place_of_activity, has_exchange};
 ghost use Rattle.proxy_engine.specs.Pairing.{activity_at, activities_of, forwarded_or_waiting_at};
-ghost use Rattle.proxy_engine.specs.Acts.{exchange_asks_head, HasRoomForAddresses};
+ghost use Rattle.proxy_engine.specs.Acts.{exchange_asks_head};
 ghost use Rattle.proxy_engine.specs.Actions.{ExchangeIsFinishedBy, is_whole_answer, IsFaultOfFinishing};
-ghost use Rattle.proxy_engine.specs.declared.endpoints.ends.Connection.{Connection};
 
 use crate::endpoints::activities::Activity;
 use crate::endpoints::ends::Link;
 use crate::engine::Engine;
 use crate::steps::outcomes::{
-    Upstream, as_alloc_error, free, free_lost, put, release_waiting, room,
+    as_alloc_error, free, free_lost, put, release_waiting, room,
 };
 use crate::work::EngineFault;
 use hx_framing::{FrameFault, Next};
 use hx_status::FailKind;
 use hx_store::Shelf;
-use proxy_core::{Core, Outcome};
+use proxy_core::{Core, Outcome, is_head};
 use proxy_script::Effect;
 use std::alloc::{AllocError, Global};
-use std::mem::replace;
 
 /// The failure that a fault in an answer is.
 fn fail_kind_of_fault(fault: FrameFault) -> FailKind
@@ -43,23 +39,14 @@ fn fail_kind_of_fault(fault: FrameFault) -> FailKind
     }
 }
 
-/// How the request of an open exchange goes forward once more, if it does.
-pub(crate) fn upstream_for_second_forward<S: Shelf>(
-    core: &Core<S>,
-    address: Vec<u8>,
-    id: u64,
-) -> Result<Upstream, AllocError>
-    requires { is_some (find_exchange id core.now.exchanges) ≡ true }
-    ensures empty { IfOk result (λ upstream. (upstream.address.items ≡ []) × (vec_len upstream.address ≡ 0)) }
-    ensures room { IfOk result (λ upstream. HasRoomForAddresses core.now.table (vec_capacity upstream.address)) }
-    ensures max_body { IfOk result (λ upstream. upstream.max_body ≡ core.now.table.max_body) }
-    ensures to_head { IfOk result (λ upstream. upstream.to_head ≡ exchange_asks_head
-        (find_exchange id core.now.exchanges)) }
+/// Whether the request of an open exchange is a HEAD.
+pub(crate) fn exchange_asks_head<S: Shelf>(core: &Core<S>, id: u64) -> bool
+    ensures { result ≡ exchange_asks_head (find_exchange id core.now.exchanges) }
 {
-    let Some(exchange) = core.exchange(id) else {
-        unreachable!()
-    };
-    Upstream::new(address, core.config(), &exchange.asked)
+    match core.exchange(id) {
+        Some(exchange) => is_head(&exchange.asked),
+        None => false,
+    }
 }
 
 /// The origin failed.
@@ -211,14 +198,13 @@ impl<S: Shelf> Engine<S> {
         self.ends.links.reserve_one(alloc)?;
         let i = self.ends.links.at(j).connection;
         let id = self.ends.connections.number_at(i);
-        let address = replace(&mut self.ends.address, Vec::new(alloc));
-        let mut upstream = upstream_for_second_forward(&self.core, address, id)?;
+        let to_head = exchange_asks_head(&self.core, id);
         let outcome = end(self.ends.links.at(j), &mut self.core, alloc, now, id)?;
-        upstream.set_address(self.core.config(), &outcome);
         free(&mut self.ends.connections, &mut self.ends.links, j, i);
         put(&mut effects, Effect::Drop(self.ends.number_at(j)));
+        let config = self.core.config();
         self.ends
-            .carry_out(&mut effects, alloc, i, upstream, outcome);
+            .carry_out(&mut effects, alloc, config, i, to_head, outcome);
         Ok(effects)
     }
 

@@ -2,12 +2,11 @@
 ghost use Rattle.std.specs.Prelude.{◌≡◌, ℕ, ◌+◌, ◌<◌, ◌≤◌, ◌^◌, nat_le, ◌++◌, ◌∷◌, [], length, sum_by};
 ghost use Rattle.std.specs.Prelude.{true, false, is_some, IfOk, None, Some, vec_len, vec_capacity};
 ghost use Rattle.std.specs.Prelude.{slice_index_or, slice_set};
-ghost use Rattle.proxy_core.specs.Replies.{is_head};
 ghost use Rattle.proxy_core.specs.State.{State as CoreState};
 ghost use Rattle.proxy_engine.specs.ConnectionNumbers.{link_number};
 ghost use Rattle.proxy_engine.specs.EngineModel.{EngineModel};
-ghost use Rattle.proxy_engine.specs.Acts.{with_closed, with_activity, outcome_with_address, outcome_by_table};
-ghost use Rattle.proxy_engine.specs.Acts.{HasRoomForAddresses, effects_of_outcome, model_after_outcome};
+ghost use Rattle.proxy_engine.specs.Acts.{with_closed, with_activity, origin_address_of_line};
+ghost use Rattle.proxy_engine.specs.Acts.{outcome_by_table, effects_of_outcome, model_after_outcome};
 ghost use Rattle.proxy_engine.specs.Acts.{model_after_link_freed};
 ghost use Rattle.proxy_engine.specs.Acts.{with_opened_link};
 ghost use Rattle.proxy_engine.specs.Acts.OutcomeOnConnection.{Replies};
@@ -27,14 +26,13 @@ use crate::endpoints::marks;
 use crate::endpoints::numbers::link_number;
 use crate::endpoints::open_ends::Ends;
 use crate::endpoints::peeked::Peeked;
-use http::Method;
 use hx_allow::Config;
 use hx_fields::Bytes;
 use hx_framing::ResponseReader;
-use hx_hop::Asked;
 use proxy_core::{CoreFault, Outcome};
 use proxy_script::Effect;
 use std::alloc::{AllocError, Global};
+use std::net::{Ipv4Addr, SocketAddrV4};
 
 /// Puts an effect at the end.
 pub(crate) fn put(effects: &mut Vec<Effect>, effect: Effect)
@@ -124,51 +122,13 @@ fn open_link(
     });
 }
 
-/// Where a request goes, if it goes forward, and what its link reads. Room for the address is made before the core's
-/// step, whose outcome names the line.
-#[derive(Drop)]
-pub(crate) struct Upstream {
-    pub(crate) address: Vec<u8>,
-    /// The most bytes of the answer's content.
-    pub(crate) max_body: u64,
-    pub(crate) to_head: bool,
-}
-
-impl Upstream {
-    /// With room for the address of each line's origin, made of the room that is there.
-    pub(crate) fn new(
-        mut address: Vec<u8>,
-        config: &Config,
-        asked: &Asked,
-    ) -> Result<Upstream, AllocError>
-        ensures empty { IfOk result (λ upstream. (upstream.address.items ≡ []) × (vec_len upstream.address ≡ 0)) }
-        ensures room { IfOk result (λ upstream. HasRoomForAddresses config.now (vec_capacity upstream.address)) }
-        ensures max_body { IfOk result (λ upstream. upstream.max_body ≡ config.now.max_body) }
-        ensures to_head { IfOk result (λ upstream. upstream.to_head ≡ is_head asked.now) }
-    {
-        address.clear();
-        address.reserve_exact(config.longest_origin())?;
-        Ok(Upstream {
-            address,
-            max_body: config.max_body(),
-            to_head: asked.method == Method::HEAD,
-        })
-    }
-
-    /// Puts down the address of the line that an outcome names, if it names one. No memory is taken.
-    pub(crate) fn set_address(&mut self, config: &Config, outcome: &Outcome)
-        requires empty { (self.old.address.items ≡ []) × (vec_len self.old.address ≡ 0) }
-        requires room { HasRoomForAddresses config.now (vec_capacity self.old.address) }
-        ensures came { outcome_with_address self.new.address.items outcome.now
-            ≡ outcome_by_table config.now outcome.now }
-        ensures max_body { self.new.max_body ≡ self.old.max_body }
-        ensures to_head { self.new.to_head ≡ self.old.to_head }
-    {
-        if let Outcome::Forward(line, _) = outcome {
-            let _ = self
-                .address
-                .extend_from_slice(config.origin(*line).as_bytes());
-        }
+/// Where the requests of a line go. Each comes by a line that has an origin.
+fn origin_address(config: &Config, line: u16) -> SocketAddrV4
+    ensures { result ≡ origin_address_of_line config.now line }
+{
+    match config.origin_address(line) {
+        Some(address) => address,
+        None => SocketAddrV4::new(Ipv4Addr::new(0, 0, 0, 0), 0),
     }
 }
 
@@ -240,8 +200,9 @@ impl Ends {
         &mut self,
         effects: &mut Vec<Effect>,
         alloc: Global,
+        config: &Config,
         i: u64,
-        upstream: Upstream,
+        to_head: bool,
         outcome: Outcome,
     )
         requires free { connection_is_free_at (slice_index_or self.old.connections.items i None) ≡ true }
@@ -250,11 +211,11 @@ impl Ends {
         requires left { outcome_needs_link outcome ≡ true → self.old.first_link + length self.old.links.items < 2 ^ 64 }
         ensures effects { effects.new.items ≡ effects.old.items
             ++ effects_of_outcome i (self.old.first_link + length self.old.links.items)
-            (outcome_with_address upstream.address.items outcome) }
-        ensures represents { (s : EngineModel) → (core : CoreState) → core.table.max_body ≡ upstream.max_body
+            (outcome_by_table config.now outcome) }
+        ensures represents { (s : EngineModel) → (core : CoreState) → core.table.max_body ≡ config.now.max_body
             → EngineRepresents (state_of_ends self.old core) s
             → EngineRepresents (state_of_ends self.new core)
-            (model_after_outcome i upstream.to_head (outcome_with_address upstream.address.items outcome) s) }
+            (model_after_outcome i to_head (outcome_by_table config.now outcome) s) }
         ensures first { self.new.first_link ≡ self.old.first_link }
         ensures activities { activities_of self.new.connections.items
             ≡ activities_after i (length self.old.links.items) outcome (activities_of self.old.connections.items) }
@@ -263,27 +224,23 @@ impl Ends {
     {
         match outcome {
             Outcome::Reply(reply) => {
-                self.address = upstream.address;
                 send_reply(&mut self.connections, effects, i, reply.bytes, reply.close);
             }
-            Outcome::Forward(_, bytes) => {
+            Outcome::Forward(line, bytes) => {
                 let number = self.number_at(self.links.len());
                 open_link(
                     &mut self.connections,
                     &mut self.links,
                     alloc,
-                    upstream.max_body,
-                    upstream.to_head,
+                    config.max_body(),
+                    to_head,
                     i,
                 );
-                let address = Bytes::from_vec(upstream.address);
+                let address = origin_address(config, line);
                 put(effects, Effect::Forward(number, address, bytes));
             }
-            Outcome::Waits(_) => {
-                self.address = upstream.address;
-                marks::mark_waiting_at(&mut self.connections, i);
-            }
-            Outcome::Ended => self.address = upstream.address,
+            Outcome::Waits(_) => marks::mark_waiting_at(&mut self.connections, i),
+            Outcome::Ended => {}
         }
     }
 }

@@ -1,5 +1,5 @@
 //! What a client's stream asks for is done.
-ghost use Rattle.std.specs.Prelude.{◌≡◌, ℕ, ◌+◌, ◌<◌, ◌≤◌, ◌^◌, List, length, sum_by, true, false, Option, None, Some};
+ghost use Rattle.std.specs.Prelude.{◌≡◌, ℕ, ◌+◌, ◌<◌, ◌^◌, List, length, sum_by, true, Option, None, Some};
 ghost use Rattle.std.specs.Prelude.{is_some, IfOk, IfErr, OnOk, OnErr, Ok, Err, slice_index_or};
 ghost use Rattle.hx_fields.specs.declared.limits.TheConstants.{END_OF_TIME};
 ghost use Rattle.hx_framing.specs.declared.messages.Request.{Request};
@@ -7,9 +7,8 @@ ghost use Rattle.hx_framing.specs.declared.messages.Next.{Next};
 ghost use Rattle.hx_framing.specs.declared.messages.Next.TheVariants as next;
 ghost use Rattle.proxy_engine.specs.Admitted.{RequestIsAdmittedOrRefused};
 ghost use Rattle.hx_hop.specs.Moments.{date_text_of};
-ghost use Rattle.proxy_core.specs.Replies.{refusal_reply_text, is_head};
+ghost use Rattle.proxy_core.specs.Replies.{refusal_reply_text};
 ghost use Rattle.proxy_core.specs.State.{State as CoreState};
-ghost use Rattle.proxy_engine.specs.declared.endpoints.lookahead.Lookahead.TheVariants.{Due};
 ghost use Rattle.proxy_engine.specs.EngineModel.{EngineModel};
 ghost use Rattle.proxy_engine.specs.Due.{Serves, IsDueFirst};
 ghost use Rattle.proxy_engine.specs.State.{EngineRepresents, engine_state, due_request_at, connection_is_free_at};
@@ -17,24 +16,22 @@ ghost use Rattle.proxy_engine.specs.State.{connection_load, load_of_state, Engin
 ghost use Rattle.proxy_engine.specs.State.{NoActWasDoneSince};
 ghost use Rattle.proxy_engine.specs.Pairing.{activities_of};
 ghost use Rattle.proxy_engine.specs.Actions.{IsActionForNext};
-ghost use Rattle.proxy_engine.specs.declared.endpoints.ends.Connection.{Connection};
 ghost use Rattle.proxy_engine.specs.declared.endpoints.ends.Link.{Link};
 
 use crate::endpoints::connections::Connections;
 use crate::endpoints::marks;
 use crate::engine::Engine;
 use crate::steps::actions::{Action, action_of};
-use crate::steps::outcomes::{Upstream, as_alloc_error, put, room, send_reply};
+use crate::steps::outcomes::{as_alloc_error, put, room, send_reply};
 use crate::work::EngineFault;
 use hx_fields::Bytes;
 use hx_framing::write_continue;
 use hx_hop::Asked;
 use hx_status::Cause;
 use hx_store::Shelf;
-use proxy_core::refused;
+use proxy_core::{is_head, refused};
 use proxy_script::Effect;
 use std::alloc::{AllocError, Global};
-use std::mem::replace;
 
 /// The client may send the content of its request.
 fn send_continue(
@@ -138,17 +135,15 @@ impl<S: Shelf> Engine<S> {
     {
         let mut effects = room(alloc)?;
         self.ends.links.reserve_one(alloc)?;
-        let address = replace(&mut self.ends.address, Vec::new(alloc));
-        let mut upstream = Upstream::new(address, self.core.config(), asked)?;
         let id = self.ends.connections.number_at(i);
         let outcome = match self.core.arrive(alloc, now, id, asked) {
             Ok(outcome) => outcome,
             Err(fault) => return Err(as_alloc_error(fault)),
         };
-        upstream.set_address(self.core.config(), &outcome);
         marks::pass_next_at(&mut self.ends.connections, i);
+        let config = self.core.config();
         self.ends
-            .carry_out(&mut effects, alloc, i, upstream, outcome);
+            .carry_out(&mut effects, alloc, config, i, is_head(asked), outcome);
         Ok(effects)
     }
 

@@ -10,13 +10,12 @@ ghost use Rattle.proxy_engine.specs.State.{NoActWasDoneSince};
 
 use crate::endpoints::marks;
 use crate::engine::Engine;
-use crate::steps::finishing::upstream_for_second_forward;
+use crate::steps::finishing::exchange_asks_head;
 use crate::steps::outcomes::{as_alloc_error, room};
 use crate::work::EngineFault;
 use hx_store::Shelf;
 use proxy_script::Effect;
 use std::alloc::{AllocError, Global};
-use std::mem::replace;
 
 impl<S: Shelf> Engine<S> {
     /// The request of the connection at a place is judged anew, where a link number is left for it. All that can fail
@@ -34,16 +33,15 @@ impl<S: Shelf> Engine<S> {
         let mut effects = room(alloc)?;
         self.ends.links.reserve_one(alloc)?;
         let id = self.ends.connections.number_at(i);
-        let address = replace(&mut self.ends.address, Vec::new(alloc));
-        let mut upstream = upstream_for_second_forward(&self.core, address, id)?;
+        let to_head = exchange_asks_head(&self.core, id);
         let outcome = match self.core.wake(alloc, now, id) {
             Ok(outcome) => outcome,
             Err(fault) => return Err(as_alloc_error(fault)),
         };
-        upstream.set_address(self.core.config(), &outcome);
         marks::mark_free_at(&mut self.ends.connections, i);
+        let config = self.core.config();
         self.ends
-            .carry_out(&mut effects, alloc, i, upstream, outcome);
+            .carry_out(&mut effects, alloc, config, i, to_head, outcome);
         Ok(effects)
     }
 

@@ -4,6 +4,7 @@ use case_text::table_text;
 use hx_allow::{Config, ConfigFault, LineWord};
 use hx_policy::Policy;
 use std::alloc::Global;
+use std::net::{Ipv4Addr, SocketAddrV4};
 use std::test::Fail;
 
 fn config_of(alloc: Global, version: u64, lines: &[[&str; 5]]) -> Result<Config, Fail> {
@@ -24,7 +25,9 @@ fn each_line_says_whether_it_has_a_cache(rt: HostRuntime) -> Result<(), Fail> {
     assert!(rt; !config.policy(1).caches);
     assert!(rt; config.policy(2) == Policy::plain(true));
     assert!(rt; config.policy(3) == Policy::plain(true));
-    assert!(rt; config.longest_origin() == 14);
+    let address = SocketAddrV4::new(Ipv4Addr::LOCALHOST, 8081);
+    assert!(rt; config.origin_address(2) == Some(address));
+    assert!(rt; config.origin_address(4) == None);
     Ok(())
 }
 

@@ -4,6 +4,7 @@ ghost use Rattle.proxy_turn.specs.Received.{FitsTheBuffer};
 
 use proxy_turn::{End, Received, SocketFailed, Sockets};
 use std::alloc::Global;
+use std::net::SocketAddrV4;
 
 /// A call, by what it names.
 #[derive(Clone, Copy, Debug, PartialEq, Eq)]
@@ -167,7 +168,7 @@ impl Sockets for MemorySockets {
         Ok(())
     }
 
-    fn connect(&mut self, link: u64, _address: &[u8]) -> Result<(), SocketFailed> {
+    fn connect(&mut self, link: u64, _address: SocketAddrV4) -> Result<(), SocketFailed> {
         if self.calls.fails(Call::Connect(link)) {
             self.failures = self.failures.saturating_add(1);
             return Err(SocketFailed);

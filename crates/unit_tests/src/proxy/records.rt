@@ -13,6 +13,7 @@ use proxy_turn::{End, Received, SocketFailed, Sockets, turn};
 use std::alloc::{AllocError, Global};
 use std::io;
 use std::io::{ErrorKind, Write};
+use std::net::SocketAddrV4;
 use std::test::Fail;
 
 /// What each client sends, a piece a read.
@@ -45,7 +46,7 @@ struct Crowd {
     alloc: Global,
     accepted: u64,
     next: Vec<Next>,
-    address: Vec<u8>,
+    address: Option<SocketAddrV4>,
     done: Vec<Effect>,
     lost: bool,
     accepts: u64,
@@ -98,7 +99,7 @@ impl Crowd {
             alloc,
             accepted: 0,
             next: Vec::new(alloc),
-            address: Vec::new(alloc),
+            address: None,
             done: Vec::new(alloc),
             lost: false,
             accepts: 0,
@@ -110,11 +111,7 @@ impl Crowd {
     fn effect_of(&self, end: End, bytes: &[u8]) -> Result<Effect, AllocError> {
         let bytes = bytes_of(self.alloc, bytes)?;
         match end {
-            End::Link(l) => Ok(Effect::Forward(
-                l,
-                bytes_of(self.alloc, self.address.as_slice())?,
-                bytes,
-            )),
+            End::Link(l) => Ok(Effect::Forward(l, self.address.ok_or(AllocError)?, bytes)),
             End::Client(n) => Ok(Effect::Client(n, bytes)),
             End::Listener => Err(AllocError),
         }
@@ -156,9 +153,8 @@ impl Sockets for Crowd {
         Ok(())
     }
 
-    fn connect(&mut self, _link: u64, address: &[u8]) -> Result<(), SocketFailed> {
-        self.address.clear();
-        self.lost = self.lost || self.address.extend_from_slice(address).is_err();
+    fn connect(&mut self, _link: u64, address: SocketAddrV4) -> Result<(), SocketFailed> {
+        self.address = Some(address);
         Ok(())
     }
 

@@ -9,6 +9,7 @@ use proxy_turn::{
     End, LoggedCall, LoggedReadOutcome, LoggedSockets, Sockets, TurnFault, turn, turn_with_log,
 };
 use std::alloc::Global;
+use std::net::{Ipv4Addr, SocketAddrV4};
 use std::process::Abort;
 use std::test::Fail;
 
@@ -166,7 +167,7 @@ fn calls_are_logged(rt: HostRuntime) -> Result<(), Fail> {
             LoggedCall::Write(End::Link(1), written, true),
         ] => {
             assert!(rt; asked.as_slice() == ASK);
-            assert!(rt; address.as_slice() == b"127.0.0.1:8081".as_slice());
+            assert!(rt; *address == SocketAddrV4::new(Ipv4Addr::LOCALHOST, 8081));
             assert!(rt; written.as_slice() == FORWARDED);
         }
         _ => panic!(rt; "other calls"),

@@ -16,7 +16,7 @@ returns-clause-verdict c =
     let method_is : c.as_bytes-method.result.now ≡ c.args.method.now = c.as_bytes-method.ensures.value ∙ c.as_str.ensures.value in
     let allowed : is_never_allowed c.args.method.now ≡ false = sym (ap is_never_allowed method_is) ∙ sym c.is_never_allowed.ensures ∙ c.if-is_never_allowed.false in
     decides c.args.self.now.lines c.self.inside.lines.items c.deref.result.now c.self.inside.by_host c.numbers-numbers.result.now c.as_bytes-method.result.now
-    c.as_slice-2.result.now c.as_slice.result.now c.args.method.now c.args.target.now c.verdict_among.result c.self.invariant.2 (ap (λ (t : Table). t.lines) c.self.view_is)
+    c.as_slice-2.result.now c.as_slice.result.now c.args.method.now c.args.target.now c.verdict_among.result c.self.invariant.1 (ap (λ (t : Table). t.lines) c.self.view_is)
     c.deref.ensures.value c.numbers-numbers.ensures c.as_slice.ensures c.as_slice-2.ensures method_is allowed c.verdict_among.ensures
 
 pub returns-clause-allowing : goal.returns-clause-allowing

@@ -1,10 +1,9 @@
 use Rattle.std.proofs.Common.{◌≡◌, ℕ, sum_by, ◌+◌, ◌∙◌, ◌++◌, List, Option, length, sym, ap, subst, arith}
 use Rattle.proxy_script.specs.declared.effect_list.Effect.{Effect}
 use Rattle.hx_framing.specs.declared.messages.Next.TheVariants.{Message}
-use Rattle.hx_allow.specs.TableLines.{Table}
 use Rattle.proxy_core.specs.State.{State as CoreState}
 use Rattle.proxy_core.specs.declared.open.exchange.Exchange.{Exchange}
-use Rattle.proxy_engine.specs.Acts.{effects_of_outcome, outcome_with_address, outcome_by_table, model_after_outcome}
+use Rattle.proxy_engine.specs.Acts.{effects_of_outcome, outcome_by_table, model_after_outcome}
 use Rattle.proxy_engine.specs.State.{EngineRepresents, EngineDoesAct, engine_state, load_of_due_request, link_load}
 use Rattle.proxy_engine.specs.Due.{Serves}
 use Rattle.proxy_engine.specs.Pairing.{ConnectionsAndLinksArePaired, activities_of, owners_of}
@@ -32,17 +31,15 @@ returns-clause-ok g c = rw (← c.self.view_is) (
     let ks = c.reserve_one.new.self.items in
     let same = c.reserve_one.ensures.items in
     let core = c.self.inside.core in
-    let upstream = c.set_address.new.self in
-    let led : outcome_with_address upstream.address.items c.in-Ok.outcome ≡ outcome_by_table core.table c.in-Ok.outcome =
-    c.set_address.ensures.came ∙ ap (λ (t : Table). outcome_by_table t c.in-Ok.outcome) (c.config-2.ensures ∙ ap (λ (k : CoreState). k.table) (rw c.number_at-id.ensures at c.in-Ok.ensures.ok).leaves) in
+    let table = c.config-config.result.now in
+    let table_is : table ≡ core.table = c.config-config.ensures ∙ ap (λ (k : CoreState). k.table) (rw c.number_at-id.ensures at c.in-Ok.ensures.ok).leaves in
     let here = subst (λ (ls : List (Option Link)). EngineRepresents (engine_state c.self.inside.ends.connections.items ls core c.self.inside.ends.first_link) s) (sym same) h in
     subst (λ (n : ℕ). EngineDoesAct s c.args.now (Serves c.args.i (Message r)) c.carry_out.new.effects.items (engine_state c.carry_out.new.self.connections.items c.carry_out.new.self.links.items c.arrive.new.self n)) (sym c.carry_out.ensures.first)
-    (arrived_done s c.pass_next_at.new.connections.items c.carry_out.new.self.connections.items ks c.carry_out.new.self.links.items core c.arrive.new.self c.self.inside.ends.first_link c.args.now c.args.i upstream.max_body r c.args.asked.now c.in-Ok.outcome
-    upstream.address.items upstream.to_head c.carry_out.new.effects.items asked (rw c.number_at-id.ensures at c.in-Ok.ensures.ok) (omega (arith, (rw (← c.self.view_is) at c.requires.left), ap length same))
-    led
-    (c.set_address.ensures.max_body ∙ c.in_ok-upstream.ensures.max_body ∙ ap (λ (t : Table). t.max_body) c.config.ensures) (c.set_address.ensures.to_head ∙ c.in_ok-upstream.ensures.to_head)
-    (c.carry_out.ensures.effects ∙ ap (λ (b : List Effect). b ++ effects_of_outcome c.args.i (c.self.inside.ends.first_link + length ks) (outcome_with_address upstream.address.items c.in-Ok.outcome)) c.in_ok-effects.ensures.items)
-    (λ t k most represents. subst (λ (n : ℕ). EngineRepresents (engine_state c.carry_out.new.self.connections.items c.carry_out.new.self.links.items k n) (model_after_outcome c.args.i upstream.to_head (outcome_with_address upstream.address.items c.in-Ok.outcome) t)) c.carry_out.ensures.first (c.carry_out.ensures.represents t k most represents))
+    (arrived_done s c.pass_next_at.new.connections.items c.carry_out.new.self.connections.items ks c.carry_out.new.self.links.items core c.arrive.new.self c.self.inside.ends.first_link c.args.now c.args.i r c.args.asked.now c.in-Ok.outcome
+    table c.is_head.result c.carry_out.new.effects.items asked (rw c.number_at-id.ensures at c.in-Ok.ensures.ok) (omega (arith, (rw (← c.self.view_is) at c.requires.left), ap length same))
+    table_is c.is_head.ensures
+    (c.carry_out.ensures.effects ∙ ap (λ (b : List Effect). b ++ effects_of_outcome c.args.i (c.self.inside.ends.first_link + length ks) (outcome_by_table table c.in-Ok.outcome)) c.in_ok-effects.ensures.items)
+    (λ t k most represents. subst (λ (n : ℕ). EngineRepresents (engine_state c.carry_out.new.self.connections.items c.carry_out.new.self.links.items k n) (model_after_outcome c.args.i c.is_head.result (outcome_by_table table c.in-Ok.outcome) t)) c.carry_out.ensures.first (c.carry_out.ensures.represents t k most represents))
     (c.pass_next_at.ensures.represents s (Message r) ks core c.self.inside.ends.first_link due here))
     )
 

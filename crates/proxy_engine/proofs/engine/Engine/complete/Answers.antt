@@ -1,10 +1,9 @@
 use Rattle.std.proofs.Common.{◌≡◌, ◌+◌, ◌≤◌, ◌^◌, ◌∙◌, ◌++◌, ◌∷◌, [], ℕ, List, Option, None, Some, is_some, length, get_or, set, sym, ap, subst, arith, sum_by}
 use Rattle.proxy_script.specs.declared.effect_list.Effect.{Effect}
 use Rattle.proxy_script.specs.declared.effect_list.Effect.TheVariants.{Drop}
-use Rattle.hx_allow.specs.TableLines.{Table}
 use Rattle.proxy_engine.specs.EngineModel.{no_link}
 use Rattle.proxy_engine.specs.Due.{LinkResult, Finishes}
-use Rattle.proxy_engine.specs.Acts.{outcome_with_address, outcome_by_table, effects_of_outcome, model_after_outcome}
+use Rattle.proxy_engine.specs.Acts.{outcome_by_table, effects_of_outcome, model_after_outcome}
 use Rattle.proxy_engine.specs.State.{LinkRepresents, EngineRepresents, engine_state, EngineDoesAct, link_result_at, link_load}
 use Rattle.proxy_engine.specs.Pairing.{owners_of}
 use Rattle.proxy_engine.specs.declared.endpoints.ends.Link.{Link}
@@ -25,14 +24,6 @@ number_at-id-requires g c = let x = c.at.result.now in
     let there = subst (λ (ls : List (Option Link)). get_or ls c.args.j None ≡ Some x) c.reserve_one.ensures.items c.at.ensures in
     let link = owned_link c.self.inside.ends.connections.items c.self.inside.ends.links.items c.self.inside.core.exchanges c.args.j x there c.self.invariant in
     within_connections c.self.inside.ends.connections.items x.connection c.args.j link
-
-pub upstream_for_second_forward-requires : goal.upstream_for_second_forward-requires
-upstream_for_second_forward-requires g c = let cs = c.self.inside.ends.connections.items in
-    let ks = c.self.inside.ends.links.items in
-    let xs = c.self.inside.core.exchanges in
-    let x = c.at.result.now in
-    let there = subst (λ (ls : List (Option Link)). get_or ls c.args.j None ≡ Some x) c.reserve_one.ensures.items c.at.ensures in
-    rw c.number_at-id.ensures (is_open cs ks xs x.connection c.args.j (owned_link cs ks xs c.args.j x there c.self.invariant) c.self.invariant)
 
 pub at-requires-2 : goal.at-requires-2
 at-requires-2 g c = ap (λ (ls : List (Option Link)). is_some (get_or ls c.args.j None)) c.reserve_one.ensures.items ∙ finish_there _ (rw (← c.self.view_is) at c.requires.due)
@@ -131,16 +122,15 @@ returns-clause-ok g c = rw (← c.self.view_is) (
     let link = owned_link cs ks core.exchanges j x there c.self.invariant in
     let is_there = is_open cs ks core.exchanges i j link c.self.invariant in
     let emitted : c.put.new.effects.items ≡ Drop (c.self.inside.ends.first_link + j) ∷ [] = emitted_one c.in_ok-effects.effects.items c.put.new.effects.items _ c.put.ensures.items c.in_ok-effects.ensures.items ∙ ap (λ (n : ℕ). Drop n ∷ []) number in
-    let upstream = c.set_address.new.self in
-    let led : outcome_with_address upstream.address.items c.in_ok-outcome.outcome ≡ outcome_by_table core.table c.in_ok-outcome.outcome =
-    c.set_address.ensures.came ∙ ap (λ (t : Table). outcome_by_table t c.in_ok-outcome.outcome) (c.config.ensures ∙ ends_table core c.end.new.core c.args.now (i + 1) ended.0 c.in_ok-outcome.outcome ended.2) in
+    let table = c.config-config.result.now in
+    let table_is : table ≡ core.table = c.config-config.ensures ∙ ends_table core c.end.new.core c.args.now (i + 1) ended.0 c.in_ok-outcome.outcome ended.2 in
     let free = c.free.ensures.represents s core c.self.inside.ends.first_link (subst (λ (ls : List (Option Link)). EngineRepresents (engine_state cs ls core c.self.inside.ends.first_link) s) (sym items) h) in
     let fresh = c.free.ensures.links in
     subst (λ (n : ℕ). EngineDoesAct s c.args.now (Finishes j f) c.carry_out.new.effects.items (engine_state c.carry_out.new.self.connections.items c.carry_out.new.self.links.items c.end.new.core n)) (sym c.carry_out.ensures.first)
     (subst (λ (x : LinkResult). EngineDoesAct s c.args.now (Finishes j x) c.carry_out.new.effects.items (engine_state c.carry_out.new.self.connections.items c.carry_out.new.self.links.items c.end.new.core c.self.inside.ends.first_link)) (sym same)
-    (finished_done s c.free.new.connections.items c.carry_out.new.self.connections.items c.free.new.links.items c.carry_out.new.self.links.items core c.end.new.core c.self.inside.ends.first_link c.args.now i j upstream.max_body ended.0 c.in_ok-outcome.outcome
-    upstream.address.items upstream.to_head c.carry_out.new.effects.items is_there (λ t. let few = (rw (← c.self.view_is) at c.requires.left) ended.0 due t in omega (arith, few, links)) ended.2 led (c.set_address.ensures.max_body ∙ c.in_ok-upstream.ensures.max_body)
-    (c.set_address.ensures.to_head ∙ (rw c.number_at-id.ensures at c.in_ok-upstream.ensures.to_head)) (omega (arith, fresh, sizes, links, first_is))
-    (c.carry_out.ensures.effects ∙ ap (λ (b : List Effect). b ++ effects_of_outcome i (c.self.inside.ends.first_link + length c.free.new.links.items) (outcome_with_address upstream.address.items c.in_ok-outcome.outcome)) emitted)
-    first_is h.core owner.connection free (λ t k most represents. subst (λ (n : ℕ). EngineRepresents (engine_state c.carry_out.new.self.connections.items c.carry_out.new.self.links.items k n) (model_after_outcome i upstream.to_head (outcome_with_address upstream.address.items c.in_ok-outcome.outcome) t)) c.carry_out.ensures.first (c.carry_out.ensures.represents t k most represents))))
+    (finished_done s c.free.new.connections.items c.carry_out.new.self.connections.items c.free.new.links.items c.carry_out.new.self.links.items core c.end.new.core c.self.inside.ends.first_link c.args.now i j ended.0 c.in_ok-outcome.outcome
+    table c.exchange_asks_head-to_head.result c.carry_out.new.effects.items is_there (λ t. let few = (rw (← c.self.view_is) at c.requires.left) ended.0 due t in omega (arith, few, links)) ended.2 table_is
+    (rw c.number_at-id.ensures at c.exchange_asks_head-to_head.ensures) (omega (arith, fresh, sizes, links, first_is))
+    (c.carry_out.ensures.effects ∙ ap (λ (b : List Effect). b ++ effects_of_outcome i (c.self.inside.ends.first_link + length c.free.new.links.items) (outcome_by_table table c.in_ok-outcome.outcome)) emitted)
+    first_is h.core owner.connection free (λ t k most represents. subst (λ (n : ℕ). EngineRepresents (engine_state c.carry_out.new.self.connections.items c.carry_out.new.self.links.items k n) (model_after_outcome i c.exchange_asks_head-to_head.result (outcome_by_table table c.in_ok-outcome.outcome) t)) c.carry_out.ensures.first (c.carry_out.ensures.represents t k most represents))))
     )

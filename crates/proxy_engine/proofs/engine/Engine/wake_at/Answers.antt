@@ -1,8 +1,7 @@
 use Rattle.std.proofs.Common.{◌≡◌, ◌+◌, ℕ, List, Option, None, is_some, length, sum_by, ap, sym, subst, ◌∙◌, ◌++◌, get_or, arith}
-use Rattle.hx_allow.specs.TableLines.{Table}
 use Rattle.proxy_script.specs.declared.effect_list.Effect.{Effect}
 use Rattle.proxy_core.specs.State.{State as CoreState}
-use Rattle.proxy_engine.specs.Acts.{effects_of_outcome, outcome_with_address, outcome_by_table, model_after_outcome}
+use Rattle.proxy_engine.specs.Acts.{effects_of_outcome, outcome_by_table, model_after_outcome}
 use Rattle.proxy_engine.specs.Due.{Wakes}
 use Rattle.proxy_engine.specs.State.{EngineRepresents, EngineDoesAct, engine_state, link_load, load_of_waiting}
 use Rattle.proxy_engine.specs.Pairing.{ConnectionsAndLinksArePaired, activity_of, activities_of, owners_of}
@@ -17,9 +16,6 @@ number_at-id-requires g c =
     let cs = c.self.inside.ends.connections.items in
     let waits = ready_waits (activities_of cs) (owners_of c.self.inside.ends.links.items) c.self.inside.core.exchanges c.args.i (rw (← c.self.view_is) at c.requires.ready) c.self.invariant in
     within_waiting cs c.args.i waits
-
-pub upstream_for_second_forward-requires : goal.upstream_for_second_forward-requires
-upstream_for_second_forward-requires g c = rw c.number_at-id.ensures (ap is_some (rw (← c.self.view_is) at c.requires.ready).is_open)
 
 pub as_alloc_error-requires : goal.as_alloc_error-requires
 as_alloc_error-requires g c = wake_refused c.self.inside.core.exchanges c.args.now (c.args.i + 1) c.in-Err.fault (rw (← c.self.view_is) at c.requires.ready) c.requires.early (rw c.number_at-id.ensures at c.in-Err.ensures.err)
@@ -47,17 +43,15 @@ returns-clause-ok g c = rw (← c.self.view_is) (
     let ks = c.reserve_one.new.self.items in
     let same = c.reserve_one.ensures.items in
     let core = c.self.inside.core in
-    let upstream = c.set_address.new.self in
-    let led : outcome_with_address upstream.address.items c.in-Ok.outcome ≡ outcome_by_table core.table c.in-Ok.outcome =
-    c.set_address.ensures.came ∙ ap (λ (t : Table). outcome_by_table t c.in-Ok.outcome) (c.config.ensures ∙ ap (λ (k : CoreState). k.table) (rw c.number_at-id.ensures at c.in-Ok.ensures.ok).leaves) in
+    let table = c.config-config.result.now in
+    let table_is : table ≡ core.table = c.config-config.ensures ∙ ap (λ (k : CoreState). k.table) (rw c.number_at-id.ensures at c.in-Ok.ensures.ok).leaves in
     let here = subst (λ (ls : List (Option Link)). EngineRepresents (engine_state c.self.inside.ends.connections.items ls core c.self.inside.ends.first_link) s) (sym same) h in
     subst (λ (n : ℕ). EngineDoesAct s c.args.now (Wakes c.args.i) c.carry_out.new.effects.items (engine_state c.carry_out.new.self.connections.items c.carry_out.new.self.links.items c.wake.new.self n)) (sym c.carry_out.ensures.first)
-    (woken_done s c.mark_free_at.new.connections.items c.carry_out.new.self.connections.items ks c.carry_out.new.self.links.items core c.wake.new.self c.self.inside.ends.first_link c.args.now c.args.i upstream.max_body c.in-Ok.outcome
-    upstream.address.items upstream.to_head c.carry_out.new.effects.items (rw c.number_at-id.ensures at c.in-Ok.ensures.ok) (omega (arith, (rw (← c.self.view_is) at c.requires.left), ap length same))
-    led
-    (c.set_address.ensures.max_body ∙ c.in_ok-upstream.ensures.max_body) (c.set_address.ensures.to_head ∙ (rw c.number_at-id.ensures at c.in_ok-upstream.ensures.to_head))
-    (c.carry_out.ensures.effects ∙ ap (λ (b : List Effect). b ++ effects_of_outcome c.args.i (c.self.inside.ends.first_link + length ks) (outcome_with_address upstream.address.items c.in-Ok.outcome)) c.in_ok-effects.ensures.items)
-    (λ t k most represents. subst (λ (n : ℕ). EngineRepresents (engine_state c.carry_out.new.self.connections.items c.carry_out.new.self.links.items k n) (model_after_outcome c.args.i upstream.to_head (outcome_with_address upstream.address.items c.in-Ok.outcome) t)) c.carry_out.ensures.first (c.carry_out.ensures.represents t k most represents))
+    (woken_done s c.mark_free_at.new.connections.items c.carry_out.new.self.connections.items ks c.carry_out.new.self.links.items core c.wake.new.self c.self.inside.ends.first_link c.args.now c.args.i c.in-Ok.outcome
+    table c.exchange_asks_head-to_head.result c.carry_out.new.effects.items (rw c.number_at-id.ensures at c.in-Ok.ensures.ok) (omega (arith, (rw (← c.self.view_is) at c.requires.left), ap length same))
+    table_is (rw c.number_at-id.ensures at c.exchange_asks_head-to_head.ensures)
+    (c.carry_out.ensures.effects ∙ ap (λ (b : List Effect). b ++ effects_of_outcome c.args.i (c.self.inside.ends.first_link + length ks) (outcome_by_table table c.in-Ok.outcome)) c.in_ok-effects.ensures.items)
+    (λ t k most represents. subst (λ (n : ℕ). EngineRepresents (engine_state c.carry_out.new.self.connections.items c.carry_out.new.self.links.items k n) (model_after_outcome c.args.i c.exchange_asks_head-to_head.result (outcome_by_table table c.in-Ok.outcome) t)) c.carry_out.ensures.first (c.carry_out.ensures.represents t k most represents))
     (c.mark_free_at.ensures.represents s ks core c.self.inside.ends.first_link here))
     )
 
