@@ -7,6 +7,7 @@ pub mod existence_laws;
 pub mod head_laws;
 pub mod length_laws;
 pub mod order_laws;
+pub mod reader_laws;
 pub mod reading_laws;
 pub mod request_laws;
 pub mod response_laws;

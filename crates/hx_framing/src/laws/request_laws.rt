@@ -17,7 +17,6 @@ ghost use Rattle.hx_framing.specs.RequestReading.{Reads};
 ghost use Rattle.hx_framing.specs.RequestStream.{StreamSpells, Answers, NeedsMemory};
 ghost use Rattle.hx_framing.specs.Progress.{Progress, AnswerIsDue, stream_with_piece, stream_finished};
 ghost use Rattle.hx_framing.specs.RequestState.{State, RepresentsStream, weight, request_kind};
-ghost use Rattle.hx_framing.specs.ReaderState.{IsUnfinished};
 
 /// One thing stands at the front of the unread bytes.
 pub fn one_reading_stands_in_front()
@@ -71,24 +70,6 @@ pub fn due_answers_stay()
         → p.ended ≡ false → AnswerIsDue answer → Answers p answer → Answers (stream_with_piece p piece) answer }
     ensures end { (p : Progress Request) → (answer : Next Request) → AnswerIsDue answer → Answers p answer
         → Answers (stream_finished p) answer }
-{}
-
-/// What a reader keeps where nothing is due is begun and not whole: at most 32,768 bytes, in which
-/// no head ends; of a content in chunks the begun line, and nothing of another content.
-pub fn no_reader_keeps_what_is_whole()
-    ensures bounded { (s : State) → IsUnfinished s → length s.unread ≤ 32768 }
-    ensures head { (s : State) → s.phase ≡ phase.BeforeHead → IsUnfinished s → head_length s.unread ≡ None }
-    ensures announced { (s : State) → (head : Head) → (c : PlainContent)
-        → s.phase ≡ phase.InContent head (content.Announced c) → IsUnfinished s → s.unread ≡ [] }
-    ensures closed { (s : State) → (head : Head) → (c : PlainContent)
-        → s.phase ≡ phase.InContent head (content.UntilClose c) → IsUnfinished s → s.unread ≡ [] }
-    ensures nothing { (s : State) → (head : Head)
-        → s.phase ≡ phase.InContent head content.Nothing → IsUnfinished s → s.unread ≡ [] }
-    ensures line { (s : State) → (head : Head) → (c : Chunking)
-        → s.phase ≡ phase.InContent head (content.Chunked c) → IsUnfinished s → has_no_lf s.unread ≡ true }
-    ensures begun { (s : State) → (head : Head) → (c : Chunking) → s.phase ≡ phase.InContent head (content.Chunked c)
-        → IsUnfinished s → chunking_after_bytes s.unread c ≡ Some (record c { line = s.unread }) }
-    ensures fault { (s : State) → (f : FrameFault) → s.phase ≡ phase.Faulty f → ¬ (IsUnfinished s) }
 {}
 
 /// A reader weighs two for each byte that it keeps, for a message and its continue have one at

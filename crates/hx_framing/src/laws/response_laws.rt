@@ -19,7 +19,6 @@ ghost use Rattle.hx_framing.specs.ResponseReading.{Reads};
 ghost use Rattle.hx_framing.specs.ResponseStream.{SpellsResponse, OneResponseIsGiven, Answers, NeedsMemory};
 ghost use Rattle.hx_framing.specs.Progress.{Progress, AnswerIsDue, cost_of_answer, stream_with_piece, stream_finished};
 ghost use Rattle.hx_framing.specs.ResponseState.{State, RepresentsStream, weight, response_kind};
-ghost use Rattle.hx_framing.specs.ReaderState.{IsUnfinished};
 
 /// A stream has one response: behind it nothing is given but the end.
 pub fn one_response_is_given()
@@ -86,27 +85,6 @@ pub fn what_is_read_is_final()
         → (fields : List Field) × (response.fields ≡ without_lengths fields) }
     ensures announced { (max_body : ℕ) → (ended : Bool) → (bytes : List ℕ) → (response : Response) → (rest : List ℕ)
         → Reads max_body false ended bytes (Spelled response rest) → response.announced ≡ None }
-{}
-
-/// What a reader keeps where nothing is due is begun and not whole: at most 32,768 bytes, in which
-/// no head ends, interim or final; of a content in chunks the begun line, and nothing of another
-/// content.
-pub fn no_reader_keeps_what_is_whole()
-    ensures bounded { (s : State) → IsUnfinished s → length s.unread ≤ 32768 }
-    ensures head { (s : State) → s.phase ≡ phase.BeforeHead → IsUnfinished s → head_length s.unread ≡ None }
-    ensures announced { (s : State) → (head : StatusHead) → (c : PlainContent)
-        → s.phase ≡ phase.InContent head (content.Announced c) → IsUnfinished s → s.unread ≡ [] }
-    ensures closed { (s : State) → (head : StatusHead) → (c : PlainContent)
-        → s.phase ≡ phase.InContent head (content.UntilClose c) → IsUnfinished s → s.unread ≡ [] }
-    ensures nothing { (s : State) → (head : StatusHead)
-        → s.phase ≡ phase.InContent head content.Nothing → IsUnfinished s → s.unread ≡ [] }
-    ensures line { (s : State) → (head : StatusHead) → (c : Chunking)
-        → s.phase ≡ phase.InContent head (content.Chunked c) → IsUnfinished s → has_no_lf s.unread ≡ true }
-    ensures begun { (s : State) → (head : StatusHead) → (c : Chunking)
-        → s.phase ≡ phase.InContent head (content.Chunked c)
-        → IsUnfinished s → chunking_after_bytes s.unread c ≡ Some (record c { line = s.unread }) }
-    ensures given { (s : State) → s.phase ≡ phase.Given → ¬ (IsUnfinished s) }
-    ensures fault { (s : State) → (f : FrameFault) → s.phase ≡ phase.Faulty f → ¬ (IsUnfinished s) }
 {}
 
 /// A reader weighs two for each byte before or in its response, two more in it, and one where the
