@@ -17,9 +17,7 @@ ghost use Rattle.proxy_engine.specs.Actions.{ExchangeIsFinishedBy, is_whole_answ
 use crate::endpoints::activities::Activity;
 use crate::endpoints::ends::Link;
 use crate::engine::Engine;
-use crate::steps::outcomes::{
-    as_alloc_error, free, free_lost, put, release_waiting, room,
-};
+use crate::steps::outcomes::{as_alloc_error, free, free_lost, put, release_waiting, room};
 use crate::work::EngineFault;
 use hx_framing::{FrameFault, Next};
 use hx_status::FailKind;
