@@ -1,7 +1,6 @@
 //! The ends of a proxy, and what taking a happening, or working, comes to.
 
 use proxy_script::Effect;
-use std::alloc::AllocError;
 
 /// An end of a proxy: where connections come from, a client by its connection's number, or an origin by its link's.
 #[derive(Clone, Copy, Debug, PartialEq, Eq)]
@@ -22,17 +21,6 @@ pub enum EngineFault {
     OutOfMemory,
     /// The act may need a link, and the last number is used.
     Spent,
-}
-
-impl From<AllocError> for EngineFault {
-    ghost use Rattle.std.specs.Prelude.{◌≡◌};
-    ghost use Rattle.proxy_engine.specs.declared.work.EngineFault.TheVariants.{OutOfMemory};
-
-    ghost from_gives = { λ _ e. e ≡ OutOfMemory };
-
-    fn from(_: AllocError) -> EngineFault {
-        EngineFault::OutOfMemory
-    }
 }
 
 /// What one call of `work` did.
