@@ -11,7 +11,7 @@ RULES = [
     ("StoreRule", "storing_rule_number", Words.storing),
     ("ErrorRule", "error_rule_number", Words.error),
 ]
-# Lists of words. (Want of memory is told of no target: it is the program's own.)
+# Lists of words. (Out of memory is told of no target: it is the program's own.)
 FAULTS = [("FrameFault", "frame_word", Words.message), ("TargetFault", "target_word", Words.target)]
 OTHERS = [("FailKind", "fail_kind_word", Words.kind), ("Cause", "refusal_text", Words.cause), ("Detail", "detail_word", Words.detail)]
 
