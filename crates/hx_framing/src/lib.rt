@@ -35,9 +35,9 @@
 //! The laws' own words are in `ChunkGrammar` (chunks as trees), `ChunkFaults`, `HeadLines`,
 //! `GivenFields`, `FaultOrder`, `Written`, `WrittenResponse`, `Examples`, `LengthExamples` and
 //! `ReadingExamples`. The rest serves the proofs alone and needs no trust: `RequestHeadProgress`,
-//! `ResponseHeadProgress`, `ReaderSteps`, `ContentReading`, `Decoding`, `PlainContent`, `ByteQueue`, `Searching`, what
-//! else is in `ChunkTokens`; and so does `RepresentsStream`, which may be any relation that holds of a new
-//! reader and that each call keeps.
+//! `ResponseHeadProgress`, `ReaderSteps`, `ContentReading`, `Decoding`, `PlainContent`,
+//! `ByteQueue`, `Searching`, what else is in `ChunkTokens`; and so does `RepresentsStream`, which
+//! may be any relation that holds of a new reader and that each call keeps.
 #![tactic(auto)]
 
 mod contents;
