@@ -24,7 +24,7 @@ use crate::endpoints::connections::Connections;
 use crate::endpoints::ends::Link;
 use crate::endpoints::links::Links;
 use crate::endpoints::marks;
-use crate::endpoints::numbers::link_number;
+use crate::endpoints::numbers::{ConnectionPlace, LinkPlace};
 use crate::endpoints::open_ends::Ends;
 use crate::endpoints::peeked::Peeked;
 use hx_allow::Config;
@@ -71,7 +71,7 @@ pub(crate) fn as_alloc_error(fault: CoreFault) -> AllocError
 pub(crate) fn send_reply(
     connections: &mut Connections,
     effects: &mut Vec<Effect>,
-    i: u64,
+    i: ConnectionPlace,
     bytes: Bytes,
     close: bool,
 )
@@ -102,7 +102,7 @@ fn open_link(
     alloc: Global,
     max_body: u64,
     to_head: bool,
-    i: u64,
+    i: ConnectionPlace,
 )
     requires free { connection_is_free_at (slice_index_or connections.old.items i None) ≡ true }
     requires room { links.old.has_room ≡ true }
@@ -117,7 +117,7 @@ fn open_link(
     ensures load { engine_load connections.new.items links.new.items
         ≤ engine_load connections.old.items links.old.items + 1 }
 {
-    marks::link_at(connections, i, links.len());
+    marks::link_at(connections, i, links.next_place());
     links.put(Link {
         reader: Peeked::new(ResponseReader::new(alloc, max_body, to_head)),
         ended: false,
@@ -181,7 +181,12 @@ impl Upstream {
 }
 
 /// The exchange of a link is over, and its connection goes on.
-pub(crate) fn free(connections: &mut Connections, links: &mut Links, j: u64, i: u64)
+pub(crate) fn free(
+    connections: &mut Connections,
+    links: &mut Links,
+    j: LinkPlace,
+    i: ConnectionPlace,
+)
     requires link { is_some (slice_index_or links.old.items j None) ≡ true }
     requires connection { is_gone_at (slice_index_or connections.old.items i None) ≡ Some false }
     ensures represents { (s : EngineModel) → (core : CoreState) → (first : ℕ)
@@ -202,7 +207,7 @@ pub(crate) fn free(connections: &mut Connections, links: &mut Links, j: u64, i: 
 }
 
 /// The exchange of a request that waited is over, and so is its connection, which is gone.
-pub(crate) fn release_waiting(connections: &mut Connections, i: u64)
+pub(crate) fn release_waiting(connections: &mut Connections, i: ConnectionPlace)
     requires { is_gone_at (slice_index_or connections.old.items i None) ≡ Some true }
     ensures represents { (s : EngineModel) → (links : List (Option Link)) → (core : CoreState) → (first : ℕ)
         → EngineRepresents (engine_state connections.old.items links core first) s
@@ -216,7 +221,12 @@ pub(crate) fn release_waiting(connections: &mut Connections, i: u64)
 }
 
 /// The exchange of a link is over, and so is its connection, which is gone.
-pub(crate) fn free_lost(connections: &mut Connections, links: &mut Links, j: u64, i: u64)
+pub(crate) fn free_lost(
+    connections: &mut Connections,
+    links: &mut Links,
+    j: LinkPlace,
+    i: ConnectionPlace,
+)
     requires link { is_some (slice_index_or links.old.items j None) ≡ true }
     requires connection { is_gone_at (slice_index_or connections.old.items i None) ≡ Some true }
     ensures represents { (s : EngineModel) → (core : CoreState) → (first : ℕ)
@@ -235,11 +245,11 @@ pub(crate) fn free_lost(connections: &mut Connections, links: &mut Links, j: u64
 
 impl Ends {
     /// The number of the link at a place.
-    pub(crate) fn number_at(&self, place: u64) -> u64
+    pub(crate) fn number_at(&self, place: LinkPlace) -> u64
         ensures { link_number self.now.first_link place < 2 ^ 64
             → result ≡ link_number self.now.first_link place }
     {
-        link_number(self.first_link, place)
+        place.number(self.first_link)
     }
 
     /// Whether no link number is left.
@@ -254,7 +264,7 @@ impl Ends {
         &mut self,
         effects: &mut Vec<Effect>,
         alloc: Global,
-        i: u64,
+        i: ConnectionPlace,
         upstream: Upstream,
         outcome: Outcome,
     )
@@ -281,7 +291,7 @@ impl Ends {
                 send_reply(&mut self.connections, effects, i, reply.bytes, reply.close);
             }
             Outcome::Forward(_, bytes) => {
-                let number = self.number_at(self.links.len());
+                let number = self.number_at(self.links.next_place());
                 open_link(
                     &mut self.connections,
                     &mut self.links,
