@@ -10,7 +10,7 @@ ghost use Rattle.proxy_engine.specs.State.{new_engine_model};
 
 use crate::endpoints::connections::Connections;
 use crate::endpoints::links::Links;
-use crate::endpoints::numbers::{connection_place, link_place};
+use crate::endpoints::numbers::{ConnectionPlace, LinkPlace};
 use crate::endpoints::open_ends::Ends;
 use crate::takes;
 use crate::work::{End, EngineFault};
@@ -136,11 +136,14 @@ impl<S: Shelf> Engine<S> {
                 }
                 self.ends.connections.reserve_one(alloc)
             }
-            End::Client(n) => self.ends.connections.reserve_piece(connection_place(n)),
+            End::Client(n) => self
+                .ends
+                .connections
+                .reserve_piece(ConnectionPlace::of_number(n)),
             End::Link(l) => self
                 .ends
                 .links
-                .reserve_piece(link_place(self.ends.first_link, l)),
+                .reserve_piece(LinkPlace::of_number(l, self.ends.first_link)),
         }
     }
 
@@ -172,7 +175,9 @@ impl<S: Shelf> Engine<S> {
         ensures { (s : EngineModel) → EngineRepresents self.now s → result ≡ true → IsBetweenRequests
             (connection_at s (n - 1)) }
     {
-        self.ends.connections.is_between(connection_place(n))
+        self.ends
+            .connections
+            .is_between(ConnectionPlace::of_number(n))
     }
 
     /// The ends from which bytes may come: each link that isn't dropped, failed or shut, then each open client without

@@ -20,7 +20,7 @@ use crate::endpoints::activities::Activity;
 use crate::endpoints::connections::Connections;
 use crate::endpoints::ends::{Connection, Link};
 use crate::endpoints::links::Links;
-use crate::endpoints::numbers::{connection_place, link_place};
+use crate::endpoints::numbers::{ConnectionPlace, LinkPlace};
 use crate::endpoints::peeked::Peeked;
 use crate::work::EngineFault;
 use hx_framing::RequestReader;
@@ -28,26 +28,26 @@ use hx_status::FailKind;
 use std::alloc::{AllocError, Global};
 
 /// Where the connection of this number stands.
-fn find_connection(connections: &Connections, n: u64) -> Option<u64>
+fn find_connection(connections: &Connections, n: u64) -> Option<ConnectionPlace>
     ensures { MatchOption result (nat_lt 0 n && nat_le n (length connections.now.items) ≡ false)
         (λ i. (nat_lt 0 n && nat_le n (length connections.now.items) ≡ true) × (i ≡ connection_place n)
         × (i < length connections.now.items)) }
 {
     if 0 < n && n <= connections.len() {
-        Some(connection_place(n))
+        Some(ConnectionPlace::of_number(n))
     } else {
         None
     }
 }
 
 /// Where the link of this number stands.
-fn find_link(links: &Links, first: u64, l: u64) -> Option<u64>
+fn find_link(links: &Links, first: u64, l: u64) -> Option<LinkPlace>
     ensures { MatchOption result (nat_le first l && nat_lt (link_place first l) (length links.now.items) ≡ false)
         (λ j. (nat_le first l && nat_lt (link_place first l) (length links.now.items) ≡ true)
         × (j ≡ link_place first l) × (j < length links.now.items)) }
 {
-    let place = link_place(first, l);
-    if first <= l && place < links.len() {
+    let place = LinkPlace::of_number(l, first);
+    if first <= l && place.key() < links.len() {
         Some(place)
     } else {
         None
@@ -134,7 +134,7 @@ fn fail_link(link: &mut Link, kind: FailKind)
 fn is_next(connections: &Connections, n: u64) -> bool
     ensures { result ≡ (n == connection_number (length connections.now.items)) }
 {
-    n != 0 && connection_place(n) == connections.len()
+    n != 0 && ConnectionPlace::of_number(n).key() == connections.len()
 }
 
 pub(crate) fn accept(

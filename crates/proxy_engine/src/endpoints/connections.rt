@@ -18,7 +18,7 @@ ghost use Rattle.proxy_engine.specs.State.{connection_load};
 
 use crate::endpoints::ends::Connection;
 use crate::endpoints::marked_ends::MarkedEnds;
-use crate::endpoints::numbers::{connection_number, next_connection};
+use crate::endpoints::numbers::{ConnectionPlace, LinkPlace, next_connection};
 use crate::endpoints::ready_list::ReadyList;
 use crate::readable_ends;
 use crate::steps::finds::first_lost;
@@ -66,7 +66,7 @@ impl Connections {
     }
 
     /// The connection at a place, which isn't over.
-    pub(crate) fn at(&self, i: u64) -> &Connection
+    pub(crate) fn at(&self, i: ConnectionPlace) -> &Connection
         requires { is_some (slice_index_or self.now.items i None) ≡ true }
         ensures { slice_index_or self.now.items i None ≡ Some result.now }
     {
@@ -74,17 +74,17 @@ impl Connections {
     }
 
     /// The number of the connection at a place, and the id of its exchange.
-    pub(crate) fn number_at(&self, i: u64) -> u64
+    pub(crate) fn number_at(&self, i: ConnectionPlace) -> u64
         requires { i < length self.now.items }
         ensures { result ≡ connection_number i }
     {
         let count = self.len();
-        prove!(i < count);
-        connection_number(i)
+        prove!(i.key() < count);
+        i.number()
     }
 
     /// Whether the connection at a place has an open exchange.
-    pub(crate) fn has_exchange(&self, i: u64) -> bool
+    pub(crate) fn has_exchange(&self, i: ConnectionPlace) -> bool
         requires { i < length self.now.items }
         ensures { result ≡ has_exchange (activity_of (slice_index_or self.now.items i None)) }
     {
@@ -95,7 +95,7 @@ impl Connections {
     }
 
     /// Whether the client at a place is between two requests.
-    pub(crate) fn is_between(&self, i: u64) -> bool
+    pub(crate) fn is_between(&self, i: ConnectionPlace) -> bool
         ensures { (ss : List ConnectionModel) → RelatesLists ConnectionRepresents self.now.items ss → result ≡ true
             → IsBetweenRequests (slice_index_or ss i no_connection) }
     {
@@ -106,7 +106,7 @@ impl Connections {
     }
 
     /// The connection at a place, to be changed, if it isn't over. Something may be due there afterwards.
-    pub(crate) fn at_mut(&mut self, i: u64) -> Option<&mut Connection>
+    pub(crate) fn at_mut(&mut self, i: ConnectionPlace) -> Option<&mut Connection>
         requires { i < length self.old.items }
         ensures* writes_back { sem 𝓛 (LendsIf the_row connection_row self.entry result
             (λ w. record { items = slice_set self.old.items i (Some w); has_room = self.old.has_room }) self.old) }
@@ -115,7 +115,7 @@ impl Connections {
         if self.ends.get(i).is_none() {
             return None;
         }
-        self.lost.put(i);
+        self.lost.put(i.key());
         self.ends.at_mut(i)
     }
 
@@ -182,7 +182,7 @@ impl Connections {
     }
 
     /// Makes room for one piece of the client's bytes at a place, if the connection isn't over.
-    pub(crate) fn reserve_piece(&mut self, i: u64) -> Result<(), AllocError>
+    pub(crate) fn reserve_piece(&mut self, i: ConnectionPlace) -> Result<(), AllocError>
         ensures ok { OnOk result (ConnectionHasSpare (slice_index_or self.new.items i None) most_bytes_of_read) }
         ensures represents { (ss : List ConnectionModel) → RelatesLists ConnectionRepresents self.old.items ss
             → RelatesLists ConnectionRepresents self.new.items ss }
@@ -193,16 +193,16 @@ impl Connections {
     }
 
     /// Lets go of the connection at a place, which is over.
-    pub(crate) fn release(&mut self, i: u64)
+    pub(crate) fn release(&mut self, i: ConnectionPlace)
         requires { i < length self.old.items }
         ensures { self.new.items ≡ slice_set self.old.items i None }
     {
         self.ends.release(i);
-        self.lost.remove(i);
+        self.lost.remove(i.key());
     }
 
     /// The first connection that is gone with an open exchange, and its link, if its request went forward.
-    pub(crate) fn find_lost(&mut self) -> Option<(u64, Option<u64>)>
+    pub(crate) fn find_lost(&mut self) -> Option<(ConnectionPlace, Option<LinkPlace>)>
         ensures same { self.new.items ≡ self.old.items }
         ensures first { (ss : List ConnectionModel) → RelatesLists ConnectionRepresents self.old.items ss
             → IsFirstAtWhich IsLostConnection no_connection ss result }
@@ -216,7 +216,7 @@ impl Connections {
     }
 
     /// The first connection on which something is due.
-    pub(crate) fn find_due(&mut self, alloc: Global) -> Result<Option<u64>, AllocError>
+    pub(crate) fn find_due(&mut self, alloc: Global) -> Result<Option<ConnectionPlace>, AllocError>
         ensures represents { (ss : List ConnectionModel) → RelatesLists ConnectionRepresents self.old.items ss
             → RelatesLists ConnectionRepresents self.new.items ss }
         ensures found { IfOk result (λ found. IsFirstFoundConnection self.new.items found) }

@@ -4,12 +4,16 @@ ghost use Rattle.proxy_engine.specs.Marked.{OnlyGainsRoom};
 
 use crate::endpoints::activities::Activity;
 use crate::endpoints::ends::{Connection, Link};
+use crate::endpoints::numbers::{ConnectionPlace, OfConnections, OfLinks};
 use crate::endpoints::peeked::Peeked;
 use hx_framing::{RequestReader, ResponseReader};
 use std::alloc::{AllocError, Global};
 
 /// A connection that isn't over, or a link that isn't dropped.
 pub(crate) trait Endpoint: Drop {
+    /// What its places are of.
+    type Kind: Copy;
+
     /// Something may be due there.
     ghost may_show: { Self → Bool };
 
@@ -48,6 +52,8 @@ pub(crate) trait Endpoint: Drop {
 }
 
 impl Endpoint for Connection {
+    type Kind = OfConnections;
+
     ghost use Rattle.proxy_engine.specs.Marked.{connection_may_be_due, ConnectionAfterLook, ConnectionIsDueAsLookShows};
     ghost use Rattle.proxy_engine.specs.Exhausted.{connection_unknown};
     ghost use Rattle.std.proofs.Common.{refl, ◌∙◌};
@@ -95,6 +101,8 @@ impl Endpoint for Connection {
 }
 
 impl Endpoint for Link {
+    type Kind = OfLinks;
+
     ghost use Rattle.proxy_engine.specs.Marked.{link_may_be_due, LinkAfterLook, LinkIsDueAsLookShows};
     ghost use Rattle.proxy_engine.specs.Exhausted.{link_unknown};
     ghost use Rattle.std.proofs.Common.{refl, ◌∙◌};
@@ -115,7 +123,7 @@ impl Endpoint for Link {
             reader: Peeked::new(ResponseReader::new(alloc, 0, false)),
             ended: false,
             failed: None,
-            connection: 0,
+            connection: ConnectionPlace::at(0),
         }
     }
 

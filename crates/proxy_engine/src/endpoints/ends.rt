@@ -1,6 +1,7 @@
 //! The proxy's ends: connections of clients, and links to origins. Only those that aren't over are kept.
 
 use crate::endpoints::activities::Activity;
+use crate::endpoints::numbers::ConnectionPlace;
 use crate::endpoints::peeked::Peeked;
 use hx_framing::{RequestReader, ResponseReader};
 use hx_status::FailKind;
@@ -35,7 +36,7 @@ pub(crate) struct Link {
     pub(crate) ended: bool,
     pub(crate) failed: Option<FailKind>,
     /// The place of the connection whose request went forward on it.
-    pub(crate) connection: u64,
+    pub(crate) connection: ConnectionPlace,
 }
 
 /// One call drops it, wherever that is.

@@ -10,6 +10,7 @@ ghost use Rattle.proxy_engine.specs.Exhausted.{LookStoppedForMemory};
 
 use crate::endpoints::ends::Link;
 use crate::endpoints::marked_ends::MarkedEnds;
+use crate::endpoints::numbers::LinkPlace;
 use crate::readable_ends;
 use crate::work::End;
 use std::alloc::{AllocError, Global};
@@ -37,7 +38,7 @@ impl MarkedEnds<Link> {
     }
 
     /// Makes room for one piece of the origin's bytes at a place, if the link isn't dropped.
-    pub(crate) fn reserve_piece(&mut self, j: u64) -> Result<(), AllocError>
+    pub(crate) fn reserve_piece(&mut self, j: LinkPlace) -> Result<(), AllocError>
         ensures ok { OnOk result (LinkHasSpare (slice_index_or self.new.items j None) most_bytes_of_read) }
         ensures represents { (ss : List LinkModel) → RelatesLists LinkRepresents self.old.items ss
             → RelatesLists LinkRepresents self.new.items ss }
@@ -48,7 +49,7 @@ impl MarkedEnds<Link> {
     }
 
     /// The first link whose answer is complete, refused or failed.
-    pub(crate) fn find_finished(&mut self, alloc: Global) -> Result<Option<u64>, AllocError>
+    pub(crate) fn find_finished(&mut self, alloc: Global) -> Result<Option<LinkPlace>, AllocError>
         ensures represents { (ss : List LinkModel) → RelatesLists LinkRepresents self.old.items ss
             → RelatesLists LinkRepresents self.new.items ss }
         ensures found { IfOk result (λ found. IsFirstFoundLink self.new.items found) }

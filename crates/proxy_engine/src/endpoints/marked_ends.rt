@@ -9,6 +9,7 @@ ghost use Rattle.proxy_engine.specs.Marked.{NoneHasFlagBelow, NoneHasFlag};
 ghost use Rattle.proxy_engine.specs.Room.{HasSpareBytes, most_bytes_of_read};
 
 use crate::endpoints::endpoint::Endpoint;
+use crate::endpoints::numbers::Place;
 use crate::endpoints::ready_list::ReadyList;
 use crate::readable_ends;
 use crate::steps::finds::first_due;
@@ -65,36 +66,46 @@ impl<E: Endpoint> MarkedEnds<E> {
         self.count
     }
 
+    /// The place behind the last.
+    pub(crate) fn next_place(&self) -> Place<E::Kind>
+        ensures { result ≡ length self.now.items }
+    {
+        Place::at(self.count)
+    }
+
     /// The end at a place, if it isn't over.
-    pub(crate) fn get(&self, place: u64) -> Option<&E>
+    pub(crate) fn get(&self, place: Place<E::Kind>) -> Option<&E>
         ensures { option_copied result ≡ item_at self.now.items place }
     {
-        if place >= self.count {
+        let key = place.key();
+        if key >= self.count {
             return None;
         }
-        self.ends.get(&place)
+        self.ends.get(&key)
     }
 
     /// The end at a place, which isn't over.
-    pub(crate) fn at(&self, place: u64) -> &E
+    pub(crate) fn at(&self, place: Place<E::Kind>) -> &E
         requires { is_some (slice_index_or self.now.items place None) ≡ true }
         ensures { slice_index_or self.now.items place None ≡ Some result.now }
     {
-        &self.ends[&place]
+        let key = place.key();
+        &self.ends[&key]
     }
 
     /// The end at a place, to be changed, if it isn't over. Something may be due there afterwards.
-    pub(crate) fn at_mut(&mut self, place: u64) -> Option<&mut E>
+    pub(crate) fn at_mut(&mut self, place: Place<E::Kind>) -> Option<&mut E>
         requires { place < length self.old.items }
-        ensures* writes_back { sem 𝓛 (LendsIf (the_row E.row E.Endpoint) E.row self.entry result
+        ensures* writes_back { sem 𝓛 (LendsIf (the_row E.row E.Kind.row E.Endpoint) E.row self.entry result
             (λ w. record { items = slice_set self.old.items place (Some w); has_room = self.old.has_room }) self.old) }
         ensures value { option_copied_mut result ≡ slice_index_or self.old.items place None }
     {
-        if !self.ends.contains_key(&place) {
+        let key = place.key();
+        if !self.ends.contains_key(&key) {
             return None;
         }
-        self.marked.put(place);
-        self.ends.get_mut(&place)
+        self.marked.put(key);
+        self.ends.get_mut(&key)
     }
 
     /// Whether an empty one stands behind the last.
@@ -114,12 +125,12 @@ impl<E: Endpoint> MarkedEnds<E> {
         if self.spare {
             return Ok(());
         }
-        let place = self.count;
-        if place == u64::MAX {
+        let next = self.count;
+        if next == u64::MAX {
             return Err(AllocError);
         }
         self.marked.reserve_beside(&self.ends)?;
-        self.ends.insert(place, E::empty(alloc))?;
+        self.ends.insert(next, E::empty(alloc))?;
         self.spare = true;
         Ok(())
     }
@@ -147,7 +158,7 @@ impl<E: Endpoint> MarkedEnds<E> {
     }
 
     /// Makes room for one piece of bytes at a place, if the end isn't over.
-    pub(crate) fn reserve_bytes(&mut self, place: u64) -> Result<(), AllocError>
+    pub(crate) fn reserve_bytes(&mut self, place: Place<E::Kind>) -> Result<(), AllocError>
         ensures ok { OnOk result (HasSpareBytes E.spare (item_at self.new.items place) most_bytes_of_read) }
         ensures grows { RelatesAtEachPlace (OnlyGainsRoom E.LooksLike E.may_show)
             (item_at self.old.items) (item_at self.new.items) }
@@ -155,24 +166,26 @@ impl<E: Endpoint> MarkedEnds<E> {
         ensures room { self.new.has_room ≡ self.old.has_room }
         ensures err { OnErr result (self.new ≡ self.old) }
     {
-        if place >= self.count {
+        let key = place.key();
+        if key >= self.count {
             return Ok(());
         }
-        readable_ends::reserve_at(&mut self.ends, place)
+        readable_ends::reserve_at(&mut self.ends, key)
     }
 
     /// Lets go of the end at a place, which is over.
-    pub(crate) fn release(&mut self, place: u64)
+    pub(crate) fn release(&mut self, place: Place<E::Kind>)
         requires { place < length self.old.items }
         ensures items { self.new.items ≡ slice_set self.old.items place None }
         ensures room { self.new.has_room ≡ self.old.has_room }
     {
-        let _ = self.ends.remove(&place);
-        self.marked.remove(place);
+        let key = place.key();
+        let _ = self.ends.remove(&key);
+        self.marked.remove(key);
     }
 
     /// The first end at which something is due. What is found there is kept.
-    pub(crate) fn find(&mut self, alloc: Global) -> Result<Option<u64>, AllocError>
+    pub(crate) fn find(&mut self, alloc: Global) -> Result<Option<Place<E::Kind>>, AllocError>
         ensures alike { RelatesAtEachPlace E.LooksLike (item_at self.old.items) (item_at self.new.items) }
         ensures length { length self.new.items ≡ length self.old.items }
         ensures room { self.new.has_room ≡ self.old.has_room }

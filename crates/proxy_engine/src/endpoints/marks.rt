@@ -18,6 +18,7 @@ ghost use Rattle.proxy_engine.specs.declared.endpoints.ends.Link.{Link};
 use crate::endpoints::activities::Activity;
 use crate::endpoints::connections::Connections;
 use crate::endpoints::ends::Connection;
+use crate::endpoints::numbers::{ConnectionPlace, LinkPlace};
 
 /// The connection, which isn't gone, has no open exchange any more.
 fn mark_free(connection: &mut Connection)
@@ -44,7 +45,7 @@ fn queue(connection: &mut Connection)
 }
 
 /// The connection's request went forward on the link at a place.
-fn mark_forwarded(connection: &mut Connection, place: u64)
+fn mark_forwarded(connection: &mut Connection, place: LinkPlace)
     requires { connection.old.activity ≡ Activity.Free }
     ensures represents { (c : ConnectionModel) → ConnectionRepresents (Some connection.old) c
         → ConnectionRepresents (Some connection.new) (with_activity (Activity.Forwarded place) c) }
@@ -69,7 +70,7 @@ fn pass(connection: &mut Connection)
 }
 
 /// What was due on the connection at a place is done.
-pub(crate) fn pass_next_at(connections: &mut Connections, i: u64)
+pub(crate) fn pass_next_at(connections: &mut Connections, i: ConnectionPlace)
     requires { is_some (due_request_at (slice_index_or connections.old.items i None)) ≡ true }
     ensures represents { (s : EngineModel) → (a : Next Request) → (links : List (Option Link)) → (core : CoreState)
         → (first : ℕ) → due_request_at (slice_index_or connections.old.items i None) ≡ Some a
@@ -88,7 +89,7 @@ pub(crate) fn pass_next_at(connections: &mut Connections, i: u64)
 }
 
 /// The connection at a place has the link at another one.
-pub(crate) fn link_at(connections: &mut Connections, i: u64, place: u64)
+pub(crate) fn link_at(connections: &mut Connections, i: ConnectionPlace, place: LinkPlace)
     requires { connection_is_free_at (slice_index_or connections.old.items i None) ≡ true }
     ensures represents { ConnectionsChangeAt i connections.old.items connections.new.items (with_activity
         (Activity.Forwarded place)) }
@@ -103,7 +104,7 @@ pub(crate) fn link_at(connections: &mut Connections, i: u64, place: u64)
 }
 
 /// The request of the connection at a place waits for the answer to another.
-pub(crate) fn mark_waiting_at(connections: &mut Connections, i: u64)
+pub(crate) fn mark_waiting_at(connections: &mut Connections, i: ConnectionPlace)
     requires { connection_is_free_at (slice_index_or connections.old.items i None) ≡ true }
     ensures represents { ConnectionsChangeAt i connections.old.items connections.new.items (with_activity
         Activity.Waiting) }
@@ -118,7 +119,7 @@ pub(crate) fn mark_waiting_at(connections: &mut Connections, i: u64)
 }
 
 /// The connection at a place, which isn't gone, has no open exchange any more.
-pub(crate) fn mark_free_at(connections: &mut Connections, i: u64)
+pub(crate) fn mark_free_at(connections: &mut Connections, i: ConnectionPlace)
     requires { is_gone_at (slice_index_or connections.old.items i None) ≡ Some false }
     ensures represents { ConnectionsChangeAt i connections.old.items connections.new.items (with_activity
         Activity.Free) }
@@ -135,7 +136,7 @@ pub(crate) fn mark_free_at(connections: &mut Connections, i: u64)
 }
 
 /// The proxy closes the connection at a place, which is over then, or leaves it as it is.
-pub(crate) fn close_at(connections: &mut Connections, i: u64, close: bool)
+pub(crate) fn close_at(connections: &mut Connections, i: ConnectionPlace, close: bool)
     requires free { connection_is_free_at (slice_index_or connections.old.items i None) ≡ true }
     ensures represents { ConnectionsChangeAt i connections.old.items connections.new.items (with_closed close) }
     ensures activities { activities_of connections.new.items ≡ activities_of connections.old.items }

@@ -3,7 +3,90 @@
 ghost use Rattle.std.specs.Prelude.{◌≡◌, ◌<◌, ◌^◌, nat_lt, if◌then◌else◌, Some, None};
 ghost use Rattle.proxy_engine.specs.ConnectionNumbers.{connection_number, connection_place, link_number, link_place};
 
-/// The number of the connection at a place.
+use std::marker::{Model, PhantomData};
+
+/// Places are of connections.
+#[derive(Clone, Copy)]
+pub(crate) struct OfConnections;
+
+/// Places are of links.
+#[derive(Clone, Copy)]
+pub(crate) struct OfLinks;
+
+/// A place, from 0, among all ends of a kind that ever were. Contracts see the plain number.
+#[derive(Clone, Copy)]
+pub(crate) struct Place<K> {
+    index: u64,
+    kind: PhantomData<K>,
+}
+
+impl<K> Model for Place<K> {
+    ghost use Rattle.std.specs.Prelude.{ℕ};
+
+    ghost Value = { ℕ };
+
+    ghost view = { λ p. p.index };
+
+    ghost inverse = { λ n. record { index = n; kind = record {} } };
+}
+
+pub(crate) type ConnectionPlace = Place<OfConnections>;
+
+pub(crate) type LinkPlace = Place<OfLinks>;
+
+impl<K> Place<K> {
+    /// The place at which a map has a key.
+    pub(crate) fn at(index: u64) -> Place<K>
+        ensures { result ≡ index }
+    {
+        Place {
+            index,
+            kind: PhantomData,
+        }
+    }
+
+    /// Its key in a map.
+    pub(crate) fn key(self) -> u64
+        ensures { result ≡ self }
+    {
+        self.index
+    }
+}
+
+impl Place<OfConnections> {
+    /// The place of the connection with a number. No connection has the number 0.
+    pub(crate) fn of_number(number: u64) -> ConnectionPlace
+        ensures { result ≡ connection_place number }
+    {
+        Place::at(number.saturating_sub(1))
+    }
+
+    /// The number of the connection at this place.
+    pub(crate) fn number(self) -> u64
+        requires { connection_number self < 2 ^ 64 }
+        ensures { result ≡ connection_number self }
+    {
+        connection_number(self.index)
+    }
+}
+
+impl Place<OfLinks> {
+    /// The place of the link with a number, where the first link has this one. No link has a lesser number.
+    pub(crate) fn of_number(number: u64, first: u64) -> LinkPlace
+        ensures { result ≡ link_place first number }
+    {
+        Place::at(number.saturating_sub(first))
+    }
+
+    /// The number of the link at this place, where the first link has this one.
+    pub(crate) fn number(self, first: u64) -> u64
+        ensures { link_number first self < 2 ^ 64 → result ≡ link_number first self }
+    {
+        link_number(first, self.index)
+    }
+}
+
+/// The number of the connection under a key of a map.
 pub(crate) fn connection_number(place: u64) -> u64
     requires { connection_number place < 2 ^ 64 }
     ensures { result ≡ connection_number place }
@@ -18,23 +101,9 @@ pub(crate) fn next_connection(count: u64) -> Option<u64>
     count.checked_add(1)
 }
 
-/// The place of the connection with a number. No connection has the number 0.
-pub(crate) fn connection_place(number: u64) -> u64
-    ensures { result ≡ connection_place number }
-{
-    number.saturating_sub(1)
-}
-
-/// The number of the link at a place, where the first link has this one.
+/// The number of the link under a key of a map, where the first link has this one.
 pub(crate) fn link_number(first: u64, place: u64) -> u64
     ensures { link_number first place < 2 ^ 64 → result ≡ link_number first place }
 {
     first.wrapping_add(place)
-}
-
-/// The place of the link with a number, where the first link has this one. No link has a lesser number.
-pub(crate) fn link_place(first: u64, number: u64) -> u64
-    ensures { result ≡ link_place first number }
-{
-    number.saturating_sub(first)
 }

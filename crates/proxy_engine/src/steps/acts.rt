@@ -8,7 +8,7 @@ ghost use Rattle.proxy_engine.specs.State.{WorkLessensLoad};
 ghost use Rattle.proxy_engine.specs.Exhausted.{ReportsLinkNumbersExhausted};
 ghost use Rattle.proxy_engine.specs.DueActs.{IsFirstDueActFound};
 
-use crate::endpoints::numbers::connection_place;
+use crate::endpoints::numbers::{ConnectionPlace, LinkPlace};
 use crate::engine::Engine;
 use crate::work::{EngineFault, Work};
 use hx_store::Shelf;
@@ -18,13 +18,13 @@ use std::alloc::{AllocError, Global};
 #[derive(Clone, Copy)]
 pub(crate) enum DueAct {
     /// The client at a place is gone, and its exchange is open: on this link, if its request went forward.
-    Abandon(u64, Option<u64>),
+    Abandon(ConnectionPlace, Option<LinkPlace>),
     /// An answer or a failure stands on the link at a place.
-    Finish(u64),
+    Finish(LinkPlace),
     /// The request of the client at a place waited, and may be judged anew.
-    Wake(u64),
+    Wake(ConnectionPlace),
     /// The stream of the client at a place asks for something.
-    Serve(u64),
+    Serve(ConnectionPlace),
     Nothing,
 }
 
@@ -45,7 +45,7 @@ impl<S: Shelf> Engine<S> {
         }
         if let Some(id) = self.core.first_ready() {
             prove!(id > 0);
-            return Ok(DueAct::Wake(connection_place(id)));
+            return Ok(DueAct::Wake(ConnectionPlace::of_number(id)));
         }
         match self.ends.connections.find_due(alloc)? {
             Some(place) => Ok(DueAct::Serve(place)),

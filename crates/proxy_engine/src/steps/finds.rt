@@ -11,12 +11,13 @@ ghost use Rattle.proxy_engine.specs.Marked.{lost_connection_at, item_at, LostAre
 use crate::endpoints::endpoint::Endpoint;
 use crate::endpoints::ends::Connection;
 use crate::endpoints::marked_ends::MarkedEnds;
+use crate::endpoints::numbers::{ConnectionPlace, LinkPlace, Place};
 use crate::endpoints::ready_list::ReadyList;
 use std::alloc::{AllocError, Global};
 use std::collections::BTreeMap;
 
 /// Whether the connection at a place is gone with an open exchange, and its link, if its request went forward.
-fn lost_link(ends: &MarkedEnds<Connection>, i: u64) -> Option<Option<u64>>
+fn lost_link(ends: &MarkedEnds<Connection>, i: ConnectionPlace) -> Option<Option<LinkPlace>>
     ensures { result ≡ lost_connection_at (item_at ends.now.items i) }
 {
     match ends.get(i) {
@@ -36,7 +37,7 @@ fn lost_link(ends: &MarkedEnds<Connection>, i: u64) -> Option<Option<u64>>
 pub(crate) fn first_lost(
     ends: &MarkedEnds<Connection>,
     lost: &mut ReadyList,
-) -> Option<(u64, Option<u64>)>
+) -> Option<(ConnectionPlace, Option<LinkPlace>)>
     requires { LostAreMarked ends.now lost.old }
     ensures marked { LostAreMarked ends.now lost.new }
     ensures none { IfNone result (NoneHasFlag may_be_lost (item_at ends.now.items)) }
@@ -44,8 +45,9 @@ pub(crate) fn first_lost(
         × NoneHasFlagBelow may_be_lost (item_at ends.now.items) p.0) }
 {
     while let Some(i) = lost.least() {
-        if let Some(link) = lost_link(ends, i) {
-            return Some((i, link));
+        let place = ConnectionPlace::at(i);
+        if let Some(link) = lost_link(ends, place) {
+            return Some((place, link));
         }
         lost.drop_least();
     }
@@ -76,7 +78,7 @@ pub(crate) fn first_due<E: Endpoint>(
     ends: &mut BTreeMap<u64, E>,
     marked: &mut ReadyList,
     alloc: Global,
-) -> Result<Option<u64>, AllocError>
+) -> Result<Option<Place<E::Kind>>, AllocError>
     requires { FlaggedPlacesAreMarked E.may_show (get nat_cmp ends.old) (length ends.old.entries) marked.old }
     ensures marked { FlaggedPlacesAreMarked E.may_show (get nat_cmp ends.new) (length ends.new.entries) marked.new }
     ensures fewer { (q : ℕ) → Contains marked.new.places q → Contains marked.old.places q }
@@ -90,7 +92,7 @@ pub(crate) fn first_due<E: Endpoint>(
 {
     while let Some(place) = marked.least() {
         if poll_at(ends, place, alloc)? {
-            return Ok(Some(place));
+            return Ok(Some(Place::at(place)));
         }
         marked.drop_least();
     }

@@ -16,6 +16,7 @@ ghost use Rattle.proxy_engine.specs.Actions.{ExchangeIsFinishedBy, is_whole_answ
 
 use crate::endpoints::activities::Activity;
 use crate::endpoints::ends::Link;
+use crate::endpoints::numbers::{ConnectionPlace, LinkPlace};
 use crate::engine::Engine;
 use crate::steps::outcomes::{as_alloc_error, free, free_lost, put, release_waiting, room};
 use crate::work::EngineFault;
@@ -121,8 +122,8 @@ impl<S: Shelf> Engine<S> {
     pub(crate) fn abandon(
         &mut self,
         alloc: Global,
-        i: u64,
-        link: Option<u64>,
+        i: ConnectionPlace,
+        link: Option<LinkPlace>,
     ) -> Result<Vec<Effect>, AllocError>
         requires open { has_exchange (activity_at (activities_of self.old.connections) i) ≡ true }
         requires linked { link_place_of_activity (activity_at (activities_of self.old.connections) i) ≡ link }
@@ -139,7 +140,11 @@ impl<S: Shelf> Engine<S> {
     }
 
     /// The exchange of a connection that is gone is abandoned, whose request waits.
-    fn abandon_waiting(&mut self, alloc: Global, i: u64) -> Result<Vec<Effect>, AllocError>
+    fn abandon_waiting(
+        &mut self,
+        alloc: Global,
+        i: ConnectionPlace,
+    ) -> Result<Vec<Effect>, AllocError>
         requires waiting { activity_at (activities_of self.old.connections) i ≡ Activity.Waiting }
         requires gone { is_gone_at (slice_index_or self.old.connections i None) ≡ Some true }
         ensures ok { IfOk result (λ effects. (s : EngineModel) → (now : ℕ) → EngineRepresents self.old s
@@ -158,7 +163,12 @@ impl<S: Shelf> Engine<S> {
     }
 
     /// The exchange of a connection that is gone is abandoned, and its link is dropped.
-    fn abandon_link(&mut self, alloc: Global, i: u64, l: u64) -> Result<Vec<Effect>, AllocError>
+    fn abandon_link(
+        &mut self,
+        alloc: Global,
+        i: ConnectionPlace,
+        l: LinkPlace,
+    ) -> Result<Vec<Effect>, AllocError>
         requires linked { link_place_of_activity (activity_at (activities_of self.old.connections) i) ≡ Some l }
         requires gone { is_gone_at (slice_index_or self.old.connections i None) ≡ Some true }
         ensures ok { IfOk result (λ effects. (s : EngineModel) → (now : ℕ) → EngineRepresents self.old s
@@ -179,7 +189,7 @@ impl<S: Shelf> Engine<S> {
 
     /// The exchange of a link is finished by what stands on it, or goes forward once more on a new one; the link is
     /// dropped. There is a number for it.
-    fn complete(&mut self, alloc: Global, now: u64, j: u64) -> Result<Vec<Effect>, AllocError>
+    fn complete(&mut self, alloc: Global, now: u64, j: LinkPlace) -> Result<Vec<Effect>, AllocError>
         requires due { is_some (link_result_at (slice_index_or self.old.links j None)) ≡ true }
         requires here { NoConnectionIsLost self.old.connections }
         requires left { (f : LinkResult) → link_result_at (slice_index_or self.old.links j None) ≡ Some f
@@ -212,7 +222,7 @@ impl<S: Shelf> Engine<S> {
         &mut self,
         alloc: Global,
         now: u64,
-        j: u64,
+        j: LinkPlace,
     ) -> Result<Vec<Effect>, EngineFault>
         requires due { is_some (link_result_at (slice_index_or self.old.links j None)) ≡ true }
         requires here { NoConnectionIsLost self.old.connections }

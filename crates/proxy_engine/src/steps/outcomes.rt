@@ -23,7 +23,7 @@ use crate::endpoints::connections::Connections;
 use crate::endpoints::ends::Link;
 use crate::endpoints::links::Links;
 use crate::endpoints::marks;
-use crate::endpoints::numbers::link_number;
+use crate::endpoints::numbers::{ConnectionPlace, LinkPlace};
 use crate::endpoints::open_ends::Ends;
 use crate::endpoints::peeked::Peeked;
 use hx_allow::Config;
@@ -70,7 +70,7 @@ pub(crate) fn as_alloc_error(fault: CoreFault) -> AllocError
 pub(crate) fn send_reply(
     connections: &mut Connections,
     effects: &mut Vec<Effect>,
-    i: u64,
+    i: ConnectionPlace,
     bytes: Bytes,
     close: bool,
 )
@@ -98,7 +98,7 @@ fn open_link(
     alloc: Global,
     max_body: u64,
     to_head: bool,
-    i: u64,
+    i: ConnectionPlace,
 )
     requires free { connection_is_free_at (slice_index_or connections.old.items i None) ≡ true }
     requires room { links.old.has_room ≡ true }
@@ -113,7 +113,7 @@ fn open_link(
     ensures load { engine_load connections.new.items links.new.items
         ≤ engine_load connections.old.items links.old.items + 1 }
 {
-    marks::link_at(connections, i, links.len());
+    marks::link_at(connections, i, links.next_place());
     links.put(Link {
         reader: Peeked::new(ResponseReader::new(alloc, max_body, to_head)),
         ended: false,
@@ -133,7 +133,12 @@ fn origin_address(config: &Config, line: u16) -> SocketAddrV4
 }
 
 /// The exchange of a link is over, and its connection goes on.
-pub(crate) fn free(connections: &mut Connections, links: &mut Links, j: u64, i: u64)
+pub(crate) fn free(
+    connections: &mut Connections,
+    links: &mut Links,
+    j: LinkPlace,
+    i: ConnectionPlace,
+)
     requires link { is_some (slice_index_or links.old.items j None) ≡ true }
     requires connection { is_gone_at (slice_index_or connections.old.items i None) ≡ Some false }
     ensures represents { EndsChange connections.old.items links.old.items connections.new.items links.new.items (λ s.
@@ -152,7 +157,7 @@ pub(crate) fn free(connections: &mut Connections, links: &mut Links, j: u64, i: 
 }
 
 /// The exchange of a request that waited is over, and so is its connection, which is gone.
-pub(crate) fn release_waiting(connections: &mut Connections, i: u64)
+pub(crate) fn release_waiting(connections: &mut Connections, i: ConnectionPlace)
     requires { is_gone_at (slice_index_or connections.old.items i None) ≡ Some true }
     ensures represents { ConnectionsChangeAt i connections.old.items connections.new.items (with_activity
         Activity.Free) }
@@ -164,7 +169,12 @@ pub(crate) fn release_waiting(connections: &mut Connections, i: u64)
 }
 
 /// The exchange of a link is over, and so is its connection, which is gone.
-pub(crate) fn free_lost(connections: &mut Connections, links: &mut Links, j: u64, i: u64)
+pub(crate) fn free_lost(
+    connections: &mut Connections,
+    links: &mut Links,
+    j: LinkPlace,
+    i: ConnectionPlace,
+)
     requires link { is_some (slice_index_or links.old.items j None) ≡ true }
     requires connection { is_gone_at (slice_index_or connections.old.items i None) ≡ Some true }
     ensures represents { EndsChange connections.old.items links.old.items connections.new.items links.new.items (λ s.
@@ -181,11 +191,11 @@ pub(crate) fn free_lost(connections: &mut Connections, links: &mut Links, j: u64
 
 impl Ends {
     /// The number of the link at a place.
-    pub(crate) fn number_at(&self, place: u64) -> u64
+    pub(crate) fn number_at(&self, place: LinkPlace) -> u64
         ensures { link_number self.now.first_link place < 2 ^ 64
             → result ≡ link_number self.now.first_link place }
     {
-        link_number(self.first_link, place)
+        place.number(self.first_link)
     }
 
     /// Whether no link number is left.
@@ -201,7 +211,7 @@ impl Ends {
         effects: &mut Vec<Effect>,
         alloc: Global,
         config: &Config,
-        i: u64,
+        i: ConnectionPlace,
         to_head: bool,
         outcome: Outcome,
     )
@@ -227,7 +237,7 @@ impl Ends {
                 send_reply(&mut self.connections, effects, i, reply.bytes, reply.close);
             }
             Outcome::Forward(line, bytes) => {
-                let number = self.number_at(self.links.len());
+                let number = self.number_at(self.links.next_place());
                 open_link(
                     &mut self.connections,
                     &mut self.links,

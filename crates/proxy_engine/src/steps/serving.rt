@@ -20,6 +20,7 @@ ghost use Rattle.proxy_engine.specs.declared.endpoints.ends.Link.{Link};
 
 use crate::endpoints::connections::Connections;
 use crate::endpoints::marks;
+use crate::endpoints::numbers::ConnectionPlace;
 use crate::engine::Engine;
 use crate::steps::actions::{Action, action_of};
 use crate::steps::outcomes::{as_alloc_error, put, room, send_reply};
@@ -37,7 +38,7 @@ use std::alloc::{AllocError, Global};
 fn send_continue(
     connections: &mut Connections,
     alloc: Global,
-    i: u64,
+    i: ConnectionPlace,
 ) -> Result<Vec<Effect>, AllocError>
     requires { is_some (due_request_at (slice_index_or connections.old.items i None)) ≡ true }
     ensures ok { IfOk result (λ effects. (s : EngineModel) → (links : List (Option Link)) → (core : CoreState)
@@ -71,7 +72,7 @@ fn refuse(
     connections: &mut Connections,
     alloc: Global,
     now: u64,
-    i: u64,
+    i: ConnectionPlace,
     why: Cause,
     head: bool,
 ) -> Result<Vec<Effect>, AllocError>
@@ -93,7 +94,11 @@ fn refuse(
 }
 
 /// The connection is closed without an answer.
-fn shut(connections: &mut Connections, alloc: Global, i: u64) -> Result<Vec<Effect>, AllocError>
+fn shut(
+    connections: &mut Connections,
+    alloc: Global,
+    i: ConnectionPlace,
+) -> Result<Vec<Effect>, AllocError>
     requires { connection_is_free_at (slice_index_or connections.old.items i None) ≡ true }
     ensures ok { IfOk result (λ effects. (s : EngineModel) → (links : List (Option Link)) → (core : CoreState)
         → (first now : ℕ) → (a : Next Request) → IsActionForNext a Action.Close
@@ -118,7 +123,7 @@ impl<S: Shelf> Engine<S> {
         &mut self,
         alloc: Global,
         now: u64,
-        i: u64,
+        i: ConnectionPlace,
         asked: &Asked,
     ) -> Result<Vec<Effect>, AllocError>
         requires due { is_some (due_request_at (slice_index_or self.old.connections i None)) ≡ true }
@@ -153,7 +158,7 @@ impl<S: Shelf> Engine<S> {
         &mut self,
         alloc: Global,
         now: u64,
-        i: u64,
+        i: ConnectionPlace,
         asked: &Asked,
     ) -> Result<Vec<Effect>, EngineFault>
         requires due { is_some (due_request_at (slice_index_or self.old.connections i None)) ≡ true }
@@ -186,7 +191,7 @@ impl<S: Shelf> Engine<S> {
         &mut self,
         alloc: Global,
         now: u64,
-        i: u64,
+        i: ConnectionPlace,
     ) -> Result<Vec<Effect>, EngineFault>
         requires due { is_some (due_request_at (slice_index_or self.old.connections i None)) ≡ true }
         requires early { now < END_OF_TIME }

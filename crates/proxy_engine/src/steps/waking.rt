@@ -9,6 +9,7 @@ ghost use Rattle.proxy_engine.specs.State.{EngineRepresents, NoConnectionIsLost,
 ghost use Rattle.proxy_engine.specs.State.{NoActWasDoneSince};
 
 use crate::endpoints::marks;
+use crate::endpoints::numbers::ConnectionPlace;
 use crate::engine::Engine;
 use crate::steps::finishing::exchange_asks_head;
 use crate::steps::outcomes::{as_alloc_error, room};
@@ -20,7 +21,12 @@ use std::alloc::{AllocError, Global};
 impl<S: Shelf> Engine<S> {
     /// The request of the connection at a place is judged anew, where a link number is left for it. All that can fail
     /// comes before the core's step, or is that step.
-    fn wake_at(&mut self, alloc: Global, now: u64, i: u64) -> Result<Vec<Effect>, AllocError>
+    fn wake_at(
+        &mut self,
+        alloc: Global,
+        now: u64,
+        i: ConnectionPlace,
+    ) -> Result<Vec<Effect>, AllocError>
         requires ready { ExchangeMayBeWoken (connection_number i) self.old.core.exchanges }
         requires here { NoConnectionIsLost self.old.connections }
         requires left { self.old.first + length self.old.links < 2 ^ 64 }
@@ -51,7 +57,7 @@ impl<S: Shelf> Engine<S> {
         &mut self,
         alloc: Global,
         now: u64,
-        i: u64,
+        i: ConnectionPlace,
     ) -> Result<Vec<Effect>, EngineFault>
         requires ready { ExchangeMayBeWoken (connection_number i) self.old.core.exchanges }
         requires here { NoConnectionIsLost self.old.connections }

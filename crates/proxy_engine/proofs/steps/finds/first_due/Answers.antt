@@ -10,7 +10,7 @@ returns-then-branch-clause-alike g c = alike_trans g.E.Endpoint.LooksLike g.met.
 pub returns-then-branch-clause-found : goal.returns-then-branch-clause-found
 returns-then-branch-clause-found g c =
     let first = c.in-Some.ensures.some in
-    let marked = marked_look g.E.Endpoint.may_show g.E.Endpoint.LooksLike (get nat_cmp c.loop-place.ends) (get nat_cmp c.poll_at.new.ends) _ _ c.loop-place.marked c.in-Some.place c.loop-place.invariant.marked first c.poll_at.ensures.others c.poll_at.ensures.alike c.poll_at.ensures.size in (
+    let marked = marked_look g.E.Endpoint.may_show g.E.Endpoint.LooksLike (get nat_cmp c.loop-place.ends) (get nat_cmp c.poll_at.new.ends) _ _ c.loop-place.marked c.in-Some.place c.loop-place.invariant.marked first c.poll_at.ensures.others c.poll_at.ensures.alike c.poll_at.ensures.size in rw c.at.ensures (
       c.in_ok-poll_at.ensures.yes c.if-branch.true,
       none_before g.E.Endpoint.may_show (get nat_cmp c.poll_at.new.ends) _ c.loop-place.marked c.in-Some.place marked first,
       c.loop-place.invariant.fewer c.in-Some.place (least_there c.loop-place.marked.places c.in-Some.place first),

@@ -1,14 +1,21 @@
 use Rattle.std.proofs.Common.{◌∙◌, sym, ap, arith}
 use Rattle.proxy_engine.specs.Marked.{item_at, kept_count, may_be_lost, lost_connection_at}
-use Rattle.proxy_engine.proofs.Marking.{marked_dropped, no_mark}
+use Rattle.proxy_engine.proofs.Marking.{marked_dropped, none_before, no_mark}
 use Rattle.proxy_engine.proofs.steps.finds.first_lost.Goals as goal
+
+pub returns-in-Some-lost_link-clause-some : goal.returns-in-Some-lost_link-clause-some
+returns-in-Some-lost_link-clause-some c =
+    let items = c.args.ends.now.items in (
+      sym c.lost_link.ensures ∙ c.in-Some-lost_link.is,
+      rw c.at-place.ensures (none_before may_be_lost (item_at items) (kept_count items) c.loop-i.lost c.in-Some.i c.loop-i.invariant.marked c.in-Some.ensures.some),
+    )
 
 pub loop-i-preserved : goal.loop-i-preserved
 loop-i-preserved c =
     let items = c.args.ends.now.items in
     let drops = c.drop_least.ensures in
     record {
-      marked = marked_dropped may_be_lost (item_at items) (kept_count items) c.loop-i.lost c.drop_least.new.self c.in-Some.i c.loop-i.invariant.marked c.in-Some.ensures.some (λ x e. no_mark x (sym c.in_default-lost_link.is ∙ (c.lost_link.ensures ∙ ap lost_connection_at e))) drops.others drops.only drops.room
-          drops.falls;
+      marked = marked_dropped may_be_lost (item_at items) (kept_count items) c.loop-i.lost c.drop_least.new.self c.in-Some.i c.loop-i.invariant.marked c.in-Some.ensures.some (λ x e. no_mark x (sym c.in_default-lost_link.is ∙ (c.lost_link.ensures ∙ ap lost_connection_at (ap (item_at items) c.at-place.ensures ∙ e))))
+          drops.others drops.only drops.room drops.falls;
       next = λ room. let fits = c.loop-i.invariant.next room in omega (arith, fits, drops.room);
     }

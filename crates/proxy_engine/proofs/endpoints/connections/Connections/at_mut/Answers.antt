@@ -7,12 +7,14 @@ use Rattle.proxy_engine.proofs.endpoints.connections.Connections.at_mut.Goals as
 pub put-requires : goal.put-requires
 put-requires c =
     let here : is_some (item_at c.self.inside.ends.items c.args.i) ≡ true = copied_some c.get.result _ c.get.ensures c.if-is_none.ensures in
-    lost_room c.self.inside.ends c.self.inside.lost c.self.inside.lost c.self.invariant c.args.i here
+    rw c.key.ensures (lost_room c.self.inside.ends c.self.inside.lost c.self.inside.lost c.self.invariant c.args.i here)
 
 pub invariant_of-self-lent : goal.invariant_of-self-lent
-invariant_of-self-lent c = λ r.
+invariant_of-self-lent c =
     let puts = c.put.ensures in
-    let here : is_some (item_at c.self.inside.ends.items c.args.i) ≡ true = copied_some c.get.result _ c.get.ensures c.if-is_none.ensures in (
-      (λ w. lost_put c.self.inside.ends c.self.inside.lost c.put.new.self c.self.invariant c.args.i puts.there puts.others puts.only puts.room puts.falls w here),
-      lost_kept c.self.inside.ends c.self.inside.lost c.put.new.self c.self.invariant c.args.i puts.there puts.others puts.only puts.room puts.falls here,
-    )
+    let there : is_some (item_at c.self.inside.ends.items c.args.i) ≡ true = copied_some c.get.result _ c.get.ensures c.if-is_none.ensures in
+    let here : is_some (item_at c.self.inside.ends.items c.key.result) ≡ true = rw c.key.ensures there in
+    rw (← c.key.ensures) (λ r. (
+      (λ w. lost_put c.self.inside.ends c.self.inside.lost c.put.new.self c.self.invariant c.key.result puts.there puts.others puts.only puts.room puts.falls w here),
+      lost_kept c.self.inside.ends c.self.inside.lost c.put.new.self c.self.invariant c.key.result puts.there puts.others puts.only puts.room puts.falls here,
+    ))

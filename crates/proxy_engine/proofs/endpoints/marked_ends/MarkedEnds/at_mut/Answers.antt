@@ -9,19 +9,19 @@ use Rattle.proxy_engine.proofs.Marking.{fills_map, has_room, marked_put, below_p
 use Rattle.proxy_engine.proofs.endpoints.marked_ends.MarkedEnds.at_mut.Goals as goal
 
 pub put-requires : goal.put-requires
-put-requires g c = has_room g.E.Endpoint.may_show _ _ c.self.inside.marked c.args.place (fills_map c.self.inside.ends) c.self.invariant.0 (sym c.contains_key.ensures ∙ c.if-not-contains_key.false)
+put-requires g c = has_room g.E.Endpoint.may_show _ _ c.self.inside.marked c.key-key.result (fills_map c.self.inside.ends) c.self.invariant.0 (sym c.contains_key.ensures ∙ c.if-not-contains_key.false)
 
 pub invariant_of-self-lent : goal.invariant_of-self-lent
 invariant_of-self-lent g c = λ r.
     let flag = g.E.Endpoint.may_show in
     let m = c.self.inside.ends in
     let n = c.self.inside.count in
-    let i = c.args.place in
+    let i = c.key-key.result in
     let old = c.self.inside.marked in
     let new = c.put.new.self in
     let puts = c.put.ensures in
     let here = sym c.contains_key.ensures ∙ c.if-not-contains_key.false in
-    let seen = seen_at m n i c.args.self.now.items (ap (λ (v : EndList g.row.E.Denot). v.items) c.self.view_is) c.requires in
+    let seen = seen_at m n i c.args.self.now.items (ap (λ (v : EndList g.row.E.Denot). v.items) c.self.view_is) (rw c.key-key.ensures c.requires) in
     let within = seen.0 in
     let apart : n ≢ i = λ e. absurd (omega (arith, e, within)) in
     let room : length m.entries ≤ new.room = omega (arith, c.self.invariant.0.room, puts.room) in
@@ -45,7 +45,7 @@ invariant_of-self-lent g c = λ r.
 
 pub returns-then-not-contains_key : goal.returns-then-not-contains_key
 returns-then-not-contains_key g c =
-    let seen = seen_at c.self.inside.ends c.self.inside.count c.args.place c.args.self.now.items (ap (λ (v : EndList g.row.E.Denot). v.items) c.self.view_is) c.requires in (
+    let seen = seen_at c.self.inside.ends c.self.inside.count c.key-key.result c.args.self.now.items (ap (λ (v : EndList g.row.E.Denot). v.items) c.self.view_is) (rw c.key-key.ensures c.requires) in rw (← c.key-key.ensures) (
       ap inr c.self.view_is,
       record { writes_back = tt; value = sym (none_from _ (sym c.if-not-contains_key.true ∙ c.contains_key.ensures)) ∙ seen.1 },
     )
@@ -54,10 +54,10 @@ pub returns : goal.returns
 returns g c =
     let m = c.self.inside.ends in
     let n = c.self.inside.count in
-    let i = c.args.place in
+    let i = c.key-key.result in
     let old : entries_below m n ≡ c.args.self.now.items = ap (λ (v : EndList g.row.E.Denot). v.items) c.self.view_is in
-    let seen = seen_at m n i c.args.self.now.items old c.requires in
-    let here = sym c.contains_key.ensures ∙ c.if-not-contains_key.false in (
+    let seen = seen_at m n i c.args.self.now.items old (rw c.key-key.ensures c.requires) in
+    let here = sym c.contains_key.ensures ∙ c.if-not-contains_key.false in rw (← c.key-key.ensures) (
       lent_if c.get_mut.result _ _ _ _
           (λ e w.
           let updates = (c.get_mut.follows.holds w).3 here in

@@ -22,19 +22,19 @@ invariant_of-self g c =
       (λ spare. (alike_some grows m k c.reserve_at.ensures.grows c.self.inside.count (c.self.invariant.2 spare).0, (c.self.invariant.2 spare).1)),
     )
 
-pub returns-then-place-self-clause-ok : goal.returns-then-place-self-clause-ok
-returns-then-place-self-clause-ok g c =
+pub returns-then-key-self-clause-ok : goal.returns-then-key-self-clause-ok
+returns-then-key-self-clause-ok g c =
     let len = ap (λ (v : EndList g.row.E.Denot). length v.items) c.self.view_is in
-    subst (λ o. HasSpareBytes g.E.Endpoint.spare o most_bytes_of_read) (sym (beyond c.args.self.now.items c.args.place (omega (arith, len, listed_length c.self.inside.ends c.self.inside.count, c.if-place-self.true)))) tt
+    rw (← c.key-key.ensures) (subst (λ o. HasSpareBytes g.E.Endpoint.spare o most_bytes_of_read) (sym (beyond c.args.self.now.items c.key-key.result (omega (arith, len, listed_length c.self.inside.ends c.self.inside.count, c.if-key-self.true)))) tt)
 
-pub returns-then-place-self-clause-grows : goal.returns-then-place-self-clause-grows
-returns-then-place-self-clause-grows g c = alike_refl (OnlyGainsRoom g.E.Endpoint.LooksLike g.E.Endpoint.may_show) (λ x. record { alike = g.met.E.Endpoint.looks_like_itself x; shows = refl }) _
+pub returns-then-key-self-clause-grows : goal.returns-then-key-self-clause-grows
+returns-then-key-self-clause-grows g c = alike_refl (OnlyGainsRoom g.E.Endpoint.LooksLike g.E.Endpoint.may_show) (λ x. record { alike = g.met.E.Endpoint.looks_like_itself x; shows = refl }) _
 
 pub returns-clause-ok : goal.returns-clause-ok
-returns-clause-ok g c =
+returns-clause-ok g c = rw (← c.key-key.ensures) (
     does_ok c.reserve_at.result _ _
-    (λ roomy. subst (λ o. HasSpareBytes g.E.Endpoint.spare o most_bytes_of_read) (sym (listed_at c.reserve_at.new.ends c.self.inside.count c.args.place _ c.if-place-self.false)) roomy)
-    c.reserve_at.ensures.ok
+    (λ roomy. subst (λ o. HasSpareBytes g.E.Endpoint.spare o most_bytes_of_read) (sym (listed_at c.reserve_at.new.ends c.self.inside.count c.key-key.result _ c.if-key-self.false)) roomy)
+    c.reserve_at.ensures.ok)
 
 pub returns-clause-grows : goal.returns-clause-grows
 returns-clause-grows g c =
@@ -51,5 +51,5 @@ returns-clause-err g c =
     let m = c.self.inside.ends in
     let k = c.reserve_at.new.ends in
     stays_err c.reserve_at.result _ _
-    (λ same. same_list _ _ _ _ (listed_same m k c.self.inside.count (λ q l. by_place m k c.args.place same c.reserve_at.ensures.others q)) refl ∙ c.self.view_is)
+    (λ same. same_list _ _ _ _ (listed_same m k c.self.inside.count (λ q l. by_place m k c.key-key.result same c.reserve_at.ensures.others q)) refl ∙ c.self.view_is)
     c.reserve_at.ensures.err
