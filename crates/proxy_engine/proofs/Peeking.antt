@@ -1,5 +1,5 @@
 -- A reader that is asked ahead: what is known of the next answer.
-use Rattle.std.proofs.Common.{◌≡◌, ℕ, Bool, true, false, not, List, [], ◌∷◌, refl, sym, subst}
+use Rattle.std.proofs.Common.{◌≡◌, ℕ, Bool, false, List, [], ◌∷◌, refl, sym, subst}
 use Rattle.hx_framing.specs.declared.messages.Request.{Request}
 use Rattle.hx_framing.specs.declared.messages.Response.{Response}
 use Rattle.hx_framing.specs.declared.messages.Next.{Next}
@@ -11,8 +11,7 @@ use Rattle.hx_framing.specs.declared.readers.progress.ReaderPhase.TheVariants as
 use Rattle.hx_framing.specs.Progress.{Progress, no_stream, stream_with_piece, stream_finished, stream_after_answer, AnswerIsDue}
 use Rattle.hx_framing.specs.Reading.{Incomplete}
 use Rattle.hx_framing.specs.RequestState.{State as RequestState, RepresentsStream as RequestRepresentsStream, RequestReaderKeeps as RequestKeeps}
-use Rattle.hx_framing.specs.RequestReading.{Reads}
-use Rattle.hx_framing.specs.RequestStream.{StreamSpells, Answers as RequestAnswers}
+use Rattle.hx_framing.specs.RequestStream.{Answers as RequestAnswers}
 use Rattle.hx_framing.specs.ResponseState.{State, RepresentsStream, ResponseReaderKeeps}
 use Rattle.hx_framing.specs.ResponseStream.{Answers as ResponseAnswers}
 use Rattle.proxy_engine.specs.declared.endpoints.lookahead.Lookahead.{Lookahead}
