@@ -190,7 +190,7 @@ impl EntryCache {
         }
     }
 
-    /// Puts an entry first. Want of memory changes nothing and hands it back.
+    /// Puts an entry first. Where memory runs out nothing has changed, and the entry is handed back.
     pub(crate) fn store(&mut self, entry: Entry) -> Result<(), Entry>
         requires { holds_serial entry.serial self.old ≡ false }
         ensures ok { OnOk result (self.new ≡ entry ∷ self.old) }

@@ -103,7 +103,7 @@ impl KeyMarks {
         }
     }
 
-    /// Puts a serial in with its mark. Want of memory changes nothing.
+    /// Puts a serial in with its mark. Where memory runs out nothing has changed.
     pub(crate) fn insert(
         &mut self,
         alloc: Global,
@@ -165,7 +165,7 @@ fn map_of_two(
     Ok(marks)
 }
 
-/// Puts a serial in with its mark. Want of memory changes nothing.
+/// Puts a serial in with its mark. Where memory runs out nothing has changed.
 fn insert_mark(marks: &mut BTreeMap<u64, Mark>, serial: u64, mark: Mark) -> Result<(), AllocError>
     ensures ok { OnOk result (marks.new.entries ≡ insert_entry nat_cmp marks.old.entries serial mark) }
     ensures err { OnErr result (marks.new.entries ≡ marks.old.entries) }

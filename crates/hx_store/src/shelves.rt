@@ -57,8 +57,8 @@ pub trait Shelf {
     fn has_key(&self, key: &Key) -> bool
         ensures { result ≡ not (length (serials_of key.now (entries self.now)) == 0) };
 
-    /// The serials of the entries with this key whose nominated values the request has, ascending. Fails for want of
-    /// memory alone.
+    /// The serials of the entries with this key whose nominated values the request has, ascending. Fails only where
+    /// memory runs out.
     fn find_matching(
         &self,
         alloc: Global,
@@ -69,8 +69,8 @@ pub trait Shelf {
         ensures distinct { Distinct (serials (entries self.now)) };
 
     /// Stores an entry, first, in place of those with the serials in `replaced`. Where more than the capacity
-    /// stand, the last one is handed back. Want of memory changes nothing and hands the new entry back; where there
-    /// is room for one more, none is wanted.
+    /// stand, the last one is handed back. Where memory runs out nothing has changed, and the new entry is handed back;
+    /// where there is room for one more, none is taken.
     fn put(&mut self, entry: Entry, replaced: &[u64]) -> Result<Option<Entry>, Entry>
         requires { holds_serial entry.serial (entries self.old) ≡ false }
         ensures ok { OnOk result (entries self.new

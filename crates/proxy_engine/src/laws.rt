@@ -80,9 +80,8 @@ pub fn answers_are_final()
 }
 
 /// Where a waiting request or an answer is the first that is due, the links that come before it are known, and no
-/// number is left for one more link, `work` doesn't say that memory is wanting: `ReportsLinkNumbersExhausted`, which
-/// it ensures
-/// then, is false of such a state.
+/// number is left for one more link, `work` doesn't say that memory ran out: `ReportsLinkNumbersExhausted`, which it
+/// ensures then, is false of such a state.
 pub fn memory_hides_no_lack_of_numbers()
     ensures wakes { MemoryHidesNoExhaustedWake }
     ensures answers { MemoryHidesNoExhaustedAnswer }

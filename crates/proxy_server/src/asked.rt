@@ -78,8 +78,8 @@ impl Asked {
         self.shut = place;
     }
 
-    /// A link has failed. It is kept, unless as many are kept as can be open or memory is wanting for it: then the
-    /// order of the others tells nothing.
+    /// A link has failed. It is kept, unless as many are kept as can be open or memory runs out: then the order of
+    /// the others tells nothing.
     pub(crate) fn disconnect_link(&mut self, l: u64, place: usize)
         ensures places { self.new.places ≡ failed_origins_with self.old.places place }
         ensures shut { self.new.shut ≡ self.old.shut }

@@ -93,7 +93,7 @@ impl Unsent {
     }
 
     /// Keeps bytes behind the others. Where there is no room for them, none of them is kept; within the bound there is
-    /// room for what no further memory is wanted for.
+    /// room for what takes no further memory.
     pub(crate) fn keep(&mut self, bytes: &[u8]) -> io::Result<()>
         ensures ok { OnOk result (self.new.bytes ≡ self.old.bytes ++ bytes.now) }
         ensures held { OnOk result (self.new.held ≡ self.old.held + length bytes.now) }

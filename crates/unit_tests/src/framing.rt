@@ -14,7 +14,7 @@ fn room_for_requests_holds_a_piece(rt: HostRuntime) -> Result<(), Fail> {
     let mut reader = RequestReader::new(rt.alloc(), 1000);
     reader.feed(REQUEST)?;
     reader.reserve(REQUEST.len())?;
-    // No memory is wanted here, so that an `Err` is a fault of the reader.
+    // No memory is taken here, so that an `Err` is a fault of the reader.
     assert!(&rt; reader.feed(REQUEST).is_ok());
     Ok(())
 }
@@ -25,7 +25,7 @@ fn room_for_responses_holds_a_piece(rt: HostRuntime) -> Result<(), Fail> {
     let (front, back) = RESPONSE.split_at(20);
     reader.feed(front)?;
     reader.reserve(back.len())?;
-    // No memory is wanted here, so that an `Err` is a fault of the reader.
+    // No memory is taken here, so that an `Err` is a fault of the reader.
     assert!(&rt; reader.feed(back).is_ok());
     Ok(())
 }

@@ -39,7 +39,7 @@ fn remove_each<S: Shelf>(shelf: &mut S, removed: &[u64])
     }
 }
 
-/// Changes what is held. Where memory is wanted nothing has changed.
+/// Changes what is held. Where memory runs out nothing has changed.
 fn change_shelf<S: Shelf>(shelf: &mut S, change: Change, removed: &[u64]) -> Result<(), AllocError>
     requires new { StoresNewSerial change (S.entries shelf.old) }
     requires held { FreshensHeldResponse change (S.entries shelf.old) }

@@ -133,7 +133,7 @@ impl Connections {
         self.ends.reserve_one(alloc)
     }
 
-    /// Puts a connection at the place behind the last, and marks it. Where there is room for it, memory isn't wanted.
+    /// Puts a connection at the place behind the last, and marks it. Where there is room for it, no memory is taken.
     pub(crate) fn accept(&mut self, alloc: Global, connection: Connection) -> Result<(), AllocError>
         ensures ok { OnOk result (self.new.items ≡ self.old.items ++ Some connection ∷ []) }
         ensures reserved { self.old.has_room ≡ true → IsOk result }
