@@ -47,6 +47,7 @@ impl Origin {
         self.text.as_str()
     }
 
+    /// The address that the text spells.
     #[tactic(auto, using(crate::proofs::AddressTexts::text_back))]
     pub fn address(&self) -> SocketAddrV4
         ensures read { address_of self.now ≡ Some result }
