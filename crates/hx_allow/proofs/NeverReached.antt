@@ -7,7 +7,7 @@ use Rattle.std.proofs.lemmas.Bool.Decides.{nat_tests}
 use Rattle.std.proofs.lemmas.Slice.Eq.{bytes_eq-Decides}
 use Rattle.hx_target.specs.declared.targets.Target.{Target}
 use Rattle.hx_allow.specs.TableLines.{Line}
-use Rattle.hx_allow.specs.Matching.{is_star_or_same, path_continues, is_never_allowed, line_number, matches_host, matches_line, matches_method, matches_path, line_of_number, verdict_of}
+use Rattle.hx_allow.specs.Matching.{is_star_or_same, is_below_path, is_never_allowed, line_number, matches_host, matches_line, matches_method, matches_path, line_of_number, verdict_of}
 use Rattle.hx_allow.specs.NeverReached.{first_line_taking, takes_each_host_of, takes_each_request_of, takes_each_method_of, takes_each_path_of}
 use Rattle.hx_allow.proofs.Readings.{first_matching}
 
@@ -86,7 +86,7 @@ index_take m (suc n) [] h = refl
 index_take zero (suc n) (x ∷ xs) h = refl
 index_take (suc m) (suc n) (x ∷ xs) h = index_take m n xs (omega (arith, h))
 
-continued_on : (a b asked : List ℕ) → path_continues a b ≡ true → path_continues b asked ≡ true → path_continues a asked ≡ true
+continued_on : (a b asked : List ℕ) → is_below_path a b ≡ true → is_below_path b asked ≡ true → is_below_path a asked ≡ true
 continued_on a b asked first second =
     let one = and_parts (nat_lt (length a) (length b) && bytes_eq (take (length a) b) a) (slice_index b (length a) == 47) first in
     let one_more = and_parts (nat_lt (length a) (length b)) (bytes_eq (take (length a) b) a) one.0 in
@@ -101,13 +101,13 @@ continued_on a b asked first second =
     rw (length_is, start, one_more.1, slash) one.1
 
 path_taken : (path later asked : List ℕ) → takes_each_path_of path later ≡ true → matches_path later asked ≡ true → matches_path path asked ≡ true
-path_taken path later asked takes matches = by_first (one_of (bytes_eq path (codes "/") || bytes_eq path later) (not (bytes_eq later (codes "/")) && path_continues path later) takes)
+path_taken path later asked takes matches = by_first (one_of (bytes_eq path (codes "/") || bytes_eq path later) (not (bytes_eq later (codes "/")) && is_below_path path later) takes)
   where
     root : bytes_eq path (codes "/") ≡ true → matches_path path asked ≡ true
-    root is = or_left (bytes_eq path (codes "/") || bytes_eq path asked) (path_continues path asked) (or_left (bytes_eq path (codes "/")) (bytes_eq path asked) is)
+    root is = or_left (bytes_eq path (codes "/") || bytes_eq path asked) (is_below_path path asked) (or_left (bytes_eq path (codes "/")) (bytes_eq path asked) is)
 
-    on : path_continues path asked ≡ true → matches_path path asked ≡ true
-    on is = or_right (bytes_eq path (codes "/") || bytes_eq path asked) (path_continues path asked) is
+    on : is_below_path path asked ≡ true → matches_path path asked ≡ true
+    on is = or_right (bytes_eq path (codes "/") || bytes_eq path asked) (is_below_path path asked) is
 
     alike : bytes_eq path later ≡ true → matches_path path asked ≡ true
     alike is = let same : path ≡ later = same_bytes path later is in ap (λ p. matches_path p asked) same ∙ matches
@@ -115,23 +115,23 @@ path_taken path later asked takes matches = by_first (one_of (bytes_eq path (cod
     no_root : bytes_eq later (codes "/") ≡ true → not (bytes_eq later (codes "/")) ≡ true → ⊥
     no_root is isnt = let bad : not true ≡ true = sym (ap not is) ∙ isnt in cc
 
-    beyond : not (bytes_eq later (codes "/")) ≡ true → path_continues path later ≡ true → (bytes_eq later (codes "/") || bytes_eq later asked ≡ true) ⊎ (path_continues later asked ≡ true) → matches_path path asked ≡ true
+    beyond : not (bytes_eq later (codes "/")) ≡ true → is_below_path path later ≡ true → (bytes_eq later (codes "/") || bytes_eq later asked ≡ true) ⊎ (is_below_path later asked ≡ true) → matches_path path asked ≡ true
     beyond isnt first (inl either) = by_either (one_of (bytes_eq later (codes "/")) (bytes_eq later asked) either)
       where
         by_either : (bytes_eq later (codes "/") ≡ true) ⊎ (bytes_eq later asked ≡ true) → matches_path path asked ≡ true
         by_either (inl is) = absurd (no_root is isnt)
-        by_either (inr is) = let same : later ≡ asked = same_bytes later asked is in on (ap (path_continues path) (sym same) ∙ first)
+        by_either (inr is) = let same : later ≡ asked = same_bytes later asked is in on (ap (is_below_path path) (sym same) ∙ first)
     beyond isnt first (inr more) = on (continued_on path later asked first more)
 
-    by_first : (bytes_eq path (codes "/") || bytes_eq path later ≡ true) ⊎ (not (bytes_eq later (codes "/")) && path_continues path later ≡ true) → matches_path path asked ≡ true
+    by_first : (bytes_eq path (codes "/") || bytes_eq path later ≡ true) ⊎ (not (bytes_eq later (codes "/")) && is_below_path path later ≡ true) → matches_path path asked ≡ true
     by_first (inl either) = by_either (one_of (bytes_eq path (codes "/")) (bytes_eq path later) either)
       where
         by_either : (bytes_eq path (codes "/") ≡ true) ⊎ (bytes_eq path later ≡ true) → matches_path path asked ≡ true
         by_either (inl is) = root is
         by_either (inr is) = alike is
     by_first (inr further) =
-        let parts = and_parts (not (bytes_eq later (codes "/"))) (path_continues path later) further in
-        beyond parts.0 parts.1 (one_of (bytes_eq later (codes "/") || bytes_eq later asked) (path_continues later asked) matches)
+        let parts = and_parts (not (bytes_eq later (codes "/"))) (is_below_path path later) further in
+        beyond parts.0 parts.1 (one_of (bytes_eq later (codes "/") || bytes_eq later asked) (is_below_path later asked) matches)
 
 -- ---- lines
 

@@ -6,7 +6,7 @@ use Rattle.std.proofs.lemmas.List.{get_or-take}
 use Rattle.std.proofs.lemmas.Option.{slice_get-get_or, unwrap_or-slice_get}
 use Rattle.std.proofs.lemmas.Slice.Eq.{bytes_eq-Decides}
 use Rattle.hx_allow.specs.declared.path_tails.PathTail.{PathTail}
-use Rattle.hx_allow.specs.Matching.{path_continues, matches_path}
+use Rattle.hx_allow.specs.Matching.{is_below_path, matches_path}
 use Rattle.hx_allow.specs.PathTails.{path_may_match_tail, path_tail_of}
 use Rattle.hx_allow.specs.Values.{is_some_and}
 
@@ -36,7 +36,7 @@ module _ (path asked : List ℕ) where
   same_path is = let e : path ≡ asked = (bytes_eq-Decides path asked).0 is in
       last_stands path asked (omega (arith, ap length e)) (λ some. ap (λ (p : List ℕ). get_or p (length path - 1) 0) (sym e))
 
-  longer_path : path_continues path asked ≡ true → ((length path == 0) || is_some_and (λ b. b == unwrap_or (slice_get path (length path - 1)) 0) (slice_get asked (length path - 1))) ≡ true
+  longer_path : is_below_path path asked ≡ true → ((length path == 0) || is_some_and (λ b. b == unwrap_or (slice_get path (length path - 1)) 0) (slice_get asked (length path - 1))) ≡ true
   longer_path is =
       let parts = both (nat_lt (length path) (length asked)) (bytes_eq (take (length path) asked) path) (slice_index asked (length path) == 47) is in
       let front : take (length path) asked ≡ path = (bytes_eq-Decides (take (length path) asked) path).0 parts.1 in
@@ -45,9 +45,9 @@ module _ (path asked : List ℕ) where
       sym (get_or-take (length path) asked (length path - 1) 0 (omega arith)) ∙ ap (λ (p : List ℕ). get_or p (length path - 1) 0) front)
 
   tail_stands : matches_path path asked ≡ true → path_may_match_tail (path_tail_of path) asked ≡ true
-  tail_stands is = by_test (bytes_eq path (codes "/")) (bytes_eq path asked) (path_continues path asked) refl refl is
+  tail_stands is = by_test (bytes_eq path (codes "/")) (bytes_eq path asked) (is_below_path path asked) refl refl is
     where
-      by_test : (t u v : Bool) → bytes_eq path asked ≡ u → path_continues path asked ≡ v → (t || u || v) ≡ true
+      by_test : (t u v : Bool) → bytes_eq path asked ≡ u → is_below_path path asked ≡ v → (t || u || v) ≡ true
           → path_may_match_tail (cond t (record { size = 0; last = 0 }) (record { size = length path; last = unwrap_or (slice_get path (length path - 1)) 0 })) asked ≡ true
       by_test true u v p q h = refl
       by_test false true v p q h = same_path p

@@ -34,14 +34,14 @@ abbrev pub matches_method : List (List ℕ) → List ℕ → Bool
 matches_method methods method = not (is_never_allowed method) && list_any (is_star_or_same method) methods
 
 -- the path of a line begins the asked one, and a slash follows
-abbrev pub path_continues : List ℕ → List ℕ → Bool
-path_continues path asked =
+abbrev pub is_below_path : List ℕ → List ℕ → Bool
+is_below_path path asked =
     nat_lt (length path) (length asked) && bytes_eq (take (length path) asked) path
     && (slice_index asked (length path) == 47)
 
 -- `/` matches all; any other path itself and what continues it with a slash
 abbrev pub matches_path : List ℕ → List ℕ → Bool
-matches_path path asked = bytes_eq path (codes "/") || bytes_eq path asked || path_continues path asked
+matches_path path asked = bytes_eq path (codes "/") || bytes_eq path asked || is_below_path path asked
 
 unfoldable pub matches_line : Line → List ℕ → Target → Bool
 matches_line line method target =

@@ -7,7 +7,7 @@ use Rattle.std.specs.Prelude.{None}
 use Rattle.std.specs.Option.{option_and_then}
 use Rattle.std.specs.List.{list_any, list_all, position_from}
 use Rattle.hx_allow.specs.TableLines.{Line}
-use Rattle.hx_allow.specs.Matching.{is_star_or_same, path_continues, line_of_number}
+use Rattle.hx_allow.specs.Matching.{is_star_or_same, is_below_path, line_of_number}
 
 abbrev pub takes_each_host_of : Option (List ℕ) → Option (List ℕ) → Bool
 takes_each_host_of None later = true
@@ -21,7 +21,7 @@ takes_each_method_of methods later = list_all (λ text. list_any (is_star_or_sam
 -- it is `/`, the other's path, or one that this continues
 abbrev pub takes_each_path_of : List ℕ → List ℕ → Bool
 takes_each_path_of path later =
-    bytes_eq path (codes "/") || bytes_eq path later || (not (bytes_eq later (codes "/")) && path_continues path later)
+    bytes_eq path (codes "/") || bytes_eq path later || (not (bytes_eq later (codes "/")) && is_below_path path later)
 
 -- the first line takes each request that the later one would
 unfoldable pub takes_each_request_of : Line → Line → Bool

@@ -3,7 +3,7 @@ ghost use Rattle.std.specs.Prelude.{◌≡◌};
 ghost use Rattle.std.specs.Option.{option_copied};
 ghost use Rattle.std.specs.List.{list_any};
 ghost use Rattle.hx_allow.specs.Matching.{matches_host, is_never_allowed, is_star_or_same, matches_path};
-ghost use Rattle.hx_allow.specs.Matching.{path_continues};
+ghost use Rattle.hx_allow.specs.Matching.{is_below_path};
 ghost use Rattle.hx_allow.specs.Index.{can_match, matches_beside_host};
 
 use crate::origins::Origin;
@@ -83,12 +83,12 @@ pub(crate) fn has_any_or_same(methods: &[Bytes], method: &[u8]) -> bool
 fn matches_path(path: &[u8], asked: &[u8]) -> bool
     ensures { result ≡ matches_path path.now asked.now }
 {
-    path == b"/".as_slice() || path == asked || path_continues(path, asked)
+    path == b"/".as_slice() || path == asked || is_below_path(path, asked)
 }
 
 /// Whether a path begins a longer one, and a slash follows.
-pub(crate) fn path_continues(path: &[u8], asked: &[u8]) -> bool
-    ensures { result ≡ path_continues path.now asked.now }
+pub(crate) fn is_below_path(path: &[u8], asked: &[u8]) -> bool
+    ensures { result ≡ is_below_path path.now asked.now }
 {
     path.len() < asked.len() && &asked[..path.len()] == path && asked[path.len()] == b'/'
 }

@@ -2,11 +2,11 @@
 ghost use Rattle.std.specs.Prelude.{◌≡◌, ◌<◌, length};
 ghost use Rattle.std.specs.List.{list_any, position_from};
 ghost use Rattle.std.specs.Option.{option_copied};
-ghost use Rattle.hx_allow.specs.Matching.{is_star_or_same, path_continues};
+ghost use Rattle.hx_allow.specs.Matching.{is_star_or_same, is_below_path};
 ghost use Rattle.hx_allow.specs.NeverReached.{takes_each_host_of, takes_each_method_of, takes_each_path_of};
 ghost use Rattle.hx_allow.specs.NeverReached.{takes_each_request_of};
 
-use crate::lines::{Line, has_any_or_same, path_continues};
+use crate::lines::{Line, has_any_or_same, is_below_path};
 use hx_fields::Bytes;
 
 fn takes_each_host_of(host: Option<&Bytes>, later: Option<&Bytes>) -> bool
@@ -33,7 +33,7 @@ fn takes_each_path_of(path: &[u8], later: &[u8]) -> bool
     if path == b"/".as_slice() || path == later {
         return true;
     }
-    later != b"/".as_slice() && path_continues(path, later)
+    later != b"/".as_slice() && is_below_path(path, later)
 }
 
 /// Whether the first line takes each request that the later one would.

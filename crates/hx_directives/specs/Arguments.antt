@@ -8,18 +8,18 @@ use Rattle.hx_directives.specs.Seconds.{seconds_of, capped}
 -- What stands before the quote that closes, where that quote is the last byte. A backslash takes the next byte
 -- with it and goes: quoted-pair = "\" ( HTAB / SP / VCHAR / obs-text ) (RFC 9110, section 5.6.4).
 -- The first argument: whether a backslash takes the first byte.
-abbrev pub quoted_content : Bool → List ℕ → Option (List ℕ)
-quoted_content is_taken [] = None
-quoted_content true (b ∷ rest) = option_map (λ content. b ∷ content) (quoted_content false rest)
-quoted_content false (b ∷ rest) =
+abbrev pub content_to_closing_quote : Bool → List ℕ → Option (List ℕ)
+content_to_closing_quote is_taken [] = None
+content_to_closing_quote true (b ∷ rest) = option_map (λ content. b ∷ content) (content_to_closing_quote false rest)
+content_to_closing_quote false (b ∷ rest) =
     if b == quote then (if is_nonempty rest then None else Some [])
-    else if b == backslash then quoted_content true rest
-    else option_map (λ content. b ∷ content) (quoted_content false rest)
+    else if b == backslash then content_to_closing_quote true rest
+    else option_map (λ content. b ∷ content) (content_to_closing_quote false rest)
 
 -- the content of a quoted string, and any other text as it stands
 abbrev pub text_without_quotes : List ℕ → List ℕ
 text_without_quotes [] = []
-text_without_quotes (b ∷ rest) = if b == quote then content_or (b ∷ rest) (quoted_content false rest) else b ∷ rest
+text_without_quotes (b ∷ rest) = if b == quote then content_or (b ∷ rest) (content_to_closing_quote false rest) else b ∷ rest
   where
     content_or : List ℕ → Option (List ℕ) → List ℕ
     content_or text None = text

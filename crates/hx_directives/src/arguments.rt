@@ -3,7 +3,7 @@
 //! Both forms of an argument, token and quoted string, mean the same (RFC 9111, section 5.2).
 
 ghost use Rattle.std.specs.Prelude.{◌≡◌, false, IfOk, option_map, option_copied};
-ghost use Rattle.hx_directives.specs.Arguments.{seconds_of_argument, quoted_content};
+ghost use Rattle.hx_directives.specs.Arguments.{seconds_of_argument, content_to_closing_quote};
 
 use crate::numbers::capped_seconds;
 use std::alloc::{AllocError, Global};
@@ -27,7 +27,7 @@ pub fn seconds_of_argument(alloc: Global, text: Option<&[u8]>) -> Result<Argumen
         return Ok(Argument::Absent);
     };
     let seconds = match text {
-        [b'"', rest @ ..] => match quoted_content(alloc, rest)? {
+        [b'"', rest @ ..] => match content_to_closing_quote(alloc, rest)? {
             Some(content) => capped_seconds(content.as_slice()),
             None => None,
         },
@@ -40,8 +40,8 @@ pub fn seconds_of_argument(alloc: Global, text: Option<&[u8]>) -> Result<Argumen
 }
 
 /// What stands before the closing quote, if that is the last byte.
-fn quoted_content(alloc: Global, text: &[u8]) -> Result<Option<Vec<u8>>, AllocError>
-    ensures { IfOk result (λ r. option_map (λ v. v.items) r ≡ quoted_content false text.now) }
+fn content_to_closing_quote(alloc: Global, text: &[u8]) -> Result<Option<Vec<u8>>, AllocError>
+    ensures { IfOk result (λ r. option_map (λ v. v.items) r ≡ content_to_closing_quote false text.now) }
 {
     let mut content = Vec::new(alloc);
     let mut is_taken = false;

@@ -19,8 +19,8 @@ first_asked = record {
 }
 
 -- by a client of HTTP/1.0, with conditions and content of its own
-abbrev pub asked_to_port : Asked
-asked_to_port = record {
+abbrev pub asked_by_old_client : Asked
+asked_by_old_client = record {
   method = codes "POST";
   minor = 0;
   target = record { key = record { host = codes "h"; port = 81; path_query = codes "/a" }; table_path = codes "/a" };
@@ -73,5 +73,5 @@ asked_of_content content = record first_asked { content = content }
 abbrev pub connection_line : List ℕ → List Field
 connection_line member = line (codes "Connection") member ∷ []
 
-abbrev pub both_conditions : Conditions
-both_conditions = record { etag = Some (codes "\"v1\""); modified = Some (codes "Thu, 01 Jan 1970 00:00:05 GMT") }
+abbrev pub conditions_by_tag_and_date : Conditions
+conditions_by_tag_and_date = record { etag = Some (codes "\"v1\""); modified = Some (codes "Thu, 01 Jan 1970 00:00:05 GMT") }

@@ -8,9 +8,9 @@ ghost use Rattle.hx_hop.specs.declared.request_view.Asked.{Asked as AskedFor};
 ghost use Rattle.hx_hop.specs.Answering.{answered_of, dated_of};
 ghost use Rattle.hx_hop.specs.Bypass.{asks_for_range, request_has_content, has_precondition};
 ghost use Rattle.hx_hop.specs.Asking.{IsAsked, asked_with_target, client_connection_closes, fields_that_go_on_of};
-ghost use Rattle.hx_hop.specs.Examples.{absolute_request, absolute_target, asked_of_content, asked_to_port};
+ghost use Rattle.hx_hop.specs.Examples.{absolute_request, absolute_target, asked_of_content, asked_by_old_client};
 ghost use Rattle.hx_hop.specs.Examples.{first_asked_with_line};
-ghost use Rattle.hx_hop.specs.Examples.{both_conditions, connection_line, date_line, first_asked, first_conditions};
+ghost use Rattle.hx_hop.specs.Examples.{conditions_by_tag_and_date, connection_line, date_line, first_asked, first_conditions};
 ghost use Rattle.hx_hop.specs.Examples.{mixed_fields, response_with_fields};
 ghost use Rattle.hx_hop.specs.Forwarding.{line, host_text, client_lines, via_text, forwarded_lines, forwarded_of};
 ghost use Rattle.hx_hop.specs.Moments.{date_text_of};
@@ -41,9 +41,9 @@ pub fn the_first_request_is_forwarded()
     ensures conditional { request_text (forwarded_of first_asked (codes "edge") (Some first_conditions)) ≡ codes "GET /a HTTP/1.1\r\nHost: h\r\nIf-None-Match: \"v1\"\r\nVia: 1.1 edge\r\nConnection: close\r\n\r\n" }
     ensures conditional_size { length (request_text (forwarded_of first_asked (codes "edge") (Some first_conditions)))
         ≡ 83 }
-    ensures other_port { host_text asked_to_port.target.key ≡ codes "h:" ++ decimal 81 }
-    ensures replaced { client_lines true asked_to_port.fields ≡ line (codes "Accept") (codes "*/*") ∷ [] }
-    ensures older { via_text asked_to_port.minor (codes "edge") ≡ codes "1.0 edge" }
+    ensures other_port { host_text asked_by_old_client.target.key ≡ codes "h:" ++ decimal 81 }
+    ensures replaced { client_lines true asked_by_old_client.fields ≡ line (codes "Accept") (codes "*/*") ∷ [] }
+    ensures older { via_text asked_by_old_client.minor (codes "edge") ≡ codes "1.0 edge" }
 {}
 
 /// What goes on is what concerns no connection, and with that nothing is left to take out.
@@ -210,10 +210,10 @@ pub fn what_goes_past_the_cache()
 /// The proxy's conditions stand behind the client's lines, the tag first (RFC 9110, sections 13.1.2
 /// and 13.1.3); without them the client's own go forward.
 pub fn conditions_go_forward()
-    ensures both { forwarded_lines asked_to_port (codes "edge") (Some both_conditions)
+    ensures both { forwarded_lines asked_by_old_client (codes "edge") (Some conditions_by_tag_and_date)
         ≡ line (codes "Host") (codes "h:" ++ decimal 81) ∷ line (codes "Accept") (codes "*/*") ∷ line (codes "If-None-Match") (codes "\"v1\"")
         ∷ line (codes "If-Modified-Since") (codes "Thu, 01 Jan 1970 00:00:05 GMT") ∷ line (codes "Via") (codes "1.0 edge") ∷ [] }
-    ensures the_clients { client_lines false asked_to_port.fields ≡ asked_to_port.fields }
+    ensures the_clients { client_lines false asked_by_old_client.fields ≡ asked_by_old_client.fields }
 {}
 
 /// A response is stripped, and dated once Connection's names are gone.

@@ -37,8 +37,8 @@ pub use crate::laws::headline_cases::{
 };
 pub use crate::laws::promise_cases::{
     a_denied_request_leaves_no_trace, an_exchange_goes_twice_and_replies_once,
-    no_run_stops_without_a_fault, what_goes_forward_is_the_request,
-    what_is_invalidated_is_not_sent,
+    no_run_stops_without_a_fault, sending_what_is_invalidated_is_refused,
+    what_goes_forward_is_the_request,
 };
 pub use crate::laws::worked_cases::{
     faults_and_serials_in_order, statuses_of_errors, what_a_304_leaves, what_a_step_leaves_open,

@@ -21,7 +21,7 @@ use std::mem::replace;
 
 /// The stream of one client, as far as it was answered.
 #[derive(Drop)]
-pub struct Asked {
+pub struct UnansweredRequests {
     reader: RequestReader,
     /// The requests that have come whole and weren't answered, the oldest first. Their contents aren't kept.
     questions: VecDeque<Question>,
@@ -105,15 +105,15 @@ fn rest_from(text: &[u8], from: usize) -> &[u8] {
     }
 }
 
-impl Asked {
+impl UnansweredRequests {
     /// A stream from which nothing has come. Contents have at most `max_body` bytes.
-    pub fn new(alloc: Global, max_body: u64) -> Asked
+    pub fn new(alloc: Global, max_body: u64) -> UnansweredRequests
         ensures represents { RepresentsStream result.reader (no_stream max_body false) }
         ensures questions { result.questions.items ≡ [] }
         ensures begun { result.begun ≡ None }
         ensures over { result.over ≡ false }
     {
-        Asked {
+        UnansweredRequests {
             reader: RequestReader::new(alloc, max_body),
             questions: VecDeque::new(alloc),
             head: Vec::new(alloc),

@@ -16,7 +16,7 @@ mod text_lines;
 pub mod worked_cases;
 
 pub use crate::about::{SeenOfReply, line_about};
-pub use crate::asked::{Asked, Question};
+pub use crate::asked::{Question, UnansweredRequests};
 pub use crate::line::{Line, log_line_text};
 pub use crate::pending_lines::Lines;
 pub use crate::reply_facts::{ReplyFacts, read_reply};

@@ -9,14 +9,14 @@ use Rattle.slab.specs.Slab as slab
 use Rattle.slab.specs.Slab.{Slab}
 use Rattle.hx_framing.specs.Progress.{no_stream}
 use Rattle.hx_framing.specs.RequestState.{RepresentsStream}
-use Rattle.proxy_log.specs.declared.asked.Asked.{Asked}
+use Rattle.proxy_log.specs.declared.asked.UnansweredRequests.{UnansweredRequests}
 use Rattle.proxy_server.specs.OtherEntries.{OtherSlabKeysStay}
 use Rattle.proxy_server.specs.declared.client.Client.{Client}
 use Rattle.proxy_server.specs.declared.client.Logged.{Logged}
 use Rattle.proxy_server.specs.declared.client.Place.TheVariants as place
 
 -- nothing has been read, and contents have so many bytes at most
-abbrev pub RequestsAreReadAnew : ℕ → Asked → Type 0
+abbrev pub RequestsAreReadAnew : ℕ → UnansweredRequests → Type 0
 RequestsAreReadAnew max_body asked =
     RepresentsStream asked.reader (no_stream max_body false) × (asked.questions.items ≡ []) × (asked.begun ≡ None)
     × (asked.over ≡ false)

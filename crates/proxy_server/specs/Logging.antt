@@ -10,7 +10,7 @@ use Rattle.std.specs.declared.net.socket_addr.SocketAddr.{SocketAddr}
 use Rattle.proxy_log.specs.Asked.{next_question}
 use Rattle.proxy_log.specs.Line.{log_line_text}
 use Rattle.proxy_log.specs.PendingLines.{LineIsAdded, LineIsLost}
-use Rattle.proxy_log.specs.declared.asked.Asked.{Asked}
+use Rattle.proxy_log.specs.declared.asked.UnansweredRequests.{UnansweredRequests}
 use Rattle.proxy_log.specs.declared.asked.Question.{Question}
 use Rattle.proxy_log.specs.declared.line.Line.{Line}
 use Rattle.proxy_log.specs.declared.pending_lines.Lines.{Lines}
@@ -29,7 +29,7 @@ pub record IsLogLineOf (question : Question) (address : SocketAddr) (reply : Rep
   pub origin : line.origin ≡ reply.origin.now
 
 -- of a client that has a place there is a line, by the question that is next; of any other none
-abbrev pub IsLineAboutNextQuestion : Option Asked → SocketAddr → Reply → Option Line → Type 0
+abbrev pub IsLineAboutNextQuestion : Option UnansweredRequests → SocketAddr → Reply → Option Line → Type 0
 IsLineAboutNextQuestion None address reply line = line ≡ None
 IsLineAboutNextQuestion (Some asked) address reply None = ⊥
 IsLineAboutNextQuestion (Some asked) address reply (Some line) =
@@ -47,7 +47,7 @@ abbrev pub logged_address : Option Logged → Option SocketAddr
 logged_address logged = option_map (λ one. one.address) logged
 
 -- The line stands behind the others, or it is lost, and counts as that.
-abbrev pub LineAboutNextQuestionIsAdded : Option Asked → SocketAddr → Reply → Lines → Lines → Type 0
+abbrev pub LineAboutNextQuestionIsAdded : Option UnansweredRequests → SocketAddr → Reply → Lines → Lines → Type 0
 LineAboutNextQuestionIsAdded None address reply old new = new ≡ old
 LineAboutNextQuestionIsAdded (Some asked) address reply old new =
     ((line : Line) × IsLogLineOf (next_question asked.questions.items asked.begun) address reply line

@@ -14,7 +14,7 @@ use crate::stream::Stream;
 use crate::stream_queues::StreamQueue;
 use hx_fields::Bytes;
 use mio::net::TcpStream;
-use proxy_log::{Asked, SeenOfReply, line_about};
+use proxy_log::{SeenOfReply, UnansweredRequests, line_about};
 use proxy_turn::{PIECE, Received};
 use std::alloc::{AllocError, Global};
 use std::io;
@@ -46,7 +46,7 @@ pub(crate) enum EarlyReadOutcome {
 struct Logged {
     address: SocketAddr,
     /// What it asks for, where it has a place.
-    asked: Option<Asked>,
+    asked: Option<UnansweredRequests>,
 }
 
 /// A client's stream.
@@ -104,7 +104,7 @@ impl<S: Stream + Drop> Client<S> {
         self.place = Place::Open(n);
         self.has_asked = true;
         if let Some(logged) = &mut self.logged {
-            logged.asked = Some(Asked::new(self.alloc, max_body));
+            logged.asked = Some(UnansweredRequests::new(self.alloc, max_body));
         }
     }
 

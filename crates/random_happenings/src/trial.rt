@@ -23,7 +23,7 @@ fn make(alloc: Global, table: Table) -> Result<Log, Stopped> {
 }
 
 /// Prints how much went past the store, where something did.
-fn print_past<R: Print>(rt: &R, counts: &Counts) -> io::Result<()> {
+fn print_past_the_store<R: Print>(rt: &R, counts: &Counts) -> io::Result<()> {
     let (past, fresh, taking) = (counts.past, counts.past_fresh, counts.past_taking);
     if past == 0 {
         return Ok(());
@@ -70,7 +70,7 @@ fn note_event<R: Print + Eprint>(
             println!(rt; "{happenings} happenings: the property holds")?;
             println!(rt; "{counts}")?;
             print_waiting(rt, &counts)?;
-            print_past(rt, &counts)?;
+            print_past_the_store(rt, &counts)?;
             print_words(rt, &counts)?;
             Ok(true)
         }

@@ -67,7 +67,7 @@ pub fn an_exchange_goes_twice_and_replies_once()
 
 /// What was invalidated since its request went forward isn't sent: neither between its storing and
 /// its sending, nor on its way.
-pub fn what_is_invalidated_is_not_sent()
+pub fn sending_what_is_invalidated_is_refused()
     ensures since_stored { NothingInvalidatedIsSent trace_sends_invalidated → ⊥ }
     ensures on_its_way { NothingInvalidatedIsSent trace_stores_invalidated → ⊥ }
 {}

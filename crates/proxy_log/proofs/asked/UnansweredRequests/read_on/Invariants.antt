@@ -3,7 +3,7 @@ use Rattle.hx_framing.specs.declared.messages.Request.{Request}
 use Rattle.hx_framing.specs.Progress.{Progress}
 use Rattle.hx_framing.specs.RequestState.{RepresentsStream, weight}
 use Rattle.proxy_log.specs.Hearing.{SomeRequestsWereRead}
-use Rattle.proxy_log.proofs.asked.Asked.read_on.Given as goal
+use Rattle.proxy_log.proofs.asked.UnansweredRequests.read_on.Given as goal
 
 abbrev pub invariant-loop-next : goal.invariant-loop-next
 invariant-loop-next l =

@@ -12,7 +12,7 @@ use Rattle.hx_validate.specs.Answering.{freshened_of}
 use Rattle.proxy_core.specs.declared.event.Event.TheVariants.{Arrive, Answer}
 use Rattle.proxy_core.specs.Cases.{response_with}
 use Rattle.proxy_core.specs.WrongTraces.{fresh_for_a_minute, get_a, forward_over_line_3, item_of, post_a, reply_that_stores, reply_without_store, reply_that_sends_stored}
-use Rattle.proxy_core.proofs.laws.promise_cases.what_is_invalidated_is_not_sent.Goals as goal
+use Rattle.proxy_core.proofs.laws.promise_cases.sending_what_is_invalidated_is_refused.Goals as goal
 
 pub returns-clause-since_stored : goal.returns-clause-since_stored
 unfolding digits httpdate_on_literals matches_line verdict_of policy_of decision_of reuse_rule_of storage_rule_of forwarded_of part_holding_day freshened_of error_rule_on

@@ -1,6 +1,6 @@
 use Rattle.std.proofs.Common.{refl, ◌∙◌}
 use Rattle.proxy_log.proofs.Hearing.{at_first, then_one, then_last, at_place, at_no_place}
-use Rattle.proxy_log.proofs.asked.Asked.read_on.Goals as goal
+use Rattle.proxy_log.proofs.asked.UnansweredRequests.read_on.Goals as goal
 
 pub loop-next-init : goal.loop-next-init
 loop-next-init c = (refl, λ hears p represents. at_first p c.args.self.now.reader c.args.self.now.questions.items c.args.self.now.begun represents)

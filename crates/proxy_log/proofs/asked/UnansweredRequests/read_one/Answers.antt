@@ -6,7 +6,7 @@ use Rattle.hx_framing.specs.Progress.{stream_after_answer}
 use Rattle.hx_framing.specs.RequestState.{State, RepresentsStream}
 use Rattle.hx_framing.specs.RequestStream.{Answers}
 use Rattle.proxy_log.proofs.Hearing.{message_read, continue_read, last_read, or_is_some, stays_some}
-use Rattle.proxy_log.proofs.asked.Asked.read_one.Goals as goal
+use Rattle.proxy_log.proofs.asked.UnansweredRequests.read_one.Goals as goal
 
 pub returns-in_ok-keep-in-Message-clause-read : goal.returns-in_ok-keep-in-Message-clause-read
 returns-in_ok-keep-in-Message-clause-read c = λ hears p represents.
