@@ -19,7 +19,8 @@ content_to_closing_quote false (b ∷ rest) =
 -- the content of a quoted string, and any other text as it stands
 abbrev pub text_without_quotes : List ℕ → List ℕ
 text_without_quotes [] = []
-text_without_quotes (b ∷ rest) = if b == quote then content_or (b ∷ rest) (content_to_closing_quote false rest) else b ∷ rest
+text_without_quotes (b ∷ rest) =
+    if b == quote then content_or (b ∷ rest) (content_to_closing_quote false rest) else b ∷ rest
   where
     content_or : List ℕ → Option (List ℕ) → List ℕ
     content_or text None = text

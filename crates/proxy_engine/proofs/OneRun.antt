@@ -4,7 +4,7 @@ use Rattle.std.proofs.lemmas.Option.{same_Some}
 use Rattle.hx_framing.specs.declared.messages.Next.TheVariants as next
 use Rattle.proxy_core.specs.declared.event.Event.{Event}
 use Rattle.proxy_core.specs.Traces.{Item}
-use Rattle.proxy_engine.specs.EngineModel.{EngineModel}
+use Rattle.proxy_engine.specs.EngineModel.{EngineModel, happening_fault}
 use Rattle.proxy_engine.specs.Due.{Act, Abandons, Finishes, Wakes, Serves, Gives, Breaks, IsDueFirst}
 use Rattle.proxy_engine.specs.Acts.{ActIsDone}
 use Rattle.proxy_engine.specs.Executions.{Took, Worked, StepAddsToTrace, IsCoreEventOfAct, ActIsDoneInOneWay, StepsHaveOneTrace}
@@ -44,8 +44,11 @@ at_its_moment s now then (Serves i next.End) event is at = absurd is
 pub no_other_moment : RunHasNoOtherMoment
 no_other_moment table s after now then act item emitted h at differ = differ (at_its_moment s now then act item.event h.event_is at)
 
-pub nothing_untaken : RunHasNoUntakenHappening
-nothing_untaken table limit first begin last past happening run never = never run.has_trace.0 run.has_trace.3.0
+pub nothing_untaken : StepsHaveOneTrace → RunHasNoUntakenHappening
+nothing_untaken once table limit first begin before last past trace happening led fault run =
+    let a = run.has_trace in
+    let same : a.0 ≡ before = (once table begin past a.0 before a.1 trace a.2 led).0 in
+    fault (subst (λ (s : EngineModel). happening_fault s happening ≡ None) same a.3.0)
 
 pub no_more_items : RunHasNoMoreItems
 no_more_items table begin last [] trace h = subst (λ (z : List Item). length z ≤ 0) (sym h.1) (omega arith)

@@ -49,12 +49,13 @@ RunHasNoOtherMoment =
     (table : Table) (s after : EngineModel) (now then : ℕ) (act : Act) (item : Item) (emitted : List Effect) →
     IsItemOfAct table s now act item emitted after → moment_of_event item.event ≡ Some then → now ≢ then → ⊥
 
--- a happening that the engine doesn't take: of an end that isn't there
+-- a happening that has a fault where the steps before it lead: of an end that isn't there then, or is over
 abbrev pub RunHasNoUntakenHappening : Type 0
-RunHasNoUntakenHappening = (table : Table) (limit first : ℕ) (begin last : EngineModel) (past : List ExecutionStep)
+RunHasNoUntakenHappening =
+    (table : Table) (limit first : ℕ) (begin before last : EngineModel) (past : List ExecutionStep) (trace : List Item)
     (happening : PlainHappening) →
-    StepsAreAGoodRun table limit first begin (Took happening ∷ past) last →
-    ((s : EngineModel) → happening_fault s happening ≢ None) → ⊥
+    StepsHaveTrace table begin past before trace → happening_fault before happening ≢ None
+    → StepsAreAGoodRun table limit first begin (Took happening ∷ past) last → ⊥
 
 -- items that no act did: there are no more than acts
 abbrev pub RunHasNoMoreItems : Type 0

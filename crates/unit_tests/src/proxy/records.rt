@@ -168,7 +168,7 @@ impl Sockets for Crowd {
     }
 }
 
-/// Serves the crowd turn by turn, a second each; what went out, as text.
+/// Serves the crowd turn by turn, a second each.
 fn serve<W: Write + Drop>(alloc: Global, ends: &mut Recording<Crowd, W>) -> Result<(), Fail> {
     let mut engine = engine(alloc, 1)?;
     let mut settled = true;

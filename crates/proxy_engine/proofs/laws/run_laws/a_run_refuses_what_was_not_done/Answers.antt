@@ -7,7 +7,7 @@ returns c = record {
   effects = no_other_effects (has_one_trace c.a_request_is_asked_in_one_way.ensures) (acts_in_one_way c.a_request_is_asked_in_one_way.ensures);
   act = no_other_act (has_one_trace c.a_request_is_asked_in_one_way.ensures);
   moment = no_other_moment;
-  taken = nothing_untaken;
+  taken = nothing_untaken (has_one_trace c.a_request_is_asked_in_one_way.ensures);
   items = no_more_items;
   nothing = nothing_undone;
 }
