@@ -178,6 +178,17 @@ def answer_in_chunks(size):
     return Script(b"", lambda i: client(request(0, target=b"/%06d" % i)) + link(i + 1, text), STORED)
 
 
+@told(is_one=False)
+def answer_head_in_bytes(size):
+    """a head that comes byte by byte"""
+    text = answer(size, rest=lambda room: [filler(b"X-Long", b"a", room)])
+
+    def each(i):
+        return client(request(0, target=b"/%06d" % i)) + b"".join(link(i + 1, text[at : at + 1]) for at in range(len(text)))
+
+    return Script(b"", each, STORED)
+
+
 @told()
 def interim(size):
     """103 again and again in front of the answer"""
