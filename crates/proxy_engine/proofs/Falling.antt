@@ -1,6 +1,11 @@
 -- Lists of places that fall strictly.
-use Rattle.std.proofs.Common.{Result, Ok, Err, IsOk, is_ok, if◌then◌else◌, ◌≡◌, ◌≢◌, ◌⊎◌, inl, inr, ℕ, zero, suc, ◌+◌, ◌-◌, ◌<◌, ◌≤◌, List, [], ◌∷◌, length, take, get_or, refl, sym, ap, ◌∙◌, subst, arith, Contains, insert}
+use Rattle.std.proofs.Common.{Result, Ok, Err, IsOk, IfOk, IfErr, is_ok, if◌then◌else◌, ◌≡◌, ◌≢◌, ◌⊎◌, inl, inr, ℕ, zero, suc, ◌+◌, ◌-◌, ◌<◌, ◌≤◌, List, [], ◌∷◌, length, take, get_or, refl, sym, ap, ◌∙◌, subst, arith, Contains, insert}
 use Rattle.std.specs.List.{remove}
+use Rattle.std.specs.List.Sorted.{IsSearchInRange, IsBinarySearchResult, IsNonDecreasingBy}
+use Rattle.std.specs.Ordering.{nat_cmp, ordering_index}
+use Rattle.std.proofs.lemmas.Cmp.{ranked}
+use Rattle.std.proofs.lemmas.List.Sorted.{IsNonDecreasingBy-from_default}
+use Rattle.std.proofs.lemmas.Bool.Decides.{nat_tests}
 use Rattle.std.proofs.lemmas.Bool.{cases_lt, cases_order}
 use Rattle.std.proofs.lemmas.List.{get_or-take, length-take-le}
 use Rattle.std.proofs.lemmas.List.Edits.{length-insert, get_or-insert_below, get_or-insert_at, get_or-insert_above, get_or-remove_below, get_or-remove_above, length-remove}
@@ -166,3 +171,24 @@ module _ (xs : List ℕ) (falls : PlacesDescend xs) where
       let end : get_or xs (length xs - 1) 0 ≡ p = first.last 0 in
       let here : get_or xs c.0 0 ≡ q = at_any xs c.0 q inside ∙ there in
       ((λ e. absurd (omega (arith, falling, end, here, e))), (c.0, inside, there))
+
+-- ---- what a search by halves finds
+
+module _ (xs : List ℕ) (p : ℕ) where
+  pub found_there : (r : Result ℕ ℕ) → IsSearchInRange r (length xs) → IsBinarySearchResult (λ x. nat_cmp p x) xs r → IfOk r (λ at. (at < length xs) × (get_or xs at 0 ≡ p))
+  found_there (Ok at) within equal = (within, sym (ranked p _ _ (sym (equal 0))))
+  found_there (Err at) within parted = tt
+
+  -- where places fall, the comparisons rise
+  comparisons_rise : PlacesDescend xs → IsNonDecreasingBy (λ (x : ℕ). ordering_index (nat_cmp p x)) xs
+  comparisons_rise falls = IsNonDecreasingBy-from_default (λ (x : ℕ). ordering_index (nat_cmp p x)) xs 0 (λ i j le in_range.
+      let fall : get_or xs j 0 ≤ get_or xs i 0 = grind (arith, falls.falls i j, λ (same : i ≡ j). ap (λ (k : ℕ). get_or xs k 0) same) in
+      grind (arith, nat_tests))
+
+  pub found_behind : (r : Result ℕ ℕ) → IsSearchInRange r (length xs) → IsBinarySearchResult (λ x. nat_cmp p x) xs r → PlacesDescend xs → IfErr r (λ at. PlaceBelongsBehind xs p at)
+  found_behind (Ok at) within equal falls = tt
+  found_behind (Err at) within parted falls = record {
+    within = within;
+    greater = λ j lt. ranked p _ _ (sym ((parted (comparisons_rise falls)).0 j 0 (omega arith) lt));
+    less = λ inside. ranked p _ _ (sym ((parted (comparisons_rise falls)).1 at 0 (omega arith) inside));
+  }

@@ -83,6 +83,10 @@ module _ {A : Type 0} where
       let within : i < n = omega (arith, l, ap length e, listed_length m n) in
       (within, sym (listed_at m n i None within) ∙ ap (λ (ys : List (Option A)). get_or ys i None) e)
 
+  -- what is there by the list is there by the map
+  pub there_in : (m : BTreeMap ℕ A) (n i : ℕ) (xs : List (Option A)) → entries_below m n ≡ xs → is_some (get_or xs i None) ≡ true → is_some (get nat_cmp m i) ≡ true
+  there_in m n i xs e h = ap is_some (seen_at m n i xs e (inside xs i h)).1 ∙ h
+
   -- ---- no more places are told apart than a map has
 
   removed_by : (b : Bool) (x : ℕ × A) (es less : List (ℕ × A)) (o : Option A) → is_some (cond b (Some x.1) o) ≡ true → (is_some o ≡ true → length es ≡ length less + 1) → suc (length es) ≡ length (cond b es (x ∷ less)) + 1

@@ -23,6 +23,8 @@ pub mod Doing
 pub mod Staying
 pub mod Dropping
 pub mod Readable
+pub mod SendingEnds
+pub mod Failures
 pub mod FinalAnswers
 pub mod OneRun
 pub mod FewOpen

@@ -18,7 +18,7 @@ use Rattle.proxy_engine.specs.EngineModel.{ConnectionModel, LinkModel}
 use Rattle.proxy_engine.specs.Due.{Breaks, IsLostConnection, IsDueOnLink, IsDueOnConnection, ConnectionActionUnlessBusy, LinkResultUnlessDropped, takes_no_request}
 use Rattle.proxy_engine.specs.State.{ConnectionRepresents, LinkRepresents, due_request_seen}
 use Rattle.proxy_engine.specs.ReadyList.{ReadyPlaces, PlacesDescend, PlacesAreBelow, PlaceIsLeast, FlaggedPlacesAreMarked}
-use Rattle.proxy_engine.specs.Marked.{EndList, item_at, kept_count, ConnectionAfterLook, may_be_lost, connection_may_be_due, link_may_be_due, RelatesOptions, RelatesAtEachPlace, NoneHasFlagBelow, NoneHasFlag, lost_connection_at}
+use Rattle.proxy_engine.specs.Marked.{EndList, item_at, kept_count, ConnectionAfterLook, may_be_lost, connection_may_be_due, link_may_be_due, RelatesOptions, RelatesAtEachPlace, NoneHasFlagBelow, NoneHasFlag, NoneIsBeyond, lost_connection_at}
 use Rattle.proxy_engine.specs.declared.endpoints.activities.Activity.{Activity}
 use Rattle.proxy_engine.specs.declared.endpoints.ends.Connection.{Connection}
 use Rattle.proxy_engine.specs.declared.endpoints.ends.Link.{Link}
@@ -211,6 +211,27 @@ same_list {A} xs ys a b e f = ap {B = EndList A} (λ (zs : List (Option A)). rec
 -- a look leaves what may be lost
 pub looked_lost : (x y : Connection) → ConnectionAfterLook x y → may_be_lost y ≡ true → may_be_lost x ≡ true
 looked_lost x y r f = sym (ap (λ (b : Bool). b && has_exchange y.activity) r.gone ∙ ap (λ (a : Activity). x.gone && has_exchange a) r.activity) ∙ f
+
+-- ---- nothing is beyond the count
+
+module _ {A : Type 0} (m k : ℕ → Option A) (n : ℕ) (h : NoneIsBeyond n m) where
+  -- what is at one place changes
+  pub none_changed : (i : ℕ) → i ≤ n → ((q : ℕ) → q ≢ i → k q ≡ m q) → NoneIsBeyond n k
+  none_changed i l same q there = elim (cases_eq q i) [
+    | inl is ↦ omega (arith, is, l)
+    | inr other ↦ h q (sym (ap is_some (same q other)) ∙ there)
+  ]
+
+  pub none_alike : (R : A → A → Type 0) → RelatesAtEachPlace R m k → NoneIsBeyond n k
+  none_alike R alike q there = h q (by_old (m q) (k q) (alike q) there)
+    where
+      by_old : (o p : Option A) → RelatesOptions R o p → is_some p ≡ true → is_some o ≡ true
+      by_old o None r e = absurd (cc)
+      by_old None (Some y) r e = absurd r
+      by_old (Some x) (Some y) r e = refl
+
+pub none_beyond_more : {A : Type 0} (m : ℕ → Option A) (n : ℕ) → NoneIsBeyond n m → NoneIsBeyond (n + 1) m
+none_beyond_more m n h q there = let most = h q there in omega (arith, most)
 
 -- one look after another
 pub alike_trans : {A : Type 0} (R : A → A → Type 0) → ((x y z : A) → R x y → R y z → R x z) → (m k l : ℕ → Option A) → RelatesAtEachPlace R m k → RelatesAtEachPlace R k l → RelatesAtEachPlace R m l

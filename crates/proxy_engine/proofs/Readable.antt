@@ -12,7 +12,7 @@ use Rattle.std.proofs.lemmas.Bool.{cases_eq, cases_order}
 use Rattle.hx_status.specs.declared.cause.FailKind.{FailKind}
 use Rattle.proxy_core.specs.State.{State as CoreState}
 use Rattle.proxy_engine.specs.Activities.{has_exchange}
-use Rattle.proxy_engine.specs.EngineModel.{EngineModel, ConnectionModel, LinkModel, keeps_answer}
+use Rattle.proxy_engine.specs.EngineModel.{EngineModel, ConnectionModel, LinkModel, no_connection, no_link, keeps_answer}
 use Rattle.proxy_engine.specs.State.{State, RelatesLists, ConnectionRepresents, LinkRepresents, EngineRepresents, engine_state}
 use Rattle.proxy_engine.specs.Happenings.{plain_happening}
 use Rattle.proxy_engine.specs.Room.{HappeningFindsMemory}
@@ -27,7 +27,7 @@ use Rattle.proxy_engine.specs.declared.work.End.{End}
 use Rattle.proxy_engine.proofs.Keeping.{here_at, elsewhere}
 
 -- the keys ascend from a
-abbrev Ascends : {A : Type 0} → ℕ → List (ℕ × A) → Type 0
+abbrev pub Ascends : {A : Type 0} → ℕ → List (ℕ × A) → Type 0
 Ascends a [] = Unit {0}
 Ascends a (e ∷ es) = (a ≤ e.0) × Ascends (e.0 + 1) es
 
@@ -47,6 +47,9 @@ ascends a (e ∷ es) above h = (above, ascends (e.0 + 1) es (above_next e.0 es h
 from_zero : {A : Type 0} (es : List (ℕ × A)) → Above 0 es
 from_zero [] = tt
 from_zero (e ∷ es) = omega arith
+
+pub ascends_map : {A : Type 0} (m : BTreeMap ℕ A) → IsOrdered nat_cmp m → Ascends 0 m.entries
+ascends_map m ordered = ascends 0 m.entries (from_zero m.entries) ordered
 
 pub not_below : (i n : ℕ) → n ≤ i → nat_lt i n ≡ false
 not_below i n l = search (arith, l)
@@ -172,6 +175,20 @@ module _ (xs : List (Option Link)) (ss : List LinkModel) (both : RelatesLists Li
 
   pub answer_places : places_with_flag (has_flag link_may_send) 0 xs ≡ places_with_flag keeps_answer 0 ss
   answer_places = both_places LinkRepresents (has_flag link_may_send) keeps_answer answer_same xs ss both 0
+
+-- at one place, also beyond the end
+flag_at : {A B : Type 0} (R : Option A → B → Type 0) (f : Option A → Bool) (g : B → Bool) (d : B) → ((x : Option A) (y : B) → R x y → f x ≡ g y) → f None ≡ g d → (xs : List (Option A)) (ys : List B) → RelatesLists R xs ys → (i : ℕ) → f (get_or xs i None) ≡ g (get_or ys i d)
+flag_at R f g d agree none [] [] h i = none
+flag_at R f g d agree none [] (y ∷ ys) h i = absurd h
+flag_at R f g d agree none (x ∷ xs) [] h i = absurd h
+flag_at R f g d agree none (x ∷ xs) (y ∷ ys) h zero = agree x y h.0
+flag_at R f g d agree none (x ∷ xs) (y ∷ ys) h (suc i) = flag_at R f g d agree none xs ys h.1 i
+
+pub read_at : (xs : List (Option Connection)) (ss : List ConnectionModel) → RelatesLists ConnectionRepresents xs ss → (i : ℕ) → has_flag connection_may_send (get_or xs i None) ≡ connection_may_send_request (get_or ss i no_connection)
+read_at = flag_at ConnectionRepresents (has_flag connection_may_send) connection_may_send_request no_connection read_same refl
+
+pub answer_at : (xs : List (Option Link)) (ss : List LinkModel) → RelatesLists LinkRepresents xs ss → (j : ℕ) → has_flag link_may_send (get_or xs j None) ≡ keeps_answer (get_or ss j no_link)
+answer_at = flag_at LinkRepresents (has_flag link_may_send) keeps_answer no_link answer_same refl
 
 -- nothing is beyond the end
 pub beyond : {A : Type 0} (xs : List (Option A)) (i : ℕ) → length xs ≤ i → get_or xs i None ≡ None

@@ -1,11 +1,15 @@
 -- What is asked of the ends that are kept, one after another.
 --
 -- flagged_places: the places below a count at which something has the flag
-use Rattle.std.specs.Prelude.{ℕ, List, [], ◌∷◌, Bool, false, ◌&&◌, not, nat_lt, is_some, Option, None, Some}
+use Rattle.std.specs.Prelude.{ℕ, List, [], ◌∷◌, Bool, true, false, ◌&&◌, not, nat_lt, is_some, Option, None, Some}
 use Rattle.std.specs.Prelude.{if◌then◌else◌}
 use Rattle.proxy_engine.specs.Activities.{has_exchange}
 use Rattle.proxy_engine.specs.declared.endpoints.ends.Connection.{Connection}
 use Rattle.proxy_engine.specs.declared.endpoints.ends.Link.{Link}
+
+-- whatever is kept
+abbrev pub is_kept : {A : Type 0} → A → Bool
+is_kept x = true
 
 abbrev pub connection_is_open : Connection → Bool
 connection_is_open c = not c.gone

@@ -11,6 +11,7 @@ pub mod State
 pub mod Exhausted
 pub mod Room
 pub mod Reading
+pub mod SendingEnds
 pub mod ReadyList
 pub mod Marked
 pub mod Held

@@ -3,7 +3,7 @@
 -- EndList, item_at, kept_count: what contracts see of the connections and links
 -- may_be_lost, connection_may_be_due, link_may_be_due: something may be due there
 -- ConnectionAfterLook, LinkAfterLook, RelatesAtEachPlace: what a look leaves     OnlyGainsRoom: where room was made
--- NoneHasFlagBelow, NoneHasFlag: nothing may be due
+-- NoneHasFlagBelow, NoneHasFlag: nothing may be due     NoneIsBeyond: nothing is kept beyond a count
 -- lost_connection_at, LinkIsDueAsLookShows, ConnectionIsDueAsLookShows: something is
 -- LostAreMarked: where a connection may be lost
 use Rattle.std.specs.Prelude.{◌≡◌, ℕ, ◌+◌, ◌<◌, ◌≤◌, List, Bool, true, false, ◌&&◌, ◌||◌, not, Option, None, Some}
@@ -80,6 +80,10 @@ NoneHasFlagBelow {A} flag end_at n = (j : ℕ) (x : A) → j < n → end_at j �
 -- nothing that is open has it
 abbrev pub NoneHasFlag : {A : Type 0} → (A → Bool) → (ℕ → Option A) → Type 0
 NoneHasFlag {A} flag end_at = (j : ℕ) (x : A) → end_at j ≡ Some x → flag x ≡ false
+
+-- nothing is at a place beyond the count
+abbrev pub NoneIsBeyond : {A : Type 0} → ℕ → (ℕ → Option A) → Type 0
+NoneIsBeyond count end_at = (i : ℕ) → is_some (end_at i) ≡ true → i ≤ count
 
 -- the connection is gone with an open exchange: its link, if its request went forward
 abbrev pub lost_connection_at : Option Connection → Option (Option ℕ)

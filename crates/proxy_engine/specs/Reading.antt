@@ -3,13 +3,15 @@
 -- connection_is_open_in_model, connection_may_send_request: of a connection
 -- places_with_flag: where a list has what is asked for
 -- readable_ends_of, failed_links, open_connection_count, next_connection_number: of a model
+-- end_may_send: whether bytes may come from an end
 -- IsBetweenRequests: a client is between two requests
-use Rattle.std.specs.Prelude.{◌≡◌, ℕ, ◌+◌, ◌^◌, List, [], ◌∷◌, ◌++◌, map, length, Bool, true, ◌&&◌, ◌||◌, not, nat_lt}
-use Rattle.std.specs.Prelude.{Option, None, Some, is_some, if◌then◌else◌}
+use Rattle.std.specs.Prelude.{◌≡◌, ℕ, ◌+◌, ◌^◌, List, [], ◌∷◌, ◌++◌, map, length, Bool, true, false, ◌&&◌, ◌||◌}
+use Rattle.std.specs.Prelude.{not, nat_lt, nat_le, Option, None, Some, is_some, if◌then◌else◌}
 use Rattle.hx_framing.specs.RequestStream.{StreamSpells}
-use Rattle.proxy_engine.specs.ConnectionNumbers.{connection_number, link_number}
+use Rattle.proxy_engine.specs.ConnectionNumbers.{connection_number, connection_place, link_number, link_place}
 use Rattle.proxy_engine.specs.Activities.{has_exchange}
-use Rattle.proxy_engine.specs.EngineModel.{EngineModel, ConnectionModel, LinkModel, keeps_bytes, keeps_answer}
+use Rattle.proxy_engine.specs.EngineModel.{EngineModel, ConnectionModel, LinkModel, connection_at, link_at}
+use Rattle.proxy_engine.specs.EngineModel.{keeps_bytes, keeps_answer}
 use Rattle.proxy_engine.specs.declared.work.End.{End}
 use Rattle.proxy_engine.specs.declared.work.End.TheVariants as ends
 
@@ -43,6 +45,12 @@ abbrev pub readable_ends_of : EngineModel → List End
 readable_ends_of s =
     map (link_end_at s.first) (places_with_flag keeps_answer 0 s.links) ++ map client_end_at
     (places_with_flag connection_may_send_request 0 s.connections)
+
+-- of one end: no bytes come from where connections do, and an end that has no number is none
+abbrev pub end_may_send : EngineModel → End → Bool
+end_may_send s ends.Listener = false
+end_may_send s (ends.Client n) = nat_lt 0 n && connection_may_send_request (connection_at s (connection_place n))
+end_may_send s (ends.Link l) = nat_le s.first l && keeps_answer (link_at s (link_place s.first l))
 
 abbrev pub failed_links : EngineModel → List End
 failed_links s = map (link_end_at s.first) (places_with_flag link_has_failed 0 s.links)

@@ -3,7 +3,7 @@ ghost use Rattle.std.specs.Prelude.{◌≡◌, ◌≢◌, ◌<◌, ◌≤◌, �
 ghost use Rattle.proxy_engine.specs.EngineModel.{EngineModel, connection_at, happening_is_kept};
 ghost use Rattle.proxy_engine.specs.Happenings.{plain_happening, happening_takes_memory};
 ghost use Rattle.proxy_engine.specs.Reading.{readable_ends_of, failed_links, open_connection_count};
-ghost use Rattle.proxy_engine.specs.Reading.{next_connection_number, IsBetweenRequests};
+ghost use Rattle.proxy_engine.specs.Reading.{next_connection_number, end_may_send, IsBetweenRequests};
 ghost use Rattle.proxy_engine.specs.Room.{HappeningFindsMemory, NextHappeningFindsMemory};
 ghost use Rattle.proxy_engine.specs.State.{State, EngineRepresents, EngineTakesHappening, IsFaultOfTaking};
 ghost use Rattle.proxy_engine.specs.State.{new_engine_model};
@@ -161,7 +161,8 @@ impl<S: Shelf> Engine<S> {
         self.ends.connections.open_count()
     }
 
-    /// Whether fewer connections than this are open. They aren't counted one by one unless as many may be.
+    /// Whether fewer connections than this are open. They aren't counted one by one: only those are looked at that may
+    /// be gone with an open exchange.
     pub fn has_fewer_connections(&self, most: usize) -> bool
         ensures { (s : EngineModel) → EngineRepresents self.now s → result ≡ nat_lt (open_connection_count s) most }
     {
@@ -180,6 +181,25 @@ impl<S: Shelf> Engine<S> {
             .is_between(ConnectionPlace::of_number(n))
     }
 
+    /// Whether bytes may come from an end: a link that isn't dropped, failed or shut, or an open client without an
+    /// exchange whose input hasn't ended. None come from the listener, nor from what has no such number.
+    pub fn may_read(&self, end: End) -> bool
+        ensures { (s : EngineModel) → EngineRepresents self.now s → result ≡ end_may_send s end }
+    {
+        match end {
+            End::Listener => false,
+            End::Client(n) => {
+                let place = ConnectionPlace::of_number(n);
+                0 < n && self.ends.connections.may_read(place)
+            }
+            End::Link(l) => {
+                let first = self.ends.first_link;
+                let place = LinkPlace::of_number(l, first);
+                first <= l && self.ends.links.may_read(place)
+            }
+        }
+    }
+
     /// The ends from which bytes may come: each link that isn't dropped, failed or shut, then each open client without
     /// an exchange whose input hasn't ended. Its only error is out of memory.
     pub fn readable_ends(&self, alloc: Global) -> Result<Vec<End>, AllocError>
@@ -194,7 +214,8 @@ impl<S: Shelf> Engine<S> {
         Ok(ends)
     }
 
-    /// The links that have failed and aren't dropped. Its only error is out of memory.
+    /// The links that have failed and aren't dropped. Only those are looked at where an answer or a failure may stand.
+    /// Its only error is out of memory.
     pub fn failed_links(&self, alloc: Global) -> Result<Vec<End>, AllocError>
         ensures { IfOk result (λ ends. (s : EngineModel) → EngineRepresents self.now s → ends.items ≡ failed_links s) }
     {

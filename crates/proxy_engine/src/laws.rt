@@ -8,6 +8,8 @@ ghost use Rattle.proxy_engine.specs.FinalAnswers.{EachActIsSpelled, EachAnswerIs
 ghost use Rattle.proxy_engine.specs.Exhausted.{MemoryHidesNoExhaustedAnswer, MemoryHidesNoExhaustedWake};
 ghost use Rattle.proxy_engine.specs.Orderly.{NewModelIsOrderly, HappeningKeepsOrder, ActKeepsOrder};
 ghost use Rattle.proxy_engine.specs.Orderly.{HappeningKeepsEnded, ActKeepsEnded};
+ghost use Rattle.proxy_engine.specs.SendingEnds.{SendingEndHasNumber, ReadableEndsMaySend, SendingEndIsReadable};
+ghost use Rattle.proxy_engine.specs.SendingEnds.{AcceptAddsReadableEnd, AcceptKeepsSending};
 
 pub(crate) mod model_cases;
 pub(crate) mod run_laws;
@@ -32,6 +34,16 @@ pub fn effects_name_open_ends()
 pub fn what_ends_stays_ended()
     ensures takes { HappeningKeepsEnded }
     ensures acts { ActKeepsEnded }
+{}
+
+/// Bytes may come from the readable ends, and from no others; each of them is there. One more connection is one more of
+/// them, behind the others, which stay.
+pub fn readable_ends_may_send()
+    ensures numbered { SendingEndHasNumber }
+    ensures each { ReadableEndsMaySend }
+    ensures no_other { SendingEndIsReadable }
+    ensures accept { AcceptAddsReadableEnd }
+    ensures kept { AcceptKeepsSending }
 {}
 
 /// An act has three effects at most: it drops one link at most, and does so first.

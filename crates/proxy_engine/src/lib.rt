@@ -25,7 +25,8 @@ pub use crate::laws::run_laws::a_run_refuses_what_was_not_done;
 pub use crate::laws::{
     an_act_has_three_effects_at_most, an_act_is_done_in_one_way, an_execution_has_one_trace,
     answers_are_final, each_drop_is_emitted, effects_name_open_ends, executions_are_runs,
-    memory_hides_no_lack_of_numbers, one_act_is_due_first, what_ends_stays_ended,
+    memory_hides_no_lack_of_numbers, one_act_is_due_first, readable_ends_may_send,
+    what_ends_stays_ended,
 };
 pub use crate::work::{End, EngineFault, Work};
 pub use proxy_script::Happening;

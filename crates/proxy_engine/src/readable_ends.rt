@@ -1,11 +1,12 @@
 //! The ends that are open, one after another: from which of them bytes may come, and which have failed.
-ghost use Rattle.std.specs.Prelude.{◌≡◌, ◌≢◌, ℕ, ◌+◌, ◌≤◌, ◌^◌, ◌++◌, length, map, nat_lt, true, OnOk, OnErr};
+ghost use Rattle.std.specs.Prelude.{◌≡◌, ◌≢◌, ℕ, ◌+◌, ◌≤◌, ◌^◌, ◌++◌, length, map, true, OnOk, OnErr};
+ghost use Rattle.std.specs.Prelude.{Contains, Some};
 ghost use Rattle.std.specs.Ordering.{nat_cmp};
 ghost use Rattle.std.specs.BTreeMap.{get};
-ghost use Rattle.proxy_engine.specs.Held.{has_flag, connection_may_send, connection_is_open, link_may_send};
+ghost use Rattle.proxy_engine.specs.Held.{has_flag, is_kept, connection_may_send, connection_is_open, link_may_send};
 ghost use Rattle.proxy_engine.specs.Held.{link_failed};
-ghost use Rattle.proxy_engine.specs.Marked.{OnlyGainsRoom, RelatesAtEachPlace};
-ghost use Rattle.proxy_engine.specs.ReadyList.{entries_below};
+ghost use Rattle.proxy_engine.specs.Marked.{OnlyGainsRoom, RelatesAtEachPlace, NoneIsBeyond};
+ghost use Rattle.proxy_engine.specs.ReadyList.{entries_below, PlacesDescend, PlacesAreBelow};
 ghost use Rattle.proxy_engine.specs.Reading.{places_with_flag, client_end_at, link_end_at, IsBetweenRequests};
 ghost use Rattle.proxy_engine.specs.State.{ConnectionHolds};
 ghost use Rattle.proxy_engine.specs.EngineModel.{ConnectionModel};
@@ -22,7 +23,7 @@ use std::collections::BTreeMap;
 const PIECE: usize = 4096;
 
 /// Whether bytes may come from the client.
-fn reads(connection: &Connection) -> bool
+pub(crate) fn reads(connection: &Connection) -> bool
     ensures { result ≡ connection_may_send connection.now }
 {
     !connection.gone && !connection.ended && !connection.activity.has_exchange()
@@ -36,7 +37,7 @@ pub(crate) fn is_between(connection: &Connection) -> bool
 }
 
 /// Whether bytes may come from the origin.
-fn answers(link: &Link) -> bool
+pub(crate) fn answers(link: &Link) -> bool
     ensures { result ≡ link_may_send link.now }
 {
     link.failed.is_none() && !link.ended
@@ -55,17 +56,13 @@ pub(crate) fn open_count(ends: &BTreeMap<u64, Connection>, count: u64) -> usize
     open
 }
 
-/// Whether fewer than this of the connections at places below a count aren't gone. They are counted only where there
-/// are as many ends, without the one at the count, where the next connection will be.
-pub(crate) fn are_fewer_open(ends: &BTreeMap<u64, Connection>, count: u64, most: usize) -> bool
-    ensures { result ≡ nat_lt
-        (length (places_with_flag (has_flag connection_is_open) 0 (entries_below ends.now count))) most }
+/// How many ends are at places below a count, where none is beyond: one may be at the count, where the next will be.
+pub(crate) fn kept_count(ends: &BTreeMap<u64, Connection>, count: u64) -> usize
+    requires { NoneIsBeyond count (get nat_cmp ends.now) }
+    ensures { result ≡ length (places_with_flag (has_flag is_kept) 0 (entries_below ends.now count)) }
 {
     let beyond = if ends.contains_key(&count) { 1 } else { 0 };
-    if ends.len().saturating_sub(beyond) < most {
-        return true;
-    }
-    open_count(ends, count) < most
+    ends.len().saturating_sub(beyond)
 }
 
 /// Adds the clients from which bytes may come, of those at places below a count.
@@ -103,19 +100,38 @@ pub(crate) fn push_links(
     Ok(())
 }
 
-/// Adds the links that have failed, of those at places below a count. The first link has this number.
+/// Whether a link is at a place that has failed.
+fn has_failed_at(ends: &BTreeMap<u64, Link>, place: u64) -> bool
+    ensures { result ≡ has_flag link_failed (get nat_cmp ends.now place) }
+{
+    match ends.get(&place) {
+        Some(link) => link.failed.is_some(),
+        None => false,
+    }
+}
+
+/// Adds the links that have failed, of those at places below a count. Each is at one of the given places, the greatest
+/// first, and no other is looked at. The first link has this number.
 pub(crate) fn push_failed(
     ends: &BTreeMap<u64, Link>,
+    places: &[u64],
     count: u64,
     first: u64,
     list: &mut Vec<End>,
 ) -> Result<(), AllocError>
+    requires falls { PlacesDescend places.now }
+    requires below { PlacesAreBelow count places.now }
+    requires marked { (j : ℕ) (link : Link) → get nat_cmp ends.now j ≡ Some link → link_failed link ≡ true
+        → Contains places.now j }
     ensures { OnOk result (first + count ≤ 2 ^ 64 → list.new.items ≡ list.old.items
         ++ map (link_end_at first) (places_with_flag (has_flag link_failed) 0 (entries_below ends.now count))) }
 {
-    for (j, link) in ends {
-        if *j < count && link.failed.is_some() {
-            list.push(End::Link(link_number(first, *j)))?;
+    let mut left = places.len();
+    while left > 0 {
+        left -= 1;
+        let place = places[left];
+        if has_failed_at(ends, place) {
+            list.push(End::Link(link_number(first, place)))?;
         }
     }
     Ok(())

@@ -21,7 +21,7 @@ use crate::endpoints::marked_ends::MarkedEnds;
 use crate::endpoints::numbers::{ConnectionPlace, LinkPlace, next_connection};
 use crate::endpoints::ready_list::ReadyList;
 use crate::readable_ends;
-use crate::steps::finds::first_lost;
+use crate::steps::finds::{first_lost, lost_count};
 use crate::work::End;
 use std::alloc::{AllocError, Global};
 use std::marker::Model;
@@ -105,6 +105,17 @@ impl Connections {
         }
     }
 
+    /// Whether bytes may come from the client at a place.
+    pub(crate) fn may_read(&self, i: ConnectionPlace) -> bool
+        ensures { (ss : List ConnectionModel) → RelatesLists ConnectionRepresents self.now.items ss
+            → result ≡ connection_may_send_request (slice_index_or ss i no_connection) }
+    {
+        match self.ends.get(i) {
+            Some(connection) => readable_ends::reads(connection),
+            None => false,
+        }
+    }
+
     /// The connection at a place, to be changed, if it isn't over. Something may be due there afterwards.
     pub(crate) fn at_mut(&mut self, i: ConnectionPlace) -> Option<&mut Connection>
         requires { i < length self.old.items }
@@ -116,7 +127,7 @@ impl Connections {
             return None;
         }
         self.lost.put(i.key());
-        self.ends.at_mut(i)
+        self.ends.change(i)
     }
 
     /// Makes room for one more, and for the marks at its place.
@@ -162,13 +173,14 @@ impl Connections {
         readable_ends::open_count(&open.ends, open.count)
     }
 
-    /// Whether fewer than this are open.
+    /// Whether fewer than this are open: of those that are kept, all but the ones that are gone, which are marked.
     pub(crate) fn are_fewer_open(&self, most: usize) -> bool
         ensures { (ss : List ConnectionModel) → RelatesLists ConnectionRepresents self.now.items ss → result
             ≡ nat_lt (length (places_with_flag connection_is_open_in_model 0 ss)) most }
     {
-        let open = &self.ends;
-        readable_ends::are_fewer_open(&open.ends, open.count, most)
+        let kept = readable_ends::kept_count(&self.ends.ends, self.ends.count);
+        let gone = lost_count(&self.ends, &self.lost);
+        kept.saturating_sub(gone) < most
     }
 
     /// Adds the clients from which bytes may come.

@@ -1,7 +1,7 @@
 //! The links to origins by their places. An answer or a failure may stand where a link is marked.
 ghost use Rattle.std.specs.Prelude.{◌≡◌, ◌+◌, ◌≤◌, ◌^◌, ◌++◌, List, length, map, sum_by, IfOk, OnOk, OnErr};
 ghost use Rattle.std.specs.Prelude.{None, slice_index_or};
-ghost use Rattle.proxy_engine.specs.EngineModel.{LinkModel, keeps_answer};
+ghost use Rattle.proxy_engine.specs.EngineModel.{LinkModel, no_link, keeps_answer};
 ghost use Rattle.proxy_engine.specs.Reading.{places_with_flag, link_has_failed, link_end_at};
 ghost use Rattle.proxy_engine.specs.Room.{LinkHasSpare, most_bytes_of_read};
 ghost use Rattle.proxy_engine.specs.Pairing.{owners_of};
@@ -19,6 +19,17 @@ use std::alloc::{AllocError, Global};
 pub(crate) type Links = MarkedEnds<Link>;
 
 impl MarkedEnds<Link> {
+    /// Whether bytes may come from the link at a place.
+    pub(crate) fn may_read(&self, j: LinkPlace) -> bool
+        ensures { (ss : List LinkModel) → RelatesLists LinkRepresents self.now.items ss
+            → result ≡ keeps_answer (slice_index_or ss j no_link) }
+    {
+        match self.get(j) {
+            Some(link) => readable_ends::answers(link),
+            None => false,
+        }
+    }
+
     /// Adds the links from which bytes may come. The first link has this number.
     pub(crate) fn push_readable(&self, first: u64, ends: &mut Vec<End>) -> Result<(), AllocError>
         ensures { OnOk result ((ss : List LinkModel) → RelatesLists LinkRepresents self.now.items ss
@@ -28,13 +39,15 @@ impl MarkedEnds<Link> {
         readable_ends::push_links(&self.ends, self.count, first, ends)
     }
 
-    /// Adds the links that have failed. The first link has this number.
+    /// Adds the links that have failed. Each of them is marked, so no others are looked at. The first link has this
+    /// number.
     pub(crate) fn push_failed(&self, first: u64, ends: &mut Vec<End>) -> Result<(), AllocError>
         ensures { OnOk result ((ss : List LinkModel) → RelatesLists LinkRepresents self.now.items ss
             → first + length ss ≤ 2 ^ 64 → ends.new.items ≡ ends.old.items
             ++ map (link_end_at first) (places_with_flag link_has_failed 0 ss)) }
     {
-        readable_ends::push_failed(&self.ends, self.count, first, ends)
+        let places = self.marked.places();
+        readable_ends::push_failed(&self.ends, places, self.count, first, ends)
     }
 
     /// Makes room for one piece of the origin's bytes at a place, if the link isn't dropped.

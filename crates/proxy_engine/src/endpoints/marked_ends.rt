@@ -25,7 +25,7 @@ pub(crate) struct MarkedEnds<E: Endpoint> {
     pub(crate) ends: BTreeMap<u64, E>,
     pub(crate) count: u64,
     spare: bool,
-    marked: ReadyList,
+    pub(crate) marked: ReadyList,
 }
 
 impl<E: Endpoint> Model for MarkedEnds<E> {
@@ -33,7 +33,7 @@ impl<E: Endpoint> Model for MarkedEnds<E> {
     ghost use Rattle.std.specs.Ordering.{nat_cmp};
     ghost use Rattle.std.specs.BTreeMap.{get};
     ghost use Rattle.proxy_engine.specs.ReadyList.{entries_below, PlacesAreBelow, FlaggedPlacesAreMarked};
-    ghost use Rattle.proxy_engine.specs.Marked.{EndList};
+    ghost use Rattle.proxy_engine.specs.Marked.{EndList, NoneIsBeyond};
 
     ghost Value = { EndList E };
 
@@ -41,7 +41,8 @@ impl<E: Endpoint> Model for MarkedEnds<E> {
 
     ghost invariant = { λ c. FlaggedPlacesAreMarked E.may_show (get nat_cmp c.ends) (length c.ends.entries) c.marked
         × PlacesAreBelow c.count c.marked.places
-        × (c.spare ≡ true → (is_some (get nat_cmp c.ends c.count) ≡ true) × (c.count + 1 < 2 ^ 64)) };
+        × (c.spare ≡ true → (is_some (get nat_cmp c.ends c.count) ≡ true) × (c.count + 1 < 2 ^ 64))
+        × NoneIsBeyond c.count (get nat_cmp c.ends) };
 }
 
 impl<E: Endpoint> MarkedEnds<E> {
@@ -100,10 +101,20 @@ impl<E: Endpoint> MarkedEnds<E> {
             (λ w. record { items = slice_set self.old.items place (Some w); has_room = self.old.has_room }) self.old) }
         ensures value { option_copied_mut result ≡ slice_index_or self.old.items place None }
     {
-        let key = place.key();
-        if !self.ends.contains_key(&key) {
+        if !self.ends.contains_key(&place.key()) {
             return None;
         }
+        self.change(place)
+    }
+
+    /// The end at a place, which isn't over, to be changed. Something may be due there afterwards.
+    pub(crate) fn change(&mut self, place: Place<E::Kind>) -> Option<&mut E>
+        requires { is_some (slice_index_or self.old.items place None) ≡ true }
+        ensures* writes_back { sem 𝓛 (LendsIf (the_row E.row E.Kind.row E.Endpoint) E.row self.entry result
+            (λ w. record { items = slice_set self.old.items place (Some w); has_room = self.old.has_room }) self.old) }
+        ensures value { option_copied_mut result ≡ slice_index_or self.old.items place None }
+    {
+        let key = place.key();
         self.marked.put(key);
         self.ends.get_mut(&key)
     }

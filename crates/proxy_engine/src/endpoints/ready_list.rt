@@ -26,18 +26,11 @@ impl Model for ReadyList {
 
 /// Where a place stands, or behind how many greater ones it belongs.
 fn find(places: &[u64], place: u64) -> Result<usize, usize>
+    requires { PlacesDescend places.now }
     ensures there { IfOk result (λ at. (at < length places.now) × (slice_index_or places.now at 0 ≡ place)) }
     ensures behind { IfErr result (λ count. PlaceBelongsBehind places.now place count) }
 {
-    for (i, x) in places.iter().enumerate() {
-        if *x == place {
-            return Ok(i);
-        }
-        if *x < place {
-            return Err(i);
-        }
-    }
-    Err(places.len())
+    places.binary_search_by(|x| place.cmp(x))
 }
 
 impl ReadyList {
@@ -47,6 +40,13 @@ impl ReadyList {
         ReadyList {
             items: Vec::new(alloc),
         }
+    }
+
+    /// The places, the greatest first.
+    pub(crate) fn places(&self) -> &[u64]
+        ensures { result.now ≡ self.now.places }
+    {
+        &self.items
     }
 
     /// Makes room for the places of what is open and of one more: for twice as many, where there is less. So the room

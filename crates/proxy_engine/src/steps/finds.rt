@@ -5,6 +5,8 @@ ghost use Rattle.std.specs.Ordering.{nat_cmp};
 ghost use Rattle.std.specs.BTreeMap.{get};
 ghost use Rattle.proxy_engine.specs.ReadyList.{FlaggedPlacesAreMarked};
 ghost use Rattle.proxy_engine.specs.Exhausted.{IsKeptWithFlag};
+ghost use Rattle.proxy_engine.specs.Held.{has_flag};
+ghost use Rattle.proxy_engine.specs.Reading.{places_with_flag};
 ghost use Rattle.proxy_engine.specs.Marked.{may_be_lost, RelatesAtEachPlace, NoneHasFlagBelow, NoneHasFlag};
 ghost use Rattle.proxy_engine.specs.Marked.{lost_connection_at, item_at, LostAreMarked};
 
@@ -15,6 +17,16 @@ use crate::endpoints::numbers::{ConnectionPlace, LinkPlace, Place};
 use crate::endpoints::ready_list::ReadyList;
 use std::alloc::{AllocError, Global};
 use std::collections::BTreeMap;
+
+/// Whether the connection at a place is gone with an open exchange.
+fn is_lost(ends: &MarkedEnds<Connection>, i: ConnectionPlace) -> bool
+    ensures { result ≡ has_flag may_be_lost (item_at ends.now.items i) }
+{
+    match ends.get(i) {
+        Some(connection) => connection.gone && connection.activity.has_exchange(),
+        None => false,
+    }
+}
 
 /// Whether the connection at a place is gone with an open exchange, and its link, if its request went forward.
 fn lost_link(ends: &MarkedEnds<Connection>, i: ConnectionPlace) -> Option<Option<LinkPlace>>
@@ -52,6 +64,23 @@ pub(crate) fn first_lost(
         lost.drop_least();
     }
     None
+}
+
+/// How many connections are gone with an open exchange. Each is at a marked place, and no other is looked at.
+pub(crate) fn lost_count(ends: &MarkedEnds<Connection>, lost: &ReadyList) -> usize
+    requires { LostAreMarked ends.now lost.now }
+    ensures { result ≡ length (places_with_flag (has_flag may_be_lost) 0 ends.now.items) }
+{
+    let places = lost.places();
+    let mut left = places.len();
+    let mut count = 0;
+    while left > 0 {
+        left -= 1;
+        if is_lost(ends, ConnectionPlace::at(places[left])) {
+            count += 1;
+        }
+    }
+    count
 }
 
 /// Whether something is due at a place.

@@ -9,6 +9,9 @@ put-requires c =
     let here : is_some (item_at c.self.inside.ends.items c.args.i) ≡ true = copied_some c.get.result _ c.get.ensures c.if-is_none.ensures in
     rw c.key.ensures (lost_room c.self.inside.ends c.self.inside.lost c.self.inside.lost c.self.invariant c.args.i here)
 
+pub change-requires : goal.change-requires
+change-requires c = copied_some c.get.result _ c.get.ensures c.if-is_none.ensures
+
 pub invariant_of-self-lent : goal.invariant_of-self-lent
 invariant_of-self-lent c =
     let puts = c.put.ensures in

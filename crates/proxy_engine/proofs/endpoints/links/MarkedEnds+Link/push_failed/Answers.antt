@@ -1,14 +1,22 @@
-use Rattle.std.proofs.Common.{◌+◌, ◌≤◌, ◌^◌, ◌++◌, List, ℕ, map, sym, ap, ◌∙◌, subst}
+use Rattle.std.proofs.Common.{Contains, ◌+◌, ◌≤◌, ◌^◌, ◌++◌, List, ℕ, map, sym, ap, ◌∙◌, subst}
 use Rattle.proxy_engine.specs.State.{RelatesLists, LinkRepresents}
 use Rattle.proxy_engine.specs.Reading.{link_end_at}
-use Rattle.proxy_engine.specs.ReadyList.{entries_below}
+use Rattle.proxy_engine.specs.ReadyList.{entries_below, PlacesAreBelow}
 use Rattle.proxy_engine.specs.Marked.{EndList}
 use Rattle.proxy_engine.specs.declared.endpoints.ends.Link.{Link}
 use Rattle.proxy_engine.proofs.Parts.{both_length}
 use Rattle.proxy_engine.proofs.Keeping.{listed_length}
 use Rattle.proxy_engine.proofs.Readable.{failed_places}
+use Rattle.proxy_engine.proofs.Failures.{shown_failed}
 use Rattle.proxy_engine.proofs.Acting.{does_ok}
 use Rattle.proxy_engine.proofs.endpoints.links.MarkedEnds+Link.push_failed.Goals as goal
+
+pub push_failed-requires-clause-below : goal.push_failed-requires-clause-below
+push_failed-requires-clause-below c = subst (PlacesAreBelow c.self.inside.count) (sym c.places-places.ensures) c.self.invariant.1
+
+pub push_failed-requires-clause-marked : goal.push_failed-requires-clause-marked
+push_failed-requires-clause-marked c = λ j link here failed.
+    subst (λ (ps : List ℕ). Contains ps j) (sym c.places-places.ensures) (c.self.invariant.0.marked j link here (shown_failed link failed))
 
 pub returns : goal.returns
 returns c =

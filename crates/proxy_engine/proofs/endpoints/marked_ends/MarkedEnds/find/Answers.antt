@@ -1,9 +1,11 @@
+use Rattle.std.specs.Ordering.{nat_cmp}
+use Rattle.std.specs.BTreeMap.{get}
 use Rattle.std.proofs.Common.{ap, ◌∙◌, subst, sym, length}
 use Rattle.proxy_engine.specs.Marked.{EndList, item_at, RelatesAtEachPlace}
 use Rattle.proxy_engine.specs.ReadyList.{entries_below}
 use Rattle.proxy_engine.proofs.Finding.{listed_found, listed_stopped, alike_listed}
 use Rattle.proxy_engine.proofs.Keeping.{listed_length}
-use Rattle.proxy_engine.proofs.Marking.{alike_some}
+use Rattle.proxy_engine.proofs.Marking.{alike_some, none_alike}
 use Rattle.proxy_engine.proofs.Acting.{on_ok, stays_err}
 use Rattle.proxy_engine.proofs.endpoints.marked_ends.MarkedEnds.find.Goals as goal
 
@@ -12,6 +14,7 @@ invariant_of-self g c = (
   c.first_due.ensures.marked,
   (λ q there. c.self.invariant.1 q (c.first_due.ensures.fewer q there)),
   (λ spare. (alike_some g.E.Endpoint.LooksLike _ _ c.first_due.ensures.alike c.self.inside.count (c.self.invariant.2 spare).0, (c.self.invariant.2 spare).1)),
+  none_alike (get nat_cmp c.self.inside.ends) (get nat_cmp c.first_due.new.ends) c.self.inside.count c.self.invariant.3 g.E.Endpoint.LooksLike c.first_due.ensures.alike,
 )
 
 pub returns-clause-alike : goal.returns-clause-alike

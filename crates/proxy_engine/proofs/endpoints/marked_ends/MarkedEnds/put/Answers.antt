@@ -4,7 +4,7 @@ use Rattle.std.specs.BTreeMap.{get, Updates}
 use Rattle.proxy_engine.specs.ReadyList.{entries_below}
 use Rattle.proxy_engine.specs.Marked.{EndList}
 use Rattle.proxy_engine.proofs.Keeping.{elsewhere, listed_more, listed_same, surely, surely_size}
-use Rattle.proxy_engine.proofs.Marking.{fills_map, has_room, marked_put, below_put, below_more}
+use Rattle.proxy_engine.proofs.Marking.{fills_map, has_room, marked_put, below_put, below_more, none_changed, none_beyond_more}
 use Rattle.proxy_engine.proofs.endpoints.marked_ends.MarkedEnds.put.Goals as goal
 
 pub put-requires : goal.put-requires
@@ -25,6 +25,7 @@ invariant_of-self g c =
           puts.only puts.falls,
       below_put (n + 1) c.self.inside.marked.places c.put.new.self.places n (below_more n _ c.self.invariant.1) (omega arith) puts.only,
       (λ spare. absurd (cc)),
+      none_beyond_more (get nat_cmp k) n (none_changed (get nat_cmp m) (get nat_cmp k) n c.self.invariant.3 n (omega arith) (λ q other. updates.2 q (elsewhere n q other))),
     )
 
 pub returns-clause-items : goal.returns-clause-items

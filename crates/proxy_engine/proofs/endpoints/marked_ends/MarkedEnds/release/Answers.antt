@@ -3,7 +3,7 @@ use Rattle.std.specs.Ordering.{nat_cmp}
 use Rattle.std.specs.BTreeMap.{get}
 use Rattle.proxy_engine.specs.Marked.{EndList}
 use Rattle.proxy_engine.proofs.Keeping.{elsewhere, listed_set, seen_at, one_less}
-use Rattle.proxy_engine.proofs.Marking.{marked_gone}
+use Rattle.proxy_engine.proofs.Marking.{marked_gone, none_changed}
 use Rattle.proxy_engine.proofs.endpoints.marked_ends.MarkedEnds.release.Goals as goal
 
 pub invariant_of-self : goal.invariant_of-self
@@ -20,6 +20,7 @@ invariant_of-self g c =
           c.remove-2.ensures.room c.remove-2.ensures.falls,
       (λ q there. c.self.invariant.1 q (c.remove-2.ensures.only q there).1),
       (λ spare. (ap is_some (updates.2 n (elsewhere i n apart)) ∙ (c.self.invariant.2 spare).0, (c.self.invariant.2 spare).1)),
+      none_changed (get nat_cmp m) (get nat_cmp k) n c.self.invariant.3 i (omega (arith, within)) (λ q other. updates.2 q (elsewhere i q other)),
     )
 
 pub returns-clause-items : goal.returns-clause-items

@@ -5,7 +5,7 @@ use Rattle.proxy_engine.specs.ReadyList.{entries_below}
 use Rattle.proxy_engine.specs.Room.{HasSpareBytes, most_bytes_of_read}
 use Rattle.proxy_engine.specs.Marked.{EndList, item_at, OnlyGainsRoom, RelatesAtEachPlace}
 use Rattle.proxy_engine.proofs.Keeping.{listed_at, listed_same, listed_length}
-use Rattle.proxy_engine.proofs.Marking.{marked_alike, alike_some, alike_refl, same_list}
+use Rattle.proxy_engine.proofs.Marking.{marked_alike, alike_some, alike_refl, same_list, none_alike}
 use Rattle.proxy_engine.proofs.Finding.{alike_listed}
 use Rattle.proxy_engine.proofs.Readable.{beyond, by_place}
 use Rattle.proxy_engine.proofs.Acting.{does_ok, stays_err}
@@ -20,6 +20,7 @@ invariant_of-self g c =
       marked_alike g.E.Endpoint.may_show grows m k _ _ c.self.inside.marked (λ x y r f. sym r.shows ∙ f) c.self.invariant.0 c.reserve_at.ensures.grows (omega (arith, size)),
       c.self.invariant.1,
       (λ spare. (alike_some grows m k c.reserve_at.ensures.grows c.self.inside.count (c.self.invariant.2 spare).0, (c.self.invariant.2 spare).1)),
+      none_alike m k c.self.inside.count c.self.invariant.3 grows c.reserve_at.ensures.grows,
     )
 
 pub returns-then-key-self-clause-ok : goal.returns-then-key-self-clause-ok

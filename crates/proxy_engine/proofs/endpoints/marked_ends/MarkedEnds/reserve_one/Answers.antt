@@ -1,9 +1,9 @@
-use Rattle.std.proofs.Common.{refl, ap, ◌∙◌, arith, length, is_some}
+use Rattle.std.proofs.Common.{sym, refl, ap, ◌∙◌, arith, length, is_some}
 use Rattle.std.specs.Ordering.{nat_cmp}
 use Rattle.std.specs.BTreeMap.{get}
 use Rattle.proxy_engine.specs.Marked.{EndList}
 use Rattle.proxy_engine.proofs.Keeping.{elsewhere, listed_same, one_more}
-use Rattle.proxy_engine.proofs.Marking.{marked_room, marked_spare, same_at, below_same}
+use Rattle.proxy_engine.proofs.Marking.{marked_room, marked_spare, same_at, below_same, none_changed}
 use Rattle.proxy_engine.proofs.endpoints.marked_ends.MarkedEnds.reserve_one.Goals as goal
 
 pub invariant_of-self : goal.invariant_of-self
@@ -11,6 +11,7 @@ invariant_of-self g c = (
   marked_room g.E.Endpoint.may_show (get nat_cmp c.self.inside.ends) (get nat_cmp c.self.inside.ends) _ _ c.self.inside.marked c.reserve_beside.new.self c.self.invariant.0 (λ q. refl) refl c.reserve_beside.ensures.places c.reserve_beside.ensures.room,
   below_same c.self.inside.count _ _ c.self.invariant.1 c.reserve_beside.ensures.places,
   c.self.invariant.2,
+  c.self.invariant.3,
 )
 
 pub invariant_of-self-in_err-insert : goal.invariant_of-self-in_err-insert
@@ -21,6 +22,7 @@ invariant_of-self-in_err-insert g c =
       marked_room g.E.Endpoint.may_show (get nat_cmp m) (get nat_cmp k) _ _ c.self.inside.marked c.reserve_beside.new.self c.self.invariant.0 (same_at m k same) (ap length same) c.reserve_beside.ensures.places c.reserve_beside.ensures.room,
       below_same c.self.inside.count _ _ c.self.invariant.1 c.reserve_beside.ensures.places,
       (λ spare. (ap is_some (same_at m k same c.self.inside.count) ∙ (c.self.invariant.2 spare).0, (c.self.invariant.2 spare).1)),
+      (λ q there. c.self.invariant.3 q (sym (ap is_some (same_at m k same q)) ∙ there)),
     )
 
 pub invariant_of-self-2 : goal.invariant_of-self-2
@@ -34,6 +36,7 @@ invariant_of-self-2 g c =
           (omega (arith, size, c.in_ok-reserve_beside.ensures.ok)) c.reserve_beside.ensures.places,
       below_same n _ _ c.self.invariant.1 c.reserve_beside.ensures.places,
       (λ spare. (ap is_some updates.1, search arith)),
+      none_changed (get nat_cmp m) (get nat_cmp k) n c.self.invariant.3 n (omega arith) (λ q other. updates.2 q (elsewhere n q other)),
     )
 
 pub returns-clause-items : goal.returns-clause-items
