@@ -15,10 +15,18 @@ pub(crate) const VERSION: &str = "0.2.0";
 const LONGEST_TIMEOUT: u64 = 86_400;
 
 /// The most connections of clients that can be asked for.
-const MOST_CONNECTIONS: u64 = 65_536;
+const MOST_CONNECTIONS: u64 = 1_048_576;
 
-/// The most bytes that may wait for clients, of those that can be asked for: a tebibyte.
-const MOST_UNSENT: u64 = 1_099_511_627_776;
+/// The most links to one origin that can be asked for.
+const MOST_ORIGIN_CONNECTIONS: u64 = 65_536;
+
+/// The most bytes of requests and answers in progress that can be asked for: a tebibyte.
+const MOST_CONTENT: u64 = 1_099_511_627_776;
+
+/// Milliseconds of a second.
+const SECOND: u64 = 1000;
+
+static ON_AND_OFF: [&str; 2] = ["on", "off"];
 
 /// How a server is to serve.
 #[derive(Clone, Copy, Debug)]
@@ -144,22 +152,57 @@ fn connections_option<'a>(alloc: Global) -> Arg<'a> {
         alloc,
         "connections",
         "N",
-        "connections of clients, 1 to 65536",
+        "connections of clients, 1 to 1048576; beyond them the one that is idle for the longest is closed",
     )
-    .default_value("4096")
+    .default_value("16384")
     .value_parser(ValueParser::unsigned(1, MOST_CONNECTIONS))
 }
 
-/// How much may wait for clients.
+/// How many links to one origin there may be.
+fn origin_connections_option<'a>(alloc: Global) -> Arg<'a> {
+    option_with_value(
+        alloc,
+        "origin-connections",
+        "N",
+        "connections to one origin, 1 to 65536; a request beyond them is refused at once, as by the origin",
+    )
+    .default_value("1024")
+    .value_parser(ValueParser::unsigned(1, MOST_ORIGIN_CONNECTIONS))
+}
+
+/// Whether a silent origin is asked by one request at a time.
+fn origin_probe_option<'a>(alloc: Global) -> Arg<'a> {
+    option_with_value(
+        alloc,
+        "origin-probe",
+        "WORD",
+        "on or off: whether an origin that three times didn't answer is asked by one request at a time",
+    )
+    .default_value("on")
+    .value_parser(ValueParser::Names(&ON_AND_OFF))
+}
+
+/// How much may be in progress.
+fn content_option<'a>(alloc: Global) -> Arg<'a> {
+    option_with_value(
+        alloc,
+        "content-limit",
+        "BYTES",
+        "bytes of requests and answers in progress, of all of them; beyond it the largest is cut off",
+    )
+    .default_value("1073741824")
+    .value_parser(ValueParser::unsigned(1, MOST_CONTENT))
+}
+
+/// The earlier name of the same.
 fn unsent_option<'a>(alloc: Global) -> Arg<'a> {
     option_with_value(
         alloc,
         "unsent-limit",
         "BYTES",
-        "bytes that clients haven't taken yet, of all of them; beyond it the slowest is cut off",
+        "the earlier name of --content-limit",
     )
-    .default_value("268435456")
-    .value_parser(ValueParser::unsigned(1, MOST_UNSENT))
+    .value_parser(ValueParser::unsigned(1, MOST_CONTENT))
 }
 
 /// For how long it serves.
@@ -182,6 +225,9 @@ fn served<'a>(alloc: Global) -> Result<Command<'a>, Error> {
         .arg(listen_option(alloc))?
         .next_help_heading("Bounds")
         .arg(connections_option(alloc))?
+        .arg(origin_connections_option(alloc))?
+        .arg(origin_probe_option(alloc))?
+        .arg(content_option(alloc))?
         .arg(unsent_option(alloc))?
         .next_help_heading("For tests")
         .arg(turns_option(alloc))?;
@@ -300,17 +346,32 @@ fn address_of(text: &str) -> Option<SocketAddr> {
     }
 }
 
+/// A number of seconds, in milliseconds.
+fn milliseconds_of(matches: &ArgMatches<'_>, name: &str) -> Option<u64> {
+    Some(matches.get_one::<u64>(name)?.saturating_mul(SECOND))
+}
+
+/// How much may be in progress, by either name.
+fn content_of(matches: &ArgMatches<'_>) -> Option<usize> {
+    match matches.get_one::<usize>("unsent-limit") {
+        Some(limit) => Some(limit),
+        None => matches.get_one::<usize>("content-limit"),
+    }
+}
+
 /// The bounds, but for those of contents, which the table has.
 fn limits_of(matches: &ArgMatches<'_>) -> Option<Limits> {
     Some(Limits {
         connections: matches.get_one::<usize>("connections")?,
-        client_timeout: matches.get_one::<u64>("client-timeout")?,
-        request_timeout: matches.get_one::<u64>("request-timeout")?,
-        abandon_timeout: matches.get_one::<u64>("abandon-timeout")?,
-        connect_timeout: matches.get_one::<u64>("connect-timeout")?,
-        origin_timeout: matches.get_one::<u64>("origin-timeout")?,
-        exchange_timeout: matches.get_one::<u64>("exchange-timeout")?,
-        unsent: matches.get_one::<usize>("unsent-limit")?,
+        origin_connections: matches.get_one::<u64>("origin-connections")?,
+        origin_probe: matches.get_str("origin-probe")? == "on",
+        client_timeout: milliseconds_of(matches, "client-timeout")?,
+        request_timeout: milliseconds_of(matches, "request-timeout")?,
+        abandon_timeout: milliseconds_of(matches, "abandon-timeout")?,
+        connect_timeout: milliseconds_of(matches, "connect-timeout")?,
+        origin_timeout: milliseconds_of(matches, "origin-timeout")?,
+        exchange_timeout: milliseconds_of(matches, "exchange-timeout")?,
+        content: content_of(matches)?,
         max_body: 0,
     })
 }

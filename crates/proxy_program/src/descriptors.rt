@@ -4,12 +4,23 @@ use std::io::Read;
 use std::rt::Files;
 use std::{fs, str};
 
-/// Links to origins, the listener, the log, the record, and what the system wants besides.
-const OTHER_DESCRIPTORS: u64 = 256 + 16;
+/// The listener, the log, the record, the table, and what the system wants besides.
+const OTHER_DESCRIPTORS: u64 = 16;
 
-/// The most descriptors for so many connections of clients.
-pub(crate) fn descriptors_wanted(connections: u64) -> u64 {
-    connections.saturating_add(OTHER_DESCRIPTORS)
+/// The most descriptors for so many connections of clients, and so many to an origin.
+pub(crate) fn descriptors_wanted(connections: u64, links: u64) -> u64 {
+    connections
+        .saturating_add(links)
+        .saturating_add(OTHER_DESCRIPTORS)
+}
+
+/// How many connections of clients there can be where so many descriptors are allowed: a quarter of them at most is for
+/// origins.
+pub(crate) fn connections_within(allows: u64, links: u64) -> u64 {
+    allows
+        .saturating_sub(links.min(allows / 4))
+        .saturating_sub(OTHER_DESCRIPTORS)
+        .max(1)
 }
 
 /// The number behind the words of a line of the system.

@@ -2,7 +2,7 @@
 
 use crate::command_line::Service;
 use crate::commit::commit_of;
-use crate::descriptors::{descriptors_allowed, descriptors_wanted};
+use crate::descriptors::{connections_within, descriptors_allowed, descriptors_wanted};
 use crate::fault::{Fault, fault_of, system_call_words};
 use crate::figures::Figures;
 use crate::files::read_table;
@@ -65,17 +65,32 @@ fn record_fault<R: AllocGlobal>(rt: &R, name: &str, error: &io::Error) -> Fault 
     fault_of(error, Fault::Write(words))
 }
 
+/// The bounds, cut to the descriptors that are allowed where the system tells.
+fn within_descriptors(limits: Limits, allows: Option<u64>) -> Limits {
+    let Some(allows) = allows else {
+        return limits;
+    };
+    let mut limits = limits;
+    let most = connections_within(allows, limits.origin_connections);
+    limits.connections = limits
+        .connections
+        .min(usize::try_from(most).unwrap_or(usize::MAX));
+    limits
+}
+
 /// Tells on which address it listens, and where fewer descriptors are allowed than may be wanted.
-fn announce<R: Files + Eprint + AllocGlobal>(rt: &R, address: SocketAddr, limits: &Limits) {
+fn announce<R: Eprint>(rt: &R, address: SocketAddr, asked: &Limits, allows: Option<u64>) {
     // Where standard error fails there is nobody left to tell.
     let _ = eprintln!(rt; "listening on {address}");
-    let wants = descriptors_wanted(limits.connections as u64);
-    if let Some(allows) = descriptors_allowed(rt) {
-        if allows < wants {
-            let _ = eprintln!(rt;
-                "warning: {allows} descriptors are allowed, and up to {wants} may be wanted"
-            );
-        }
+    let Some(allows) = allows else {
+        return;
+    };
+    let wants = descriptors_wanted(asked.connections as u64, asked.origin_connections);
+    let taken = within_descriptors(*asked, Some(allows)).connections;
+    if allows < wants {
+        let _ = eprintln!(rt;
+            "warning: {allows} descriptors are allowed, and up to {wants} may be wanted: at most {taken} connections of clients are taken"
+        );
     }
 }
 
@@ -244,7 +259,8 @@ pub(crate) fn serve<R: Net + Clock + Files + Print + Eprint + AllocGlobal + Rand
 ) -> Result<(), Fault> {
     let table = read_table(rt, service.table)?;
     let config = config_of(rt.alloc(), table.as_slice())?;
-    let mut limits = service.limits;
+    let allows = descriptors_allowed(rt);
+    let mut limits = within_descriptors(service.limits, allows);
     limits.max_body = config.max_body();
     let mut sockets = sockets_of(rt, service.listen, limits)?;
     let record = record_of(rt, service.record, table.as_slice())?;
@@ -259,7 +275,7 @@ pub(crate) fn serve<R: Net + Clock + Files + Print + Eprint + AllocGlobal + Rand
     let address = sockets.address();
     let mut server = Server::new(rt.alloc(), config, shelf, sockets, record);
     begin_figures(rt, &figures, &server)?;
-    announce(rt, address, &limits);
+    announce(rt, address, &service.limits, allows);
     let turns = service.turns.map_or(u64::MAX, u64::from);
     let watch = Watch::new(service.drain, service.drain_timeout, service.log);
     let served = serve_turns(rt, turns, watch, &mut server, &mut journal, &mut figures);

@@ -2,7 +2,7 @@
 
 use crate::clock_watch::ClockWatch;
 use hx_store::Shelf;
-use proxy_server::{Server, Turned};
+use proxy_server::{Server, Troubles, Turned};
 use std::io::Write;
 use std::net::Net;
 
@@ -37,7 +37,8 @@ impl RareWarning {
 #[derive(Clone, Copy, Debug)]
 pub(crate) struct Warnings {
     full: RareWarning,
-    crowded: RareWarning,
+    beyond_bound: RareWarning,
+    silent: RareWarning,
     no_descriptor: RareWarning,
     no_link: RareWarning,
     cut: RareWarning,
@@ -46,13 +47,16 @@ pub(crate) struct Warnings {
     refused: u64,
     without_descriptor: u64,
     links: u64,
+    refused_links: u64,
+    silences: u64,
 }
 
 impl Warnings {
     pub(crate) fn new() -> Warnings {
         Warnings {
             full: RareWarning::new(),
-            crowded: RareWarning::new(),
+            beyond_bound: RareWarning::new(),
+            silent: RareWarning::new(),
             no_descriptor: RareWarning::new(),
             no_link: RareWarning::new(),
             cut: RareWarning::new(),
@@ -61,6 +65,8 @@ impl Warnings {
             refused: 0,
             without_descriptor: 0,
             links: 0,
+            refused_links: 0,
+            silences: 0,
         }
     }
 
@@ -115,11 +121,22 @@ impl Warnings {
             );
         }
         self.links = troubles.no_link;
-        let waiting = troubles.waiting;
-        if waiting > 0 && self.crowded.is_due(second) {
+        self.look_at_origins(rt, &troubles, second);
+    }
+
+    /// Tells that connects to origins were refused at once since the last look.
+    fn look_at_origins<R: Eprint>(&mut self, rt: &R, troubles: &Troubles, second: u64) {
+        if troubles.beyond_bound > self.refused_links && self.beyond_bound.is_due(second) {
             let _ = eprintln!(rt;
-                "warning: 256 requests are in progress, as many as may be, and {waiting} wait"
+                "warning: as many connections to an origin are open as may be: further requests for it are refused"
             );
         }
+        self.refused_links = troubles.beyond_bound;
+        if troubles.silent > self.silences && self.silent.is_due(second) {
+            let _ = eprintln!(rt;
+                "warning: an origin doesn't answer: it is asked by one request at a time until it does, others for it are refused"
+            );
+        }
+        self.silences = troubles.silent;
     }
 }

@@ -1,5 +1,5 @@
 -- The happenings of a turn's steps are those that are recorded of its calls.
-use Rattle.std.proofs.Common.{◌≡◌, ℕ, List, [], ◌∷◌, ◌++◌, refl, sym, ap, ◌∙◌, subst, inl, inr, Option, None, Some, append-nil, append_assoc}
+use Rattle.std.proofs.Common.{◌≡◌, ℕ, ◌+◌, List, [], ◌∷◌, ◌++◌, length, refl, sym, ap, ◌∙◌, subst, inl, inr, Option, None, Some, append-nil, append_assoc}
 use Rattle.hx_status.specs.declared.cause.FailKind.{FailKind}
 use Rattle.hx_status.specs.declared.cause.FailKind.TheVariants as kinds
 use Rattle.proxy_script.specs.declared.effect_list.Effect.{Effect}
@@ -8,9 +8,13 @@ use Rattle.proxy_script.specs.Happenings.{PlainHappening as Happening}
 use Rattle.proxy_engine.specs.EngineModel.{EngineModel}
 use Rattle.proxy_engine.specs.Executions.{ExecutionStep, Took, Worked}
 use Rattle.proxy_engine.specs.declared.work.End.{End}
-use Rattle.proxy_turn.specs.Calls.{Call}
-use Rattle.proxy_turn.specs.Turn.{AcceptCall, NotAsked, Failed, NoneCame, Came, EndRead, ActRound, EffectFate, Carried, Passed, Lost, EffectFailsAs, EffectsAreCarriedOut, ActsAreCarriedOut, TurnAsFarAsItCame, happening_of_accept, happening_of_read, happening_of_loss, end_of_effect, calls_of_accept, calls_of_reads, calls_of_effect, calls_of_effects, calls_of_rounds, calls_of_turn}
-use Rattle.proxy_turn.specs.TurnSteps.{step_of_happening_if_any, steps_of_reads, steps_of_losses, steps_of_rounds, steps_of_turn}
+use Rattle.proxy_turn.specs.Calls as call
+use Rattle.proxy_turn.specs.Calls.{Call, AcceptOutcome, NoneCame, Failed, Came}
+use Rattle.proxy_turn.specs.Turn.{EndRead, ActRound, EffectFate, Carried, Passed, Lost, EffectFailsAs, EffectsAreCarriedOut, ActsAreCarriedOut, happening_of_read, happening_of_loss, end_of_effect, calls_of_reads, calls_of_effect, calls_of_effects, calls_of_rounds}
+use Rattle.proxy_turn.specs.Over.{happening_of_answer, calls_of_accepts, TurnOverAsFarAsItCame, calls_of_turn_over}
+use Rattle.proxy_turn.specs.OverSteps.{steps_of_accepts, steps_of_turn_over}
+use Rattle.proxy_turn.specs.declared.bounds.TurnBounds.{TurnBounds}
+use Rattle.proxy_turn.specs.TurnSteps.{step_of_happening_if_any, steps_of_reads, steps_of_losses, steps_of_rounds}
 use Rattle.proxy_server.specs.Recorded.{happening_of_call, HappeningIfAnyIsNoted, CallsAreNoted}
 use Rattle.proxy_server.specs.Records.{Record, NotedHappening, EachIsNoted}
 use Rattle.proxy_server.specs.RecordedTurns.{happening_as_list, happenings_of_steps, happenings_of_calls, noted_at_moment, TurnsAreRecorded}
@@ -26,11 +30,16 @@ took_one (Some h) past = refl
 took_more : (o : Option Happening) (past : List ExecutionStep) (more : List Happening) → happenings_of_steps (step_of_happening_if_any o past) ++ more ≡ happenings_of_steps past ++ (happening_as_list o ++ more)
 took_more o past more = ap (λ (hs : List Happening). hs ++ more) (took_one o past) ∙ append_assoc (happenings_of_steps past) (happening_as_list o) more
 
-said_asked : (s : EngineModel) (asked : AcceptCall) → happenings_of_calls (calls_of_accept s asked) ≡ happening_as_list (happening_of_accept s asked)
-said_asked s NotAsked = refl
-said_asked s Failed = refl
-said_asked s NoneCame = refl
-said_asked s Came = refl
+said_answer : (n : ℕ) (a : AcceptOutcome) → happening_as_list (happening_of_answer n a) ≡ happening_as_list (happening_of_call (call.Accept n a))
+said_answer n Came = refl
+said_answer n NoneCame = refl
+said_answer n Failed = refl
+
+took_accepts : (accepts : List AcceptOutcome) (n : ℕ) (past : List ExecutionStep) → happenings_of_steps (steps_of_accepts n accepts past) ≡ happenings_of_steps past ++ happenings_of_calls (calls_of_accepts n accepts)
+took_accepts [] n past = sym (append-nil (happenings_of_steps past))
+took_accepts (a ∷ accepts) n past =
+    took_accepts accepts (n + 1) (step_of_happening_if_any (happening_of_answer n a) past) ∙ (took_more (happening_of_answer n a) past (happenings_of_calls (calls_of_accepts (n + 1) accepts))
+    ∙ ap (λ (hs : List Happening). happenings_of_steps past ++ (hs ++ happenings_of_calls (calls_of_accepts (n + 1) accepts))) (said_answer n a))
 
 took_reads : (reads : List EndRead) (past : List ExecutionStep) → happenings_of_steps (steps_of_reads reads past) ≡ happenings_of_steps past ++ happenings_of_calls (calls_of_reads reads)
 took_reads [] past = sym (append-nil (happenings_of_steps past))
@@ -78,14 +87,16 @@ took_rounds now s gone (r ∷ rs) t then past works =
     ∙ (append_assoc (happenings_of_steps past) (happenings_of_calls (calls_of_effects r.emitted r.fates)) (happenings_of_calls (calls_of_rounds rs))
     ∙ ap (λ (hs : List Happening). happenings_of_steps past ++ hs) (sym (said_both (calls_of_effects r.emitted r.fates) (calls_of_rounds rs)))))
 
-took_turn : (now : ℕ) (s : EngineModel) (asked : AcceptCall) (reads : List EndRead) (rest : List End) (rounds : List ActRound) (t : EngineModel) → TurnAsFarAsItCame now s asked reads rest rounds t → happenings_of_steps (steps_of_turn now s asked reads rounds []) ≡ happenings_of_calls (calls_of_turn s asked reads rounds)
-took_turn now s asked reads rest rounds t turn =
-    let first = step_of_happening_if_any (happening_of_accept s asked) [] in
+took_turn : (now : ℕ) (bounds : TurnBounds) (s : EngineModel) (given : List End) (accepts : List AcceptOutcome) (reads : List EndRead) (rest : List End) (rounds : List ActRound) (t : EngineModel) → TurnOverAsFarAsItCame now bounds s given accepts reads rest rounds t
+    → happenings_of_steps (steps_of_turn_over now s accepts reads rounds []) ≡ happenings_of_calls (calls_of_turn_over s accepts reads rounds)
+took_turn now bounds s given accepts reads rest rounds t turn =
+    let first = steps_of_accepts (length s.connections + 1) accepts [] in
+    let asked = calls_of_accepts (length s.connections + 1) accepts in
     took_rounds now turn.read _ rounds t turn.gone (steps_of_reads reads first) turn.works
-    ∙ (ap (λ (hs : List Happening). hs ++ happenings_of_calls (calls_of_rounds rounds)) (took_reads reads first ∙ ap (λ (hs : List Happening). hs ++ happenings_of_calls (calls_of_reads reads)) (took_one (happening_of_accept s asked) [] ∙ sym (said_asked s asked)))
-    ∙ (append_assoc (happenings_of_calls (calls_of_accept s asked)) (happenings_of_calls (calls_of_reads reads)) (happenings_of_calls (calls_of_rounds rounds))
-    ∙ (ap (λ (hs : List Happening). happenings_of_calls (calls_of_accept s asked) ++ hs) (sym (said_both (calls_of_reads reads) (calls_of_rounds rounds)))
-    ∙ sym (said_both (calls_of_accept s asked) (calls_of_reads reads ++ calls_of_rounds rounds)))))
+    ∙ (ap (λ (hs : List Happening). hs ++ happenings_of_calls (calls_of_rounds rounds)) (took_reads reads first ∙ ap (λ (hs : List Happening). hs ++ happenings_of_calls (calls_of_reads reads)) (took_accepts accepts (length s.connections + 1) []))
+    ∙ (append_assoc (happenings_of_calls asked) (happenings_of_calls (calls_of_reads reads)) (happenings_of_calls (calls_of_rounds rounds))
+    ∙ (ap (λ (hs : List Happening). happenings_of_calls asked ++ hs) (sym (said_both (calls_of_reads reads) (calls_of_rounds rounds)))
+    ∙ sym (said_both asked (calls_of_reads reads ++ calls_of_rounds rounds)))))
 
 abbrev IsNotedAs : ℕ → List Happening → Record → Option Record → Type 0
 IsNotedAs now hs r new = (later : Record) × (new ≡ Some later) × EachIsNoted r (noted_at_moment now hs) later
@@ -101,5 +112,5 @@ notes_in_order now [] r new noted = (r, noted, refl)
 notes_in_order now (made ∷ more) r new noted = noted_behind now more r new (λ k. notes_in_order now more k new) (happening_of_call made) noted.0 noted.1 noted.2
 
 pub turns_are_recorded : TurnsAreRecorded
-turns_are_recorded now s asked reads rest rounds t r new turn noted =
-    subst (λ (hs : List Happening). IsNotedAs now hs r new) (sym (took_turn now s asked reads rest rounds t turn)) (notes_in_order now (calls_of_turn s asked reads rounds) r new noted)
+turns_are_recorded now bounds s given accepts reads rest rounds t r new turn noted =
+    subst (λ (hs : List Happening). IsNotedAs now hs r new) (sym (took_turn now bounds s given accepts reads rest rounds t turn)) (notes_in_order now (calls_of_turn_over s accepts reads rounds) r new noted)

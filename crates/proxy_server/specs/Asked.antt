@@ -1,7 +1,7 @@
 -- Which origin was asked for a reply, as far as the order of links tells. An origin is named by its place.
 use Rattle.std.specs.Prelude.{◌≡◌, ◌⊎◌, ◌<◌, ◌≤◌, ◌-◌, length, take, vec_capacity, insert, slice_get, slice_index_or}
 use Rattle.std.specs.Prelude.{option_map, ℕ, ◌==◌, Bool, true, false, if◌then◌else◌, List, [], ◌∷◌, Option, Some, None}
-use Rattle.proxy_server.specs.declared.limits.TheConstants.{PLACES}
+use Rattle.proxy_server.specs.declared.limits.TheConstants.{MOST_FAILED_KEPT}
 use Rattle.proxy_server.specs.declared.asked.Asked.{Asked}
 use Rattle.proxy_server.specs.declared.asked.FailedOrigins.{FailedOrigins}
 use Rattle.proxy_server.specs.declared.asked.FailedOrigins.TheVariants.{Nowhere, One, Several}
@@ -75,7 +75,7 @@ IsAmongFailedLinks link place old new =
 
 -- fewer links that have failed are kept than can be open, and there is memory at hand for one more
 abbrev pub HasRoomForFailedLink : Asked → Type 0
-HasRoomForFailedLink asked = (length asked.failed.items < PLACES) ×
+HasRoomForFailedLink asked = (length asked.failed.items < MOST_FAILED_KEPT) ×
     (length asked.failed.items < vec_capacity asked.failed)
 
 -- it is kept, and the order of all tells as much as before

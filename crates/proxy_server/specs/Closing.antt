@@ -1,6 +1,6 @@
 -- Which streams go where one is closed.
 --
--- longest_waiting_in_queue: who has stood longest in a line      queue_of_streams: a line of those that have no number
+-- longest_waiting_in_queue: who has stood longest in a queue      queue_of_streams: a queue of those that were closed
 -- ClosedStreamsAreBounded: beyond as many as may be closed already the first of them goes
 -- ClientStandsInQueue: a client stands in a line
 -- AtMostOneOtherStreamGoes: of all streams but one, at most one goes
@@ -16,20 +16,13 @@ use Rattle.proxy_server.specs.declared.client.Client.{Client}
 use Rattle.proxy_server.specs.declared.client.Place.{Place}
 use Rattle.proxy_server.specs.declared.client.Place.TheVariants as place
 use Rattle.proxy_server.specs.declared.stream_queues.StreamQueue.{StreamQueue}
-use Rattle.proxy_server.specs.declared.stream_queues.StreamQueue.TheVariants.{Idle, Taking, Fresh, Whole, Long, Partial}
 use Rattle.proxy_server.specs.declared.stream_queues.StreamQueue.TheVariants.{Leaving}
 use Rattle.proxy_server.specs.declared.stream_queues.StreamQueue.TheVariants.{Lingering}
 use Rattle.proxy_server.specs.declared.stream_queues.StreamQueues.{StreamQueues}
 
 abbrev pub queue_of_streams : StreamQueue → StreamQueues → BTreeMap ℕ ℕ
-queue_of_streams Idle lines = lines.idle
-queue_of_streams Taking lines = lines.taking
-queue_of_streams Fresh lines = lines.fresh
-queue_of_streams Whole lines = lines.whole
-queue_of_streams Long lines = lines.long
-queue_of_streams Partial lines = lines.partial
-queue_of_streams Leaving lines = lines.leaving
-queue_of_streams Lingering lines = lines.lingering
+queue_of_streams Leaving queues = queues.leaving
+queue_of_streams Lingering queues = queues.lingering
 
 abbrev pub longest_waiting_in_queue : BTreeMap ℕ ℕ → Option ℕ
 longest_waiting_in_queue line = option_map (λ e. e.1) (slice_get line.entries 0)

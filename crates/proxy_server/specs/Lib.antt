@@ -12,7 +12,6 @@ pub mod Paces
 pub mod Page
 pub mod Patience
 pub mod Peers
-pub mod ClientPlaces
 pub mod Recorded
 pub mod RecordedTurns
 pub mod Records

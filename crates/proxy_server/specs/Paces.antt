@@ -2,7 +2,7 @@
 --
 -- next_turn_must_not_wait: what a turn leaves to the next
 -- moment_and_milliseconds, milliseconds_of_duration: what a clock tells
-use Rattle.std.specs.Prelude.{ℕ, ◌+◌, ◌-◌, ◌*◌, ◌/◌, ◌%◌, min, nat_lt, Bool, true, false, not, ◌&&◌, ◌||◌, Result, Ok}
+use Rattle.std.specs.Prelude.{ℕ, ◌+◌, ◌-◌, ◌*◌, ◌/◌, ◌%◌, min, nat_lt, Bool, true, false, not, ◌||◌, Result, Ok}
 use Rattle.std.specs.Prelude.{Err}
 use Rattle.std.specs.Duration.{as_nanos}
 use Rattle.std.specs.declared.time.Duration.{Duration}
@@ -13,25 +13,19 @@ use Rattle.proxy_turn.specs.declared.report.TurnFault.{TurnFault}
 use Rattle.proxy_turn.specs.declared.report.TurnFault.TheVariants as faults
 use Rattle.proxy_server.specs.declared.pace.Pace.{Pace}
 
--- an act was done, or a call failed: an end may be free
-abbrev pub turn_has_freed_an_end : Result Report TurnFault → Bool
-turn_has_freed_an_end (Ok report) = nat_lt 0 report.works || nat_lt 0 report.faults
-turn_has_freed_an_end (Err fault) = false
-
--- The next turn comes at once where something is due, where what was freed lets more be read, where
--- ends whose time is over are still looked for, or where there is more to take; and where no
--- connection could be accepted, or the last number of a link was used. Where memory was wanting it
--- waits: there may be some a little later.
-abbrev pub next_turn_must_not_wait : Pace → Result Report TurnFault → Bool → Bool → Pace
-next_turn_must_not_wait p (Ok report) unread more =
+-- The next turn comes at once where something is due, where ends whose time may be over are still to be looked at, or
+-- where there is more to take; and where no connection could be accepted, or the last number of a link was used. Where
+-- memory was wanting it waits: there may be some a little later.
+abbrev pub next_turn_must_not_wait : Pace → Result Report TurnFault → Bool → Pace
+next_turn_must_not_wait p (Ok report) more =
     record p {
       settled = nat_lt report.works MOST_WORKS;
-      busy = not (nat_lt report.works MOST_WORKS) || (turn_has_freed_an_end (Ok report) && unread) || p.sweeping
-          || more;
+      busy = not (nat_lt report.works MOST_WORKS) || p.sweeping || more;
+      starved = false;
     }
-next_turn_must_not_wait p (Err faults.Listener) unread more = record p { settled = false; busy = true }
-next_turn_must_not_wait p (Err faults.NoMemory) unread more = record p { settled = false; busy = false }
-next_turn_must_not_wait p (Err faults.Spent) unread more = record p { settled = false; busy = true }
+next_turn_must_not_wait p (Err faults.Listener) more = record p { settled = false; busy = true; starved = false }
+next_turn_must_not_wait p (Err faults.NoMemory) more = record p { settled = false; busy = false; starved = true }
+next_turn_must_not_wait p (Err faults.Spent) more = record p { settled = false; busy = true; starved = false }
 
 -- the clock's time since 1970 as a moment in seconds, at most the last of the year 9999, and its milliseconds
 abbrev pub moment_and_milliseconds : Duration → ℕ × ℕ

@@ -1,21 +1,18 @@
 -- Whose time is over. Times are milliseconds of the clock that never goes back; what lies ahead of now is now.
 --
--- has_lasted_longer: something was so for longer      stream_time_is_over, lateness_of_stream: of who stands in a line
+-- has_lasted_longer: something was so for longer      closed_time_is_over: of who was closed
 -- client_has_left: of who has sent its end           incomplete_since: since when a request has been incomplete
 -- end_is_silent: of an end                         link_overtime: which time of a link is over
 use Rattle.std.specs.Prelude.{ℕ, ◌-◌, ◌==◌, min, max, nat_lt, Bool, true, false, not, ◌&&◌, ◌||◌, List, length, Option}
 use Rattle.std.specs.Prelude.{None, Some, is_some, cond, if◌then◌else◌}
 use Rattle.std.specs.Option.{option_and_then}
-use Rattle.proxy_server.specs.declared.endings.Lateness.{Lateness}
-use Rattle.proxy_server.specs.declared.endings.Lateness.TheVariants as late
 use Rattle.proxy_server.specs.declared.limits.Limits.{Limits}
-use Rattle.proxy_server.specs.declared.limits.TheConstants.{IDLE_MILLISECONDS, PATIENCE_MILLISECONDS}
+use Rattle.proxy_server.specs.declared.limits.TheConstants.{PATIENCE_MILLISECONDS}
 use Rattle.proxy_server.specs.declared.limits.TheConstants.{QUIET_MILLISECONDS}
 use Rattle.proxy_server.specs.declared.links.Link.{Link}
 use Rattle.proxy_server.specs.declared.links.Overtime.{Overtime}
 use Rattle.proxy_server.specs.declared.links.Overtime.TheVariants.{Connect, Silence, Exchange}
 use Rattle.proxy_server.specs.declared.stream_queues.StreamQueue.{StreamQueue}
-use Rattle.proxy_server.specs.declared.stream_queues.StreamQueue.TheVariants.{Idle, Taking, Fresh, Whole, Long, Partial}
 use Rattle.proxy_server.specs.declared.stream_queues.StreamQueue.TheVariants.{Leaving}
 use Rattle.proxy_server.specs.declared.stream_queues.StreamQueue.TheVariants.{Lingering}
 
@@ -24,40 +21,17 @@ abbrev pub has_lasted_longer : ℕ → Option ℕ → ℕ → Bool
 has_lasted_longer now None limit = false
 has_lasted_longer now (Some since) limit = nat_lt limit (now - since)
 
--- It has sent its end, and nothing was written since for more than so many milliseconds; or at all, where places are
--- short.
-abbrev pub client_has_left : ℕ → Option ℕ → ℕ → ℕ → Bool → Bool
-client_has_left now None heard limit short = false
-client_has_left now (Some left) heard limit short = short || nat_lt limit (now - max left heard)
+-- It has sent its end, and nothing was written since for more than so many milliseconds.
+abbrev pub client_has_left : ℕ → Option ℕ → ℕ → ℕ → Bool
+client_has_left now None heard limit = false
+client_has_left now (Some left) heard limit = nat_lt limit (now - max left heard)
 
--- One that is idle is silent, or no more are taken and it has asked, or a second has gone by. One that has to take
--- something is silent. A request has been incomplete for too long. What was closed has something to take and is silent,
--- or has taken all and is quiet, or goes on sending for too long. One whose request waits for a place may be whole.
-abbrev pub stream_time_is_over : StreamQueue → Limits → Bool → Bool → ℕ → ℕ → ℕ → Option ℕ → Bool
-stream_time_is_over Idle limits draining has_asked now heard closed asked =
-    (draining && (has_asked || nat_lt IDLE_MILLISECONDS (now - heard))) || nat_lt limits.client_timeout (now - heard)
-stream_time_is_over Taking limits draining has_asked now heard closed asked = nat_lt limits.client_timeout (now - heard)
-stream_time_is_over Fresh limits draining has_asked now heard closed asked = false
-stream_time_is_over Whole limits draining has_asked now heard closed asked = false
-stream_time_is_over Long limits draining has_asked now heard closed asked
-    = has_lasted_longer now asked limits.request_timeout
-stream_time_is_over Partial limits draining has_asked now heard closed asked
-    = has_lasted_longer now asked limits.request_timeout
-stream_time_is_over Leaving limits draining has_asked now heard closed asked =
+-- What was closed has something to take and is silent, or has taken all and is quiet, or goes on sending for too long.
+abbrev pub closed_time_is_over : StreamQueue → Limits → ℕ → ℕ → ℕ → Bool
+closed_time_is_over Leaving limits now heard closed =
     nat_lt (min limits.client_timeout PATIENCE_MILLISECONDS) (now - heard)
-stream_time_is_over Lingering limits draining has_asked now heard closed asked =
+closed_time_is_over Lingering limits now heard closed =
     nat_lt QUIET_MILLISECONDS (now - heard) || nat_lt PATIENCE_MILLISECONDS (now - closed)
-
--- Which time is over of one that had its time; none of one that has nothing more to come.
-abbrev pub lateness_of_stream : StreamQueue → Limits → ℕ → ℕ → Option Lateness
-lateness_of_stream Idle limits now heard = if nat_lt limits.client_timeout (now - heard) then Some late.Client else None
-lateness_of_stream Taking limits now heard = Some late.Client
-lateness_of_stream Fresh limits now heard = None
-lateness_of_stream Whole limits now heard = None
-lateness_of_stream Long limits now heard = Some late.Request
-lateness_of_stream Partial limits now heard = Some late.Request
-lateness_of_stream Leaving limits now heard = Some late.Client
-lateness_of_stream Lingering limits now heard = None
 
 -- a request that comes has been incomplete since it was asked for first
 abbrev pub incomplete_since : ℕ → Option ℕ → Option ℕ

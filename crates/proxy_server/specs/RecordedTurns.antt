@@ -9,9 +9,11 @@ use Rattle.proxy_engine.specs.EngineModel.{EngineModel}
 use Rattle.proxy_engine.specs.Executions.{ExecutionStep, Took, Worked}
 use Rattle.proxy_engine.specs.declared.work.End.{End}
 use Rattle.proxy_script.specs.Happenings.{PlainHappening as Happening}
-use Rattle.proxy_turn.specs.Calls.{Call}
-use Rattle.proxy_turn.specs.Turn.{AcceptCall, EndRead, ActRound, TurnAsFarAsItCame, calls_of_turn}
-use Rattle.proxy_turn.specs.TurnSteps.{steps_of_turn}
+use Rattle.proxy_turn.specs.Calls.{Call, AcceptOutcome}
+use Rattle.proxy_turn.specs.Turn.{EndRead, ActRound}
+use Rattle.proxy_turn.specs.Over.{TurnOverAsFarAsItCame, calls_of_turn_over}
+use Rattle.proxy_turn.specs.OverSteps.{steps_of_turn_over}
+use Rattle.proxy_turn.specs.declared.bounds.TurnBounds.{TurnBounds}
 use Rattle.proxy_server.specs.Recorded.{happening_of_call, CallsAreNoted}
 use Rattle.proxy_server.specs.Records.{Record, NotedHappening, EachIsNoted}
 
@@ -37,9 +39,10 @@ noted_at_moment now (h ∷ hs) = record { moment = now; happening = h } ∷ note
 -- order and at the turn's moment, and nothing else.
 abbrev pub TurnsAreRecorded : Type 0
 TurnsAreRecorded =
-    (now : ℕ) (s : EngineModel) (asked : AcceptCall) (reads : List EndRead) (rest : List End) (rounds : List ActRound)
-    (t : EngineModel) (r : Record) (new : Option Record)
-    → TurnAsFarAsItCame now s asked reads rest rounds t → CallsAreNoted now (calls_of_turn s asked reads rounds)
-    (Some r) new
+    (now : ℕ) (bounds : TurnBounds) (s : EngineModel) (given : List End) (accepts : List AcceptOutcome)
+    (reads : List EndRead) (rest : List End) (rounds : List ActRound) (t : EngineModel) (r : Record)
+    (new : Option Record)
+    → TurnOverAsFarAsItCame now bounds s given accepts reads rest rounds t
+    → CallsAreNoted now (calls_of_turn_over s accepts reads rounds) (Some r) new
     → (later : Record) × (new ≡ Some later)
-    × EachIsNoted r (noted_at_moment now (happenings_of_steps (steps_of_turn now s asked reads rounds []))) later
+    × EachIsNoted r (noted_at_moment now (happenings_of_steps (steps_of_turn_over now s accepts reads rounds []))) later

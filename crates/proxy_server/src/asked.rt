@@ -11,7 +11,7 @@ ghost use Rattle.proxy_server.specs.Asked.{failed_links_after, FailedLinkNumbers
 ghost use Rattle.proxy_server.specs.Asked.{IsAmongFailedLinks};
 ghost use Rattle.proxy_server.specs.Asked.{IsGapForLink, FailedLinkIsKept, FailedLinkIsKeptOrOrderIsLost};
 
-use crate::limits::PLACES;
+use crate::limits::MOST_FAILED_KEPT;
 use std::alloc::Global;
 
 /// The origins of links that have failed, by their places.
@@ -103,7 +103,7 @@ impl Asked {
         ensures places { self.new.places ≡ self.old.places }
         ensures shut { self.new.shut ≡ self.old.shut }
     {
-        if self.failed.len() >= PLACES {
+        if self.failed.len() >= MOST_FAILED_KEPT {
             return false;
         }
         match self.spot_of_failed_link(l) {

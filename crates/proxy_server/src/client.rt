@@ -1,21 +1,21 @@
 //! A client's stream: where it stands, what it asks for, and what a log needs of it.
-ghost use Rattle.std.specs.Prelude.{◌≡◌, ◌<◌, ◌≤◌, length, false, Some, None, IfOk};
+ghost use Rattle.std.specs.Prelude.{◌≡◌, ◌<◌, ◌≤◌, ◌++◌, length, take, drop, false, [], Some, None, Ok, IfOk, OnOk};
+ghost use Rattle.std.specs.Prelude.{OnErr};
 ghost use Rattle.proxy_server.specs.Patience.{client_has_left, has_lasted_longer};
 ghost use Rattle.proxy_turn.specs.Received.{FitsTheBuffer};
 ghost use Rattle.proxy_server.specs.Logging.{IsLineAboutReply, client_has_log, logged_address};
-ghost use Rattle.proxy_server.specs.ClientPlaces.{ClientHasPlace};
-ghost use Rattle.proxy_server.specs.Streams.{client_has_early_bytes, client_may_give};
+ghost use Rattle.proxy_server.specs.Streams.{client_has_rest, client_may_give, rest_bytes, ClientIsRead};
+ghost use Rattle.proxy_server.specs.Streams.{number_of_place};
 
-use crate::early::{EarlyBytes, RequestWholeness};
 use crate::peer::Peer;
 use crate::pieces::{LEAST_HANDED_IN, head_end};
 use crate::reply_log::Reply;
+use crate::rest::Rest;
 use crate::stream::Stream;
 use crate::stream_queues::StreamQueue;
-use hx_fields::Bytes;
 use mio::net::TcpStream;
 use proxy_log::{SeenOfReply, UnansweredRequests, line_about};
-use proxy_turn::{PIECE, Received};
+use proxy_turn::Received;
 use std::alloc::{AllocError, Global};
 use std::io;
 use std::net::SocketAddr;
@@ -25,20 +25,8 @@ use std::net::SocketAddr;
 pub(crate) enum Place {
     /// The engine knows it by this number.
     Open(u64),
-    /// In a line, since it had this stamp.
+    /// It was closed, and stands in a queue, since it had this stamp.
     In(StreamQueue, u64),
-}
-
-/// What came of a read before a request has a place.
-#[derive(Clone, Copy, Debug, PartialEq, Eq)]
-pub(crate) enum EarlyReadOutcome {
-    Nothing,
-    /// More of a request, or its end.
-    Something,
-    /// It has failed, or has ended and sent nothing.
-    Gone,
-    /// What came couldn't be kept.
-    NoMemory,
 }
 
 /// What a log needs of a client.
@@ -49,73 +37,80 @@ struct Logged {
     asked: Option<UnansweredRequests>,
 }
 
-/// A client's stream.
+/// A client's stream. Moments are milliseconds of the clock that never goes back.
 #[derive(Drop)]
 pub(crate) struct Client<S: Stream + Drop = TcpStream> {
     pub(crate) peer: Peer<S>,
     alloc: Global,
     pub(crate) place: Place,
-    /// What came and wasn't handed in yet.
-    early: Option<EarlyBytes>,
-    /// When the first byte of its request came, if its request is incomplete.
+    /// What came behind the head of a request, and wasn't handed in yet.
+    rest: Option<Rest>,
+    /// When the first byte of its request came, if its request isn't answered.
     pub(crate) asked: Option<u64>,
     /// Something of a request was handed in that wasn't answered yet.
     is_begun: bool,
+    /// Bytes that were handed in of the request that isn't answered yet.
+    pub(crate) handed: usize,
     /// When its end was seen.
     pub(crate) left: Option<u64>,
+    /// By which moment it stands among those that have sent their end.
+    pub(crate) departed_mark: Option<u64>,
     /// It has sent a request, in all.
     pub(crate) has_asked: bool,
+    /// It stands among the ends that are read next.
+    pub(crate) is_listed: bool,
+    /// Since when it is between two requests, if it is.
+    pub(crate) idle_since: u64,
+    /// By which moment it stands among those that were between two requests.
+    pub(crate) idle_mark: Option<u64>,
+    /// When it is looked at next.
+    pub(crate) look: u64,
     /// When it was closed.
     pub(crate) closed: u64,
     logged: Option<Logged>,
 }
 
 impl<S: Stream + Drop> Client<S> {
-    /// A client from which nothing has come, in the line of those.
-    pub(crate) fn new(alloc: Global, peer: Peer<S>, stamp: u64) -> Client<S> {
+    /// A client from which nothing has come, under its number.
+    pub(crate) fn new(alloc: Global, peer: Peer<S>, n: u64, now: u64) -> Client<S> {
         Client {
             peer,
             alloc,
-            place: Place::In(StreamQueue::Idle, stamp),
-            early: None,
+            place: Place::Open(n),
+            rest: None,
             asked: None,
             is_begun: false,
+            handed: 0,
             left: None,
+            departed_mark: None,
             has_asked: false,
+            is_listed: false,
+            idle_since: now,
+            idle_mark: None,
+            look: 0,
             closed: 0,
             logged: None,
         }
     }
 
-    /// Who it is, for a log.
-    pub(crate) fn keep_log(&mut self, address: SocketAddr)
+    /// Its number, where the engine knows it.
+    pub(crate) fn number(&self) -> Option<u64>
+        ensures { result ≡ number_of_place self.now.place }
+    {
+        match self.place {
+            Place::Open(n) => Some(n),
+            Place::In(_, _) => None,
+        }
+    }
+
+    /// Keeps what a log needs: who it is, and what it asks for from now on.
+    pub(crate) fn keep_log(&mut self, address: SocketAddr, max_body: u64)
         ensures { logged_address self.new.logged ≡ Some address }
     {
         self.logged = Some(Logged {
             address,
-            asked: None,
+            asked: Some(UnansweredRequests::new(self.alloc, max_body)),
         });
-    }
-
-    /// It has a place: what it asks for is read for a log too, where one is kept.
-    pub(crate) fn open(&mut self, n: u64, max_body: u64)
-        ensures { ClientHasPlace n max_body self.old self.new }
-    {
-        self.place = Place::Open(n);
-        self.has_asked = true;
-        if let Some(logged) = &mut self.logged {
-            logged.asked = Some(UnansweredRequests::new(self.alloc, max_body));
-        }
-    }
-
-    /// It has no place any more, between two requests.
-    pub(crate) fn leave_place(&mut self)
-        ensures { logged_address self.new.logged ≡ logged_address self.old.logged }
-    {
-        self.answered();
-        if let Some(logged) = &mut self.logged {
-            logged.asked = None;
-        }
     }
 
     /// Takes what came, for a log.
@@ -139,7 +134,7 @@ impl<S: Stream + Drop> Client<S> {
         }
     }
 
-    /// The line about a reply, where a log is kept and the client has a place.
+    /// The line about a reply, where a log is kept.
     pub(crate) fn line_about(
         &mut self,
         reply: &Reply<'_>,
@@ -165,50 +160,36 @@ impl<S: Stream + Drop> Client<S> {
         Ok(Some(line_about(alloc, question, &reply.facts, &seen)?))
     }
 
-    /// Keeps what came and isn't handed in yet.
-    pub(crate) fn keep_early_bytes(&mut self, piece: &[u8]) -> Result<(), AllocError> {
-        let mut early = match self.early.take() {
-            Some(early) => early,
-            None => EarlyBytes::new(self.alloc),
-        };
-        early.keep(piece)?;
-        self.early = Some(early);
-        Ok(())
-    }
-
-    /// Whether more of its request is to be kept before it has a place.
-    pub(crate) fn takes_early(&self) -> bool {
-        match &self.early {
-            Some(early) => !early.is_full(),
-            None => true,
+    /// Keeps what came and isn't handed in yet. An `Err` changes nothing.
+    fn keep(&mut self, piece: &[u8]) -> Result<(), AllocError>
+        ensures kept { OnOk result (rest_bytes self.new.rest ≡ rest_bytes self.old.rest ++ piece.now) }
+        ensures err { OnErr result (rest_bytes self.new.rest ≡ rest_bytes self.old.rest) }
+        ensures peer { self.new.peer ≡ self.old.peer }
+    {
+        match &mut self.rest {
+            Some(rest) => rest.keep(piece),
+            None => {
+                let mut rest = Rest::new(self.alloc);
+                rest.keep(piece)?;
+                self.rest = Some(rest);
+                Ok(())
+            }
         }
     }
 
     /// Whether something has come that wasn't handed in yet.
-    pub(crate) fn has_early_bytes(&self) -> bool
-        ensures { result ≡ client_has_early_bytes self.now.early }
+    pub(crate) fn has_rest(&self) -> bool
+        ensures { result ≡ client_has_rest self.now.rest }
     {
-        match &self.early {
-            Some(early) => !early.is_empty(),
+        match &self.rest {
+            Some(rest) => !rest.is_empty(),
             None => false,
         }
     }
 
     /// Drops what has come and wasn't handed in.
-    pub(crate) fn drop_early(&mut self) {
-        self.early = None;
-    }
-
-    /// Whether its request has come whole, as far as what was kept tells.
-    pub(crate) fn look_whether_whole(
-        &mut self,
-        max_body: u64,
-    ) -> Result<RequestWholeness, AllocError> {
-        let alloc = self.alloc;
-        match &mut self.early {
-            Some(early) => early.look_whether_whole(alloc, max_body),
-            None => Ok(RequestWholeness::Part),
-        }
+    pub(crate) fn drop_rest(&mut self) {
+        self.rest = None;
     }
 
     /// Whether its request has been incomplete for more than so many milliseconds.
@@ -221,13 +202,12 @@ impl<S: Stream + Drop> Client<S> {
         }
     }
 
-    /// Whether it has sent its end, and for more than so many milliseconds nothing was written since; or at all, where
-    /// places are short.
-    pub(crate) fn has_left(&self, now: u64, limit: u64, short: bool) -> bool
-        ensures { result ≡ client_has_left now self.now.left self.now.peer.heard limit short }
+    /// Whether it has sent its end, and for more than so many milliseconds nothing was written since.
+    pub(crate) fn has_left(&self, now: u64, limit: u64) -> bool
+        ensures { result ≡ client_has_left now self.now.left self.now.peer.heard limit }
     {
         match self.left {
-            Some(left) => short || now.saturating_sub(left.max(self.peer.heard)) > limit,
+            Some(left) => now.saturating_sub(left.max(self.peer.heard)) > limit,
             None => false,
         }
     }
@@ -236,23 +216,38 @@ impl<S: Stream + Drop> Client<S> {
     pub(crate) fn may_give(&self) -> bool
         ensures { result ≡ client_may_give self.now }
     {
-        !self.peer.has_unsent() && (self.peer.readable || self.has_early_bytes())
+        !self.peer.has_unsent() && (self.peer.readable || self.has_rest())
     }
 
-    /// Something of a request is handed in.
-    fn note_request_begun(&mut self, now: u64) {
+    /// Whether it is between two requests: nothing of one was handed in, nor is to be.
+    pub(crate) fn is_idle(&self) -> bool {
+        match self.place {
+            Place::Open(_) => !self.is_begun && !self.has_rest(),
+            Place::In(_, _) => false,
+        }
+    }
+
+    /// So many bytes of a request are handed in.
+    fn note_handed_in(&mut self, count: usize, now: u64)
+        ensures peer { self.new.peer ≡ self.old.peer }
+        ensures rest { self.new.rest ≡ self.old.rest }
+    {
         self.is_begun = true;
+        self.has_asked = true;
+        self.handed = self.handed.saturating_add(count);
         if self.asked.is_none() {
             self.asked = Some(now);
         }
     }
 
     /// Its request was answered.
-    pub(crate) fn answered(&mut self)
+    pub(crate) fn answered(&mut self, now: u64)
         ensures { self.new.logged ≡ self.old.logged }
     {
         self.asked = None;
         self.is_begun = false;
+        self.handed = 0;
+        self.idle_since = now;
     }
 
     /// How many bytes are handed in at least, where so many have come.
@@ -263,13 +258,15 @@ impl<S: Stream + Drop> Client<S> {
     /// Keeps what stands behind the head of a request for the next reads; answers how many bytes stand in front. Where
     /// there is no memory for it, all are handed in.
     fn keep_rest(&mut self, piece: &[u8], least: usize) -> usize
-        ensures { result ≤ length piece.now }
+        ensures within { result ≤ length piece.now }
+        ensures kept { rest_bytes self.old.rest ≡ [] → take result piece.now ++ rest_bytes self.new.rest ≡ piece.now }
+        ensures peer { self.new.peer ≡ self.old.peer }
     {
         let end = head_end(piece, least);
         if end == 0 || end == piece.len() {
             return piece.len();
         }
-        match self.keep_early_bytes(&piece[end..]) {
+        match self.keep(&piece[end..]) {
             Ok(()) => end,
             Err(_) => piece.len(),
         }
@@ -289,32 +286,22 @@ impl<S: Stream + Drop> Client<S> {
         Ok(Received::Nothing)
     }
 
-    /// Reads a piece of what has come before its request has a place, and keeps it. Of one that still has to take what
-    /// was written nothing is read.
-    pub(crate) fn read_early(&mut self, now: u64) -> EarlyReadOutcome
-        ensures takes_first { 0 < length self.old.peer.unsent.bytes → (self.new ≡ self.old)
-            × (result ≡ EarlyReadOutcome.Nothing) }
+    /// Hands in what was kept, as far as the head of one request; answers how many bytes.
+    fn give_rest(&mut self, buf: &mut [u8], least: usize) -> usize
+        ensures within { result ≤ length buf.old }
+        ensures length { length buf.new ≡ length buf.old }
+        ensures some { 0 < length buf.old → 0 < length (rest_bytes self.old.rest) → 0 < result }
+        ensures given { take result buf.new ++ rest_bytes self.new.rest ≡ rest_bytes self.old.rest }
+        ensures peer { self.new.peer ≡ self.old.peer }
     {
-        let mut buf = [0u8; PIECE];
-        match self.read_on(&mut buf, now) {
-            Ok(Received::Nothing) => EarlyReadOutcome::Nothing,
-            Ok(Received::Bytes(n)) => {
-                if self.keep_early_bytes(&buf[..n]).is_err() {
-                    return EarlyReadOutcome::NoMemory;
-                }
-                if self.asked.is_none() {
-                    self.asked = Some(now);
-                }
-                EarlyReadOutcome::Something
-            }
-            Ok(Received::End) if self.has_early_bytes() => {
-                // The engine is told of the end behind what came before it.
-                self.peer.readable = true;
-                EarlyReadOutcome::Something
-            }
-            Ok(Received::End) => EarlyReadOutcome::Gone,
-            Err(_) => EarlyReadOutcome::Gone,
+        let Some(rest) = &mut self.rest else {
+            return 0;
+        };
+        let n = rest.give(buf, least);
+        if rest.is_empty() {
+            self.rest = None;
         }
+        n
     }
 
     /// Reads what has come, if anything may have, as far as the head of one request: what was kept comes first. From
@@ -322,26 +309,36 @@ impl<S: Stream + Drop> Client<S> {
     pub(crate) fn read(&mut self, buf: &mut [u8], now: u64) -> io::Result<Received>
         ensures within { IfOk result (FitsTheBuffer (length buf.old)) }
         ensures length { length buf.new ≡ length buf.old }
-        ensures takes_first { 0 < length self.old.peer.unsent.bytes → self.new ≡ self.old }
+        ensures takes_first { 0 < length self.old.peer.unsent.bytes → (self.new ≡ self.old)
+            × (result ≡ Ok Received.Nothing) }
+        ensures handed_in { 0 < length buf.old → IfOk result
+            (λ received. ClientIsRead S.Passed received buf.new self.old self.new) }
     {
         if self.peer.has_unsent() {
             return Ok(Received::Nothing);
         }
         let least = self.least();
-        if let Some(early) = &mut self.early {
-            let n = early.give(buf, least);
-            if early.is_empty() {
-                self.early = None;
-            }
-            if n > 0 {
-                self.note_request_begun(now);
-                return Ok(Received::Bytes(n));
-            }
+        let n = self.give_rest(buf, least);
+        if n > 0 {
+            self.note_handed_in(n, now);
+            return Ok(Received::Bytes(n));
         }
-        match self.read_on(buf, now)? {
+        self.read_stream(buf, least, now)
+    }
+
+    /// Reads what has come, if anything may have, as far as the head of one request, where nothing is left of what came
+    /// before.
+    fn read_stream(&mut self, buf: &mut [u8], least: usize, now: u64) -> io::Result<Received>
+        ensures within { IfOk result (FitsTheBuffer (length buf.old)) }
+        ensures length { length buf.new ≡ length buf.old }
+        ensures handed_in { rest_bytes self.old.rest ≡ [] → IfOk result
+            (λ received. ClientIsRead S.Passed received buf.new self.old self.new) }
+    {
+        match self.peer.read(buf, now)? {
             Received::Bytes(n) => {
-                self.note_request_begun(now);
-                Ok(Received::Bytes(self.keep_rest(&buf[..n], least)))
+                let n = self.keep_rest(&buf[..n], least);
+                self.note_handed_in(n, now);
+                Ok(Received::Bytes(n))
             }
             received => Ok(received),
         }

@@ -1,8 +1,7 @@
-//! The streams of clients: those that have a place in the engine, and the lines of the others.
+//! The streams of clients: those that the engine knows by a number, and those that were closed.
 //!
-//! A stream keeps its key, which is its token, from its accept to its close. It has a number while its request has a
-//! place.
-ghost use Rattle.std.specs.Prelude.{◌≡◌, true, false, length, option_copied, IsSome, IfOk, Ok, None};
+//! A stream keeps its key, which is its token, and its number from its accept to its end.
+ghost use Rattle.std.specs.Prelude.{◌≡◌, ◌<◌, true, false, length, option_copied, IsSome, IfOk, Ok, None};
 ghost use Rattle.std.specs.Option.{option_copied_mut};
 ghost use Rattle.std.specs.Bool.{OnTrue, OnFalse};
 ghost use Rattle.std.specs.Ordering.{nat_cmp};
@@ -11,14 +10,13 @@ ghost use Rattle.slab.specs.Slab as slab;
 ghost use Rattle.proxy_turn.specs.Received.{FitsTheBuffer};
 ghost use Rattle.proxy_server.specs.OtherEntries.{OtherEntriesStay, OtherSlabKeysStay, ChangesOnlyAtNumber};
 ghost use Rattle.proxy_server.specs.Streams.{PeerIsWritten, IsDoneToClientsPeer, stream_at_number, client_is_cut};
-ghost use Rattle.proxy_server.specs.Streams.{client_may_have_more};
+ghost use Rattle.proxy_server.specs.Streams.{ClientIsRead, IsDoneToClient, number_to_list};
 ghost use Rattle.proxy_server.specs.Closing.{ClientStandsInQueue, ClientLeavesItsPlace};
-ghost use Rattle.proxy_server.specs.ClientPlaces.{ClientHasPlaceAt};
 
-use crate::client::{Client, EarlyReadOutcome, Place};
-use crate::early::RequestWholeness;
+use crate::client::{Client, Place};
 use crate::endings::{CutReason, Endings};
-use crate::limits::{Limits, PLACES, SHARED_PLACES};
+use crate::limits::Limits;
+use crate::moments::Moments;
 use crate::peer::Peer;
 use crate::stream::Stream;
 use crate::stream_queues::{StreamQueue, StreamQueues};
@@ -27,25 +25,32 @@ use mio::net::TcpStream;
 use proxy_turn::Received;
 use slab::Slab;
 use std::alloc::Global;
-use std::collections::{BTreeMap, btree_map};
+use std::collections::BTreeMap;
 use std::io;
-
-/// How many streams are looked at, at a time, for whether their request is whole.
-const MOST_LOOKS: usize = 64;
 
 #[derive(Drop)]
 pub(crate) struct Clients<S: Stream + Drop = TcpStream> {
     alloc: Global,
     pub(crate) streams: Slab<Client<S>>,
-    /// The keys of those that have a place, by their numbers.
+    /// The keys of those that the engine knows, by their numbers.
     pub(crate) open: BTreeMap<u64, usize>,
-    pub(crate) lines: StreamQueues,
+    /// Those that were closed.
+    pub(crate) queues: StreamQueues,
+    /// Those that are or were between two requests, by the moment since when. One that was idle again later stands by
+    /// the earlier moment until somebody looks.
+    idle: Moments,
+    /// When each is looked at next.
+    pub(crate) looks: Moments,
+    /// Those that have sent their end, by the moment when that was seen.
+    departed: Moments,
     /// The numbers of those that failed since the last turn.
     lost: Vec<u64>,
     /// Bytes that are kept for clients.
     unsent: usize,
+    /// Bytes that were handed in of requests that aren't answered yet.
+    handed: usize,
     pub(crate) limits: Limits,
-    /// Something may be left to be read that no event will tell of.
+    /// A closed one may have more to be dropped that no event will tell of.
     pub(crate) more: bool,
     pub(crate) endings: Endings,
 }
@@ -56,9 +61,13 @@ impl<S: Stream + Drop> Clients<S> {
             alloc,
             streams: Slab::new(alloc),
             open: BTreeMap::new(alloc),
-            lines: StreamQueues::new(alloc),
+            queues: StreamQueues::new(alloc),
+            idle: Moments::new(alloc),
+            looks: Moments::new(alloc),
+            departed: Moments::new(alloc),
             lost: Vec::new(alloc),
             unsent: 0,
+            handed: 0,
             limits,
             more: false,
             endings: Endings::new(),
@@ -70,12 +79,12 @@ impl<S: Stream + Drop> Clients<S> {
         self.streams.len()
     }
 
-    /// How many have a place.
+    /// How many the engine knows.
     pub(crate) fn open_count(&self) -> usize {
         self.open.len()
     }
 
-    /// The key of a number that has a place.
+    /// The key of a number.
     pub(crate) fn key_of(&self, n: u64) -> Option<usize>
         ensures { result ≡ get nat_cmp self.now.open n }
     {
@@ -107,28 +116,34 @@ impl<S: Stream + Drop> Clients<S> {
         self.streams.get_mut(key)
     }
 
-    /// Reads from the client of a number, and tells whether more may be left; from one that isn't there nothing comes.
-    pub(crate) fn read(&mut self, n: u64, buf: &mut [u8], now: u64) -> io::Result<(Received, bool)>
-        ensures within { IfOk result (λ reported. FitsTheBuffer (length buf.old) reported.0) }
+    /// Reads from the client of a number; from one that isn't there nothing comes.
+    pub(crate) fn read(&mut self, n: u64, buf: &mut [u8], now: u64) -> io::Result<Received>
+        ensures within { IfOk result (FitsTheBuffer (length buf.old)) }
         ensures length { length buf.new ≡ length buf.old }
-        ensures left { IfOk result (λ reported. reported.1 ≡ client_may_have_more
-            (stream_at_number self.new.open self.new.streams n)) }
-        ensures nothing { stream_at_number self.old.open self.old.streams n ≡ None → result ≡ Ok
-            (Received.Nothing, false) }
+        ensures nothing { stream_at_number self.old.open self.old.streams n ≡ None → result ≡ Ok Received.Nothing }
+        ensures handed_in { 0 < length buf.old → IfOk result
+            (λ received. IsDoneToClient (ClientIsRead S.Passed received buf.new)
+            (stream_at_number self.old.open self.old.streams n) (stream_at_number self.new.open self.new.streams n)) }
         ensures open { self.new.open ≡ self.old.open }
         ensures others { ChangesOnlyAtNumber self.old.open n self.old.streams self.new.streams }
     {
         let Some(key) = self.key_of(n) else {
-            return Ok((Received::Nothing, false));
+            return Ok(Received::Nothing);
         };
         let Some(client) = self.streams.get_mut(key) else {
-            return Ok((Received::Nothing, false));
+            return Ok(Received::Nothing);
         };
+        let before = client.peer.received;
         let received = client.read(buf, now)?;
-        Ok((received, client.may_give()))
+        self.endings
+            .add_received(client.peer.received.saturating_sub(before));
+        if let Received::Bytes(count) = received {
+            self.handed = self.handed.saturating_add(count);
+        }
+        Ok(received)
     }
 
-    /// Takes a number from those that have a place; its key.
+    /// Takes a number from those that the engine knows; its key.
     pub(crate) fn remove_number(&mut self, n: u64) -> Option<usize>
         ensures key { result ≡ get nat_cmp self.old.open n }
         ensures gone { get nat_cmp self.new.open n ≡ None }
@@ -138,46 +153,80 @@ impl<S: Stream + Drop> Clients<S> {
         self.open.remove(&n)
     }
 
-    /// The numbers that have a place, and their keys.
-    pub(crate) fn numbers(&self) -> btree_map::Iter<'_, u64, usize> {
-        self.open.iter()
-    }
-
-    /// Adds the stream of a new client; its key.
-    pub(crate) fn add(&mut self, peer: Peer<S>) -> Option<usize> {
-        let stamp = self.lines.next_stamp();
-        let client = Client::new(self.alloc, peer, stamp);
-        match self.streams.insert(client) {
-            Ok(key) => {
-                if self.lines.put(StreamQueue::Idle, stamp, key) {
-                    Some(key)
-                } else {
-                    let _ = self.streams.try_remove(key);
-                    None
-                }
-            }
-            Err(_) => None,
+    /// Adds the stream of a new client under its number; its key.
+    pub(crate) fn add(&mut self, peer: Peer<S>, n: u64, now: u64) -> Option<usize> {
+        let client = Client::new(self.alloc, peer, n, now);
+        let Ok(key) = self.streams.insert(client) else {
+            return None;
+        };
+        if self.open.insert(n, key).is_ok() && self.mark_idle(key) && self.look_at(key, now) {
+            return Some(key);
         }
+        self.forget(n);
+        let _ = self.streams.try_remove(key);
+        None
     }
 
-    /// Drops a stream, wherever it stands. The engine is told before the next turn where it has a place.
+    /// A client is between two requests: it stands among those. Whether there was memory for it.
+    fn mark_idle(&mut self, key: usize) -> bool {
+        let Some(client) = self.streams.get_mut(key) else {
+            return true;
+        };
+        if client.idle_mark.is_none() {
+            if !self.idle.add(client.idle_since, key as u64) {
+                return false;
+            }
+            client.idle_mark = Some(client.idle_since);
+        }
+        true
+    }
+
+    /// A client is looked at next at this moment. Whether there was memory for it.
+    pub(crate) fn look_at(&mut self, key: usize, moment: u64) -> bool {
+        let Some(client) = self.streams.get_mut(key) else {
+            return true;
+        };
+        self.looks.remove(client.look, key as u64);
+        client.look = moment;
+        self.looks.add(moment, key as u64)
+    }
+
+    /// Takes a stream out, and what stands of it elsewhere but its number.
+    fn take_stream(&mut self, key: usize) -> Option<Client<S>>
+        ensures value { result ≡ slab.get self.old.streams key }
+        ensures gone { slab.get self.new.streams key ≡ None }
+        ensures open { self.new.open ≡ self.old.open }
+        ensures others { OtherSlabKeysStay key self.old.streams self.new.streams }
+    {
+        let client = self.streams.try_remove(key)?;
+        self.looks.remove(client.look, key as u64);
+        if let Some(mark) = client.idle_mark {
+            self.idle.remove(mark, key as u64);
+        }
+        if let Some(mark) = client.departed_mark {
+            self.departed.remove(mark, key as u64);
+        }
+        self.unsent = self.unsent.saturating_sub(client.peer.unsent());
+        self.handed = self.handed.saturating_sub(client.handed);
+        Some(client)
+    }
+
+    /// Drops a stream, wherever it stands. The engine is told before the next turn where it knows it.
     pub(crate) fn drop_stream(&mut self, key: usize)
         ensures gone { slab.get self.new.streams key ≡ None }
         ensures open { ClientLeavesItsPlace (slab.get self.old.streams key) self.old.open self.new.open }
         ensures others { OtherSlabKeysStay key self.old.streams self.new.streams }
     {
-        let Some(client) = self.streams.try_remove(key) else {
+        let Some(client) = self.take_stream(key) else {
             return;
         };
-        self.unsent = self.unsent.saturating_sub(client.peer.unsent());
-        self.endings.add_bytes(&client.peer);
         match client.place {
             Place::Open(n) => {
                 let _ = self.remove_number(n);
                 // Where there is no memory for it, it counts as silent.
                 let _ = self.lost.push(n);
             }
-            Place::In(line, stamp) => self.lines.remove(line, stamp),
+            Place::In(queue, stamp) => self.queues.remove(queue, stamp),
         }
     }
 
@@ -189,10 +238,7 @@ impl<S: Stream + Drop> Clients<S> {
         ensures others { ChangesOnlyAtNumber self.old.open n self.old.streams self.new.streams }
     {
         if let Some(key) = self.remove_number(n) {
-            if let Some(client) = self.streams.try_remove(key) {
-                self.unsent = self.unsent.saturating_sub(client.peer.unsent());
-                self.endings.add_bytes(&client.peer);
-            }
+            let _ = self.take_stream(key);
         }
     }
 
@@ -207,15 +253,9 @@ impl<S: Stream + Drop> Clients<S> {
         self.unsent
     }
 
-    /// The bytes that have come from clients, and those that the system has taken for them.
-    pub(crate) fn bytes(&self) -> (u64, u64) {
-        let mut received = self.endings.received;
-        let mut written = self.endings.written;
-        for (_, client) in self.streams.iter() {
-            received = received.saturating_add(client.peer.received);
-            written = written.saturating_add(client.peer.written);
-        }
-        (received, written)
+    /// Bytes that are kept for clients, and of their requests that aren't answered yet.
+    pub(crate) fn held(&self) -> usize {
+        self.unsent.saturating_add(self.handed)
     }
 
     /// How many failed since they were last asked for.
@@ -227,51 +267,40 @@ impl<S: Stream + Drop> Clients<S> {
         self.lost.pop()
     }
 
-    /// Puts a stream into a line, behind those that stand there. It had no place, or has left it.
-    pub(crate) fn join_queue(&mut self, key: usize, line: StreamQueue)
+    /// Puts a stream into a queue, behind those that stand there. The engine doesn't know it any more.
+    pub(crate) fn join_queue(&mut self, key: usize, queue: StreamQueue)
         ensures { OtherSlabKeysStay key self.old.streams self.new.streams }
     {
-        let stamp = self.lines.next_stamp();
-        self.join_queue_since(key, line, stamp);
+        let stamp = self.queues.next_stamp();
+        self.join_queue_since(key, queue, stamp);
     }
 
-    /// Puts a stream into a line, by a stamp.
-    fn join_queue_since(&mut self, key: usize, line: StreamQueue, stamp: u64)
+    /// Puts a stream into a queue, by a stamp.
+    fn join_queue_since(&mut self, key: usize, queue: StreamQueue, stamp: u64)
         ensures { OtherSlabKeysStay key self.old.streams self.new.streams }
     {
         let Some(client) = self.streams.get_mut(key) else {
             return;
         };
         if let Place::In(before, since) = client.place {
-            self.lines.remove(before, since);
+            self.queues.remove(before, since);
         }
-        client.place = Place::In(line, stamp);
-        if !self.lines.put(line, stamp, key) {
+        client.place = Place::In(queue, stamp);
+        if !self.queues.put(queue, stamp, key) {
             self.drop_stream(key);
         }
     }
 
-    /// Puts a stream into another line, where it stands by the stamp that it has.
-    pub(crate) fn move_to_queue(&mut self, key: usize, line: StreamQueue)
-        ensures still { ClientStandsInQueue line (slab.get self.old.streams key) → self.new ≡ self.old }
+    /// Puts a stream into another queue, where it stands by the stamp that it has.
+    pub(crate) fn move_to_queue(&mut self, key: usize, queue: StreamQueue)
+        ensures still { ClientStandsInQueue queue (slab.get self.old.streams key) → self.new ≡ self.old }
         ensures others { OtherSlabKeysStay key self.old.streams self.new.streams }
     {
         if let Some(client) = self.streams.get(key) {
-            if let Place::In(before, _) = client.place {
-                if before != line {
-                    self.change_queue(key, line);
+            if let Place::In(before, stamp) = client.place {
+                if before != queue {
+                    self.join_queue_since(key, queue, stamp);
                 }
-            }
-        }
-    }
-
-    /// Puts a stream into a line by the stamp that it has.
-    fn change_queue(&mut self, key: usize, line: StreamQueue)
-        ensures { OtherSlabKeysStay key self.old.streams self.new.streams }
-    {
-        if let Some(client) = self.streams.get(key) {
-            if let Place::In(_, stamp) = client.place {
-                self.join_queue_since(key, line, stamp);
             }
         }
     }
@@ -284,10 +313,14 @@ impl<S: Stream + Drop> Clients<S> {
         let Some(client) = self.streams.get_mut(key) else {
             return false;
         };
-        let before = client.peer.unsent();
+        let (unsent, written) = (client.peer.unsent(), client.peer.written);
         let flushed = client.peer.flush(now);
-        let after = client.peer.unsent();
-        self.unsent = self.unsent.saturating_sub(before).saturating_add(after);
+        self.unsent = self
+            .unsent
+            .saturating_sub(unsent)
+            .saturating_add(client.peer.unsent());
+        self.endings
+            .add_written(client.peer.written.saturating_sub(written));
         flushed.is_ok()
     }
 
@@ -305,10 +338,14 @@ impl<S: Stream + Drop> Clients<S> {
         let Some(client) = self.streams.get_mut(key) else {
             return false;
         };
-        let before = client.peer.unsent();
+        let (unsent, before) = (client.peer.unsent(), client.peer.written);
         let written = client.peer.write(bytes, now);
-        let after = client.peer.unsent();
-        self.unsent = self.unsent.saturating_sub(before).saturating_add(after);
+        self.unsent = self
+            .unsent
+            .saturating_sub(unsent)
+            .saturating_add(client.peer.unsent());
+        self.endings
+            .add_written(client.peer.written.saturating_sub(before));
         written.is_ok()
     }
 
@@ -335,87 +372,149 @@ impl<S: Stream + Drop> Clients<S> {
         false
     }
 
-    /// The request of a number was answered, so many milliseconds after its first byte had come.
-    pub(crate) fn answered(&mut self, n: u64, now: u64) -> u64 {
-        let Some(client) = self.get_mut(n) else {
+    /// The request of a client was answered, so many milliseconds after its first byte had come. Without memory to
+    /// keep that it is between two requests, it is cut off.
+    pub(crate) fn answered(&mut self, key: usize, now: u64) -> u64 {
+        let Some(client) = self.streams.get_mut(key) else {
             return 0;
         };
         let took = client.milliseconds_taken(now);
-        client.answered();
-        took
-    }
-
-    /// Whether something may have come that the next turn can read.
-    pub(crate) fn some_readable(&self) -> bool {
-        for (_, key) in self.open.iter() {
-            if let Some(client) = self.streams.get(*key) {
-                if client.may_give() {
-                    return true;
-                }
-            }
+        self.handed = self.handed.saturating_sub(client.handed);
+        client.answered(now);
+        if !self.mark_idle(key) {
+            self.cut_stream(key, CutReason::Memory);
         }
-        false
+        took
     }
 
     /// Whether no client waits for anything.
     pub(crate) fn is_done(&self) -> bool {
-        self.streams.len() == self.lines.len(StreamQueue::Lingering)
+        self.streams.len() == self.queues.len(StreamQueue::Lingering)
     }
 
-    /// Drops the client that has been idle for the longest. Whether there was one.
-    pub(crate) fn drop_idle(&mut self) -> bool {
-        match self.lines.first(StreamQueue::Idle) {
-            Some(key) => {
-                self.cut_stream(key, CutReason::Room);
-                true
+    /// Of the clients that are between two requests the one that is so for the longest, and since when. Marks of those
+    /// that have gone on are moved or dropped on the way.
+    pub(crate) fn longest_idle(&mut self) -> Option<(usize, u64)> {
+        // Each mark is moved once at most.
+        for _ in 0..=self.idle.len() {
+            let (mark, id) = self.idle.first()?;
+            let key = id as usize;
+            match self.streams.get_mut(key) {
+                Some(client) if client.is_idle() && client.idle_since == mark => {
+                    return Some((key, mark));
+                }
+                Some(client) => client.idle_mark = None,
+                None => {}
             }
+            self.idle.remove(mark, id);
+            self.mark_again(key);
+        }
+        None
+    }
+
+    /// A client whose mark was dropped is marked anew, if it is between two requests.
+    fn mark_again(&mut self, key: usize) {
+        let is_idle = match self.streams.get(key) {
+            Some(client) => client.is_idle(),
             None => false,
+        };
+        if is_idle && !self.mark_idle(key) {
+            self.cut_stream(key, CutReason::Memory);
         }
     }
 
-    /// The same, unless that one came in this very millisecond: its request may be on its way.
-    pub(crate) fn drop_quiet(&mut self, now: u64) -> bool {
-        match self.lines.first(StreamQueue::Idle) {
-            Some(key) if self.is_quiet(key, now) => {
-                self.cut_stream(key, CutReason::Room);
-                true
-            }
-            _ => false,
-        }
-    }
-
-    /// Whether no byte of a client came or went in this millisecond, nor the client itself.
-    fn is_quiet(&self, key: usize, now: u64) -> bool {
-        match self.streams.get(key) {
-            Some(client) => client.peer.heard < now,
+    /// Drops the client that has been idle for the longest, unless that has asked for nothing and came in this very
+    /// millisecond: its request may be on its way. Whether there was one.
+    pub(crate) fn drop_idle(&mut self, now: u64) -> bool {
+        let Some((key, since)) = self.longest_idle() else {
+            return false;
+        };
+        let has_asked = match self.streams.get(key) {
+            Some(client) => client.has_asked,
             None => false,
+        };
+        if since < now || has_asked {
+            self.cut_stream(key, CutReason::Room);
+            return true;
+        }
+        false
+    }
+
+    /// A client that has sent its end stands behind the others that have. Where there is no memory for that, it has its
+    /// time as others have.
+    pub(crate) fn mark_departed(&mut self, key: usize, now: u64) {
+        let Some(client) = self.streams.get_mut(key) else {
+            return;
+        };
+        if client.number().is_none() || client.departed_mark.is_some() {
+            return;
+        }
+        if self.departed.add(now, key as u64) {
+            client.departed_mark = Some(now);
         }
     }
 
-    /// Where more is kept for clients than may be, those with the most give way.
-    pub(crate) fn keep_within(&mut self) {
-        for _ in 0..self.streams.len() {
-            if self.unsent <= self.limits.unsent {
-                return;
-            }
-            let Some(key) = self.slowest() else {
-                return;
-            };
-            self.cut_stream(key, CutReason::Unsent);
-        }
+    /// Takes out the first client of those that have sent their end: its number, if the engine knows it.
+    pub(crate) fn next_departed(&mut self) -> Option<u64> {
+        let key = self.departed.take_due(u64::MAX)? as usize;
+        let client = self.streams.get_mut(key)?;
+        client.departed_mark = None;
+        client.number()
     }
 
-    /// The client for which the most is kept.
-    fn slowest(&self) -> Option<usize> {
+    /// Makes room for one more stream, where there are as many as may be: of those that were closed the first goes, or
+    /// else the one that is idle for the longest. Whether there is room now.
+    pub(crate) fn make_room(&mut self, now: u64) -> bool {
+        if self.len() < self.limits.connections {
+            return true;
+        }
+        if let Some(key) = self.queues.first(StreamQueue::Lingering) {
+            self.drop_stream(key);
+            return true;
+        }
+        self.drop_idle(now)
+    }
+
+    /// The client for which the most is held, and how much.
+    pub(crate) fn largest(&self) -> Option<(usize, usize)> {
+        let mut largest = None;
         let mut most = 0usize;
-        let mut slowest = None;
         for (key, client) in self.streams.iter() {
-            if client.peer.unsent() > most {
-                most = client.peer.unsent();
-                slowest = Some(key);
+            let held = client.peer.unsent().saturating_add(client.handed);
+            if held > most {
+                most = held;
+                largest = Some((key, held));
             }
         }
-        slowest
+        largest
+    }
+
+    /// Puts a client among the ends that are read next, where it may give something and doesn't stand there. Its number
+    /// is to be added then.
+    pub(crate) fn begin_listing(&mut self, key: usize) -> Option<u64>
+        ensures number { result ≡ number_to_list (slab.get self.old.streams key) }
+        ensures open { self.new.open ≡ self.old.open }
+        ensures others { OtherSlabKeysStay key self.old.streams self.new.streams }
+    {
+        let Some(client) = self.streams.get_mut(key) else {
+            return None;
+        };
+        if client.is_listed || !client.may_give() {
+            return None;
+        }
+        client.is_listed = true;
+        client.number()
+    }
+
+    /// Takes a client from the ends that are read next. Whether it is there.
+    pub(crate) fn end_listing(&mut self, n: u64) -> bool {
+        match self.get_mut(n) {
+            Some(client) => {
+                client.is_listed = false;
+                true
+            }
+            None => false,
+        }
     }
 
     /// Takes what an event told of a stream.
@@ -426,241 +525,20 @@ impl<S: Stream + Drop> Clients<S> {
         client.peer.mark_ready(event);
         if client.peer.hung && client.left.is_none() {
             client.left = Some(now);
+            self.mark_departed(key, now);
         }
-        let place = client.place;
-        let closed = match place {
-            Place::In(StreamQueue::Leaving, _) => true,
-            Place::In(StreamQueue::Lingering, _) => true,
-            _ => false,
+        let Some(client) = self.streams.get(key) else {
+            return;
         };
+        let is_closed = client.number().is_none();
         // A client that is being closed may still be read to its end.
-        let failed = event.is_error() && !closed;
+        let failed = event.is_error() && !is_closed;
         if failed || event.is_writable() && !self.flush(key, now) {
             self.drop_stream(key);
             return;
         }
-        match place {
-            Place::Open(_) => {}
-            Place::In(line, _) => self.go_on_without_place(key, line, now),
+        if is_closed {
+            self.end(key, now);
         }
-    }
-
-    /// Drops who waits for a place and has sent its end, where places are short. Whether it was dropped.
-    fn drop_left(&mut self, key: usize) -> bool {
-        let has_left = match self.streams.get(key) {
-            Some(client) => client.left.is_some(),
-            None => false,
-        };
-        let gives_way = has_left && self.waiting_count() > 0;
-        if gives_way {
-            self.cut_stream(key, CutReason::Place);
-        }
-        gives_way
-    }
-
-    /// A client that has taken everything waits for a place, where it has sent more, or else is idle.
-    fn wait_or_idle(&mut self, key: usize, now: u64) {
-        let Some(client) = self.streams.get_mut(key) else {
-            return;
-        };
-        if client.peer.has_unsent() {
-            return;
-        }
-        if client.has_early_bytes() {
-            client.asked = Some(now);
-            self.join_queue(key, StreamQueue::Fresh);
-            return;
-        }
-        self.join_queue(key, StreamQueue::Idle);
-        self.read_early(key, now);
-    }
-
-    /// Goes on with a stream that has no place.
-    fn go_on_without_place(&mut self, key: usize, line: StreamQueue, now: u64) {
-        match line {
-            StreamQueue::Idle => self.read_early(key, now),
-            StreamQueue::Taking => self.wait_or_idle(key, now),
-            StreamQueue::Fresh => {
-                let _ = self.drop_left(key);
-            }
-            StreamQueue::Whole => {
-                let _ = self.drop_left(key);
-            }
-            StreamQueue::Long => {
-                let _ = self.drop_left(key);
-            }
-            StreamQueue::Partial => {
-                if !self.drop_left(key) {
-                    self.read_more(key, now);
-                }
-            }
-            StreamQueue::Leaving => self.end(key, now),
-            StreamQueue::Lingering => self.end(key, now),
-        }
-    }
-
-    /// Reads a piece of what has come for a stream without a place. Whether something came.
-    fn read_piece(&mut self, key: usize, now: u64) -> bool {
-        let Some(client) = self.streams.get_mut(key) else {
-            return false;
-        };
-        match client.read_early(now) {
-            EarlyReadOutcome::Nothing => false,
-            EarlyReadOutcome::Something => true,
-            EarlyReadOutcome::Gone => {
-                self.drop_stream(key);
-                false
-            }
-            EarlyReadOutcome::NoMemory => {
-                self.cut_stream(key, CutReason::Memory);
-                false
-            }
-        }
-    }
-
-    /// Reads the first bytes of a request. Then it waits for a place.
-    pub(crate) fn read_early(&mut self, key: usize, now: u64) {
-        if self.read_piece(key, now) {
-            self.join_queue(key, StreamQueue::Fresh);
-        }
-    }
-
-    /// Reads more of a request that waits for a place, and looks whether it is whole now.
-    fn read_more(&mut self, key: usize, now: u64) {
-        for _ in 0..16 {
-            let Some(client) = self.streams.get(key) else {
-                return;
-            };
-            if client.peer.ended {
-                self.change_queue(key, StreamQueue::Whole);
-                return;
-            }
-            if !client.takes_early() {
-                self.change_queue(key, StreamQueue::Long);
-                return;
-            }
-            if !client.peer.readable || !self.read_piece(key, now) {
-                return;
-            }
-            if self.look_whether_whole(key) == RequestWholeness::Whole {
-                self.change_queue(key, StreamQueue::Whole);
-                return;
-            }
-        }
-    }
-
-    /// Whether the request of a stream has come whole. Where there is no memory to look, it is dropped.
-    fn look_whether_whole(&mut self, key: usize) -> RequestWholeness {
-        let max_body = self.limits.max_body;
-        let Some(client) = self.streams.get_mut(key) else {
-            return RequestWholeness::Part;
-        };
-        match client.look_whether_whole(max_body) {
-            Ok(came) => came,
-            Err(_) => {
-                self.cut_stream(key, CutReason::Memory);
-                RequestWholeness::Part
-            }
-        }
-    }
-
-    /// Tells requests that have come whole from others, where places are short.
-    pub(crate) fn sort_waiting_requests(&mut self, now: u64) {
-        for _ in 0..MOST_LOOKS {
-            let Some(key) = self.lines.first(StreamQueue::Fresh) else {
-                return;
-            };
-            if self.drop_left(key) {
-                continue;
-            }
-            match self.look_whether_whole(key) {
-                RequestWholeness::Whole => self.change_queue(key, StreamQueue::Whole),
-                RequestWholeness::Part => {
-                    self.change_queue(key, StreamQueue::Partial);
-                    self.read_more(key, now);
-                }
-            }
-        }
-    }
-
-    /// Who is to have the next place, if one is free for it.
-    fn next_for_a_place(&self) -> Option<usize> {
-        if self.open.len() >= PLACES {
-            return None;
-        }
-        if let Some(key) = self.lines.first(StreamQueue::Whole) {
-            return Some(key);
-        }
-        if self.open.len() >= SHARED_PLACES {
-            return None;
-        }
-        self.lines.first_of(&[StreamQueue::Fresh, StreamQueue::Long, StreamQueue::Partial])
-    }
-
-    /// Whether a place is free for who waits for one.
-    pub(crate) fn may_open(&self) -> bool {
-        self.next_for_a_place().is_some()
-    }
-
-    /// Whether somebody waits for a place with a request that may have come whole.
-    pub(crate) fn some_request_waits(&self) -> bool {
-        self.lines.len_of(&[StreamQueue::Fresh, StreamQueue::Whole]) > 0
-    }
-
-    /// How many wait for a place that isn't free.
-    pub(crate) fn waiting_count(&self) -> usize {
-        let whole = self.lines.len(StreamQueue::Whole);
-        let others = self.lines.len_of(&[
-            StreamQueue::Fresh,
-            StreamQueue::Long,
-            StreamQueue::Partial,
-        ]);
-        if self.open.len() >= PLACES {
-            whole.saturating_add(others)
-        } else if self.open.len() >= SHARED_PLACES {
-            others
-        } else {
-            0
-        }
-    }
-
-    /// Gives who waits a place, under this number. Whether somebody did.
-    pub(crate) fn open(&mut self, n: u64) -> bool
-        ensures opened { OnTrue result
-            (ClientHasPlaceAt n self.old.limits.max_body self.old.streams self.new.open self.new.streams) }
-        ensures not_opened { OnFalse result (get nat_cmp self.new.open n ≡ get nat_cmp self.old.open n) }
-        ensures others { OtherEntriesStay n self.old.open self.new.open }
-    {
-        let Some(key) = self.next_for_a_place() else {
-            return false;
-        };
-        if self.open.insert(n, key).is_err() {
-            return false;
-        }
-        let max_body = self.limits.max_body;
-        if let Some(client) = self.streams.get_mut(key) {
-            if let Place::In(line, stamp) = client.place {
-                self.lines.remove(line, stamp);
-            }
-            client.open(n, max_body);
-        }
-        true
-    }
-
-    /// A client between two requests leaves its place.
-    pub(crate) fn leave_place_to_wait(&mut self, n: u64) {
-        let Some(key) = self.remove_number(n) else {
-            return;
-        };
-        let Some(client) = self.streams.get_mut(key) else {
-            return;
-        };
-        client.leave_place();
-        let line = if client.peer.has_unsent() {
-            StreamQueue::Taking
-        } else {
-            StreamQueue::Idle
-        };
-        self.join_queue(key, line);
     }
 }

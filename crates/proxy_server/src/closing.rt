@@ -71,14 +71,14 @@ impl<S: Stream + Drop> Clients<S> {
         };
         client.peer.heard = now;
         client.closed = now;
-        // What came before it had a place is dropped with what still comes.
-        client.drop_early();
-        let line = if client.peer.has_unsent() {
+        // What came and wasn't handed in is dropped with what still comes.
+        client.drop_rest();
+        let queue = if client.peer.has_unsent() {
             StreamQueue::Leaving
         } else {
             StreamQueue::Lingering
         };
-        self.join_queue(key, line);
+        self.join_queue(key, queue);
         self.end(key, now);
     }
 
@@ -106,7 +106,7 @@ impl<S: Stream + Drop> Clients<S> {
     /// A closed connection whose client has taken everything. Beyond the most of these the first is closed whole.
     fn linger_after_close(&mut self, key: usize)
         ensures bound { ClientStandsInQueue StreamQueue.Lingering (slab.get self.old.streams key)
-            → ClosedStreamsAreBounded self.old.lines.lingering self.old.streams self.new.streams }
+            → ClosedStreamsAreBounded self.old.queues.lingering self.old.streams self.new.streams }
         ensures others { AtMostOneOtherStreamGoes key self.old.streams self.new.streams }
     {
         self.move_to_queue(key, StreamQueue::Lingering);
@@ -115,10 +115,10 @@ impl<S: Stream + Drop> Clients<S> {
 
     /// Where more were closed than may be, the first of them is closed whole.
     fn drop_first(&mut self)
-        ensures { ClosedStreamsAreBounded self.old.lines.lingering self.old.streams self.new.streams }
+        ensures { ClosedStreamsAreBounded self.old.queues.lingering self.old.streams self.new.streams }
     {
-        if self.lines.len(StreamQueue::Lingering) > MOST_LINGERING {
-            if let Some(first) = self.lines.first(StreamQueue::Lingering) {
+        if self.queues.len(StreamQueue::Lingering) > MOST_LINGERING {
+            if let Some(first) = self.queues.first(StreamQueue::Lingering) {
                 self.drop_stream(first);
             }
         }
@@ -131,8 +131,8 @@ impl<S: Stream + Drop> Clients<S> {
         }
         self.more = false;
         let mut from = 0u64;
-        for _ in 0..self.lines.len(StreamQueue::Lingering) {
-            let Some((stamp, key)) = self.lines.next_from(StreamQueue::Lingering, from) else {
+        for _ in 0..self.queues.len(StreamQueue::Lingering) {
+            let Some((stamp, key)) = self.queues.next_from(StreamQueue::Lingering, from) else {
                 return;
             };
             from = stamp.saturating_add(1);

@@ -55,6 +55,8 @@ pub struct Troubles {
     /// How often no descriptor was left for a connection of a client, and for one to an origin.
     pub no_descriptor: u64,
     pub no_link: u64,
-    /// Requests that wait now since as many are in progress as may be.
-    pub waiting: usize,
+    /// How often a connection to an origin was refused at once, since as many were open to it as may be.
+    pub beyond_bound: u64,
+    /// How often an origin became silent, so that it is asked by one request at a time; 0 where it isn't.
+    pub silent: u64,
 }

@@ -1,21 +1,16 @@
-//! How connections of clients ended that had not come to their end, and what had come and gone on those that are gone.
+//! How connections of clients ended that had not come to their end, and how many bytes have come and gone.
 ghost use Rattle.std.specs.Prelude.{◌≡◌};
 ghost use Rattle.proxy_server.specs.EndingCounts.{endings_with_cut, endings_with_lateness};
-ghost use Rattle.proxy_server.specs.EndingCounts.{endings_with_lateness_if_any};
 
 use crate::counts::count_plus_one;
-use crate::peer::Peer;
-use crate::stream::Stream;
 
 /// Why a connection is closed early.
 #[derive(Clone, Copy, Debug, PartialEq, Eq)]
 pub(crate) enum CutReason {
     /// It was idle, and its room is wanted.
     Room,
-    /// Its place is wanted.
-    Place,
-    /// More waits for clients than may, and the most for this one.
-    Unsent,
+    /// More is held for requests and answers than may be, and the most for this one.
+    Content,
     Memory,
 }
 
@@ -34,13 +29,12 @@ pub(crate) enum Lateness {
 #[derive(Clone, Copy, Debug)]
 pub(crate) struct Endings {
     pub(crate) for_room: u64,
-    pub(crate) for_place: u64,
-    pub(crate) for_unsent: u64,
+    pub(crate) for_content: u64,
     pub(crate) for_memory: u64,
     pub(crate) client_timeouts: u64,
     pub(crate) request_timeouts: u64,
     pub(crate) abandon_timeouts: u64,
-    /// Bytes that had come, and that the system had taken.
+    /// Bytes that have come from clients, and that the system has taken for them.
     pub(crate) received: u64,
     pub(crate) written: u64,
 }
@@ -49,8 +43,7 @@ impl Endings {
     pub(crate) fn new() -> Endings {
         Endings {
             for_room: 0,
-            for_place: 0,
-            for_unsent: 0,
+            for_content: 0,
             for_memory: 0,
             client_timeouts: 0,
             request_timeouts: 0,
@@ -65,8 +58,7 @@ impl Endings {
     {
         match cut {
             CutReason::Room => self.for_room = count_plus_one(self.for_room),
-            CutReason::Place => self.for_place = count_plus_one(self.for_place),
-            CutReason::Unsent => self.for_unsent = count_plus_one(self.for_unsent),
+            CutReason::Content => self.for_content = count_plus_one(self.for_content),
             CutReason::Memory => self.for_memory = count_plus_one(self.for_memory),
         }
     }
@@ -81,17 +73,13 @@ impl Endings {
         }
     }
 
-    pub(crate) fn count_if_late(&mut self, lateness: Option<Lateness>)
-        ensures { self.new ≡ endings_with_lateness_if_any self.old lateness }
-    {
-        if let Some(lateness) = lateness {
-            self.count_lateness(lateness);
-        }
+    /// So many bytes came from a client.
+    pub(crate) fn add_received(&mut self, count: u64) {
+        self.received = self.received.saturating_add(count);
     }
 
-    /// Adds what had come and gone on a connection.
-    pub(crate) fn add_bytes<S: Stream + Drop>(&mut self, peer: &Peer<S>) {
-        self.received = self.received.saturating_add(peer.received);
-        self.written = self.written.saturating_add(peer.written);
+    /// The system has taken so many bytes for a client.
+    pub(crate) fn add_written(&mut self, count: u64) {
+        self.written = self.written.saturating_add(count);
     }
 }

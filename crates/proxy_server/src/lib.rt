@@ -8,6 +8,7 @@
 //! turns.
 #![tactic(auto)]
 
+mod accepting;
 mod asked;
 mod client;
 mod clients;
@@ -15,12 +16,13 @@ mod closing;
 mod counted_shelf;
 mod counts;
 mod doors;
-mod early;
 mod endings;
 mod fault_texts;
+mod holding;
 mod limits;
 mod links;
 mod live_sockets;
+mod moments;
 mod origins;
 mod pace;
 mod page;
@@ -32,6 +34,7 @@ mod recorder;
 mod recording;
 mod reply_counts;
 mod reply_log;
+mod rest;
 mod send_buffer;
 mod server;
 mod socket_tokens;

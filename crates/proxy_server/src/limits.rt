@@ -1,10 +1,16 @@
 //! How long clients and origins may take, how many connections there are, and what may wait for them.
 
-/// The bounds of a server. Times are in seconds; each is looked at about once a second.
+/// The bounds of a server. Times are in milliseconds of a clock that never goes back; each is looked at about once a
+/// second.
 #[derive(Clone, Copy, Debug, PartialEq, Eq)]
 pub struct Limits {
     /// Connections of clients, those between two requests and those that are being closed among them.
     pub connections: usize,
+    /// Links that are open to one origin. A connect beyond them is refused at once.
+    pub origin_connections: u64,
+    /// Where three exchanges with an origin in a row were timed out or couldn't connect, it is asked by one request at
+    /// a time, until it answers.
+    pub origin_probe: bool,
     /// A client that waits for no answer may send and take no byte for so long.
     pub client_timeout: u64,
     /// A request has to be whole so long after its first byte.
@@ -17,48 +23,54 @@ pub struct Limits {
     pub origin_timeout: u64,
     /// A link to an origin is given so long in all.
     pub exchange_timeout: u64,
-    /// Bytes that clients haven't taken yet, of all of them.
-    pub unsent: usize,
+    /// Bytes of requests and answers in progress, and of those that clients haven't taken yet, of all of them.
+    pub content: usize,
     /// Bytes of the content of one message.
     pub max_body: u64,
 }
 
-/// Milliseconds of so many seconds.
-fn milliseconds(seconds: u64) -> u64 {
-    seconds.saturating_mul(1000)
-}
-
 impl Limits {
-    /// The same with times in milliseconds, as the clock that never goes back is read.
-    pub(crate) fn in_milliseconds(&self) -> Limits {
-        Limits {
-            connections: self.connections,
-            client_timeout: milliseconds(self.client_timeout),
-            request_timeout: milliseconds(self.request_timeout),
-            abandon_timeout: milliseconds(self.abandon_timeout),
-            connect_timeout: milliseconds(self.connect_timeout),
-            origin_timeout: milliseconds(self.origin_timeout),
-            exchange_timeout: milliseconds(self.exchange_timeout),
-            unsent: self.unsent,
-            max_body: self.max_body,
-        }
+    /// A client is looked at no later than so many milliseconds after it was looked at last: none of its times is over
+    /// sooner than that.
+    pub(crate) fn client_look(&self) -> u64 {
+        self.client_timeout
+            .min(self.request_timeout)
+            .min(self.abandon_timeout)
+            .min(QUIET_MILLISECONDS)
+            .max(SECOND)
+    }
+
+    /// The same of a link.
+    pub(crate) fn link_look(&self) -> u64 {
+        self.connect_timeout
+            .min(self.origin_timeout)
+            .min(self.exchange_timeout)
+            .max(SECOND)
     }
 }
 
-/// Requests in progress, of any kind. The last of the engine's places are kept for requests that have come whole.
-pub(crate) const SHARED_PLACES: usize = 192;
+/// Milliseconds of a second.
+pub(crate) const SECOND: u64 = 1000;
 
-/// Requests in progress in all: as many as an engine has places.
-pub(crate) const PLACES: usize = 256;
+/// Ends that are read in a turn, at most.
+pub(crate) const MOST_READ: usize = 256;
 
-/// While others wait for a place, so many clients are read in a turn: a turn gives one of them a place.
-pub(crate) const CLIENTS_READ_A_TURN: usize = 8;
+/// Connections that come in a turn, at most.
+pub(crate) const MOST_ACCEPTED: u64 = 64;
 
-/// A client that has been between two requests for so many milliseconds leaves its place.
-pub(crate) const IDLE_MILLISECONDS: u64 = 1000;
+/// Connections that an engine has open, at most: those that can be asked for, and as many as may come in a turn in
+/// place of others of which it wasn't told yet that they are gone. The sockets themselves keep to
+/// `Limits::connections`.
+pub(crate) const MOST_OPEN: usize = 1_048_640;
 
-/// A request that is incomplete for more milliseconds than this gives way where places are short.
-pub(crate) const HASTE_MILLISECONDS: u64 = 1000;
+/// Links that have failed and of which it is kept which reply is theirs, at most.
+pub(crate) const MOST_FAILED_KEPT: usize = 256;
+
+/// Exchanges with an origin in a row that were timed out or couldn't connect, from which on it counts as silent.
+pub(crate) const SILENT_EXCHANGES: u64 = 3;
+
+/// While no more connections are taken, one that has asked for nothing is given so many milliseconds.
+pub(crate) const FIRST_REQUEST_MILLISECONDS: u64 = 1000;
 
 /// Connections that were closed, and whose clients may still send. Beyond it the one that was closed first is closed
 /// whole.

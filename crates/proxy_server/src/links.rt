@@ -9,10 +9,11 @@ ghost use Rattle.proxy_server.specs.Connecting.{link_is_connecting};
 ghost use Rattle.proxy_server.specs.OtherEntries.{OtherEntriesStay};
 ghost use Rattle.proxy_server.specs.Patience.{link_overtime, link_time_is_over};
 ghost use Rattle.proxy_server.specs.Streams.{PeerIsRead, PeerIsWritten, IsDoneToLinksPeer, peer_of_link};
-ghost use Rattle.proxy_server.specs.Streams.{link_may_have_more, peer_is_broken, peer_is_lost};
+ghost use Rattle.proxy_server.specs.Streams.{peer_is_broken, peer_is_lost, link_is_to_be_listed};
 
-use crate::limits::Limits;
-use crate::origins::Origins;
+use crate::limits::{Limits, SECOND};
+use crate::moments::Moments;
+use crate::origins::{Admission, Origins};
 use crate::peer::Peer;
 use crate::stream::Stream;
 use mio::event::Event;
@@ -31,6 +32,12 @@ pub(crate) struct Link<S: Stream + Drop = TcpStream> {
     began: u64,
     /// The place of its origin.
     origin: usize,
+    /// Whether its origin was to be asked.
+    admission: Admission,
+    /// It stands among the ends that are read next.
+    is_listed: bool,
+    /// When it is looked at next.
+    look: u64,
 }
 
 /// Which time of a link is over.
@@ -43,12 +50,39 @@ pub(crate) enum Overtime {
 
 impl<S: Stream + Drop> Link<S> {
     /// A link that begins; without a stream where that couldn't be had.
-    pub(crate) fn new(peer: Option<Peer<S>>, now: u64, origin: usize) -> Link<S> {
+    pub(crate) fn new(
+        peer: Option<Peer<S>>,
+        now: u64,
+        origin: usize,
+        admission: Admission,
+    ) -> Link<S> {
         Link {
             peer,
             began: now,
             origin,
+            admission,
+            is_listed: false,
+            look: 0,
         }
+    }
+
+    /// Bytes that came on it, and those that its origin hasn't taken yet.
+    fn held(&self) -> usize {
+        match &self.peer {
+            Some(peer) => peer.unsent().saturating_add(peer.received as usize),
+            None => 0,
+        }
+    }
+
+    /// The first moment at which a time of it may be over.
+    fn next_time(&self, limits: &Limits) -> u64 {
+        let last = self.began.saturating_add(limits.exchange_timeout);
+        let next = match &self.peer {
+            Some(peer) if peer.connecting => self.began.saturating_add(limits.connect_timeout),
+            Some(peer) => peer.heard.saturating_add(limits.origin_timeout),
+            None => last,
+        };
+        last.min(next).saturating_add(1)
     }
 
     /// Whether its connection, its silence or all of it has taken too long.
@@ -97,6 +131,10 @@ fn mark_peer_ready(peer: &mut Peer<TcpStream>, event: &Event, now: u64) -> io::R
 pub(crate) struct Links<S: Stream + Drop = TcpStream> {
     pub(crate) items: BTreeMap<u64, Link<S>>,
     pub(crate) origins: Origins,
+    /// When each is looked at next.
+    looks: Moments,
+    /// Bytes that came on them, and those that their origins haven't taken yet.
+    held: usize,
     /// How often the time of a link was over, by which.
     pub(crate) connect_timeouts: u64,
     pub(crate) origin_timeouts: u64,
@@ -110,7 +148,15 @@ impl Links {
     {
         if let Some(link) = self.items.get_mut(&number) {
             if let Some(peer) = &mut link.peer {
-                return mark_peer_ready(peer, event, now);
+                let (unsent, written) = (peer.unsent(), peer.written);
+                let marked = mark_peer_ready(peer, event, now);
+                self.held = self
+                    .held
+                    .saturating_sub(unsent)
+                    .saturating_add(peer.unsent());
+                let more = peer.written.saturating_sub(written);
+                self.origins.add_written(link.origin, more);
+                return marked;
             }
         }
         Ok(())
@@ -118,10 +164,12 @@ impl Links {
 }
 
 impl<S: Stream + Drop> Links<S> {
-    pub(crate) fn new(alloc: Global) -> Links<S> {
+    pub(crate) fn new(alloc: Global, limits: &Limits) -> Links<S> {
         Links {
             items: BTreeMap::new(alloc),
-            origins: Origins::new(alloc),
+            origins: Origins::new(alloc, limits.origin_connections),
+            looks: Moments::new(alloc),
+            held: 0,
             connect_timeouts: 0,
             origin_timeouts: 0,
             exchange_timeouts: 0,
@@ -138,33 +186,30 @@ impl<S: Stream + Drop> Links<S> {
         self.items.get(&number)
     }
 
-    /// Reads from a link, and tells whether more may be left; from one without a stream nothing comes.
-    pub(crate) fn read(
-        &mut self,
-        number: u64,
-        buf: &mut [u8],
-        now: u64,
-    ) -> io::Result<(Received, bool)>
-        ensures within { IfOk result (λ reported. FitsTheBuffer (length buf.old) reported.0) }
+    /// Reads from a link; from one without a stream nothing comes.
+    pub(crate) fn read(&mut self, number: u64, buf: &mut [u8], now: u64) -> io::Result<Received>
+        ensures within { IfOk result (FitsTheBuffer (length buf.old)) }
         ensures length { length buf.new ≡ length buf.old }
-        ensures read { IfOk result (λ reported. IsDoneToLinksPeer (PeerIsRead S.Passed (length buf.old)
-            (Ok reported.0) buf.new)
+        ensures read { IfOk result (λ received. IsDoneToLinksPeer (PeerIsRead S.Passed (length buf.old)
+            (Ok received) buf.new)
             (get nat_cmp self.old.items number) (get nat_cmp self.new.items number)) }
         ensures failed { IfErr result (λ e. IsDoneToLinksPeer (PeerIsRead S.Passed (length buf.old) (Err e) buf.new)
             (get nat_cmp self.old.items number) (get nat_cmp self.new.items number)) }
-        ensures left { IfOk result (λ reported. reported.1 ≡ link_may_have_more
-            (peer_of_link (get nat_cmp self.new.items number))) }
-        ensures nothing { peer_of_link (get nat_cmp self.old.items number) ≡ None → result ≡ Ok
-            (Received.Nothing, false) }
+        ensures nothing { peer_of_link (get nat_cmp self.old.items number) ≡ None → result ≡ Ok Received.Nothing }
         ensures others { OtherEntriesStay number self.old.items self.new.items }
     {
-        if let Some(link) = self.items.get_mut(&number) {
-            if let Some(peer) = &mut link.peer {
-                let received = peer.read(buf, now)?;
-                return Ok((received, peer.readable));
-            }
+        let Some(link) = self.items.get_mut(&number) else {
+            return Ok(Received::Nothing);
+        };
+        let Some(peer) = &mut link.peer else {
+            return Ok(Received::Nothing);
+        };
+        let received = peer.read(buf, now)?;
+        if let Received::Bytes(count) = received {
+            self.held = self.held.saturating_add(count);
+            self.origins.note_answer(link.origin, count);
         }
-        Ok((Received::Nothing, false))
+        Ok(received)
     }
 
     /// Writes to a link. Whether that could be done, or its connection had been made before it failed.
@@ -177,26 +222,117 @@ impl<S: Stream + Drop> Links<S> {
         ensures connected { link_is_connecting (get nat_cmp self.old.items number) ≡ false → result ≡ true }
         ensures others { OtherEntriesStay number self.old.items self.new.items }
     {
-        if let Some(link) = self.items.get_mut(&number) {
-            if let Some(peer) = &mut link.peer {
-                return peer.write(bytes, now).is_ok() || !peer.connecting;
-            }
-        }
-        true
+        let Some(link) = self.items.get_mut(&number) else {
+            return true;
+        };
+        let Some(peer) = &mut link.peer else {
+            return true;
+        };
+        let (unsent, written) = (peer.unsent(), peer.written);
+        let is_written = peer.write(bytes, now).is_ok() || !peer.connecting;
+        self.held = self
+            .held
+            .saturating_sub(unsent)
+            .saturating_add(peer.unsent());
+        let more = peer.written.saturating_sub(written);
+        self.origins.add_written(link.origin, more);
+        is_written
     }
 
-    /// Puts a link in under its number. Whether there was memory for it.
-    pub(crate) fn put(&mut self, number: u64, link: Link<S>) -> bool
-        ensures put { OnTrue result (get nat_cmp self.new.items number ≡ Some link) }
+    /// Puts a link in under its number, and looks at it next at this moment. Whether there was memory for both.
+    pub(crate) fn put(&mut self, number: u64, link: Link<S>, look: u64) -> bool
+        ensures put { OnTrue result (get nat_cmp self.new.items number ≡ Some (record link { look = look })) }
         ensures not_put { OnFalse result (get nat_cmp self.new.items number ≡ get nat_cmp self.old.items number) }
         ensures others { OtherEntriesStay number self.old.items self.new.items }
     {
+        if !self.looks.add(look, number) {
+            return false;
+        }
+        let mut link = link;
+        link.look = look;
         let origin = link.origin;
+        let admission = link.admission;
         let is_put = self.items.insert(number, link).is_ok();
         if is_put {
-            self.origins.begin(origin);
+            self.origins.begin(origin, admission);
+        } else {
+            self.looks.remove(look, number);
         }
         is_put
+    }
+
+    /// The number of a link that is to be looked at now.
+    pub(crate) fn next_to_look_at(&mut self, now: u64) -> Option<u64> {
+        self.looks.take_due(now)
+    }
+
+    /// A link was looked at, and its time isn't over: it is looked at once that may be, and no later than a time that
+    /// begins now may be. Without memory for that, it is looked at no more.
+    pub(crate) fn look_again(&mut self, number: u64, now: u64, limits: &Limits)
+        ensures others { OtherEntriesStay number self.old.items self.new.items }
+    {
+        let Some(link) = self.items.get_mut(&number) else {
+            return;
+        };
+        let look = link
+            .next_time(limits)
+            .max(now.saturating_add(SECOND))
+            .min(now.saturating_add(limits.link_look()));
+        self.looks.remove(link.look, number);
+        link.look = look;
+        let _ = self.looks.add(look, number);
+    }
+
+    /// Puts a link among the ends that are read next, where it may give something and doesn't stand there. Whether its
+    /// number is to be added.
+    pub(crate) fn begin_listing(&mut self, number: u64) -> bool
+        ensures listed { result ≡ link_is_to_be_listed (get nat_cmp self.old.items number) }
+        ensures others { OtherEntriesStay number self.old.items self.new.items }
+    {
+        let Some(link) = self.items.get_mut(&number) else {
+            return false;
+        };
+        let may_give = match &link.peer {
+            Some(peer) => peer.readable,
+            None => false,
+        };
+        if link.is_listed || !may_give {
+            return false;
+        }
+        link.is_listed = true;
+        true
+    }
+
+    /// Takes a link from the ends that are read next. Whether it is there.
+    pub(crate) fn end_listing(&mut self, number: u64) -> bool
+        ensures others { OtherEntriesStay number self.old.items self.new.items }
+    {
+        match self.items.get_mut(&number) {
+            Some(link) => {
+                link.is_listed = false;
+                true
+            }
+            None => false,
+        }
+    }
+
+    /// Bytes that came on links, and those that their origins haven't taken yet.
+    pub(crate) fn held(&self) -> usize {
+        self.held
+    }
+
+    /// The link for which the most is held, and how much.
+    pub(crate) fn largest(&self) -> Option<(u64, usize)> {
+        let mut largest = None;
+        let mut most = 0usize;
+        for (number, link) in &self.items {
+            let held = link.held();
+            if held > most {
+                most = held;
+                largest = Some((*number, held));
+            }
+        }
+        largest
     }
 
     /// Drops the stream of a link. Its number stays until it is taken out.
@@ -205,10 +341,8 @@ impl<S: Stream + Drop> Links<S> {
         ensures others { OtherEntriesStay number self.old.items self.new.items }
     {
         if let Some(link) = self.items.get_mut(&number) {
-            if let Some(peer) = link.peer.take() {
-                self.origins
-                    .add_bytes(link.origin, peer.received, peer.written);
-            }
+            self.held = self.held.saturating_sub(link.held());
+            link.peer = None;
         }
     }
 
@@ -219,12 +353,9 @@ impl<S: Stream + Drop> Links<S> {
         ensures others { OtherEntriesStay number self.old.items self.new.items }
     {
         let link = self.items.remove(&number)?;
-        if let Some(peer) = &link.peer {
-            self.origins
-                .add_bytes(link.origin, peer.received, peer.written);
-        }
-        self.origins
-            .end(link.origin, now.saturating_sub(link.began));
+        self.looks.remove(link.look, number);
+        self.held = self.held.saturating_sub(link.held());
+        self.origins.end(link.origin, link.admission, now.saturating_sub(link.began));
         Some(link.origin)
     }
 
@@ -245,7 +376,12 @@ impl<S: Stream + Drop> Links<S> {
         let Some(link) = self.get(number) else {
             return;
         };
-        match link.overtime(now, limits) {
+        let overtime = link.overtime(now, limits);
+        let origin = link.origin;
+        if overtime.is_some() {
+            self.origins.note_silence(origin);
+        }
+        match overtime {
             Some(Overtime::Connect) => self.connect_timeouts = self
                 .connect_timeouts
                 .saturating_add(1),
@@ -259,26 +395,21 @@ impl<S: Stream + Drop> Links<S> {
         }
     }
 
+    /// Counts that the connection of a link couldn't be made.
+    pub(crate) fn count_failed_connect(&mut self, number: u64)
+        ensures { self.new.items ≡ self.old.items }
+    {
+        if let Some(link) = self.get(number) {
+            let origin = link.origin;
+            self.origins.note_silence(origin);
+        }
+    }
+
     /// For how long the oldest link is open, in milliseconds; 0 where there is none.
     pub(crate) fn oldest_age(&self, now: u64) -> u64 {
         match self.items.values().next() {
             Some(link) => now.saturating_sub(link.began),
             None => 0,
         }
-    }
-
-    /// The bytes that have come and gone on the links of an origin that are open.
-    pub(crate) fn open_bytes(&self, origin: usize) -> (u64, u64) {
-        let mut received = 0u64;
-        let mut written = 0u64;
-        for link in self.items.values() {
-            if let Some(peer) = &link.peer {
-                if link.origin == origin {
-                    received = received.saturating_add(peer.received);
-                    written = written.saturating_add(peer.written);
-                }
-            }
-        }
-        (received, written)
     }
 }

@@ -11,8 +11,10 @@ ghost use Rattle.proxy_server.specs.Forgetting.{ClientIsForgotten, LinkIsForgott
 use crate::asked::Asked;
 use crate::clients::Clients;
 use crate::doors::{AcceptCounts, Troubles, is_out_of_descriptors};
-use crate::limits::{CLIENTS_READ_A_TURN, Limits, PLACES};
+use crate::endings::CutReason;
+use crate::limits::{Limits, MOST_READ, SECOND};
 use crate::links::{Link, Links};
+use crate::origins::Admission;
 use crate::peer::Peer;
 use crate::reply_counts::ReplyCounts;
 use crate::send_buffer::bound_send_buffers;
@@ -25,8 +27,8 @@ use mio::{Events, Interest, Poll};
 use proxy_log::Lines;
 use proxy_turn::{End, MOST_WORKS, Received, Report, SocketFailed, Sockets, TurnFault};
 use std::alloc::{AllocError, Global};
+use std::collections::VecDeque;
 use std::io;
-use std::io::ErrorKind;
 use std::net::{Net, SocketAddr, SocketAddrV4};
 use std::time::Duration;
 
@@ -36,31 +38,30 @@ const MOST_EVENTS: usize = 1024;
 /// The longest wait, in milliseconds: what has had its time is looked for once a second.
 const LONGEST_WAIT: u64 = SECOND;
 
-/// Milliseconds of a second.
-const SECOND: u64 = 1000;
-
-/// The most connections that are taken between two turns.
-const MOST_TAKEN: usize = 64;
-
-/// The most connections that are taken once no more are to come.
-const MOST_WAITING: usize = 65_536;
-
 /// A listener, its clients and the links to origins. No call waits but `wait`.
 #[derive(Drop)]
 pub struct LiveSockets<'a, R: Net> {
     net: &'a R,
-    alloc: Global,
-    poll: Poll,
+    pub(crate) alloc: Global,
+    pub(crate) poll: Poll,
     events: Events,
     /// No more connections are taken where it is gone.
-    listener: Option<TcpListener>,
+    pub(crate) listener: Option<TcpListener>,
     address: SocketAddr,
     /// A connection may wait to be taken.
-    acceptable: bool,
+    pub(crate) acceptable: bool,
+    /// One that was taken, and for which there is no room yet.
+    pub(crate) in_hand: Option<(TcpStream, SocketAddr)>,
+    /// A client has come between two requests since room was looked for.
+    pub(crate) may_have_room: bool,
+    /// Who waits now is taken, and nobody else.
+    pub(crate) is_draining: bool,
     pub(crate) clients: Clients,
     pub(crate) links: Links,
+    /// Ends that may give something, and are read next; each stands there once.
+    ready: VecDeque<End>,
     /// Links that failed since the last turn, and how.
-    lost: Vec<(u64, FailKind)>,
+    pub(crate) lost: Vec<(u64, FailKind)>,
     pub(crate) limits: Limits,
     /// Lines about replies, where a log is kept.
     pub(crate) log: Option<Lines>,
@@ -72,10 +73,6 @@ pub struct LiveSockets<'a, R: Net> {
     pub(crate) asked: Asked,
     /// The moment of the turn in milliseconds since 1970, for the log.
     pub(crate) moment: u64,
-    /// Something may be left to be read that no event will tell of.
-    more: bool,
-    /// How many clients have given something in this turn.
-    given: usize,
     /// Milliseconds of the clock that never goes back, at the last wait.
     pub(crate) now: u64,
     pub(crate) accepts: u64,
@@ -102,19 +99,12 @@ fn begin_link<R: Net>(
 }
 
 /// Reads from the link of a number. After a failure its stream is dropped; of one without a stream nothing comes.
-fn read_link(
-    links: &mut Links,
-    l: u64,
-    buf: &mut [u8],
-    now: u64,
-    more: &mut bool,
-) -> Result<Received, SocketFailed>
+fn read_link(links: &mut Links, l: u64, buf: &mut [u8], now: u64) -> Result<Received, SocketFailed>
     ensures within { IfOk result (FitsTheBuffer (length buf.old)) }
     ensures length { length buf.new ≡ length buf.old }
     ensures others { OtherEntriesStay l links.old.items links.new.items }
 {
-    if let Ok((received, is_left)) = links.read(l, buf, now) {
-        *more = *more || is_left;
+    if let Ok(received) = links.read(l, buf, now) {
         return Ok(received);
     }
     links.drop_stream(l);
@@ -127,19 +117,30 @@ fn read_client(
     n: u64,
     buf: &mut [u8],
     now: u64,
-    more: &mut bool,
 ) -> Result<Received, SocketFailed>
     ensures within { IfOk result (FitsTheBuffer (length buf.old)) }
     ensures length { length buf.new ≡ length buf.old }
     ensures open { OtherEntriesStay n clients.old.open clients.new.open }
     ensures others { ChangesOnlyAtNumber clients.old.open n clients.old.streams clients.new.streams }
 {
-    if let Ok((received, is_left)) = clients.read(n, buf, now) {
-        *more = *more || is_left;
+    if let Ok(received) = clients.read(n, buf, now) {
         return Ok(received);
     }
     clients.forget(n);
     Err(SocketFailed)
+}
+
+/// Adds an end to those that are read next. A client is cut off where there is no memory for that; a link is silent
+/// then.
+fn list(ready: &mut VecDeque<End>, clients: &mut Clients, end: End) {
+    if ready.push_back(end).is_ok() {
+        return;
+    }
+    if let End::Client(n) = end {
+        if let Some(key) = clients.key_of(n) {
+            clients.cut_stream(key, CutReason::Memory);
+        }
+    }
 }
 
 /// Whether these bytes are an interim response: the request isn't answered yet.
@@ -174,7 +175,6 @@ impl<'a, R: Net> LiveSockets<'a, R> {
         bound_send_buffers(&listener);
         poll.registry().register(&mut listener, Holder::Listener.token()?, Interest::READABLE)?;
         let address = listener.local_addr()?;
-        let limits = limits.in_milliseconds();
         Ok(LiveSockets {
             net,
             alloc,
@@ -183,8 +183,12 @@ impl<'a, R: Net> LiveSockets<'a, R> {
             listener: Some(listener),
             address,
             acceptable: true,
+            in_hand: None,
+            may_have_room: false,
+            is_draining: false,
             clients: Clients::new(alloc, limits),
-            links: Links::new(alloc),
+            links: Links::new(alloc, &limits),
+            ready: VecDeque::new(alloc),
             lost: Vec::new(alloc),
             limits,
             log: None,
@@ -193,8 +197,6 @@ impl<'a, R: Net> LiveSockets<'a, R> {
             turns: Turns::new(),
             asked: Asked::new(alloc),
             moment: 0,
-            more: true,
-            given: 0,
             now: 0,
             accepts: 0,
             reads: 0,
@@ -247,22 +249,21 @@ impl<'a, R: Net> LiveSockets<'a, R> {
 
     /// Takes no more connections but those that wait now. Who is idle is let go.
     pub fn drain(&mut self) {
-        for _ in 0..MOST_WAITING {
-            if !self.take_connection() {
-                break;
-            }
-        }
-        self.listener = None;
+        self.is_draining = true;
+        self.acceptable = true;
     }
 
-    /// Whether no more connections are taken.
+    /// Whether no more connections are taken but those that wait.
     pub fn is_draining(&self) -> bool {
-        self.listener.is_none()
+        self.is_draining
     }
 
-    /// Whether no client waits for anything, and no link is open.
+    /// Whether no connection waits, no client waits for anything, and no link is open.
     pub fn is_drained(&self) -> bool {
-        self.clients.is_done() && self.links.is_empty()
+        self.listener.is_none()
+            && self.in_hand.is_none()
+            && self.clients.is_done()
+            && self.links.is_empty()
     }
 
     /// Seconds of the clock that never goes back, at the last wait.
@@ -270,38 +271,33 @@ impl<'a, R: Net> LiveSockets<'a, R> {
         self.now / SECOND
     }
 
-    /// Waits until something is ready, for a second at most, or not at all where something is left to be done.
-    pub fn wait(&mut self, busy: bool) -> io::Result<()> {
-        let none = busy || self.more || self.clients.more || self.lost_count() > 0;
-        let limit = if none { 0 } else { LONGEST_WAIT };
-        self.more = false;
+    /// Waits until something is ready, for a second at most, or not at all where something is left to be done. After a
+    /// turn without memory it waits in any case: there may be some a little later.
+    pub fn wait(&mut self, busy: bool, starved: bool) -> io::Result<()> {
+        let none = busy || self.clients.more || self.lost_count() > 0 || self.has_more();
+        let limit = if none && !starved { 0 } else { LONGEST_WAIT };
         self.poll
             .poll(&mut self.events, Some(Duration::from_millis(limit)))
     }
 
     /// Takes what has come since the wait, without waiting: a signal may have ended the wait before it told of
-    /// anything. Then lets go of the clients without a place that have had their time.
+    /// anything.
     pub fn look_again(&mut self) -> io::Result<()> {
         self.poll
             .poll(&mut self.events, Some(Duration::from_millis(0)))?;
         self.take_events();
-        self.clients
-            .drop_late_streams(self.now, self.listener.is_none());
         // After a pause an accept is tried again.
         self.acceptable = true;
-        self.take_connections();
         Ok(())
     }
 
-    /// Takes what the wait told, at so many milliseconds of a clock that never goes back, and the connections that
-    /// wait. Whether a new second has begun.
+    /// Takes what the wait told, at so many milliseconds of a clock that never goes back. Whether a new second has
+    /// begun.
     pub fn refresh(&mut self, now: u64) -> bool {
         let ticked = now / SECOND != self.now / SECOND;
         self.now = now;
-        self.given = 0;
         self.take_events();
         self.clients.drop_inputs(now);
-        self.take_connections();
         ticked
     }
 
@@ -311,90 +307,81 @@ impl<'a, R: Net> LiveSockets<'a, R> {
                 Holder::Listener => self.acceptable = true,
                 Holder::Link(l) => {
                     if self.links.mark_ready(l, event, self.now).is_err() {
+                        self.links.count_failed_connect(l);
                         self.links.drop_stream(l);
                         // Where there is no memory for it, it counts as silent.
                         let _ = self.lost.push((l, FailKind::Refused));
+                    } else if self.links.begin_listing(l) {
+                        list(&mut self.ready, &mut self.clients, End::Link(l));
                     }
                 }
-                Holder::Client(key) => self.clients.mark_ready(key, event, self.now),
+                Holder::Client(key) => {
+                    self.clients.mark_ready(key, event, self.now);
+                    if let Some(n) = self.clients.begin_listing(key) {
+                        list(&mut self.ready, &mut self.clients, End::Client(n));
+                    }
+                }
             }
         }
     }
 
-    /// Takes connections that wait, as far as there is room for them.
-    fn take_connections(&mut self) {
-        for _ in 0..MOST_TAKEN {
-            if !self.acceptable || !self.take_connection() {
+    /// Puts an end among those that are read next, where it may give something.
+    fn list_again(&mut self, end: End)
+        ensures accepts { self.new.accepts ≡ self.old.accepts }
+        ensures reads { self.new.reads ≡ self.old.reads }
+        ensures failures { self.new.failures ≡ self.old.failures }
+    {
+        let is_new = match end {
+            End::Listener => false,
+            End::Link(l) => self.links.begin_listing(l),
+            End::Client(n) => match self.clients.key_of(n) {
+                Some(key) => self.clients.begin_listing(key).is_some(),
+                None => false,
+            },
+        };
+        if is_new {
+            list(&mut self.ready, &mut self.clients, end);
+        }
+    }
+
+    /// Whether an end is read next, or a connection may be taken, of which no event will tell.
+    pub fn has_more(&self) -> bool {
+        if !self.ready.is_empty() {
+            return true;
+        }
+        match &self.in_hand {
+            Some(_) => self.may_have_room || self.clients.len() < self.limits.connections,
+            None => self.may_accept(),
+        }
+    }
+
+    /// Hands out the ends that are read next, so many of them at most.
+    pub fn take_ready(&mut self, most: usize, ends: &mut Vec<End>) {
+        ends.clear();
+        for _ in 0..most {
+            let Some(end) = self.ready.pop_front() else {
+                return;
+            };
+            let is_there = match end {
+                End::Listener => false,
+                End::Link(l) => self.links.end_listing(l),
+                End::Client(n) => self.clients.end_listing(n),
+            };
+            if is_there && ends.push(end).is_err() {
+                self.list_again(end);
                 return;
             }
         }
-        self.more = true;
-    }
-
-    /// Takes a connection that waits. Whether another may wait, and be taken.
-    fn take_connection(&mut self) -> bool {
-        if !self.clients.has_room_for_stream() {
-            self.doors.full = self.doors.full.saturating_add(1);
-            self.acceptable = false;
-            return false;
-        }
-        match self.accept_one() {
-            Ok(()) => {
-                self.doors.accepted = self.doors.accepted.saturating_add(1);
-                true
-            }
-            Err(e) if e.kind() == ErrorKind::ConnectionAborted => true,
-            Err(e) if e.kind() == ErrorKind::Interrupted => true,
-            Err(e) => {
-                // Where descriptors have run out an idle client gives way, else it is tried again after a
-                // pause. The system says so too where no connection waits: who has just come stays.
-                let again = is_out_of_descriptors(&e) && self.clients.drop_quiet(self.now);
-                if !again {
-                    self.doors.count_refused(&e);
-                }
-                self.acceptable = again;
-                again
-            }
-        }
-    }
-
-    /// Takes a connection that waits, and reads what its client has sent.
-    fn accept_one(&mut self) -> io::Result<()> {
-        let Some(listener) = &self.listener else {
-            return Err(io::Error::from(ErrorKind::WouldBlock));
-        };
-        let (stream, address) = listener.accept()?;
-        let peer = Peer::new(self.alloc, stream, self.now);
-        self.clients.make_room_for_waiting();
-        let Some(key) = self.clients.add(peer) else {
-            return Err(io::Error::from(ErrorKind::OutOfMemory));
-        };
-        if let Some(client) = self.clients.stream_mut(key) {
-            if self.log.is_some() {
-                client.keep_log(address);
-            }
-            if let Err(e) = client.peer.register(&self.poll, Holder::Client(key)) {
-                self.clients.drop_stream(key);
-                return Err(e);
-            }
-        }
-        self.clients.read_early(key, self.now);
-        Ok(())
-    }
-
-    /// Whether something is left that the next turn can take, behind one that freed an end.
-    pub fn has_unread(&self) -> bool {
-        self.clients.waiting_count() > 0 || self.clients.some_readable()
-    }
-
-    /// Whether who waits for a place can have one in the next turn.
-    pub fn may_accept(&self) -> bool {
-        self.clients.may_open()
     }
 
     /// How many ends failed since they were last asked for.
     pub fn lost_count(&self) -> usize {
         self.lost.len().saturating_add(self.clients.lost_count())
+    }
+
+    /// How many of them are handed in before a turn.
+    pub fn lost_of_a_turn(&self) -> usize {
+        self.lost_count().min(MOST_READ)
     }
 
     /// An end that failed since it was last asked, and how. Its stream is gone.
@@ -433,8 +420,11 @@ impl<'a, R: Net> LiveSockets<'a, R> {
         }
     }
 
-    /// A turn was served.
-    pub fn note_turn(&mut self, reported: Result<Report, TurnFault>) {
+    /// A turn was served that read these ends. Those that may give more are read again.
+    pub fn note_turn(&mut self, ends: &[End], reported: Result<Report, TurnFault>) {
+        for end in ends {
+            self.list_again(*end);
+        }
         self.turns.count(reported);
         if let Ok(report) = reported {
             // All that was due was done.
@@ -444,9 +434,60 @@ impl<'a, R: Net> LiveSockets<'a, R> {
         }
     }
 
+    /// An end that is to be looked at: whether a time of it is over.
+    pub fn next_to_look_at(&mut self) -> Option<End> {
+        if let Some(l) = self.links.next_to_look_at(self.now) {
+            return Some(End::Link(l));
+        }
+        let n = self.clients.next_to_look_at(self.now)?;
+        Some(End::Client(n))
+    }
+
+    /// An end was looked at, and none of its times is over.
+    pub fn look_again_at(&mut self, end: End) {
+        match end {
+            End::Listener => {}
+            End::Link(l) => self.links.look_again(l, self.now, &self.limits),
+            End::Client(n) => {
+                if let Some(key) = self.clients.key_of(n) {
+                    self.clients.look_again(key, self.now);
+                }
+            }
+        }
+    }
+
+    /// While no more connections are taken: a client that is let go since it is between two requests.
+    pub fn next_to_let_go(&mut self) -> Option<u64> {
+        if !self.is_draining {
+            return None;
+        }
+        self.clients.next_to_let_go(self.now)
+    }
+
+    /// A client that has sent its end, where nearly as many links to an origin are open as may be: if it waits for an
+    /// answer, that is given up for those who still listen.
+    pub fn next_departed(&mut self) -> Option<u64> {
+        if !self.links.origins.some_is_crowded() {
+            return None;
+        }
+        self.clients.next_departed()
+    }
+
+    /// A client that has sent its end doesn't wait for an answer yet.
+    pub fn look_later_at_departed(&mut self, n: u64) {
+        if let Some(key) = self.clients.key_of(n) {
+            self.clients.mark_departed(key, self.now);
+        }
+    }
+
     /// Whether the time of a link is over.
     pub fn is_over(&self, l: u64) -> bool {
         self.links.is_over(l, self.now, &self.limits)
+    }
+
+    /// Whether a client that is between two requests has been silent for too long.
+    pub fn is_silent(&self, n: u64) -> bool {
+        self.clients.is_silent(n, self.now)
     }
 
     /// Whether the request of a client has taken too long to come, or the client is silent.
@@ -454,64 +495,33 @@ impl<'a, R: Net> LiveSockets<'a, R> {
         self.clients.is_late(n, self.now)
     }
 
-    /// Whether a client that is between two requests has been so for a while, or is to be let go.
-    pub fn is_idle(&self, n: u64) -> bool {
-        let limit = self.clients.idle_limit(n, self.is_draining());
-        self.clients.may_park(n) && self.clients.is_idle(n, self.now, limit)
+    /// Whether a client has sent its end, and waits for its answer for too long.
+    pub fn has_left(&self, n: u64) -> bool {
+        self.clients.has_left(n, self.now)
     }
 
-    /// What couldn't be done that was asked, since the start, and how many wait now since no place is free.
+    /// What couldn't be done that was asked, since the start.
     pub fn troubles(&self) -> Troubles {
-        let is_crowded = self.clients.open_count() >= PLACES;
+        let origins = &self.links.origins;
         Troubles {
             full: self.doors.full,
             no_descriptor: self.doors.no_descriptor,
             no_link: self.doors.no_link,
-            waiting: if is_crowded {
-                self.clients.waiting_count()
+            beyond_bound: origins.beyond_bound(),
+            silent: if self.limits.origin_probe {
+                origins.fallen_silent
             } else {
                 0
             },
         }
     }
 
-    /// How many clients wait for a place that isn't free.
-    pub fn waiting_count(&self) -> usize {
-        self.clients.waiting_count()
+    /// Closes a client that is let go between two requests, once it has taken what waits for it.
+    pub fn close_idle(&mut self, n: u64) {
+        self.clients.close(n, self.now);
     }
 
-    /// Tells whose requests have come whole of those that wait for a place.
-    pub fn sort_waiting(&mut self) {
-        self.clients.sort_waiting_requests(self.now);
-    }
-
-    /// Whether nothing waits to be read from a client.
-    pub fn may_park(&self, n: u64) -> bool {
-        self.clients.may_park(n) && !(self.is_draining() && self.clients.has_early_bytes(n))
-    }
-
-    /// A client between two requests leaves its place; its stream stays, unless no more connections are taken.
-    pub fn leave_place_to_wait(&mut self, n: u64) {
-        if self.is_draining() {
-            self.clients.close(n, self.now);
-        } else {
-            self.clients.leave_place_to_wait(n);
-        }
-    }
-
-    /// A client that has left while it waits for its answer, for too long or, where places are short, at all. `reads`
-    /// are the ends that may be read.
-    pub fn abandoned(&self, reads: &[End], short: bool) -> Option<u64> {
-        self.clients.abandoned(reads, self.now, short)
-    }
-
-    /// Of the clients that may be read the one whose request has been incomplete for the longest, where it has to give
-    /// way.
-    pub fn slowest_request(&self, reads: &[End]) -> Option<u64> {
-        self.clients.slowest_request(reads, self.now)
-    }
-
-    /// Drops the stream of an end whose time is over, or who gives way.
+    /// Drops the stream of an end whose time is over.
     pub fn forget(&mut self, end: End)
         ensures client { ClientIsForgotten end self.old.clients self.new.clients }
         ensures link { LinkIsForgotten end self.old.links self.new.links }
@@ -530,25 +540,6 @@ impl<'a, R: Net> LiveSockets<'a, R> {
         }
     }
 
-    /// Reads from a client, unless others are to be read first.
-    fn read_client(&mut self, n: u64, buf: &mut [u8]) -> Result<Received, SocketFailed>
-        ensures within { IfOk result (FitsTheBuffer (length buf.old)) }
-        ensures length { length buf.new ≡ length buf.old }
-        ensures accepts { self.new.accepts ≡ self.old.accepts }
-        ensures reads { self.new.reads ≡ self.old.reads }
-        ensures failures { self.new.failures ≡ self.old.failures }
-    {
-        if self.given >= CLIENTS_READ_A_TURN && self.clients.some_request_waits() {
-            self.more = true;
-            return Ok(Received::Nothing);
-        }
-        let received = read_client(&mut self.clients, n, buf, self.now, &mut self.more);
-        if let Ok(Received::Bytes(_)) = received {
-            self.given = self.given.saturating_add(1);
-        }
-        received
-    }
-
     fn write_client(&mut self, n: u64, bytes: &[u8])
         ensures accepts { self.new.accepts ≡ self.old.accepts }
         ensures reads { self.new.reads ≡ self.old.reads }
@@ -559,12 +550,26 @@ impl<'a, R: Net> LiveSockets<'a, R> {
             return;
         }
         if !is_interim(bytes) {
-            let took = self.clients.answered(n, self.now);
-            if self.notes_replies() {
-                self.note_reply(n, bytes, took);
-            }
+            self.note_answered(n, bytes);
         }
-        self.clients.keep_within();
+        self.keep_within();
+    }
+
+    /// The request of a client was answered by these bytes: it may be read again.
+    fn note_answered(&mut self, n: u64, bytes: &[u8])
+        ensures accepts { self.new.accepts ≡ self.old.accepts }
+        ensures reads { self.new.reads ≡ self.old.reads }
+        ensures failures { self.new.failures ≡ self.old.failures }
+    {
+        let Some(key) = self.clients.key_of(n) else {
+            return;
+        };
+        let took = self.clients.answered(key, self.now);
+        self.may_have_room = true;
+        if self.notes_replies() {
+            self.note_reply(n, bytes, took);
+        }
+        self.list_again(End::Client(n));
     }
 
     fn write_link(&mut self, l: u64, bytes: &[u8]) -> Result<(), SocketFailed>
@@ -602,7 +607,7 @@ impl<'a, R: Net> LiveSockets<'a, R> {
         ensures failures { self.new.failures ≡ self.old.failures }
     {
         match begin_link(self.net, self.alloc, &self.poll, l, address, self.now) {
-            Err(e) if is_out_of_descriptors(&e) && self.clients.drop_idle() => {
+            Err(e) if is_out_of_descriptors(&e) && self.clients.drop_idle(self.now) => {
                 begin_link(self.net, self.alloc, &self.poll, l, address, self.now)
             }
             begun => begun,
@@ -620,15 +625,11 @@ impl<'a, R: Net> LiveSockets<'a, R> {
             self.asked.disconnect_any();
             return Err(SocketFailed);
         };
-        let begun = self.begin(l, address);
-        if let Err(e) = &begun {
-            if is_out_of_descriptors(e) {
-                self.doors.no_link = self.doors.no_link.saturating_add(1);
-            }
-        }
-        let peer = begun.ok();
+        let admission = self.links.origins.admit(origin, self.limits.origin_probe);
+        let peer = self.begin_admitted(l, address, origin, admission);
         let is_lost = peer.is_none();
-        if !self.links.put(l, Link::new(peer, self.now, origin)) {
+        let link = Link::new(peer, self.now, origin, admission);
+        if !self.links.put(l, link, self.now.saturating_add(SECOND)) {
             self.asked.disconnect_link(l, origin);
             return Err(SocketFailed);
         }
@@ -636,6 +637,34 @@ impl<'a, R: Net> LiveSockets<'a, R> {
             return self.disconnect_link(l, FailKind::Refused);
         }
         Ok(())
+    }
+
+    /// Begins a link, where it may be begun and can be.
+    fn begin_admitted(
+        &mut self,
+        l: u64,
+        address: SocketAddrV4,
+        origin: usize,
+        admission: Admission,
+    ) -> Option<Peer<TcpStream>>
+        ensures accepts { self.new.accepts ≡ self.old.accepts }
+        ensures reads { self.new.reads ≡ self.old.reads }
+        ensures failures { self.new.failures ≡ self.old.failures }
+    {
+        if admission == Admission::No {
+            return None;
+        }
+        match self.begin(l, address) {
+            Ok(peer) => Some(peer),
+            Err(e) => {
+                if is_out_of_descriptors(&e) {
+                    self.doors.no_link = self.doors.no_link.saturating_add(1);
+                } else {
+                    self.links.origins.note_silence(origin);
+                }
+                None
+            }
+        }
     }
 
     /// Reads from a link. That it has failed is kept until the next turn begins.
@@ -646,7 +675,7 @@ impl<'a, R: Net> LiveSockets<'a, R> {
         ensures reads { self.new.reads ≡ self.old.reads }
         ensures failures { self.new.failures ≡ self.old.failures }
     {
-        match read_link(&mut self.links, l, buf, self.now, &mut self.more) {
+        match read_link(&mut self.links, l, buf, self.now) {
             Ok(received) => Ok(received),
             Err(_) => match self.disconnect_link(l, FailKind::Closed) {
                 Ok(()) => Ok(Received::Nothing),
@@ -672,19 +701,20 @@ impl<'a, R: Net> Sockets for LiveSockets<'a, R> {
 
     fn accept(&mut self, n: u64) -> Result<bool, SocketFailed> {
         self.accepts = self.accepts.saturating_add(1);
-        Ok(self.clients.open(n))
+        Ok(self.take_connection(n))
     }
 
     fn read(&mut self, end: End, buf: &mut [u8]) -> Result<Received, SocketFailed> {
         self.reads = self.reads.saturating_add(1);
         let received = match end {
             End::Listener => Ok(Received::Nothing),
-            End::Client(n) => self.read_client(n, buf),
+            End::Client(n) => read_client(&mut self.clients, n, buf, self.now),
             End::Link(l) => self.read_from_link(l, buf),
         };
         if self.log.is_some() {
             read_piece(&mut self.clients, end, &received, buf);
         }
+        self.keep_within();
         if received.is_err() {
             self.failures = self.failures.saturating_add(1);
         }

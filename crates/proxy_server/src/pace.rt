@@ -1,6 +1,6 @@
 //! Whether the next turn waits, and what clocks tell.
 ghost use Rattle.std.specs.Prelude.{◌≡◌};
-ghost use Rattle.proxy_server.specs.Paces.{next_turn_must_not_wait, turn_has_freed_an_end, moment_and_milliseconds};
+ghost use Rattle.proxy_server.specs.Paces.{next_turn_must_not_wait, moment_and_milliseconds};
 ghost use Rattle.proxy_server.specs.Paces.{milliseconds_of_duration};
 
 use hx_fields::END_OF_TIME;
@@ -17,44 +17,34 @@ pub(crate) struct Pace {
     pub(crate) busy: bool,
     /// Nothing is due from the last turn.
     pub(crate) settled: bool,
-    /// Ends whose time is over are to be looked for.
+    /// Ends whose time may be over are to be looked at.
     pub(crate) sweeping: bool,
+    /// Memory was wanting in the last turn.
+    pub(crate) starved: bool,
 }
 
 impl Pace {
-    /// Takes what a turn told. `unread` says that more may be read where the turn freed an end, `more`
-    /// that there is something else to take.
-    pub(crate) fn note(&mut self, reported: Result<Report, TurnFault>, unread: bool, more: bool)
-        ensures { self.new ≡ next_turn_must_not_wait self.old reported unread more }
+    /// Takes what a turn told. `more` says that there is something to take.
+    pub(crate) fn note(&mut self, reported: Result<Report, TurnFault>, more: bool)
+        ensures { self.new ≡ next_turn_must_not_wait self.old reported more }
     {
+        self.starved = false;
         match reported {
             Ok(report) => {
                 self.settled = report.works < MOST_WORKS;
-                self.busy = !self.settled
-                    || turn_has_freed_an_end(reported) && unread
-                    || self.sweeping
-                    || more;
+                self.busy = !self.settled || self.sweeping || more;
             }
             // Memory may be there a little later.
             Err(TurnFault::NoMemory) => {
                 self.settled = false;
                 self.busy = false;
+                self.starved = true;
             }
             Err(_) => {
                 self.settled = false;
                 self.busy = true;
             }
         }
-    }
-}
-
-/// Whether a turn may have freed an end.
-pub(crate) fn turn_has_freed_an_end(reported: Result<Report, TurnFault>) -> bool
-    ensures { result ≡ turn_has_freed_an_end reported }
-{
-    match reported {
-        Ok(report) => report.works > 0 || report.faults > 0,
-        Err(_) => false,
     }
 }
 

@@ -1,68 +1,24 @@
-//! Whose time is over, and who gives way where places are short.
+//! Whose time is over, and when each is looked at next.
 ghost use Rattle.std.specs.Prelude.{◌≡◌, ◌<◌, ◌-◌, ◌⊎◌, true, false, [], Some, length};
-ghost use Rattle.proxy_server.specs.Patience.{stream_time_is_over, lateness_of_stream, has_lasted_longer};
-ghost use Rattle.proxy_server.specs.Patience.{incomplete_since};
+ghost use Rattle.proxy_server.specs.Patience.{closed_time_is_over, has_lasted_longer, incomplete_since};
 
-use crate::client::Client;
+use crate::client::{Client, Place};
 use crate::clients::Clients;
 use crate::endings::{CutReason, Lateness};
 use crate::limits::{
-    HASTE_MILLISECONDS, IDLE_MILLISECONDS, Limits, PATIENCE_MILLISECONDS, QUIET_MILLISECONDS,
+    FIRST_REQUEST_MILLISECONDS, Limits, PATIENCE_MILLISECONDS, QUIET_MILLISECONDS, SECOND,
 };
 use crate::stream_queues::StreamQueue;
-use proxy_turn::End;
 
-/// Whether who stands in a line has had its time.
-fn stream_time_is_over(
-    client: &Client,
-    line: StreamQueue,
-    limits: &Limits,
-    now: u64,
-    draining: bool,
-) -> bool
-    ensures { result
-        ≡ stream_time_is_over line limits.now draining client.now.has_asked now client.now.peer.heard client.now.closed
-        client.now.asked }
+/// Whether a client that was closed has had its time.
+fn closed_time_is_over(client: &Client, queue: StreamQueue, limits: &Limits, now: u64) -> bool
+    ensures { result ≡ closed_time_is_over queue limits.now now client.now.peer.heard client.now.closed }
 {
     let quiet = now.saturating_sub(client.peer.heard);
-    match line {
-        StreamQueue::Idle => {
-            let is_done = draining && (client.has_asked || quiet > IDLE_MILLISECONDS);
-            is_done || quiet > limits.client_timeout
-        }
-        StreamQueue::Taking => quiet > limits.client_timeout,
-        // What has come may be whole.
-        StreamQueue::Fresh => false,
-        StreamQueue::Whole => false,
-        StreamQueue::Long => client.is_late(now, limits.request_timeout),
-        StreamQueue::Partial => client.is_late(now, limits.request_timeout),
+    match queue {
         StreamQueue::Leaving => quiet > limits.client_timeout.min(PATIENCE_MILLISECONDS),
         StreamQueue::Lingering => quiet > QUIET_MILLISECONDS
             || now.saturating_sub(client.closed) > PATIENCE_MILLISECONDS,
-    }
-}
-
-/// Which time is over of one that stands in a line and had its time; none of one that has nothing more to come.
-fn lateness_of_stream(
-    client: &Client,
-    line: StreamQueue,
-    limits: &Limits,
-    now: u64,
-) -> Option<Lateness>
-    ensures { result ≡ lateness_of_stream line limits.now now client.now.peer.heard }
-{
-    let is_silent = now.saturating_sub(client.peer.heard) > limits.client_timeout;
-    match line {
-        StreamQueue::Idle => if is_silent {
-            Some(Lateness::Client)
-        } else {
-            None
-        },
-        StreamQueue::Taking => Some(Lateness::Client),
-        StreamQueue::Leaving => Some(Lateness::Client),
-        StreamQueue::Long => Some(Lateness::Request),
-        StreamQueue::Partial => Some(Lateness::Request),
-        _ => None,
     }
 }
 
@@ -87,70 +43,88 @@ fn is_late(client: &mut Client, limits: &Limits, now: u64) -> bool
     client.is_late(now, limits.request_timeout) || client.peer.is_silent(now, limits.client_timeout)
 }
 
-/// Whether nobody behind the first whose time isn't over has had its time: they came later.
-fn is_queue_in_order(line: StreamQueue, draining: bool) -> bool {
-    match line {
-        StreamQueue::Idle => !draining,
-        StreamQueue::Long => true,
-        StreamQueue::Partial => true,
-        _ => false,
+/// The first moment at which a time of a client may be over.
+fn next_time(client: &Client, limits: &Limits) -> u64 {
+    let heard = client.peer.heard;
+    let mut next = match client.place {
+        Place::In(StreamQueue::Lingering, _) => heard
+            .saturating_add(QUIET_MILLISECONDS)
+            .min(client.closed.saturating_add(PATIENCE_MILLISECONDS)),
+        Place::In(StreamQueue::Leaving, _) => heard.saturating_add(
+            limits.client_timeout.min(PATIENCE_MILLISECONDS),
+        ),
+        Place::Open(_) => heard.saturating_add(limits.client_timeout),
+    };
+    if let Some(asked) = client.asked {
+        next = next.min(asked.saturating_add(limits.request_timeout));
     }
+    if let Some(left) = client.left {
+        next = next.min(left.max(heard).saturating_add(limits.abandon_timeout));
+    }
+    next.saturating_add(1)
 }
 
 impl Clients {
-    /// Drops the streams without a place that have had their time.
-    pub(crate) fn drop_late_streams(&mut self, now: u64, draining: bool) {
-        self.drop_late_of_queue(StreamQueue::Idle, now, draining);
-        self.drop_late_of_queue(StreamQueue::Taking, now, draining);
-        self.drop_late_of_queue(StreamQueue::Long, now, draining);
-        self.drop_late_of_queue(StreamQueue::Partial, now, draining);
-        self.drop_late_of_queue(StreamQueue::Leaving, now, draining);
-        self.drop_late_of_queue(StreamQueue::Lingering, now, draining);
-    }
-
-    fn drop_late_of_queue(&mut self, line: StreamQueue, now: u64, draining: bool) {
-        let mut from = 0u64;
-        for _ in 0..self.lines.len(line) {
-            let Some((stamp, key)) = self.lines.next_from(line, from) else {
-                return;
-            };
-            from = stamp.saturating_add(1);
-            let limits = self.limits;
-            let (over, lateness) = match self.stream(key) {
-                Some(client) => (
-                    stream_time_is_over(client, line, &limits, now, draining),
-                    lateness_of_stream(client, line, &limits, now),
-                ),
-                None => (true, None),
-            };
-            if over {
-                self.endings.count_if_late(lateness);
-                self.drop_stream(key);
-            } else if is_queue_in_order(line, draining) {
-                return;
-            }
+    /// When a client is looked at next: once a time of it may be over, and no later than a time that begins now may be.
+    fn next_look(&self, key: usize, now: u64) -> u64 {
+        let soon = now.saturating_add(SECOND);
+        match self.stream(key) {
+            Some(client) => next_time(client, &self.limits)
+                .max(soon)
+                .min(now.saturating_add(self.limits.client_look())),
+            None => soon,
         }
     }
 
-    /// Whether there is room for one more stream, or can be made.
-    pub(crate) fn has_room_for_stream(&self) -> bool {
-        let spare = self
-            .lines
-            .len_of(&[StreamQueue::Lingering, StreamQueue::Idle]);
-        self.len().saturating_sub(spare) < self.limits.connections
+    /// A client was looked at, and its time isn't over. Without memory for the next look, it is cut off.
+    pub(crate) fn look_again(&mut self, key: usize, now: u64) {
+        let look = self.next_look(key, now);
+        if !self.look_at(key, look) {
+            self.cut_stream(key, CutReason::Memory);
+        }
     }
 
-    /// Makes room for one more stream, where there are as many as may be: of those that were closed, or else are idle,
-    /// the first is dropped.
-    pub(crate) fn make_room_for_waiting(&mut self) {
-        if self.len() < self.limits.connections {
+    /// Looks at a client that was closed, and drops it where its time is over.
+    fn look_at_closed(&mut self, key: usize, queue: StreamQueue, now: u64) {
+        let limits = self.limits;
+        let is_over = match self.stream(key) {
+            Some(client) => closed_time_is_over(client, queue, &limits, now),
+            None => false,
+        };
+        if !is_over {
+            self.look_again(key, now);
             return;
         }
-        if let Some(key) = self.lines.first(StreamQueue::Lingering) {
-            self.drop_stream(key);
-        } else {
-            let _ = self.drop_idle();
+        if queue == StreamQueue::Leaving {
+            self.endings.count_lateness(Lateness::Client);
         }
+        self.drop_stream(key);
+    }
+
+    /// The number of a client that is to be looked at now, if the engine knows it. Others are looked at here.
+    pub(crate) fn next_to_look_at(&mut self, now: u64) -> Option<u64> {
+        for _ in 0..self.len() {
+            let key = self.looks.take_due(now)? as usize;
+            let Some(client) = self.stream(key) else {
+                continue;
+            };
+            match client.place {
+                Place::Open(n) => return Some(n),
+                Place::In(queue, _) => self.look_at_closed(key, queue, now),
+            }
+        }
+        None
+    }
+
+    /// The number of a client that is let go since no more connections are taken: it is between two requests, and has
+    /// sent one, or had its time for that.
+    pub(crate) fn next_to_let_go(&mut self, now: u64) -> Option<u64> {
+        let (key, since) = self.longest_idle()?;
+        let client = self.stream(key)?;
+        if client.has_asked || now.saturating_sub(since) > FIRST_REQUEST_MILLISECONDS {
+            return client.number();
+        }
+        None
     }
 
     /// Counts why the engine is told that a client is gone.
@@ -162,57 +136,29 @@ impl Clients {
         let Some(client) = self.get(n) else {
             return;
         };
-        if client.is_late(now, limits.request_timeout) {
-            self.endings.count_lateness(Lateness::Request);
-        } else if client.has_left(now, limits.abandon_timeout, false) {
+        if client.left.is_some() {
             self.endings.count_lateness(Lateness::Abandon);
-        } else if client.peer.is_silent(now, limits.client_timeout) {
-            self.endings.count_lateness(Lateness::Client);
+        } else if client.is_late(now, limits.request_timeout) {
+            self.endings.count_lateness(Lateness::Request);
         } else {
-            self.endings.count_cut(CutReason::Place);
+            self.endings.count_lateness(Lateness::Client);
         }
     }
 
-    /// Whether a client may leave its place, if it is between two requests: nothing waits to be read. A number that
-    /// isn't there may.
-    pub(crate) fn may_park(&self, n: u64) -> bool {
+    /// Whether a client that is between two requests has been silent for too long, and nothing of it waits to be read.
+    /// One that isn't there has.
+    pub(crate) fn is_silent(&self, n: u64, now: u64) -> bool {
         match self.get(n) {
-            Some(client) => !client.may_give(),
+            Some(client) => {
+                let quiet = now.saturating_sub(client.peer.heard);
+                !client.may_give() && quiet > self.limits.client_timeout
+            }
             None => true,
         }
     }
 
-    /// For how long a client between two requests may be idle before it leaves its place, in milliseconds. When no more
-    /// connections are taken it has none, unless a request of it has come that is answered once it takes what waits for
-    /// it.
-    pub(crate) fn idle_limit(&self, n: u64, draining: bool) -> Option<u64> {
-        if !draining {
-            return Some(IDLE_MILLISECONDS);
-        }
-        if self.has_early_bytes(n) {
-            Some(self.limits.client_timeout)
-        } else {
-            None
-        }
-    }
-
-    /// Whether a client has sent more than was handed in.
-    pub(crate) fn has_early_bytes(&self, n: u64) -> bool {
-        match self.get(n) {
-            Some(client) => client.has_early_bytes(),
-            None => false,
-        }
-    }
-
-    /// Whether a client has been idle for longer than that.
-    pub(crate) fn is_idle(&self, n: u64, now: u64, limit: Option<u64>) -> bool {
-        match (self.get(n), limit) {
-            (Some(client), Some(limit)) => now.saturating_sub(client.peer.heard) > limit,
-            _ => true,
-        }
-    }
-
-    /// Whether the request of a client, which is incomplete, has taken too long, or the client is silent.
+    /// Whether the request of a client, which is incomplete, has taken too long, or the client is silent. One that
+    /// isn't there is.
     pub(crate) fn is_late(&mut self, n: u64, now: u64) -> bool {
         let limits = self.limits;
         match self.get_mut(n) {
@@ -221,65 +167,11 @@ impl Clients {
         }
     }
 
-    /// A client that has sent its end while it waits for its answer, for too long or, where places are short, at all.
-    /// `reads` are those that don't wait for one.
-    pub(crate) fn abandoned(&self, reads: &[End], now: u64, short: bool) -> Option<u64> {
-        for (n, key) in self.numbers() {
-            if let Some(client) = self.stream(*key) {
-                let has_left = client.has_left(now, self.limits.abandon_timeout, short);
-                if has_left && !reads.contains(&End::Client(*n)) {
-                    return Some(*n);
-                }
-            }
+    /// Whether a client has sent its end, and waits for its answer for too long. One that isn't there has.
+    pub(crate) fn has_left(&self, n: u64, now: u64) -> bool {
+        match self.get(n) {
+            Some(client) => client.has_left(now, self.limits.abandon_timeout),
+            None => true,
         }
-        None
-    }
-
-    /// Of the clients that may be read the one whose request has been incomplete for the longest, where it gives way to
-    /// who waits.
-    pub(crate) fn slowest_request(&self, reads: &[End], now: u64) -> Option<u64> {
-        let is_whole = self.lines.first(StreamQueue::Whole).is_some();
-        let mut first = self.waits_since(now)?;
-        let mut slowest = None;
-        for end in reads {
-            if let End::Client(n) = *end {
-                if let Some(asked) = self.slow_since(n, now, is_whole) {
-                    if asked < first {
-                        first = asked;
-                        slowest = Some(n);
-                    }
-                }
-            }
-        }
-        slowest
-    }
-
-    /// Since when a request has been incomplete, where that is more than a second. Where who waits isn't whole either,
-    /// only one of which nothing has come for as long gives way: one that goes on coming is as good.
-    fn slow_since(&self, n: u64, now: u64, is_whole: bool) -> Option<u64> {
-        let client = self.get(n)?;
-        let asked = client.asked?;
-        let is_slow = now.saturating_sub(asked) > HASTE_MILLISECONDS;
-        let rests = !client.may_give()
-            && now.saturating_sub(client.peer.heard) > HASTE_MILLISECONDS;
-        if is_slow && (is_whole || rests) {
-            Some(asked)
-        } else {
-            None
-        }
-    }
-
-    /// Since when the request has been incomplete that waits for a place: no older one gives way for it. A whole one
-    /// has been so since now.
-    fn waits_since(&self, now: u64) -> Option<u64> {
-        if self.lines.first(StreamQueue::Whole).is_some() {
-            return Some(now);
-        }
-        let key = self.lines.first_of(&[
-            StreamQueue::Long,
-            StreamQueue::Partial,
-            StreamQueue::Fresh,
-        ])?;
-        self.stream(key)?.asked
     }
 }

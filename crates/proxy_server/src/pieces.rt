@@ -5,7 +5,7 @@
 //! follows waits for another turn. Where a piece is cut changes nothing of what a stream spells. A content may spell
 //! heads as well: so while a request is incomplete, a piece has some bytes at least, and such a content costs a few
 //! turns and not one for each of them.
-ghost use Rattle.std.specs.Prelude.{◌≤◌, length};
+ghost use Rattle.std.specs.Prelude.{◌<◌, ◌≤◌, length};
 
 use memchr::memchr;
 
@@ -51,10 +51,11 @@ fn head_end_from(bytes: &[u8], from: usize) -> Option<usize> {
 /// How many of the bytes are handed in: as far as the first empty line behind a request line that ends at an index or
 /// later, or all.
 pub(crate) fn head_end(bytes: &[u8], from: usize) -> usize
-    ensures { result ≤ length bytes.now }
+    ensures within { result ≤ length bytes.now }
+    ensures some { 0 < length bytes.now → 0 < result }
 {
     match head_end_from(bytes, from) {
-        Some(end) => end.min(bytes.len()),
+        Some(end) => end.max(1).min(bytes.len()),
         None => bytes.len(),
     }
 }

@@ -2,7 +2,7 @@
 //!
 //! A script has all that is due done behind each happening, a turn behind all that it took. So while a record is
 //! written, at most one end gives something in a turn, and none before all is done that was due; then a replay does the
-//! same acts in the same order. Which end comes next goes round.
+//! same acts in the same order. Who serves hands in one end at a time, in the order in which they became ready.
 ghost use Rattle.std.specs.Prelude.{◌≡◌, ◌≤◌, List, [], ◌∷◌, ◌++◌, length, IfOk, true, false, refl, Some, None};
 ghost use Rattle.std.specs.Prelude.{is_some, is_ok, not, ◌||◌, cond, option_map};
 ghost use Rattle.proxy_server.specs.Records.{Record};
@@ -33,22 +33,11 @@ pub struct Recording<K: Sockets + Drop, W: Write + Drop> {
     moment: u64,
     /// Something has happened in this turn, or something is due from the last one.
     taken: bool,
-    /// The end that gave something last.
-    last: Option<End>,
     /// An end was passed over in this turn.
     passed: bool,
     accepts: u64,
     reads: u64,
     failures: u64,
-}
-
-/// Where an end stands among those that a turn reads: links before clients, and both by their numbers.
-fn place(end: End) -> (u8, u64) {
-    match end {
-        End::Listener => (0, 0),
-        End::Link(l) => (1, l),
-        End::Client(n) => (2, n),
-    }
 }
 
 /// Records what happens, where a record is written. Whether it may be taken: not where it couldn't be recorded.
@@ -80,7 +69,6 @@ impl<K: Sockets + Drop, W: Write + Drop> Recording<K, W> {
             fault: None,
             moment: 0,
             taken: false,
-            last: None,
             passed: false,
             accepts: 0,
             reads: 0,
@@ -104,9 +92,6 @@ impl<K: Sockets + Drop, W: Write + Drop> Recording<K, W> {
     {
         if settled || !self.is_recording() {
             self.moment = now;
-        }
-        if !self.taken {
-            self.last = None;
         }
         self.taken = !settled;
         self.passed = false;
@@ -165,18 +150,14 @@ impl<K: Sockets + Drop, W: Write + Drop> Recording<K, W> {
     }
 
     /// Whether an end has to wait for another turn.
-    fn has_to_wait(&self, end: End) -> bool
-        ensures { result ≡ false
+    fn has_to_wait(&self) -> bool
+        ensures may { result ≡ false
             → may_be_taken_while_recording (is_some self.now.fault) self.now.taken (is_recording self.now.recorder)
             ≡ true }
+        ensures exact { result ≡ not (may_be_taken_while_recording (is_some self.now.fault) self.now.taken
+            (is_recording self.now.recorder)) }
     {
-        if !self.may_happen() {
-            return true;
-        }
-        match self.last {
-            Some(last) if self.is_recording() => place(end) <= place(last),
-            _ => false,
-        }
+        !self.may_happen()
     }
 
     /// Passes on what a call answered. One that failed is counted, and its end recorded as lost, which is taken in any
@@ -262,7 +243,7 @@ impl<K: Sockets + Drop, W: Write + Drop> Sockets for Recording<K, W> {
 
     fn read(&mut self, end: End, buf: &mut [u8]) -> Result<Received, SocketFailed> {
         self.reads = self.reads.saturating_add(1);
-        if self.has_to_wait(end) {
+        if self.has_to_wait() {
             self.passed = true;
             return Ok(Received::Nothing);
         }
@@ -270,7 +251,6 @@ impl<K: Sockets + Drop, W: Write + Drop> Sockets for Recording<K, W> {
         match happening_of_read(end, &received, buf) {
             Some(happening) => {
                 self.taken = true;
-                self.last = Some(end);
                 if !note(&mut self.recorder, &mut self.fault, self.moment, happening) {
                     return Ok(Received::Nothing);
                 }

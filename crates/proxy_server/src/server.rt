@@ -5,13 +5,12 @@ ghost use Rattle.proxy_engine.specs.State.{EngineRepresents, new_engine_model};
 ghost use Rattle.proxy_turn.specs.Served.{EngineIsServing, EngineGoesOn, EngineTakesLosses, EngineServesTurn};
 ghost use Rattle.proxy_server.specs.Losses.{EndIsLost};
 ghost use Rattle.proxy_server.specs.Paces.{next_turn_must_not_wait};
-ghost use Rattle.proxy_server.specs.Serving.{ServeTurnAnswers};
+ghost use Rattle.proxy_server.specs.Serving.{server_bounds, ServeTurnAnswers};
 
 use crate::doors::Troubles;
+use crate::limits::{MOST_ACCEPTED, MOST_OPEN, MOST_READ};
 use crate::live_sockets::LiveSockets;
-use crate::pace::{
-    LATEST, Pace, milliseconds_of_duration, moment_and_milliseconds, turn_has_freed_an_end,
-};
+use crate::pace::{LATEST, Pace, milliseconds_of_duration, moment_and_milliseconds};
 use crate::recorder::{RecordFault, Recorder};
 use crate::recording::Recording;
 use hx_allow::Config;
@@ -21,8 +20,8 @@ use hx_store::Shelf;
 use proxy_engine::Engine;
 use proxy_log::Lines;
 use proxy_turn::{
-    End, PIECE, Report, TurnFault, a_turn_is_served_behind_losses, engines_go_on,
-    happening_of_lost_end, turn_through,
+    End, PIECE, Report, TurnBounds, TurnFault, a_turn_is_served_behind_losses, engines_go_on,
+    happening_of_lost_end, turn_over,
 };
 use std::alloc::Global;
 use std::io::{ErrorKind, Write};
@@ -30,8 +29,9 @@ use std::marker::Model;
 use std::net::Net;
 use std::time::Clock;
 
-/// Clients that give way or have left, at a time.
-const MOST_OPEN: usize = 256;
+/// Ends that are looked at in a turn, at most: whether a time of theirs is over. Each that is handed in costs the
+/// others some 30 microseconds.
+const MOST_LOOKS: u64 = 256;
 
 /// Why a server ends.
 #[derive(Clone, Copy, Debug, PartialEq, Eq)]
@@ -63,6 +63,8 @@ pub struct Server<'a, S: Shelf + Drop, R: Net, W: Write + Drop> {
     engine: Engine<S>,
     pub(crate) ends: Recording<LiveSockets<'a, R>, W>,
     pace: Pace,
+    /// The ends that a turn reads.
+    ready: Vec<End>,
     /// What the reads of each turn go into.
     piece: [u8; PIECE],
 }
@@ -104,12 +106,10 @@ fn look_ahead<R: Net, W: Write + Drop>(
     ends: &Recording<LiveSockets<'_, R>, W>,
     reported: Result<Report, TurnFault>,
 )
-    ensures { (unread : Bool) × (free : Bool) × (pace.new ≡ next_turn_must_not_wait pace.old reported unread
-        (free || ends.now.passed)) }
+    ensures { (free : Bool) × (pace.new ≡ next_turn_must_not_wait pace.old reported (free || ends.now.passed)) }
 {
-    let unread = turn_has_freed_an_end(reported) && ends.sockets.has_unread();
-    let free = ends.sockets.may_accept();
-    pace.note(reported, unread, free || ends.has_passed());
+    let free = ends.sockets.has_more();
+    pace.note(reported, free || ends.has_passed());
 }
 
 impl<'a, S: Shelf + Drop, R: Net, W: Write + Drop> Server<'a, S, R, W> {
@@ -143,7 +143,9 @@ impl<'a, S: Shelf + Drop, R: Net, W: Write + Drop> Server<'a, S, R, W> {
                 busy: true,
                 settled: true,
                 sweeping: false,
+                starved: false,
             },
+            ready: Vec::new(alloc),
             piece: [0; PIECE],
         }
     }
@@ -153,8 +155,7 @@ impl<'a, S: Shelf + Drop, R: Net, W: Write + Drop> Server<'a, S, R, W> {
         self.ends.sockets.second()
     }
 
-    /// What the server couldn't do that was asked of it, since its start, and how many requests wait now since no place
-    /// is free.
+    /// What the server couldn't do that was asked of it, since its start.
     pub fn troubles(&self) -> Troubles {
         self.ends.sockets.troubles()
     }
@@ -199,7 +200,12 @@ impl<'a, S: Shelf + Drop, R: Net, W: Write + Drop> Server<'a, S, R, W> {
     fn serve_next<C: Clock>(&mut self, clock: &C) -> Result<Turned, ServeFault>
         ensures { ServeTurnAnswers self.old self.new result }
     {
-        if self.ends.sockets.wait(self.pace.busy).is_err() {
+        if self
+            .ends
+            .sockets
+            .wait(self.pace.busy, self.pace.starved)
+            .is_err()
+        {
             return Err(ServeFault::Socket);
         }
         let Ok(elapsed) = elapsed(clock) else {
@@ -241,25 +247,47 @@ impl<'a, S: Shelf + Drop, R: Net, W: Write + Drop> Server<'a, S, R, W> {
     /// Hands in what happened since the last turn, and then takes one at a moment.
     fn turn_at(&mut self, now: u64) -> Result<Report, TurnFault>
         requires { now < END_OF_TIME }
-        ensures { EngineServesTurn now self.old self.new result }
+        ensures { EngineServesTurn now server_bounds self.old self.new result }
     {
         engines_go_on();
         a_turn_is_served_behind_losses();
         self.hand_in();
-        turn_through(
+        self.take_ready();
+        let bounds = TurnBounds {
+            most_open: MOST_OPEN,
+            most_accepts: MOST_ACCEPTED,
+        };
+        turn_over(
             &mut self.engine,
             &mut self.ends,
             self.alloc,
             now,
+            bounds,
+            &mut self.ready,
             &mut self.piece,
         )
+    }
+
+    /// Takes the ends that the turn is to read. While a record is written one end gives something in a turn, and none
+    /// where something is due.
+    fn take_ready(&mut self)
+        ensures { self.new ≡ self.old }
+    {
+        let most = if !self.ends.is_recording() {
+            MOST_READ
+        } else if self.ends.may_happen() {
+            1
+        } else {
+            0
+        };
+        self.ends.sockets.take_ready(most, &mut self.ready);
     }
 
     /// Whether the next turn has to wait, by what this one told.
     fn look_ahead(&mut self, reported: Result<Report, TurnFault>)
         ensures { self.new ≡ self.old }
     {
-        self.ends.sockets.note_turn(reported);
+        self.ends.sockets.note_turn(&self.ready, reported);
         look_ahead(&mut self.pace, &self.ends, reported);
     }
 
@@ -285,7 +313,7 @@ impl<'a, S: Shelf + Drop, R: Net, W: Write + Drop> Server<'a, S, R, W> {
         ensures { EngineTakesLosses self.old self.new }
     {
         a_turn_is_served_behind_losses();
-        for _ in 0..self.ends.sockets.lost_count() {
+        for _ in 0..self.ends.sockets.lost_of_a_turn() {
             if !self.ends.may_happen() {
                 return;
             }
@@ -295,172 +323,143 @@ impl<'a, S: Shelf + Drop, R: Net, W: Write + Drop> Server<'a, S, R, W> {
         }
     }
 
-    /// Hands in what is lost, whose time is over, and who gives way where places are short.
+    /// Hands in what is lost, whose time is over, and who is let go.
     fn hand_in(&mut self)
         ensures { EngineTakesLosses self.old self.new }
     {
         a_turn_is_served_behind_losses();
         self.hand_in_lost();
-        self.hand_in_overdue_ends();
-        self.make_room_for_waiting();
+        self.hand_in_overdue();
+        self.give_up_departed();
+        self.let_go();
     }
 
-    /// Whether the time of an end is over. That of a client between two requests is after a while.
+    /// Whether the time of an end is over.
     fn is_over(&mut self, end: End) -> bool
         ensures { self.new ≡ self.old }
     {
         match end {
             End::Listener => false,
-            End::Link(l) => self.ends.sockets.is_over(l),
+            End::Link(l) => self.engine.may_read(end) && self.ends.sockets.is_over(l),
             End::Client(n) => {
                 if self.engine.is_between_requests(n) {
-                    self.ends.sockets.is_idle(n)
-                } else {
+                    self.ends.sockets.is_silent(n)
+                } else if self.engine.may_read(end) {
                     self.ends.sockets.is_late(n)
+                } else {
+                    self.ends.sockets.has_left(n)
                 }
             }
         }
     }
 
-    /// Lets go of an end: the engine takes that it is lost. The stream of a client between two requests stays, and has
-    /// another number when its next request comes; any other is closed.
+    /// Drops the stream of an end whose time is over: the engine takes that it is lost, a link as timed out.
     fn release(&mut self, end: End)
         ensures loses { EndIsLost end FailKind.TimedOut self.old self.new }
         ensures on { EngineTakesLosses self.old self.new }
     {
-        match end {
-            End::Client(n) if self.engine.is_between_requests(n) => self
-                .ends
-                .sockets
-                .leave_place_to_wait(n),
-            _ => self.ends.sockets.forget(end),
-        }
+        self.ends.sockets.forget(end);
         self.disconnect(end, FailKind::TimedOut);
     }
 
-    /// Hands in the ends whose time is over: links as timed out, clients as gone.
-    fn hand_in_overdue_ends(&mut self)
-        ensures { EngineTakesLosses self.old self.new }
-    {
-        a_turn_is_served_behind_losses();
-        if !self.pace.sweeping {
-            return;
-        }
-        // Where there is no memory for the list, they are looked for again.
-        let Ok(reads) = self.engine.readable_ends(self.alloc) else {
-            return;
-        };
-        self.hand_in_overdue_readable(&reads);
-        self.hand_in_departed_clients(&reads);
-        self.note_overdue_handed_in();
-    }
-
-    /// All whose time was over were handed in, unless no more could be in this turn.
-    fn note_overdue_handed_in(&mut self)
+    /// The next end whose time may be over, if it can be handed in.
+    fn next_to_look_at(&mut self) -> Option<End>
         ensures { self.new ≡ self.old }
     {
-        self.pace.sweeping = !self.ends.may_happen();
+        if !self.pace.sweeping || !self.ends.may_happen() {
+            return None;
+        }
+        let end = self.ends.sockets.next_to_look_at();
+        self.pace.sweeping = end.is_some();
+        end
     }
 
-    /// Hands in those of the ends that may be read whose time is over.
-    fn hand_in_overdue_readable(&mut self, reads: &[End])
+    /// Hands in an end whose time is over: a link as timed out, a client as gone.
+    fn look_at(&mut self, end: End)
         ensures { EngineTakesLosses self.old self.new }
     {
         a_turn_is_served_behind_losses();
-        for end in reads {
-            if self.is_over(*end) {
-                if !self.ends.may_happen() {
-                    return;
-                }
-                self.release(*end);
-            }
+        if self.is_over(end) {
+            self.release(end);
+        } else {
+            self.ends.sockets.look_again_at(end);
         }
     }
 
-    /// Hands in the clients that have left for too long while they wait for their answers.
-    fn hand_in_departed_clients(&mut self, reads: &[End])
+    /// Looks at the ends whose times may be over, and hands in those of which one is.
+    fn hand_in_overdue(&mut self)
         ensures { EngineTakesLosses self.old self.new }
     {
         a_turn_is_served_behind_losses();
-        for _ in 0..MOST_OPEN {
-            if !self.ends.may_happen() {
+        for _ in 0..MOST_LOOKS {
+            let Some(end) = self.next_to_look_at() else {
                 return;
-            }
-            match self.ends.sockets.abandoned(reads, false) {
-                Some(n) => self.release(End::Client(n)),
-                None => return,
-            }
+            };
+            self.look_at(end);
         }
     }
 
-    /// Makes room where somebody waits for a place that isn't free: clients between two requests leave theirs, then
-    /// whoever has left, or else the one whose request has been incomplete for the longest, gives way.
-    fn make_room_for_waiting(&mut self)
-        ensures { EngineTakesLosses self.old self.new }
+    /// The next client that has sent its end, where links are short and it can be handed in.
+    fn next_departed(&mut self) -> Option<u64>
+        ensures { self.new ≡ self.old }
     {
-        a_turn_is_served_behind_losses();
-        if self.ends.sockets.waiting_count() == 0 {
-            return;
+        if !self.ends.may_happen() {
+            return None;
         }
-        // Where there is no memory for the list, it is tried again.
-        let Ok(reads) = self.engine.readable_ends(self.alloc) else {
-            return;
-        };
-        self.park_idle(&reads);
-        self.ends.sockets.sort_waiting();
-        self.give_way(&reads);
+        self.ends.sockets.next_departed()
     }
 
-    /// Clients between two requests leave their places for those that wait.
-    fn park_idle(&mut self, reads: &[End])
+    /// Gives up the answer of a client that has sent its end, if it waits for one.
+    fn give_up(&mut self, n: u64)
         ensures { EngineTakesLosses self.old self.new }
     {
         a_turn_is_served_behind_losses();
-        let mut crowd = self.ends.sockets.waiting_count();
-        for end in reads {
-            if crowd == 0 || !self.ends.may_happen() {
+        if self.engine.may_read(End::Client(n)) {
+            self.ends.sockets.look_later_at_departed(n);
+        } else {
+            self.release(End::Client(n));
+        }
+    }
+
+    /// Where links to an origin are short, the answers of clients that have sent their end are given up.
+    fn give_up_departed(&mut self)
+        ensures { EngineTakesLosses self.old self.new }
+    {
+        a_turn_is_served_behind_losses();
+        for _ in 0..MOST_LOOKS {
+            let Some(n) = self.next_departed() else {
                 return;
-            }
-            if self.may_park(*end) {
-                self.release(*end);
-                crowd -= 1;
-            }
+            };
+            self.give_up(n);
         }
     }
 
-    /// Whether an end is a client that may leave its place.
-    fn may_park(&self, end: End) -> bool {
-        match end {
-            End::Client(n) => self.ends.sockets.may_park(n) && self.engine.is_between_requests(n),
-            _ => false,
+    /// Closes the next client that is let go since no more connections are taken, if it can be handed in.
+    fn next_to_let_go(&mut self) -> Option<u64>
+        ensures { self.new ≡ self.old }
+    {
+        if !self.ends.may_happen() {
+            return None;
         }
+        let n = self.ends.sockets.next_to_let_go()?;
+        self.ends.sockets.close_idle(n);
+        Some(n)
     }
 
-    /// Who has left gives way, or else the one whose request has been incomplete for the longest.
-    fn give_way(&mut self, reads: &[End])
+    /// Once no more connections are taken, clients between two requests are let go.
+    fn let_go(&mut self)
         ensures { EngineTakesLosses self.old self.new }
     {
         a_turn_is_served_behind_losses();
-        for _ in 0..MOST_OPEN {
-            if self.ends.sockets.waiting_count() == 0 || !self.ends.may_happen() {
+        for _ in 0..MOST_LOOKS {
+            let Some(n) = self.next_to_let_go() else {
                 return;
-            }
-            match self.who_gives_way(reads) {
-                Some(n) => self.release(End::Client(n)),
-                None => return,
-            }
+            };
+            self.disconnect(End::Client(n), FailKind::Closed);
         }
     }
 
-    /// Who gives way where somebody waits for a place.
-    fn who_gives_way(&self, reads: &[End]) -> Option<u64> {
-        match self.ends.sockets.abandoned(reads, true) {
-            Some(n) => Some(n),
-            None => self.ends.sockets.slowest_request(reads),
-        }
-    }
-
-    /// No more connections are taken but those that wait now; who is idle is let go.
+    /// No more connections are taken but those that wait now; who is between two requests is let go.
     pub fn drain(&mut self)
         ensures { self.new ≡ self.old }
     {

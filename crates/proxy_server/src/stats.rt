@@ -4,7 +4,6 @@
 
 use crate::counted_shelf::StoreCounts;
 use crate::endings::Endings;
-use crate::limits::PLACES;
 use crate::links::Links;
 use crate::live_sockets::LiveSockets;
 use crate::origins::{FAILURE_KINDS, Origin, STATUS_CLASSES};
@@ -210,8 +209,7 @@ fn push_endings(page: &mut Page<'_>, endings: &Endings) -> Result<(), AllocError
         "Connections of clients that were closed early, but for time-outs.",
     )?;
     page.sample_with_label(name, "cause", "room", endings.for_room)?;
-    page.sample_with_label(name, "cause", "place", endings.for_place)?;
-    page.sample_with_label(name, "cause", "unsent-limit", endings.for_unsent)?;
+    page.sample_with_label(name, "cause", "content-limit", endings.for_content)?;
     page.sample_with_label(name, "cause", "memory", endings.for_memory)
 }
 
@@ -241,35 +239,22 @@ fn push_states<R: Net>(
     sockets: &LiveSockets<'_, R>,
 ) -> Result<(), AllocError> {
     let name = "revcache_connections";
-    let lines = &sockets.clients.lines;
-    let parked = lines.len_of(&[StreamQueue::Idle, StreamQueue::Taking]);
-    let waiting = lines.len_of(&[
-        StreamQueue::Fresh,
-        StreamQueue::Whole,
-        StreamQueue::Long,
-        StreamQueue::Partial,
-    ]);
-    let closing = lines.len_of(&[StreamQueue::Leaving, StreamQueue::Lingering]);
+    let queues = &sockets.clients.queues;
+    let closing = queues
+        .len(StreamQueue::Leaving)
+        .saturating_add(queues.len(StreamQueue::Lingering));
     page.family(
         name,
         Kind::Gauge,
         "Connections of clients that are open, by what they do.",
     )?;
     page.sample_with_label(name, "state", "open", sockets.clients.open_count() as u64)?;
-    page.sample_with_label(name, "state", "parked", parked as u64)?;
-    page.sample_with_label(name, "state", "waiting", waiting as u64)?;
     page.sample_with_label(name, "state", "closing", closing as u64)?;
     page.single_sample_family(
         "revcache_connections_limit",
         Kind::Gauge,
         "The most connections of clients that are open.",
         sockets.limits.connections as u64,
-    )?;
-    page.single_sample_family(
-        "revcache_places_limit",
-        Kind::Gauge,
-        "The most connections of clients with a request in progress.",
-        PLACES as u64,
     )
 }
 
@@ -305,7 +290,8 @@ fn push_accept_counts<R: Net>(
 
 /// Bytes of clients.
 fn push_bytes<R: Net>(page: &mut Page<'_>, sockets: &LiveSockets<'_, R>) -> Result<(), AllocError> {
-    let (received, written) = sockets.clients.bytes();
+    let received = sockets.clients.endings.received;
+    let written = sockets.clients.endings.written;
     page.single_sample_family(
         "revcache_client_received_bytes_total",
         Kind::Counter,
@@ -324,11 +310,18 @@ fn push_bytes<R: Net>(page: &mut Page<'_>, sockets: &LiveSockets<'_, R>) -> Resu
         "Bytes of replies that wait for clients.",
         sockets.clients.unsent() as u64,
     )?;
+    let held = sockets.clients.held().saturating_add(sockets.links.held());
     page.single_sample_family(
-        "revcache_client_unsent_limit_bytes",
+        "revcache_content_bytes",
         Kind::Gauge,
-        "The most bytes of replies that wait for clients.",
-        sockets.limits.unsent as u64,
+        "Bytes of requests and answers in progress, and of replies that wait for clients.",
+        held as u64,
+    )?;
+    page.single_sample_family(
+        "revcache_content_limit_bytes",
+        Kind::Gauge,
+        "The most bytes of requests and answers in progress, and of replies that wait for clients.",
+        sockets.limits.content as u64,
     )
 }
 
@@ -352,12 +345,12 @@ enum Count {
     Sent,
 }
 
-fn count_of(links: &Links, place: usize, origin: &Origin, count: Count) -> u64 {
+fn count_of(origin: &Origin, count: Count) -> u64 {
     match count {
         Count::Begun => origin.begun,
         Count::Open => origin.open,
-        Count::Received => origin.received.saturating_add(links.open_bytes(place).0),
-        Count::Sent => origin.written.saturating_add(links.open_bytes(place).1),
+        Count::Received => origin.received,
+        Count::Sent => origin.written,
     }
 }
 
@@ -370,15 +363,8 @@ fn push_count(
     count: Count,
 ) -> Result<(), AllocError> {
     page.family(name, kind, help)?;
-    let origins = links.origins.as_slice();
-    for i in 0..origins.len() {
-        let origin = &origins[i];
-        page.sample_with_label(
-            name,
-            "origin",
-            origin.name(),
-            count_of(links, i, origin, count),
-        )?;
+    for origin in links.origins.as_slice() {
+        page.sample_with_label(name, "origin", origin.name(), count_of(origin, count))?;
     }
     Ok(())
 }
@@ -411,6 +397,31 @@ fn push_failures(page: &mut Page<'_>, links: &Links) -> Result<(), AllocError> {
             let kind = ("kind", FAILURE_KINDS[i]);
             page.sample_with_two_labels(name, ("origin", origin.name()), kind, origin.failures[i])?;
         }
+    }
+    Ok(())
+}
+
+/// Connects to an origin that were refused at once, and whether it is silent.
+fn push_refused_connects(page: &mut Page<'_>, links: &Links) -> Result<(), AllocError> {
+    let name = "revcache_origin_connections_refused_total";
+    page.family(
+        name,
+        Kind::Counter,
+        "Connections to an origin that were refused at once, by cause.",
+    )?;
+    for origin in links.origins.as_slice() {
+        let whose = ("origin", origin.name());
+        page.sample_with_two_labels(name, whose, ("cause", "limit"), origin.beyond_bound)?;
+        page.sample_with_two_labels(name, whose, ("cause", "silent"), origin.while_silent)?;
+    }
+    let name = "revcache_origin_silent";
+    page.family(
+        name,
+        Kind::Gauge,
+        "Whether an origin is asked by one request at a time, since it doesn't answer.",
+    )?;
+    for origin in links.origins.as_slice() {
+        page.sample_with_label(name, "origin", origin.name(), u64::from(origin.is_silent()))?;
     }
     Ok(())
 }
@@ -449,6 +460,7 @@ fn push_origins(page: &mut Page<'_>, links: &Links) -> Result<(), AllocError> {
     )?;
     push_answers(page, links)?;
     push_failures(page, links)?;
+    push_refused_connects(page, links)?;
     push_exchange_times(page, links)?;
     let name = "revcache_origin_received_bytes_total";
     let help = "Bytes that were read from an origin.";

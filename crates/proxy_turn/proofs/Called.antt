@@ -1,12 +1,13 @@
 -- Calls, one after another.
-use Rattle.std.proofs.Common.{◌≡◌, List, [], ◌∷◌, ◌++◌, sym, ap, ◌∙◌}
+use Rattle.std.proofs.Common.{◌≡◌, ◌+◌, List, [], ◌∷◌, ◌++◌, length, sym, ap, ◌∙◌}
 use Rattle.std.proofs.lemmas.List.{append-nil, append_assoc, map-append}
 use Rattle.proxy_script.specs.declared.effect_list.Effect.{Effect}
 use Rattle.proxy_engine.specs.EngineModel.{EngineModel}
 use Rattle.proxy_engine.specs.declared.work.End.{End}
 use Rattle.proxy_turn.specs.Calls as call
-use Rattle.proxy_turn.specs.Calls.{Call}
-use Rattle.proxy_turn.specs.Turn.{EndRead, EffectFate, EffectsAreCarriedOut, ActRound, AcceptCall, calls_of_accept, calls_of_reads, calls_of_effect, calls_of_effects, calls_of_rounds, calls_of_turn}
+use Rattle.proxy_turn.specs.Calls.{Call, AcceptOutcome}
+use Rattle.proxy_turn.specs.Over.{calls_of_accepts, calls_of_turn_over}
+use Rattle.proxy_turn.specs.Turn.{EndRead, EffectFate, EffectsAreCarriedOut, ActRound, calls_of_reads, calls_of_effect, calls_of_effects, calls_of_rounds}
 
 -- what was called, and then what was called behind it
 abbrev pub Joins : (List Call → Type 0) → (List Call → Type 0) → (List Call → Type 0) → Type 0
@@ -28,9 +29,9 @@ worked_one_more (x ∷ rs) r =
     ap (λ (xs : List Call). calls_of_effects x.emitted x.fates ++ xs) (worked_one_more rs r) ∙ sym (append_assoc (calls_of_effects x.emitted x.fates) (calls_of_rounds rs) (calls_of_effects r.emitted r.fates))
 
 -- nothing was read or done
-pub asked_alone : (s : EngineModel) (asked : AcceptCall) → calls_of_accept s asked ≡ calls_of_turn s asked [] []
-asked_alone s asked = sym (append-nil (calls_of_accept s asked))
+pub accepted_alone : (s : EngineModel) (accepts : List AcceptOutcome) → calls_of_accepts (length s.connections + 1) accepts ≡ calls_of_turn_over s accepts [] []
+accepted_alone s accepts = sym (append-nil (calls_of_accepts (length s.connections + 1) accepts))
 
 -- nothing was done
-pub asked_read : (s : EngineModel) (asked : AcceptCall) (reads : List EndRead) → calls_of_accept s asked ++ calls_of_reads reads ≡ calls_of_turn s asked reads []
-asked_read s asked reads = ap (λ (xs : List Call). calls_of_accept s asked ++ xs) (sym (append-nil (calls_of_reads reads)))
+pub accepted_read : (s : EngineModel) (accepts : List AcceptOutcome) (reads : List EndRead) → calls_of_accepts (length s.connections + 1) accepts ++ calls_of_reads reads ≡ calls_of_turn_over s accepts reads []
+accepted_read s accepts reads = ap (λ (xs : List Call). calls_of_accepts (length s.connections + 1) accepts ++ xs) (sym (append-nil (calls_of_reads reads)))

@@ -1,5 +1,5 @@
 -- Counts that rise one after another.
-use Rattle.std.proofs.Common.{◌≡◌, ℕ, ◌+◌, refl, arith, Result, Ok, Err, OnErr}
+use Rattle.std.proofs.Common.{◌≡◌, ℕ, ◌+◌, refl, subst, arith, Result, Ok, Err, OnErr}
 use Rattle.proxy_turn.specs.Counts.{CountRisesBy, Calls, calls, CountsRiseBy}
 
 pub rise_none : (a b : ℕ) → b ≡ a → CountRisesBy a b 0
@@ -31,3 +31,11 @@ raises_failed accepts reads failures more_accepts more_reads more_failures k sam
 pub on_err : {A E : Type 0} {P : Type 0} (r : Result A E) → P → OnErr r P
 on_err (Ok x) p = tt
 on_err (Err e) p = p
+
+-- under other names for the same
+pub raises_same : (a b : Calls) (i j k x y z : ℕ) → i ≡ x → j ≡ y → k ≡ z → CountsRiseBy a b i j k → CountsRiseBy a b x y z
+raises_same a b i j k x y z e f h raises = subst (λ n. CountsRiseBy a b n y z) e (subst (λ n. CountsRiseBy a b i n z) f (subst (λ n. CountsRiseBy a b i j n) h raises))
+
+pub raises_asked : (accepts reads failures more_accepts more_reads more_failures k : ℕ) → CountRisesBy accepts more_accepts 1 → more_reads ≡ reads → CountRisesBy failures more_failures k → CountsRiseBy (calls accepts reads failures) (calls more_accepts more_reads more_failures) 1 0 k
+raises_asked accepts reads failures more_accepts more_reads more_failures k asked same_reads rise =
+    record { asked = asked; read = rise_none reads more_reads same_reads; failed = rise }

@@ -5,7 +5,6 @@ use Rattle.std.proofs.lemmas.List.{map-append, length-append, length-map, append
 use Rattle.hx_status.specs.declared.cause.FailKind.{FailKind}
 use Rattle.proxy_engine.specs.EngineModel.{EngineModel}
 use Rattle.proxy_engine.specs.Orderly.{HappeningKeepsEnded}
-use Rattle.proxy_engine.specs.Reading.{readable_ends_of}
 use Rattle.proxy_engine.specs.Room.{ConnectionHasSpare, LinkHasSpare, NextHappeningFindsMemory}
 use Rattle.proxy_engine.specs.State.{State, EngineRepresents}
 use Rattle.proxy_engine.specs.declared.endpoints.ends.Connection.{Connection}
@@ -16,9 +15,9 @@ use Rattle.proxy_turn.specs.Calls as call
 use Rattle.proxy_turn.specs.Calls.{Call}
 use Rattle.proxy_turn.specs.Counts.{Calls, CountsRiseBy}
 use Rattle.proxy_turn.specs.Turn.{happening_of_bytes, happening_of_end, happening_of_loss, count_of_failed_read, EndRead, ends_of_reads, count_of_failed_reads, calls_of_reads}
-use Rattle.proxy_turn.specs.Parts.{HappeningIfAnyFindsMemory, EndWasNumbered, EndsWereNumbered, OneEndIsRead, NoEndIsRead, SomeEndsAreRead, AllEndsAreRead}
+use Rattle.proxy_turn.specs.Parts.{HappeningIfAnyFindsMemory, EndWasNumbered, EndsWereNumbered, OneEndIsRead, NoEndIsRead, SomeEndsAreRead}
+use Rattle.proxy_turn.specs.OverParts.{ListedEndsAreRead}
 use Rattle.proxy_turn.specs.declared.report.TurnFault.{TurnFault}
-use Rattle.proxy_turn.specs.declared.report.TurnFault.TheVariants.{NoMemory}
 use Rattle.proxy_turn.proofs.Called.{Joins, read_more}
 use Rattle.proxy_turn.proofs.Counting.{raises_none, raises_on}
 use Rattle.proxy_turn.proofs.There.{all_there_later, there_at}
@@ -97,28 +96,25 @@ so_far_more s es i end e new did then all a b c faults count is l done one join 
 pub so_far_later : (stay : HappeningKeepsEnded) (s : EngineModel) (es : List End) (i : ℕ) (end : End) (e : State) (did : List Call → Type 0) (a b : Calls) (faults : ℕ) → end ≡ get_or es i end → i < length es → EndsWereNumbered s es → (done : SoFar s (take i es) e did a b faults) → EndWasNumbered done.some.last end
 so_far_later stay s es i end e did a b faults is l there done = read_later stay s es done.reads i end e did a b is l there done.some
 
-pub read_whole : (s : EngineModel) (es : List End) (n : ℕ) (e : State) (did : List Call → Type 0) (a b : Calls) (faults : ℕ) (counts : ℕ × ℕ) → es ≡ readable_ends_of s → length es ≤ n → SoFar s (take n es) e did a b faults → counts.0 ≡ length es → counts.1 ≡ faults → AllEndsAreRead s e did a b (Ok counts)
-read_whole s es n e did a b faults counts is l done number more =
+pub read_whole : (s : EngineModel) (es : List End) (n : ℕ) (e : State) (did : List Call → Type 0) (a b : Calls) (faults : ℕ) (counts : ℕ × ℕ) → length es ≤ n → SoFar s (take n es) e did a b faults → counts.0 ≡ length es → counts.1 ≡ faults → ListedEndsAreRead s es e did a b (Ok counts)
+read_whole s es n e did a b faults counts l done number more =
     let all = done.ends ∙ take_all n es l in
     record {
       reads = done.reads;
       rest = [];
-      ends = append-nil (ends_of_reads done.reads) ∙ (all ∙ is);
+      ends = append-nil (ends_of_reads done.reads) ∙ all;
       some = done.some;
       reports = (refl, number ∙ (sym (ap length all) ∙ length-map done.reads (λ (x : EndRead). x.end)), more ∙ done.counted);
     }
 
-pub read_partly : (s : EngineModel) (es : List End) (i : ℕ) (e new : State) (did then all : List Call → Type 0) (a b c : Calls) (faults : ℕ) (fault : TurnFault) → es ≡ readable_ends_of s → (done : SoFar s (take i es) e did a b faults) → NoEndIsRead done.some.last new then b c fault → Joins did then all → AllEndsAreRead s new all a c (Err fault)
-read_partly s es i e new did then all a b c faults fault is done none join = record {
+pub read_partly : (s : EngineModel) (es : List End) (i : ℕ) (e new : State) (did then all : List Call → Type 0) (a b c : Calls) (faults : ℕ) (fault : TurnFault) → (done : SoFar s (take i es) e did a b faults) → NoEndIsRead done.some.last new then b c fault → Joins did then all → ListedEndsAreRead s es new all a c (Err fault)
+read_partly s es i e new did then all a b c faults fault done none join = record {
   reads = done.reads;
   rest = drop i es;
-  ends = ap (λ (xs : List End). xs ++ drop i es) done.ends ∙ (take-append-drop i es ∙ is);
+  ends = ap (λ (xs : List End). xs ++ drop i es) done.ends ∙ take-append-drop i es;
   some = record { last = done.some.last; are = done.some.are; represents = none.represents; calls = subst all (append-nil (calls_of_reads done.reads)) (join (calls_of_reads done.reads) [] done.some.calls none.calls); raises = subst (λ (x : Calls). CountsRiseBy a x 0 (length done.reads) (count_of_failed_reads done.reads)) none.same done.some.raises };
   reports = none.fault_is;
 }
-
-pub read_not : (s : EngineModel) (e : State) (did : List Call → Type 0) (here : Calls) (fault : TurnFault) → fault ≡ NoMemory → EngineRepresents e s → did [] → AllEndsAreRead s e did here here (Err fault)
-read_not s e did here fault is represents none = record { reads = []; rest = readable_ends_of s; ends = refl; some = reads_none s e did here represents none; reports = is }
 
 -- an element is itself at its place
 pub read_at : {A : Type 0} (d : A) (xs : List A) (i : ℕ) → i < length xs → get_or xs i d ≡ get_or xs i (get_or xs i d)

@@ -1,8 +1,11 @@
+mod Accepting
 mod Called
 mod Carrying
 mod Counting
 mod Hearing
 mod Listening
+mod OneAccept
+mod Refusing
 mod Serving
 mod Stepping
 mod There

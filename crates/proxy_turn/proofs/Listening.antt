@@ -1,13 +1,22 @@
 -- The listener: when it is asked, and what it gives is taken.
-use Rattle.std.proofs.Common.{◌≡◌, rules, inl, inr, ℕ, suc, ◌+◌, ◌<◌, ◌^◌, ◌==◌, nat_lt, List, [], ◌∷◌, length, refl, sym, ap, ◌∙◌, arith, Bool, true, false, cond, ◌&&◌, Option, None, Some, is_some}
+use Rattle.std.proofs.Common.{◌≡◌, rules, inl, inr, ℕ, suc, ◌+◌, ◌<◌, ◌^◌, ◌==◌, nat_lt, List, [], ◌∷◌, ◌++◌, length, refl, sym, ap, ◌∙◌, subst, arith, Bool, true, false, cond, ◌&&◌, Option, None, Some, is_some, Result}
+use Rattle.std.proofs.lemmas.List.{append-nil}
 use Rattle.proxy_engine.specs.Happenings.{Accepts}
 use Rattle.proxy_engine.specs.EngineModel.{EngineModel, happening_fault}
 use Rattle.proxy_engine.specs.State.{State, RelatesLists, EngineRepresents}
 use Rattle.proxy_engine.specs.Reading.{open_connection_count, next_connection_number}
 use Rattle.proxy_engine.specs.Room.{NextHappeningFindsMemory, HappeningFindsMemory}
 use Rattle.proxy_engine.specs.declared.work.EngineFault.TheVariants.{WrongNumber}
+use Rattle.proxy_engine.specs.declared.work.End.{End}
 use Rattle.proxy_engine.specs.declared.work.End.TheVariants as ends
-use Rattle.proxy_turn.specs.Turn.{asks_for_connection}
+use Rattle.proxy_turn.specs.Calls as call
+use Rattle.proxy_turn.specs.Calls.{Call, AcceptOutcome}
+use Rattle.proxy_turn.specs.Counts.{Calls, CountsRiseBy}
+use Rattle.proxy_turn.specs.Turn.{HappeningIfAnyIsTaken}
+use Rattle.proxy_turn.specs.Over.{asks_while_fewer, happening_of_answer, ends_of_answer, count_of_failed_answer}
+use Rattle.proxy_turn.specs.OverParts.{OneAnswerReports, ListenerIsAsked}
+use Rattle.proxy_turn.specs.declared.report.TurnFault.{TurnFault}
+use Rattle.proxy_turn.proofs.Counting.{raises_none, raises_same}
 
 both_long : {A B : Type 0} (R : A → B → Type 0) (xs : List A) (ys : List B) → RelatesLists R xs ys → length xs ≡ length ys
 both_long R [] [] h = refl
@@ -41,14 +50,53 @@ pub accept_found : (e : State) (s : EngineModel) (n : ℕ) → EngineRepresents 
 accept_found e s n represents (inl room) left = room
 accept_found e s n represents (inr full) left = let long = both_long _ e.connections s.connections represents.connections in absurd (omega (arith, full, left, long))
 
--- it is asked
-pub does_ask : (s : EngineModel) (o : Option ℕ) (n count : ℕ) → o ≡ next_connection_number s → o ≡ Some n → count ≡ open_connection_count s → count < 256 → asks_for_connection s ≡ true
-does_ask s o n count is some counted few =
-    both (nat_lt (open_connection_count s) 256) (is_some (next_connection_number s)) (less (open_connection_count s) 256 (omega (arith, counted, few))) (ap (λ (x : Option ℕ). is_some x) (sym is ∙ some))
-  where
-    less : (a b : ℕ) → a < b → nat_lt a b ≡ true
-    less a b l = search (arith, l)
+both : (a b : Bool) → a ≡ true → b ≡ true → a && b ≡ true
+both true b e f = f
+both false b e f = absurd cc
 
-    both : (a b : Bool) → a ≡ true → b ≡ true → a && b ≡ true
-    both true b e f = f
-    both false b e f = absurd cc
+not_both : (a b : Bool) → a ≡ false → a && b ≡ false
+not_both true b e = absurd cc
+not_both false b e = refl
+
+not_second : (a b : Bool) → b ≡ false → a && b ≡ false
+not_second true b e = e
+not_second false b e = refl
+
+-- it may be asked
+pub does_ask : (most : ℕ) (s : EngineModel) (o : Option ℕ) (n : ℕ) → o ≡ next_connection_number s → o ≡ Some n → nat_lt (open_connection_count s) most ≡ true → asks_while_fewer most s ≡ true
+does_ask most s o n is some fewer = both (nat_lt (open_connection_count s) most) (is_some (next_connection_number s)) fewer (ap (λ (x : Option ℕ). is_some x) (sym is ∙ some))
+
+-- it may not: as many are open as may be, or no number is left
+pub not_fewer : (most : ℕ) (s : EngineModel) → nat_lt (open_connection_count s) most ≡ false → asks_while_fewer most s ≡ false
+not_fewer most s full = not_both (nat_lt (open_connection_count s) most) (is_some (next_connection_number s)) full
+
+pub none_left : (most : ℕ) (s : EngineModel) (o : Option ℕ) → o ≡ next_connection_number s → o ≡ None → asks_while_fewer most s ≡ false
+none_left most s o is none = not_second (nat_lt (open_connection_count s) most) (is_some (next_connection_number s)) (ap (λ (x : Option ℕ). is_some x) (sym is ∙ none))
+
+-- ---- what asking it gives
+
+-- nothing was called
+pub not_asked : (most : ℕ) (s : EngineModel) (given : List End) (e : State) (more : List End) (did : List Call → Type 0) (here : Calls) (result : Result Bool TurnFault) → EngineRepresents e s → more ≡ given → did [] → OneAnswerReports most s [] result → ListenerIsAsked most s given e more did here here result
+not_asked most s given e more did here result represents same none reports = record {
+  asked = [];
+  begun = s;
+  takes = refl;
+  represents = represents;
+  listed = same ∙ sym (append-nil given);
+  reports = reports;
+  calls = none;
+  raises = raises_none here;
+}
+
+-- it was called once
+pub asked_once : (most : ℕ) (s : EngineModel) (given : List End) (e : State) (more : List End) (did : List Call → Type 0) (a b : Calls) (result : Result Bool TurnFault) (answer : AcceptOutcome) (n : ℕ) (begun : EngineModel) → n ≡ length s.connections + 1 → asks_while_fewer most s ≡ true → HappeningIfAnyIsTaken s (happening_of_answer n answer) begun → EngineRepresents e begun → more ≡ given ++ ends_of_answer n answer → did (call.Accept n answer ∷ []) → CountsRiseBy a b 1 0 (count_of_failed_answer answer) → OneAnswerReports most s (answer ∷ []) result → ListenerIsAsked most s given e more did a b result
+asked_once most s given e more did a b result answer n begun is asks takes represents same called raises reports = record {
+  asked = answer ∷ [];
+  begun = begun;
+  takes = (begun, asks, subst (λ (m : ℕ). HappeningIfAnyIsTaken s (happening_of_answer m answer) begun) is takes, inr refl, refl);
+  represents = represents;
+  listed = same ∙ ap (λ (es : List End). given ++ es) (ap (λ (m : ℕ). ends_of_answer m answer) is ∙ sym (append-nil (ends_of_answer (length s.connections + 1) answer)));
+  reports = reports;
+  calls = subst (λ (m : ℕ). did (call.Accept m answer ∷ [])) is called;
+  raises = raises_same a b 1 0 (count_of_failed_answer answer) 1 0 (0 + count_of_failed_answer answer) refl refl (omega arith) raises;
+}

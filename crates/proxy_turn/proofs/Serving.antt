@@ -20,7 +20,8 @@ use Rattle.proxy_engine.specs.Acts.{ActIsDone, CoreIsStepped, RequestIsRefused, 
 use Rattle.proxy_engine.specs.Orderly.{ModelIsOrderly, NewModelIsOrderly, HappeningKeepsOrder, ActKeepsOrder}
 use Rattle.proxy_engine.specs.Executions.{ExecutionStep, Took, Worked, StepsLead, ExecutionsAreRuns}
 use Rattle.proxy_engine.specs.State.{State, EngineRepresents, new_engine_model}
-use Rattle.proxy_turn.specs.TurnSteps.{TurnStepsAreExecuted}
+use Rattle.proxy_turn.specs.OverSteps.{TurnOverStepsAreExecuted}
+use Rattle.proxy_turn.specs.declared.bounds.TurnBounds.{TurnBounds}
 use Rattle.proxy_turn.specs.declared.report.Report.{Report}
 use Rattle.proxy_turn.specs.declared.report.TurnFault.{TurnFault}
 use Rattle.proxy_turn.specs.Served.{initial_model_of, EngineExecuted, steps_of_taking, IsLostEnd, TurnIsServedBehindLosses, steps_of_served_turn, NoLossIsALossList, OneLossIsTaken, LossesAreTakenTransitively, EngineGoesOnByLosses, TurnIsServedByLossesAndTurn, NewEngineIsReachable, EngineGoesOnByNothing, EngineGoesOnTransitively, EngineGoesOnByHappening, EngineGoesOnByTurn, ReachableEngineStaysReachable, ReachableEngineIsServing, TurnExecutesItsSteps, ExecutedEngineIsServing, EngineKeepsItsTable}
@@ -149,13 +150,15 @@ executes_orderly takes acts s (Took said ∷ past) t h executes = subst ModelIsO
 executes_orderly takes acts s (Worked now act emitted ∷ past) t h executes = (acts executes.0 now act emitted t (executes_orderly takes acts s past executes.0 h executes.1) executes.2.0 executes.2.1).0
 
 pub turns_are_served : HappeningKeepsOrder → ActKeepsOrder → TurnIsServedByLossesAndTurn
-turns_are_served takes acts e mid new now before after emitted loses turns s represents orderly =
+turns_are_served takes acts e mid new now bounds given left before after emitted loses turns s represents orderly =
     let losses = loses s represents in
     record {
       lost = losses.lost;
       are_losses = losses.are_losses;
       mid = losses.after;
       takes = losses.takes;
+      given = given;
+      left = left;
       before = before;
       after = after;
       turn = turns losses.after losses.represents (executes_orderly takes acts s (steps_of_taking losses.lost []) losses.after orderly losses.takes);
@@ -185,21 +188,21 @@ takes_go_on e new h taken s represents orderly =
     let took = taken s represents in
     record { steps = Took h ∷ []; last = model_after_happening s h; executes = (s, refl, (took.free, refl)); represents = took.represents }
 
-module _ (executed : TurnStepsAreExecuted) where
+module _ (executed : TurnOverStepsAreExecuted) where
   -- behind what was lived before it
-  served_executes : (begin : EngineModel) (past : List ExecutionStep) (e new : State) (s : EngineModel) (now : ℕ) (emitted : Result Report TurnFault) → StepsLead begin past s → (served : TurnIsServedBehindLosses now s new emitted) → StepsLead begin (steps_of_served_turn served past) served.turn.last
-  served_executes begin past e new s now emitted before served =
+  served_executes : (begin : EngineModel) (past : List ExecutionStep) (e new : State) (s : EngineModel) (now : ℕ) (bounds : TurnBounds) (emitted : Result Report TurnFault) → StepsLead begin past s → (served : TurnIsServedBehindLosses now bounds s new emitted) → StepsLead begin (steps_of_served_turn served past) served.turn.last
+  served_executes begin past e new s now bounds emitted before served =
       let turn = served.turn in
-      executed begin (steps_of_taking served.lost past) now served.mid turn.asked turn.reads turn.rest turn.rounds turn.last (takes_live served.lost begin past s served.mid before served.takes) turn.turn
+      executed begin (steps_of_taking served.lost past) now bounds served.mid served.given turn.accepts turn.reads turn.rest turn.rounds turn.last (takes_live served.lost begin past s served.mid before served.takes) turn.turn
 
   pub turns_go_on : EngineGoesOnByTurn
-  turns_go_on e new now emitted serves s represents orderly =
+  turns_go_on e new now bounds emitted serves s represents orderly =
       let served = serves s represents orderly in
-      record { steps = steps_of_served_turn served []; last = served.turn.last; executes = served_executes s [] e new s now emitted refl served; represents = served.turn.represents }
+      record { steps = steps_of_served_turn served []; last = served.turn.last; executes = served_executes s [] e new s now bounds emitted refl served; represents = served.turn.represents }
 
   pub turns_live_on : TurnExecutesItsSteps
-  turns_live_on e new first link steps s now emitted before served =
-      let whole = served_executes (initial_model_of e first link) steps e new s now emitted before.executes served in
+  turns_live_on e new first link steps s now bounds emitted before served =
+      let whole = served_executes (initial_model_of e first link) steps e new s now bounds emitted before.executes served in
       record { executes = subst (λ (table : Table). StepsLead (new_engine_model (core_begun table table.capacity first) link) (steps_of_served_turn served steps) served.turn.last) (same_table e new first link (steps_of_served_turn served steps) served.turn.last whole served.turn.represents) whole; represents = served.turn.represents }
 
 module _ (takes : HappeningKeepsOrder) (acts : ActKeepsOrder) where

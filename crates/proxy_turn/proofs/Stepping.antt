@@ -1,5 +1,5 @@
 -- A turn is lived by its steps, behind what was lived before it.
-use Rattle.std.proofs.Common.{◌≡◌, ℕ, List, [], ◌∷◌, ◌++◌, refl, sym, ap, ◌∙◌, subst, append_assoc, append-nil, Option, None, Some}
+use Rattle.std.proofs.Common.{◌≡◌, inl, inr, ℕ, ◌+◌, List, [], ◌∷◌, ◌++◌, length, refl, sym, ap, ◌∙◌, subst, append_assoc, append-nil, Option, None, Some, ◌⊎◌}
 use Rattle.proxy_script.specs.declared.effect_list.Effect.{Effect}
 use Rattle.proxy_engine.specs.Happenings.{PlainHappening}
 use Rattle.proxy_engine.specs.EngineModel.{EngineModel}
@@ -7,6 +7,10 @@ use Rattle.proxy_engine.specs.Executions.{ExecutionStep, Worked, StepsLead, effe
 use Rattle.proxy_engine.specs.Reading.{failed_links}
 use Rattle.proxy_engine.specs.declared.work.End.{End}
 use Rattle.proxy_turn.specs.Turn.{HappeningIfAnyIsTaken, happening_of_accept, happening_of_read, EndRead, ReadsAreTaken, happening_of_loss, end_of_effect, EffectFate, Carried, Passed, Lost, EffectsAreCarriedOut, ActRound, ActsAreCarriedOut}
+use Rattle.proxy_turn.specs.Calls.{AcceptOutcome, Came}
+use Rattle.proxy_turn.specs.Over.{happening_of_answer, AcceptsAreTaken}
+use Rattle.proxy_turn.specs.OverSteps.{steps_of_accepts, TurnOverStepsAreExecuted, TurnOverStepsEmitTheirEffects}
+use Rattle.proxy_turn.proofs.Accepting.{one_long}
 use Rattle.proxy_turn.specs.TurnSteps.{step_of_happening_if_any, steps_of_reads, steps_of_losses, steps_of_rounds, effects_of_rounds, TurnStepsAreExecuted, TurnStepsEmitTheirEffects}
 
 -- ---- behind what was lived
@@ -42,11 +46,30 @@ module _ (begin : EngineModel) where
       works_executed rs now (steps_of_losses r.emitted r.fates (Worked now r.act r.emitted ∷ past)) w.1 w.2 t more
       (carries_executed r.emitted r.fates (Worked now r.act r.emitted ∷ past) w.0 gone w.1 w.2 (s, executed, (w.3, w.4)) w.5) w.6
 
+  accepts_executed : (most : ℕ) (xs : List AcceptOutcome) (past : List ExecutionStep) (s t : EngineModel) → StepsLead begin past s → AcceptsAreTaken most s xs t → StepsLead begin (steps_of_accepts (length s.connections + 1) xs past) t
+  accepts_executed most [] past s t executed here = subst (StepsLead begin past) (sym here) executed
+  accepts_executed most (a ∷ []) past s t executed before =
+      subst (StepsLead begin (step_of_happening_if_any (happening_of_answer (length s.connections + 1) a) past)) (sym before.4) (if_executed past s (happening_of_answer (length s.connections + 1) a) before.0 executed before.2)
+  accepts_executed most (a ∷ b ∷ more) past s t executed before =
+      let here = step_of_happening_if_any (happening_of_answer (length s.connections + 1) a) past in
+      subst (λ (n : ℕ). StepsLead begin (steps_of_accepts (n + 1) (b ∷ more) here) t) (one_long s a before.0 (came before.3) before.2)
+      (accepts_executed most (b ∷ more) here before.0 t (if_executed past s (happening_of_answer (length s.connections + 1) a) before.0 executed before.2) before.4)
+    where
+      came : (a ≡ Came) ⊎ (b ∷ more ≡ []) → a ≡ Came
+      came (inl is) = is
+      came (inr none) = absurd cc
+
 pub turns_are_executed : TurnStepsAreExecuted
 turns_are_executed begin past now s asked reads rest rounds t executed turn =
     let began = step_of_happening_if_any (happening_of_accept s asked) past in
     works_executed begin rounds now (steps_of_reads reads began) turn.read (failed_links turn.read) t turn.gone
     (reads_executed begin reads began turn.begun turn.read (if_executed begin past s (happening_of_accept s asked) turn.begun executed turn.accepts) turn.reads_are) turn.works
+
+pub turns_over_are_executed : TurnOverStepsAreExecuted
+turns_over_are_executed begin past now bounds s given accepts reads rest rounds t executed turn =
+    let began = steps_of_accepts (length s.connections + 1) accepts past in
+    works_executed begin rounds now (steps_of_reads reads began) turn.read (failed_links turn.read) t turn.gone
+    (reads_executed begin reads began turn.begun turn.read (accepts_executed begin bounds.most_open accepts past s turn.begun executed turn.accepts_are) turn.reads_are) turn.works
 
 -- ---- what its steps tell
 
@@ -77,3 +100,13 @@ turns_emit past now s asked reads rounds =
     let began = step_of_happening_if_any (happening_of_accept s asked) past in
     emitted_by_rounds rounds now (steps_of_reads reads began)
     ∙ ap (λ (emitted : List Effect). emitted ++ effects_of_rounds rounds) (emitted_by_reads reads began ∙ emitted_if (happening_of_accept s asked) past)
+
+emitted_by_accepts : (xs : List AcceptOutcome) (n : ℕ) (past : List ExecutionStep) → effects_of_steps (steps_of_accepts n xs past) ≡ effects_of_steps past
+emitted_by_accepts [] n past = refl
+emitted_by_accepts (a ∷ xs) n past = emitted_by_accepts xs (n + 1) (step_of_happening_if_any (happening_of_answer n a) past) ∙ emitted_if (happening_of_answer n a) past
+
+pub turns_over_emit : TurnOverStepsEmitTheirEffects
+turns_over_emit past now s accepts reads rounds =
+    let began = steps_of_accepts (length s.connections + 1) accepts past in
+    emitted_by_rounds rounds now (steps_of_reads reads began)
+    ∙ ap (λ (emitted : List Effect). emitted ++ effects_of_rounds rounds) (emitted_by_reads reads began ∙ emitted_by_accepts accepts (length s.connections + 1) past)

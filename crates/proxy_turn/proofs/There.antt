@@ -13,12 +13,11 @@ use Rattle.proxy_core.specs.declared.event.Event.TheVariants as events
 use Rattle.proxy_script.specs.declared.effect_list.Effect.{Effect}
 use Rattle.proxy_script.specs.declared.effect_list.Effect.TheVariants as effects
 use Rattle.proxy_engine.specs.Admitted.{Refusal}
-use Rattle.proxy_engine.specs.EngineModel.{EngineModel, ConnectionModel, LinkModel, no_connection, no_link, new_link_model, connection_at, link_at, with_connection, with_core, connection_fault, link_fault, keeps_answer}
+use Rattle.proxy_engine.specs.EngineModel.{EngineModel, ConnectionModel, LinkModel, no_connection, no_link, new_link_model, connection_at, link_at, with_connection, with_core, connection_fault, link_fault}
 use Rattle.proxy_engine.specs.declared.endpoints.activities.Activity.TheVariants.{Free}
 use Rattle.proxy_engine.specs.Due.{Act, Abandons, Finishes, Wakes, Serves, Gives, Breaks}
 use Rattle.proxy_engine.specs.Acts.{ActIsDone, CoreIsStepped, RequestIsRefused, ConnectionIsClosed, ConnectionIsServed, RequestArrives, OutcomeOnConnection, Replies, Forwards, Queues, Nothing, outcome_by_table, effects_of_outcome, model_after_outcome, next_link_number, model_after_link_freed, with_activity, with_dropped, with_next_passed}
 use Rattle.proxy_engine.specs.Orderly.{ConnectionIsOpen, LinkIsDropped, EffectsNameOpenEnds, EndedStaysEnded}
-use Rattle.proxy_engine.specs.Reading.{places_with_flag, connection_may_send_request, link_end_at, client_end_at, readable_ends_of}
 use Rattle.proxy_engine.specs.declared.work.EngineFault.TheVariants.{NotAccepted, WrongNumber}
 use Rattle.proxy_engine.specs.declared.work.End.{End}
 use Rattle.proxy_engine.specs.declared.work.End.TheVariants as ends
@@ -114,40 +113,7 @@ lost_free s ends.Listener kind there = tt
 lost_free s (ends.Client n) kind there = there
 lost_free s (ends.Link l) kind there = there
 
--- ---- the ends from which bytes may come
-
-abbrev AllBelow : ℕ → List ℕ → Type 0
-AllBelow n [] = Unit {0}
-AllBelow n (i ∷ is) = (i < n) × AllBelow n is
-
-places_below : {A : Type 0} (flag : A → Bool) (i n : ℕ) (xs : List A) → i + length xs ≤ n → AllBelow n (places_with_flag flag i xs)
-places_below flag i n [] l = tt
-places_below flag i n (x ∷ xs) l = by (flag x) (places_below flag (i + 1) n xs (omega (arith, l)))
-  where
-    by : (b : Bool) → AllBelow n (places_with_flag flag (i + 1) xs) → AllBelow n (cond b (i ∷ places_with_flag flag (i + 1) xs) (places_with_flag flag (i + 1) xs))
-    by true rest = (omega (arith, l), rest)
-    by false rest = rest
-
-links_there : (s : EngineModel) (js : List ℕ) → AllBelow (length s.links) js → EndsWereNumbered s (map (link_end_at s.first) js)
-links_there s [] below = tt
-links_there s (j ∷ js) below =
-    let here = below.0 in
-    (link_there s.first (length s.links) (s.first + j) (omega arith) (omega (arith, here)), links_there s js below.1)
-
-clients_there : (s : EngineModel) (is : List ℕ) → AllBelow (length s.connections) is → EndsWereNumbered s (map client_end_at is)
-clients_there s [] below = tt
-clients_there s (i ∷ is) below =
-    let here = below.0 in
-    (client_there (length s.connections) (i + 1) (omega arith) (omega (arith, here)), clients_there s is below.1)
-
-both_there : (s : EngineModel) (es more : List End) → EndsWereNumbered s es → EndsWereNumbered s more → EndsWereNumbered s (es ++ more)
-both_there s [] more f g = g
-both_there s (end ∷ es) more f g = (f.0, both_there s es more f.1 g)
-
-pub read_there : (s : EngineModel) → EndsWereNumbered s (readable_ends_of s)
-read_there s = both_there s (map (link_end_at s.first) (places_with_flag keeps_answer 0 s.links)) (map client_end_at (places_with_flag connection_may_send_request 0 s.connections))
-    (links_there s (places_with_flag keeps_answer 0 s.links) (places_below keeps_answer 0 (length s.links) s.links (omega arith)))
-    (clients_there s (places_with_flag connection_may_send_request 0 s.connections) (places_below connection_may_send_request 0 (length s.connections) s.connections (omega arith)))
+-- ---- the ends of a list
 
 pub there_at : (s : EngineModel) (es : List End) (i : ℕ) (end : End) → EndsWereNumbered s es → i < length es → end ≡ get_or es i end → EndWasNumbered s end
 there_at s [] i end there l e = absurd (omega (arith, l))

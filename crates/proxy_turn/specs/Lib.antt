@@ -8,3 +8,7 @@ pub mod Served
 pub mod Turn
 pub mod TurnSteps
 pub mod TurnCases
+pub mod Over
+pub mod OverParts
+pub mod OverSteps
+pub mod OverCases

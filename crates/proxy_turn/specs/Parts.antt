@@ -1,11 +1,11 @@
 -- What each part of a turn does, over the models of the engine, with the calls that it makes.
-use Rattle.std.specs.Prelude.{◌≡◌, ℕ, ◌≤◌, List, [], ◌∷◌, ◌++◌, length, true, Option, None, Some, Result, Ok, Err, ◌⊎◌}
+use Rattle.std.specs.Prelude.{◌≡◌, ℕ, ◌≤◌, List, [], ◌∷◌, length, Option, None, Some, Result, Ok, Err, ◌⊎◌}
 use Rattle.hx_status.specs.declared.cause.FailKind.{FailKind}
 use Rattle.proxy_script.specs.declared.effect_list.Effect.{Effect}
 use Rattle.proxy_engine.specs.Happenings.{PlainHappening}
 use Rattle.proxy_engine.specs.EngineModel.{EngineModel, happening_fault, connection_fault, link_fault}
 use Rattle.proxy_engine.specs.Due.{IsDueFirst}
-use Rattle.proxy_engine.specs.Reading.{readable_ends_of, failed_links}
+use Rattle.proxy_engine.specs.Reading.{failed_links}
 use Rattle.proxy_engine.specs.Room.{HappeningFindsMemory}
 use Rattle.proxy_engine.specs.State.{State, EngineRepresents, NoActWasDoneSince as EngineFailed}
 use Rattle.proxy_engine.specs.declared.work.EngineFault.{EngineFault}
@@ -15,14 +15,12 @@ use Rattle.proxy_engine.specs.declared.work.End.TheVariants as ends
 use Rattle.proxy_turn.specs.Calls as call
 use Rattle.proxy_turn.specs.Calls.{Call}
 use Rattle.proxy_turn.specs.Counts.{Calls, CountsRiseBy}
-use Rattle.proxy_turn.specs.Turn.{HappeningIfAnyIsTaken, AcceptCall, NotAsked, Failed, asks_for_connection}
-use Rattle.proxy_turn.specs.Turn.{accept_was_called, happening_of_accept, count_of_accept_calls, count_of_accepted}
-use Rattle.proxy_turn.specs.Turn.{count_of_failed_accepts, ReadOutcome, IsAtMostOnePiece, happening_of_read}
-use Rattle.proxy_turn.specs.Turn.{count_of_failed_read, EndRead, ReadsAreTaken, ends_of_reads}
+use Rattle.proxy_turn.specs.Turn.{HappeningIfAnyIsTaken, ReadOutcome, IsAtMostOnePiece, happening_of_read}
+use Rattle.proxy_turn.specs.Turn.{count_of_failed_read, EndRead, ReadsAreTaken}
 use Rattle.proxy_turn.specs.Turn.{count_of_failed_reads, EffectFate, Carried, Lost, EffectIsCarriedOut}
 use Rattle.proxy_turn.specs.Turn.{EffectsAreCarriedOut, count_of_lost_effect}
 use Rattle.proxy_turn.specs.Turn.{count_of_lost_effects, ActRound, ActsAreCarriedOut, count_of_lost_in_rounds}
-use Rattle.proxy_turn.specs.Turn.{calls_of_accept, calls_of_reads, calls_of_effect}
+use Rattle.proxy_turn.specs.Turn.{calls_of_reads, calls_of_effect}
 use Rattle.proxy_turn.specs.Turn.{calls_of_effects, calls_of_rounds}
 use Rattle.proxy_turn.specs.declared.report.TurnFault.{TurnFault}
 use Rattle.proxy_turn.specs.declared.report.TurnFault.TheVariants as faults
@@ -59,26 +57,6 @@ pub record HappeningIfAnyWasTaken (s : EngineModel) (h : Option PlainHappening) 
   pub takes : HappeningIfAnyIsTaken s h after
   pub represents : EngineRepresents e after
 
--- what asking the listener answers
-abbrev pub AcceptReports : EngineModel → AcceptCall → Result ℕ TurnFault → Type 0
-AcceptReports s asked (Ok count) = (accept_was_called asked ≡ asks_for_connection s) ×
-    (count_of_failed_accepts asked ≡ 0) × (count ≡ count_of_accepted asked)
-AcceptReports s asked (Err faults.Listener) = asked ≡ Failed
-AcceptReports s asked (Err faults.NoMemory) = asked ≡ NotAsked
-AcceptReports s asked (Err faults.Spent) = ⊥
-
--- the listener was asked, or not
-pub record ListenerIsAsked (s : EngineModel) (e : State) (did : List Call → Type 0) (before after : Calls)
-    (result : Result ℕ TurnFault) : Type 0 where
-  pub asked : AcceptCall
-  pub begun : EngineModel
-  pub only : accept_was_called asked ≡ true → asks_for_connection s ≡ true
-  pub takes : HappeningIfAnyIsTaken s (happening_of_accept s asked) begun
-  pub represents : EngineRepresents e begun
-  pub reports : AcceptReports s asked result
-  pub calls : did (calls_of_accept s asked)
-  pub raises : CountsRiseBy before after (count_of_accept_calls asked) 0 (count_of_failed_accepts asked)
-
 -- an end was read once, and what it gave was taken
 pub record OneEndIsRead (s : EngineModel) (end : End) (e : State) (did : List Call → Type 0) (before after : Calls)
     (count : ℕ) : Type 0 where
@@ -109,15 +87,6 @@ pub record SomeEndsAreRead (s : EngineModel) (reads : List EndRead) (e : State) 
 abbrev pub ReadsReport : List EndRead → List End → Result (ℕ × ℕ) TurnFault → Type 0
 ReadsReport reads rest (Ok counts) = (rest ≡ []) × (counts.0 ≡ length reads) × (counts.1 ≡ count_of_failed_reads reads)
 ReadsReport reads rest (Err fault) = fault ≡ faults.NoMemory
-
--- the ends from which bytes may come were read, but for the rest
-pub record AllEndsAreRead (s : EngineModel) (e : State) (did : List Call → Type 0) (before after : Calls)
-    (result : Result (ℕ × ℕ) TurnFault) : Type 0 where
-  pub reads : List EndRead
-  pub rest : List End
-  pub ends : ends_of_reads reads ++ rest ≡ readable_ends_of s
-  pub some : SomeEndsAreRead s reads e did before after
-  pub reports : ReadsReport reads rest result
 
 -- what became of an effect whose calls answered this
 abbrev pub fate_of : Result (Unit {0}) FailKind → EffectFate

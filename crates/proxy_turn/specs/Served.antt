@@ -15,9 +15,11 @@ use Rattle.proxy_engine.specs.EngineModel.{EngineModel}
 use Rattle.proxy_engine.specs.Orderly.{ModelIsOrderly}
 use Rattle.proxy_engine.specs.Executions.{ExecutionStep, Took, StepsLead, StepsAreAGoodRun}
 use Rattle.proxy_engine.specs.State.{State, EngineRepresents, EngineTakesHappening, new_engine_model}
+use Rattle.proxy_engine.specs.declared.work.End.{End}
 use Rattle.proxy_turn.specs.Counts.{Calls}
-use Rattle.proxy_turn.specs.Turn.{EngineTurns}
-use Rattle.proxy_turn.specs.TurnSteps.{steps_of_turn}
+use Rattle.proxy_turn.specs.Over.{EngineTurnsOver}
+use Rattle.proxy_turn.specs.OverSteps.{steps_of_turn_over}
+use Rattle.proxy_turn.specs.declared.bounds.TurnBounds.{TurnBounds}
 use Rattle.proxy_turn.specs.declared.report.Report.{Report}
 use Rattle.proxy_turn.specs.declared.report.TurnFault.{TurnFault}
 
@@ -98,29 +100,32 @@ pub record LossesAreTaken (s : EngineModel) (e : State) : Type 0 where
 abbrev pub EngineTakesLosses : State → State → Type 0
 EngineTakesLosses e new = (s : EngineModel) → EngineRepresents e s → LossesAreTaken s new
 
--- Ends that were lost were taken as such, and then one turn was served at this moment, which told this. Nothing else
--- was taken or done.
-pub record TurnIsServedBehindLosses (now : ℕ) (s : EngineModel) (e : State)
+-- Ends that were lost were taken as such, and then one turn was served at this moment, within these bounds and over
+-- some ends, which told this. Nothing else was taken or done.
+pub record TurnIsServedBehindLosses (now : ℕ) (bounds : TurnBounds) (s : EngineModel) (e : State)
     (reported : Result Report TurnFault) : Type 0 where
   pub lost : List PlainHappening
   pub are_losses : AllByRecursion IsLostEnd lost
   pub mid : EngineModel
   pub takes : StepsLead s (steps_of_taking lost []) mid
+  pub given : List End
+  pub left : List End
   pub before : Calls
   pub after : Calls
-  pub turn : EngineTurns now mid e before after reported
+  pub turn : EngineTurnsOver now bounds mid given e left before after reported
 
 -- its steps, behind those before it
-abbrev pub steps_of_served_turn : {now : ℕ} {s : EngineModel} {e : State} {reported : Result Report TurnFault}
-    → TurnIsServedBehindLosses now s e reported → List ExecutionStep → List ExecutionStep
+abbrev pub steps_of_served_turn : {now : ℕ} {bounds : TurnBounds} {s : EngineModel} {e : State}
+    {reported : Result Report TurnFault}
+    → TurnIsServedBehindLosses now bounds s e reported → List ExecutionStep → List ExecutionStep
 steps_of_served_turn {now} served past =
-    steps_of_turn now served.mid served.turn.asked served.turn.reads served.turn.rounds
+    steps_of_turn_over now served.mid served.turn.accepts served.turn.reads served.turn.rounds
     (steps_of_taking served.lost past)
 
 -- each orderly model that the engine stood for leads by such a turn to one that it stands for now
-abbrev pub EngineServesTurn : ℕ → State → State → Result Report TurnFault → Type 0
-EngineServesTurn now e new reported = (s : EngineModel) → EngineRepresents e s → ModelIsOrderly s
-    → TurnIsServedBehindLosses now s new reported
+abbrev pub EngineServesTurn : ℕ → TurnBounds → State → State → Result Report TurnFault → Type 0
+EngineServesTurn now bounds e new reported = (s : EngineModel) → EngineRepresents e s → ModelIsOrderly s
+    → TurnIsServedBehindLosses now bounds s new reported
 
 -- ---- the laws
 
@@ -146,8 +151,8 @@ EngineGoesOnByHappening = (e new : State) (h : PlainHappening) → ((s : EngineM
 
 -- it serves a turn, whole or as far as it came, behind what was lost
 abbrev pub EngineGoesOnByTurn : Type 0
-EngineGoesOnByTurn = (e new : State) (now : ℕ) (reported : Result Report TurnFault)
-    → EngineServesTurn now e new reported → EngineGoesOn e new
+EngineGoesOnByTurn = (e new : State) (now : ℕ) (bounds : TurnBounds) (reported : Result Report TurnFault)
+    → EngineServesTurn now bounds e new reported → EngineGoesOn e new
 
 -- what it has lived through since it began, under one table
 abbrev pub ReachableEngineStaysReachable : Type 0
@@ -175,16 +180,18 @@ EngineGoesOnByLosses = (e new : State) → EngineTakesLosses e new → EngineGoe
 -- behind them a turn is served
 abbrev pub TurnIsServedByLossesAndTurn : Type 0
 TurnIsServedByLossesAndTurn =
-    (e mid new : State) (now : ℕ) (before after : Calls) (reported : Result Report TurnFault) → EngineTakesLosses e mid
-    → ((s : EngineModel) → EngineRepresents mid s → ModelIsOrderly s → EngineTurns now s new before after reported)
-    → EngineServesTurn now e new reported
+    (e mid new : State) (now : ℕ) (bounds : TurnBounds) (given left : List End) (before after : Calls)
+    (reported : Result Report TurnFault) → EngineTakesLosses e mid
+    → ((s : EngineModel) → EngineRepresents mid s → ModelIsOrderly s
+    → EngineTurnsOver now bounds s given new left before after reported)
+    → EngineServesTurn now bounds e new reported
 
 -- Where an engine has lived by these steps, it has lived behind a turn by those of the turn behind them, and no others.
 abbrev pub TurnExecutesItsSteps : Type 0
 TurnExecutesItsSteps =
-    (e new : State) (first link : ℕ) (steps : List ExecutionStep) (s : EngineModel) (now : ℕ)
+    (e new : State) (first link : ℕ) (steps : List ExecutionStep) (s : EngineModel) (now : ℕ) (bounds : TurnBounds)
     (reported : Result Report TurnFault)
-    → EngineExecuted e first link steps s → (served : TurnIsServedBehindLosses now s new reported)
+    → EngineExecuted e first link steps s → (served : TurnIsServedBehindLosses now bounds s new reported)
     → EngineExecuted new first link (steps_of_served_turn served steps) served.turn.last
 
 -- What an engine has lived through is in order, and the steps of its core are a good run: whichever its steps are.

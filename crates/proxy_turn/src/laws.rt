@@ -1,5 +1,6 @@
 //! Laws on the definitions that the contracts cite.
 ghost use Rattle.proxy_turn.specs.TurnSteps.{TurnStepsAreExecuted, TurnStepsEmitTheirEffects};
+ghost use Rattle.proxy_turn.specs.OverSteps.{TurnOverStepsAreExecuted, TurnOverStepsEmitTheirEffects};
 ghost use Rattle.proxy_turn.specs.Served.{NoLossIsALossList, OneLossIsTaken, LossesAreTakenTransitively};
 ghost use Rattle.proxy_turn.specs.Served.{EngineGoesOnByLosses, TurnIsServedByLossesAndTurn};
 ghost use Rattle.proxy_turn.specs.Served.{NewEngineIsReachable, EngineGoesOnByNothing, EngineGoesOnTransitively};
@@ -9,13 +10,15 @@ ghost use Rattle.proxy_turn.specs.Served.{EngineKeepsItsTable};
 
 use proxy_engine::{effects_name_open_ends, executions_are_runs};
 
-/// A turn is lived by its own steps, behind whatever was lived before it: it takes the connection that came and what
+/// A turn is lived by its own steps, behind whatever was lived before it: it takes the connections that came and what
 /// its reads gave, does its acts at its moment, and takes the ends on which a call failed. The effects of these steps
 /// are those that it carried out. So what `proxy_engine::executions_are_runs` says of whatever an engine lives through,
 /// it says of turns over sockets.
 pub fn turns_are_executed()
     ensures executed { TurnStepsAreExecuted }
     ensures reports { TurnStepsEmitTheirEffects }
+    ensures over { TurnOverStepsAreExecuted }
+    ensures over_reports { TurnOverStepsEmitTheirEffects }
 {}
 
 /// Ends that are lost between two turns are taken, one after another; behind them a turn is served.

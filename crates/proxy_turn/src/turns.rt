@@ -1,15 +1,18 @@
-//! A turn, in three parts: a connection is accepted, each end from which bytes may come is read once, and what is then
-//! due is done.
-ghost use Rattle.std.specs.Prelude.{◌<◌, ◌≤◌, ◌≡◌, ◌^◌, length, IfOk, IfErr};
+//! A turn, in three parts: connections are accepted, each end of a list from which bytes may come is read once, and
+//! what is then due is done.
+ghost use Rattle.std.specs.Prelude.{◌<◌, ◌≤◌, ◌≡◌, ◌^◌, length, filter, IfOk, IfErr};
 ghost use Rattle.hx_fields.specs.declared.limits.TheConstants.{END_OF_TIME};
 ghost use Rattle.proxy_engine.specs.EngineModel.{EngineModel};
 ghost use Rattle.proxy_engine.specs.State.{EngineRepresents};
 ghost use Rattle.proxy_engine.specs.Orderly.{ModelIsOrderly};
+ghost use Rattle.proxy_engine.specs.Reading.{end_may_send};
 ghost use Rattle.proxy_turn.specs.Counts.{calls};
 ghost use Rattle.proxy_turn.specs.Turn.{EngineTurnsWithCalls};
-ghost use Rattle.proxy_turn.specs.Parts.{ListenerIsAsked, EndWasNumbered, OneEndIsRead, NoEndIsRead, AllEndsAreRead};
-ghost use Rattle.proxy_turn.specs.Parts.{DueActsAreDone};
+ghost use Rattle.proxy_turn.specs.Parts.{EndWasNumbered, EndsWereNumbered, OneEndIsRead, NoEndIsRead, DueActsAreDone};
+ghost use Rattle.proxy_turn.specs.Over.{EngineTurnsOverWithCalls};
+ghost use Rattle.proxy_turn.specs.OverParts.{ListenerIsAsked, ConnectionsAreAccepted, ListedEndsAreRead};
 
+use crate::bounds::TurnBounds;
 use crate::effects::{carry_out, take};
 use crate::happenings::happening_of_read;
 use crate::limits::{MOST_EFFECTS, MOST_OPEN, MOST_WORKS, PIECE};
@@ -18,36 +21,80 @@ use crate::sockets::Sockets;
 use hx_store::Shelf;
 use proxy_engine::{
     End, Engine, Happening, Work, an_act_has_three_effects_at_most, effects_name_open_ends,
-    what_ends_stays_ended,
+    readable_ends_may_send, what_ends_stays_ended,
 };
 use std::alloc::Global;
 
-/// Asks for a connection, where fewer than 256 are open and a number is left; answers how many came.
+/// Asks for a connection, where fewer than `most_open` are open and a number is left; answers whether one came. Its end
+/// goes behind the others.
 fn accept<S: Shelf, K: Sockets>(
     engine: &mut Engine<S>,
     sockets: &mut K,
     alloc: Global,
-) -> Result<u64, TurnFault>
+    most_open: usize,
+    ends: &mut Vec<End>,
+) -> Result<bool, TurnFault>
     ensures { (s : EngineModel) → EngineRepresents engine.old s
-        → ListenerIsAsked s engine.new (λ made. K.Did sockets.old made sockets.new)
+        → ListenerIsAsked most_open s ends.old.items engine.new ends.new.items
+        (λ made. K.Did sockets.old made sockets.new)
         (calls (K.accepts sockets.old) (K.reads sockets.old) (K.failures sockets.old))
         (calls (K.accepts sockets.new) (K.reads sockets.new) (K.failures sockets.new)) result }
 {
-    if !engine.has_fewer_connections(MOST_OPEN) {
-        return Ok(0);
+    if !engine.has_fewer_connections(most_open) {
+        return Ok(false);
     }
     let Some(n) = engine.next_connection() else {
-        return Ok(0);
+        return Ok(false);
     };
+    // Room comes first, so no connection that came is lost.
+    if ends.reserve(1).is_err() {
+        return Err(TurnFault::NoMemory);
+    }
     engine.reserve(alloc, End::Listener)?;
     match sockets.accept(n) {
-        Ok(false) => Ok(0),
+        Ok(false) => Ok(false),
         Ok(true) => {
             take(engine, alloc, Some(Happening::Accept(n)))?;
-            Ok(1)
+            match ends.push(End::Client(n)) {
+                Ok(()) => Ok(true),
+                Err(_) => Err(TurnFault::NoMemory),
+            }
         }
         Err(_) => Err(TurnFault::Listener),
     }
+}
+
+/// Asks for connections until none waits, no other may be open, or it has asked as often as it may; answers how many
+/// came.
+fn accept_all<S: Shelf, K: Sockets>(
+    engine: &mut Engine<S>,
+    sockets: &mut K,
+    alloc: Global,
+    bounds: TurnBounds,
+    ends: &mut Vec<End>,
+) -> Result<u64, TurnFault>
+    ensures { (s : EngineModel) → EngineRepresents engine.old s
+        → ConnectionsAreAccepted bounds s ends.old.items engine.new ends.new.items
+        (λ made. K.Did sockets.old made sockets.new)
+        (calls (K.accepts sockets.old) (K.reads sockets.old) (K.failures sockets.old))
+        (calls (K.accepts sockets.new) (K.reads sockets.new) (K.failures sockets.new)) result }
+{
+    for accepted in 0..bounds.most_accepts {
+        match accept(engine, sockets, alloc, bounds.most_open, ends) {
+            Ok(true) => {}
+            Ok(false) => return Ok(accepted),
+            Err(fault) => return Err(fault),
+        }
+    }
+    Ok(bounds.most_accepts)
+}
+
+/// Leaves of the ends those from which bytes may come.
+fn keep_readable<S: Shelf>(engine: &Engine<S>, ends: &mut Vec<End>)
+    ensures { (s : EngineModel) → EngineRepresents engine.now s → ends.new.items
+        ≡ filter (end_may_send s) ends.old.items }
+{
+    ends.retain(|end| engine.may_read(*end));
 }
 
 /// Reads once from an end, and takes what it gave; answers how many calls failed. Its memory is found before the read,
@@ -77,27 +124,25 @@ fn read_one<S: Shelf, K: Sockets>(
     Ok(u64::from(received.is_err()))
 }
 
-/// Reads once from each end from which bytes may come; answers how often, and how many calls failed.
+/// Reads once from each of the ends; answers how often, and how many calls failed.
 fn read_all<S: Shelf, K: Sockets>(
     engine: &mut Engine<S>,
     sockets: &mut K,
     alloc: Global,
+    ends: &[End],
     buf: &mut [u8],
 ) -> Result<(u64, u64), TurnFault>
     requires { length buf.old ≡ 4096 }
     ensures length { length buf.new ≡ length buf.old }
     ensures few { IfOk result (λ counts. counts.1 < 2 ^ 63) }
-    ensures reads { (s : EngineModel) → EngineRepresents engine.old s
-        → AllEndsAreRead s engine.new (λ made. K.Did sockets.old made sockets.new)
+    ensures reads { (s : EngineModel) → EngineRepresents engine.old s → EndsWereNumbered s ends.now
+        → ListedEndsAreRead s ends.now engine.new (λ made. K.Did sockets.old made sockets.new)
         (calls (K.accepts sockets.old) (K.reads sockets.old) (K.failures sockets.old))
         (calls (K.accepts sockets.new) (K.reads sockets.new) (K.failures sockets.new)) result }
 {
     what_ends_stays_ended();
-    let Ok(ends) = engine.readable_ends(alloc) else {
-        return Err(TurnFault::NoMemory);
-    };
     let mut faults = 0u64;
-    for end in &ends {
+    for end in ends {
         match read_one(engine, sockets, alloc, *end, buf) {
             Ok(more) => faults = faults.saturating_add(more),
             Err(fault) => return Err(fault),
@@ -145,13 +190,64 @@ fn work_all<S: Shelf, K: Sockets>(
     Ok((MOST_WORKS, faults))
 }
 
-/// Serves one turn. `now` is in Unix seconds, up to the end of the year 9999.
+/// Serves one turn over ends that are handed in, in any order: those, say, that are told to be ready. `now` is in Unix
+/// seconds, up to the end of the year 9999. `buf` has 4,096 bytes; each read goes into it.
+///
+/// Connections are accepted within the bounds, and their ends go behind those that are handed in. Each of these from
+/// which bytes may come is then read once, and the others are passed over; so which have nothing to say may be handed
+/// in too. `ends` has those that were to be read, also after a fault.
 ///
 /// A failed call on a client is taken as its going away, a failed `connect` as a refusal by the origin, any other on a
 /// link as its closing. After a fault the engine stands where the whole takes and works of the turn left it.
 ///
 /// What each read gave is what the engine takes, and each effect's bytes go to its end, whole, once and in order: the
-/// calls on the sockets are those of the turn (`calls_of_turn`), and no others.
+/// calls on the sockets are those of the turn (`calls_of_turn_over`), and no others.
+pub fn turn_over<S: Shelf, K: Sockets>(
+    engine: &mut Engine<S>,
+    sockets: &mut K,
+    alloc: Global,
+    now: u64,
+    bounds: TurnBounds,
+    ends: &mut Vec<End>,
+    buf: &mut [u8],
+) -> Result<Report, TurnFault>
+    requires early { now < END_OF_TIME }
+    requires piece { length buf.old ≡ 4096 }
+    ensures length { length buf.new ≡ length buf.old }
+    ensures turns { (s : EngineModel) → EngineRepresents engine.old s → ModelIsOrderly s
+        → EngineTurnsOverWithCalls now bounds s ends.old.items engine.new ends.new.items
+        (λ made. K.Did sockets.old made sockets.new)
+        (calls (K.accepts sockets.old) (K.reads sockets.old) (K.failures sockets.old))
+        (calls (K.accepts sockets.new) (K.reads sockets.new) (K.failures sockets.new)) result }
+{
+    effects_name_open_ends();
+    readable_ends_may_send();
+    let asked = accept_all(engine, sockets, alloc, bounds, ends);
+    keep_readable(engine, ends);
+    let accepted = match asked {
+        Ok(accepted) => accepted,
+        Err(fault) => return Err(fault),
+    };
+    let (reads, unread) = match read_all(engine, sockets, alloc, ends, buf) {
+        Ok(counts) => counts,
+        Err(fault) => return Err(fault),
+    };
+    let (works, undone) = match work_all(engine, sockets, alloc, now) {
+        Ok(counts) => counts,
+        Err(fault) => return Err(fault),
+    };
+    Ok(Report {
+        accepted,
+        reads,
+        works,
+        faults: unread.saturating_add(undone),
+    })
+}
+
+/// Serves one turn over each end from which bytes may come: one connection is asked for, where fewer than 256 are open.
+/// `now` is in Unix seconds, up to the end of the year 9999.
+///
+/// The rest is as `turn_over` says; the calls on the sockets are those of the turn (`calls_of_turn`), and no others.
 pub fn turn<S: Shelf, K: Sockets>(
     engine: &mut Engine<S>,
     sockets: &mut K,
@@ -184,23 +280,13 @@ pub fn turn_through<S: Shelf, K: Sockets>(
         (calls (K.accepts sockets.old) (K.reads sockets.old) (K.failures sockets.old))
         (calls (K.accepts sockets.new) (K.reads sockets.new) (K.failures sockets.new)) result }
 {
-    effects_name_open_ends();
-    let accepted = match accept(engine, sockets, alloc) {
-        Ok(accepted) => accepted,
-        Err(fault) => return Err(fault),
+    readable_ends_may_send();
+    let Ok(mut ends) = engine.readable_ends(alloc) else {
+        return Err(TurnFault::NoMemory);
     };
-    let (reads, unread) = match read_all(engine, sockets, alloc, buf) {
-        Ok(counts) => counts,
-        Err(fault) => return Err(fault),
+    let bounds = TurnBounds {
+        most_open: MOST_OPEN,
+        most_accepts: 1,
     };
-    let (works, undone) = match work_all(engine, sockets, alloc, now) {
-        Ok(counts) => counts,
-        Err(fault) => return Err(fault),
-    };
-    Ok(Report {
-        accepted,
-        reads,
-        works,
-        faults: unread.saturating_add(undone),
-    })
+    turn_over(engine, sockets, alloc, now, bounds, &mut ends, buf)
 }

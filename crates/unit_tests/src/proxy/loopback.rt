@@ -33,13 +33,15 @@ fn server_before<'a>(
     let config = table_for(alloc, origin)?;
     let limits = Limits {
         connections: 1000,
-        client_timeout: silence,
-        request_timeout: 30,
-        abandon_timeout: 5,
-        connect_timeout: 5,
-        origin_timeout: silence,
-        exchange_timeout: 300,
-        unsent: 1_000_000,
+        origin_connections: 1000,
+        origin_probe: true,
+        client_timeout: silence.saturating_mul(1000),
+        request_timeout: 30_000,
+        abandon_timeout: 5000,
+        connect_timeout: 5000,
+        origin_timeout: silence.saturating_mul(1000),
+        exchange_timeout: 300_000,
+        content: 1_000_000,
         max_body: config.max_body(),
     };
     let sockets = LiveSockets::bind(rt, alloc, any, limits)?;

@@ -6,7 +6,8 @@ use super::memory_sockets::{Call, MemorySockets};
 use hx_store::ListShelf;
 use proxy_engine::Engine;
 use proxy_turn::{
-    End, LoggedCall, LoggedReadOutcome, LoggedSockets, Sockets, TurnFault, turn, turn_with_log,
+    End, LoggedCall, LoggedReadOutcome, LoggedSockets, PIECE, Sockets, TurnBounds, TurnFault, turn,
+    turn_over, turn_with_log,
 };
 use std::alloc::Global;
 use std::net::{Ipv4Addr, SocketAddrV4};
@@ -172,5 +173,55 @@ fn calls_are_logged(rt: HostRuntime) -> Result<(), Fail> {
         }
         _ => panic!(rt; "other calls"),
     }
+    Ok(())
+}
+
+/// A turn over `ends` with room for three connections. No call fails, so many are accepted, and two ends are read.
+fn expect_turn(
+    rt: &impl Abort,
+    alloc: Global,
+    engine: &mut Engine<ListShelf>,
+    sockets: &mut MemorySockets,
+    ends: &mut Vec<End>,
+    accepted: u64,
+) {
+    let bounds = TurnBounds {
+        most_open: 3,
+        most_accepts: 2,
+    };
+    let mut buf = [0u8; PIECE];
+    match turn_over(engine, sockets, alloc, 100, bounds, ends, &mut buf) {
+        Ok(report) => {
+            assert!(rt; report.accepted == accepted && report.reads == 2 && report.faults == 0);
+        }
+        Err(_) => panic!(rt; "a fault"),
+    }
+}
+
+/// Two of three connections are accepted and read, and of what is handed in nothing that isn't there.
+#[test]
+fn ends_are_handed_in(rt: HostRuntime) -> Result<(), Fail> {
+    let alloc = rt.alloc();
+    let mut engine = engine(alloc, 1)?;
+    let mut sockets = MemorySockets::new(alloc, 0, ASK, ANSWER);
+    sockets.waiting = 3;
+    let mut ends = vec![in alloc; End::Listener, End::Client(0), End::Client(9), End::Link(9)]?;
+    expect_turn(&rt, alloc, &mut engine, &mut sockets, &mut ends, 2);
+    assert!(rt; ends.as_slice() == [End::Client(1), End::Client(2)].as_slice());
+    Ok(())
+}
+
+/// Two clients wait for their answers, so no bytes may come from them. A third connection comes, and no more may be.
+#[test]
+fn who_waits_is_not_read(rt: HostRuntime) -> Result<(), Fail> {
+    let alloc = rt.alloc();
+    let mut engine = engine(alloc, 1)?;
+    let mut sockets = MemorySockets::new(alloc, 0, ASK, ANSWER);
+    sockets.waiting = 3;
+    let mut ends = vec![in alloc]?;
+    expect_turn(&rt, alloc, &mut engine, &mut sockets, &mut ends, 2);
+    let mut ends = vec![in alloc; End::Client(2), End::Link(1), End::Client(1)]?;
+    expect_turn(&rt, alloc, &mut engine, &mut sockets, &mut ends, 1);
+    assert!(rt; ends.as_slice() == [End::Link(1), End::Client(3)].as_slice());
     Ok(())
 }

@@ -14,7 +14,7 @@ pub returns-clause-takes : goal.returns-clause-takes
 returns-clause-takes c = takes_go_on
 
 pub returns-clause-turns : goal.returns-clause-turns
-returns-clause-turns c = turns_go_on c.turns_are_executed.ensures.executed
+returns-clause-turns c = turns_go_on c.turns_are_executed.ensures.over
 
 pub returns-clause-executed : goal.returns-clause-executed
 returns-clause-executed c = reachable_goes_on c.effects_name_open_ends.ensures.takes c.effects_name_open_ends.ensures.acts c.effects_name_open_ends.ensures.first
@@ -23,7 +23,7 @@ pub returns-clause-serves : goal.returns-clause-serves
 returns-clause-serves c = reachable_are_serving c.executions_are_runs.ensures
 
 pub returns-clause-by_steps : goal.returns-clause-by_steps
-returns-clause-by_steps c = turns_live_on c.turns_are_executed.ensures.executed
+returns-clause-by_steps c = turns_live_on c.turns_are_executed.ensures.over
 
 pub returns-clause-runs : goal.returns-clause-runs
 returns-clause-runs c = executions_are_serving c.effects_name_open_ends.ensures.takes c.effects_name_open_ends.ensures.acts c.effects_name_open_ends.ensures.first c.executions_are_runs.ensures

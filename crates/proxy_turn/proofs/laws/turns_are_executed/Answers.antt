@@ -1,4 +1,4 @@
-use Rattle.proxy_turn.proofs.Stepping.{turns_are_executed, turns_emit}
+use Rattle.proxy_turn.proofs.Stepping.{turns_are_executed, turns_emit, turns_over_are_executed, turns_over_emit}
 use Rattle.proxy_turn.proofs.laws.turns_are_executed.Goals as goal
 
 pub returns-clause-executed : goal.returns-clause-executed
@@ -6,3 +6,9 @@ returns-clause-executed c = turns_are_executed
 
 pub returns-clause-reports : goal.returns-clause-reports
 returns-clause-reports c = turns_emit
+
+pub returns-clause-over : goal.returns-clause-over
+returns-clause-over c = turns_over_are_executed
+
+pub returns-clause-over_reports : goal.returns-clause-over_reports
+returns-clause-over_reports c = turns_over_emit

@@ -1,32 +1,9 @@
-use Rattle.std.proofs.Common.{◌≡◌, ◌+◌, refl, rules}
-use Rattle.proxy_turn.proofs.Whole.{asks_alone, reads_last, works_last, read_orderly, whole, few_works}
+use Rattle.proxy_turn.proofs.OneAccept.{one_turn, not_begun}
 use Rattle.proxy_turn.proofs.turns.turn_through.Goals as goal
 
-pub returns-in-Err-clause-turns : goal.returns-in-Err-clause-turns
-returns-in-Err-clause-turns g c = λ s represents h. asks_alone c.args.now s c.accept.new.engine _ _ _ c.in-Err.fault (c.in-Err.ensures s represents)
-
-pub returns-in-Err-read_all-clause-turns : goal.returns-in-Err-read_all-clause-turns
-returns-in-Err-read_all-clause-turns g c = λ s represents h.
-    let first = c.in-Ok.ensures s represents in
-    reads_last c.args.now s c.accept.new.engine _ _ _ _ first c.read_all.new.engine _ _ c.in-Err-read_all.fault (c.in-Err-read_all.ensures.reads first.begun first.represents) _
-    (λ x y p q. g.met.K.Sockets.joined _ _ _ x y p q)
-
-pub returns-in-Err-work_all-clause-turns : goal.returns-in-Err-work_all-clause-turns
-returns-in-Err-work_all-clause-turns g c = λ s represents h.
-    let first = c.in-Ok.ensures s represents in
-    let second = c.in-Ok-read_all.ensures.reads first.begun first.represents in
-    let still = read_orderly c.args.now s c.accept.new.engine _ _ _ c.in-Ok.accepted first c.read_all.new.engine _ _ c.in-Ok-read_all.counts second c.effects_name_open_ends.ensures.takes h in
-    works_last c.args.now s c.accept.new.engine _ _ _ c.in-Ok.accepted first c.read_all.new.engine _ _ c.in-Ok-read_all.counts second c.work_all.new.engine _ _ c.in-Err-work_all.fault (c.in-Err-work_all.ensures second.some.last second.some.represents still)
-    (λ made. g.K.Sockets.Did c.accept.new.sockets made c.work_all.new.sockets) _ (λ x y p q. g.met.K.Sockets.joined _ _ _ x y p q) (λ x y p q. g.met.K.Sockets.joined _ _ _ x y p q)
+pub returns-in_default-clause-turns : goal.returns-in_default-clause-turns
+returns-in_default-clause-turns g c = λ s represents h. not_begun c.args.now s c.args.engine.now _ _ represents (g.met.K.Sockets.none _)
 
 pub returns-clause-turns : goal.returns-clause-turns
 returns-clause-turns g c = λ s represents h.
-    let first = c.in-Ok.ensures s represents in
-    let second = c.in-Ok-read_all.ensures.reads first.begun first.represents in
-    let still = read_orderly c.args.now s c.accept.new.engine _ _ _ c.in-Ok.accepted first c.read_all.new.engine _ _ c.in-Ok-read_all.counts second c.effects_name_open_ends.ensures.takes h in
-    let third = c.in-Ok-work_all.ensures second.some.last second.some.represents still in
-    let few = few_works c.args.now s c.accept.new.engine _ _ _ c.in-Ok.accepted first c.read_all.new.engine _ _ c.in-Ok-read_all.counts second c.work_all.new.engine _ _ c.in-Ok-work_all.counts third in
-    let more = c.in-Ok-read_all.ensures.few in
-    let sum : c.saturating_add.result ≡ c.in-Ok-read_all.counts.1 + c.in-Ok-work_all.counts.1 = search rules in
-    whole c.args.now s c.accept.new.engine _ _ _ c.in-Ok.accepted first c.read_all.new.engine _ _ c.in-Ok-read_all.counts second c.work_all.new.engine _ _ c.in-Ok-work_all.counts third _ refl refl refl sum
-    (λ made. g.K.Sockets.Did c.accept.new.sockets made c.work_all.new.sockets) _ (λ x y p q. g.met.K.Sockets.joined _ _ _ x y p q) (λ x y p q. g.met.K.Sockets.joined _ _ _ x y p q)
+    one_turn c.readable_ends_may_send.ensures.each c.readable_ends_may_send.ensures.accept c.args.now s c.in-Ok.ends.items c.turn_over.new.engine c.turn_over.new.ends.items _ _ _ c.turn_over.result (c.in-Ok.ensures s represents) (c.turn_over.ensures.turns s represents h)

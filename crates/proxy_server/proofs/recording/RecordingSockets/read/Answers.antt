@@ -16,7 +16,7 @@ returns-then-not-note-clause-did g c =
 pub returns-then-is_err-clause-did : goal.returns-then-is_err-clause-did
 returns-then-is_err-clause-did g c =
     let given = read_outcome_of c.read-received.result c.read-received.new.buf in
-    let may = c.has_to_wait.ensures c.if-has_to_wait.false in
+    let may = c.has_to_wait.ensures.may c.if-has_to_wait.false in
     let sockets : c.match-happening_of_read.self.sockets ≡ c.read-received.new.self = elim c.match-happening_of_read.branch [
       | in-Some+else-not-note w ↦ let is = w.self-is in search rules
       | in-None w ↦ let is = w.self-is in search rules
@@ -53,7 +53,7 @@ returns-then-is_err-clause-did g c =
 pub returns-else-is_err-clause-did : goal.returns-else-is_err-clause-did
 returns-else-is_err-clause-did g c =
     let given = read_outcome_of c.read-received.result c.read-received.new.buf in
-    let may = c.has_to_wait.ensures c.if-has_to_wait.false in
+    let may = c.has_to_wait.ensures.may c.if-has_to_wait.false in
     let sockets : c.match-happening_of_read.self.sockets ≡ c.read-received.new.self = elim c.match-happening_of_read.branch [
       | in-Some+else-not-note w ↦ let is = w.self-is in search rules
       | in-None w ↦ let is = w.self-is in search rules

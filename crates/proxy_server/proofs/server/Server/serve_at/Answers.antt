@@ -2,7 +2,7 @@ use Rattle.std.proofs.Common.{rules, ◌≡◌, ◌<◌, refl, sym, ap, subst, �
 use Rattle.hx_fields.specs.declared.limits.TheConstants.{END_OF_TIME}
 use Rattle.proxy_turn.specs.Served.{EngineServesTurn}
 use Rattle.proxy_turn.specs.declared.report.TurnFault.TheVariants as faults
-use Rattle.proxy_server.specs.Serving.{TurnHadLinkNumbersLeft}
+use Rattle.proxy_server.specs.Serving.{server_bounds, TurnHadLinkNumbersLeft}
 use Rattle.proxy_server.proofs.Living.{served_as}
 use Rattle.proxy_server.proofs.server.Server.serve_at.Goals as goal
 use Rattle.proxy_server.proofs.server.Server.serve_at.Goals.{then-refresh+else-is_err, else-refresh}
@@ -58,7 +58,7 @@ returns-in-Err-Spent g c =
     ] in
     let served = served_as c.min-moment.result c.args.self.now c.if-refresh.self-inside.engine c.turn_at-reported.new.self c.look_ahead.new.self c.turn_at-reported.result
     first c.look_ahead.ensures c.turn_at-reported.ensures in
-    (c.min-moment.result, early, subst (EngineServesTurn c.min-moment.result c.args.self.now c.look_ahead.new.self) says served)
+    (c.min-moment.result, early, subst (EngineServesTurn c.min-moment.result server_bounds c.args.self.now c.look_ahead.new.self) says served)
 
 pub returns-in-Some : goal.returns-in-Some
 returns-in-Some g c =

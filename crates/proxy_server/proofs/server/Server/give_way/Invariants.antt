@@ -1,6 +1,0 @@
-use Rattle.proxy_turn.specs.Served.{EngineTakesLosses}
-use Rattle.proxy_server.proofs.server.Server.give_way.Given as goal
-
--- nothing but what was lost has been taken so far
-abbrev pub invariant-loop : goal.invariant-loop
-invariant-loop g l = EngineTakesLosses l.fn.self l.self

@@ -1,0 +1,55 @@
+//! What a turn over ends that are handed in calls and takes, and what it refuses: each function's contract is the
+//! cases, and its body is empty.
+
+ghost use Rattle.std.specs.Prelude.{◌≡◌, ◌∷◌, []};
+ghost use Rattle.proxy_engine.specs.Happenings.{Accepts};
+ghost use Rattle.proxy_engine.specs.Executions.{Took};
+ghost use Rattle.proxy_engine.specs.declared.work.End.TheVariants as ends;
+ghost use Rattle.proxy_turn.specs.Calls as call;
+ghost use Rattle.proxy_turn.specs.Calls.{Came, NoneCame, Failed};
+ghost use Rattle.proxy_turn.specs.Over.{accepted_ends, calls_of_accepts, count_of_connections, count_of_failed_answers};
+ghost use Rattle.proxy_turn.specs.OverSteps.{steps_of_accepts};
+ghost use Rattle.proxy_turn.specs.OverCases.{NoMoreCallsThanMayBe, NoCallWhereAllAreOpen, NoCallBehindNone};
+ghost use Rattle.proxy_turn.specs.OverCases.{NoSilentEndIsRead, NoEndIsReadTwice, NoGivenEndIsPassedOver};
+ghost use Rattle.proxy_turn.specs.OverCases.{NoAcceptedEndIsPassedOver, NoReadBeforeTheAccepts, NoActBeforeTheEnds};
+ghost use Rattle.proxy_turn.specs.OverCases.{NoMoreActsThanAThousand, NoReportLeavesAnEndOut};
+ghost use Rattle.proxy_turn.specs.OverCases.{NoReportLeavesAConnectionOut, NoReportCountsWhatWasNotDone};
+ghost use Rattle.proxy_turn.specs.OverCases.{NoFaultOfAListenerThatWorks, NoSilentEndIsListed};
+ghost use Rattle.proxy_turn.specs.OverCases.{CallsOfATurnOverStandInOrder};
+
+/// Each call of accept is for the next number; what came is an end of that number, and a step.
+pub fn worked_accepts()
+    ensures none { calls_of_accepts 5 [] ≡ [] }
+    ensures calls { calls_of_accepts 5 (Came ∷ Came ∷ NoneCame ∷ [])
+        ≡ call.Accept 5 Came ∷ call.Accept 6 Came ∷ call.Accept 7 NoneCame ∷ [] }
+    ensures failed_call { calls_of_accepts 5 (Came ∷ Failed ∷ []) ≡ call.Accept 5 Came ∷ call.Accept 6 Failed ∷ [] }
+    ensures ends { accepted_ends 5 (Came ∷ Came ∷ NoneCame ∷ []) ≡ ends.Client 5 ∷ ends.Client 6 ∷ [] }
+    ensures no_end { accepted_ends 5 (Failed ∷ []) ≡ [] }
+    ensures steps { steps_of_accepts 5 (Came ∷ Came ∷ NoneCame ∷ []) [] ≡ Took (Accepts 6) ∷ Took (Accepts 5) ∷ [] }
+    ensures count { count_of_connections (Came ∷ Came ∷ NoneCame ∷ []) ≡ 2 }
+    ensures failures { count_of_failed_answers (Came ∷ Failed ∷ []) ≡ 1 }
+    ensures no_failure { count_of_failed_answers (Came ∷ NoneCame ∷ []) ≡ 0 }
+{}
+
+/// No turn asks the listener more often than it may, where all are open that may be, or behind a call that gave none.
+/// It reads no end from which no bytes may come, none twice, and passes over none of the others, also none that it
+/// accepted. It reads nothing before it has accepted, and acts on nothing before it has read. Its report leaves nothing
+/// out, and counts what was done.
+pub fn a_turn_over_ends_refuses_what_is_not_done()
+    ensures calls { NoMoreCallsThanMayBe }
+    ensures full { NoCallWhereAllAreOpen }
+    ensures behind { NoCallBehindNone }
+    ensures silent { NoSilentEndIsRead }
+    ensures twice { NoEndIsReadTwice }
+    ensures given { NoGivenEndIsPassedOver }
+    ensures accepted { NoAcceptedEndIsPassedOver }
+    ensures reads { NoReadBeforeTheAccepts }
+    ensures acts { NoActBeforeTheEnds }
+    ensures many { NoMoreActsThanAThousand }
+    ensures whole { NoReportLeavesAnEndOut }
+    ensures connections { NoReportLeavesAConnectionOut }
+    ensures counts { NoReportCountsWhatWasNotDone }
+    ensures failure { NoFaultOfAListenerThatWorks }
+    ensures listed { NoSilentEndIsListed }
+    ensures order { CallsOfATurnOverStandInOrder }
+{}
