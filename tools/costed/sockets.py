@@ -15,8 +15,8 @@ ONE = head(b"GET /one HTTP/1.1", HOST)
 HELD = head(b"GET /held HTTP/1.1", HOST)
 # How many times more the one of two servers is asked; and where there are many connections, of which the way to their rest differs.
 MORE, LONG = 4000, 12000
-# Seconds until whoever is idle has left its place, and what was sent has been read.
-PARKED = 4
+# Seconds until what was sent has been read, and whoever is idle counts as that.
+QUIET = 4
 
 
 class Origin:
@@ -128,7 +128,7 @@ def hits(times, idle=0):
             for _ in range(idle):
                 ask(clients.one(), 1)
             if idle:
-                time.sleep(PARKED)
+                time.sleep(QUIET)
             ask(link, times)
 
     return play
@@ -148,7 +148,7 @@ def connections(times):
 
 
 def beside(times, waiting):
-    """So many hits on one connection, where so many others wait for one answer: with its link they are open ends in places."""
+    """So many hits on one connection, where so many others wait for one answer: with its link they are open ends."""
 
     def play(port, origin):
         with Clients(port) as clients:
@@ -164,7 +164,7 @@ def wait(clients, count):
     others = [clients.one() for _ in range(count)]
     for it in others:
         it.sendall(HELD)
-    time.sleep(PARKED)
+    time.sleep(QUIET)
     return others
 
 

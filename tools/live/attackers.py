@@ -11,28 +11,36 @@ from collections import Counter
 
 # The least time between two connections of one attacker, and that of one who leaves; between two bytes; until one leaves.
 AGAIN, AGAIN_BEHIND_LEAVING, BETWEEN_BYTES, STAY = 0.1, 1.0, 2.0, 0.05
+# A busy one asks for so many hits in one write, and again when it has them.
+AT_ONCE = 20
 # So many ports of one address are used, and then those of the next one.
 PORTS_OF_AN_ADDRESS = 20000
 BIND_WITHOUT_PORT = 24
+STATUSES = b"200", b"429", b"502", b"503", b"504"
 STARTS = {
     "idle": b"GET /a HTTP/1.1\r\nHost: h\r\n\r\n",
     "head": b"GET /a HTTP/1.1\r\nHost: h\r\nX: ",
     "content": b"POST /post HTTP/1.1\r\nHost: h\r\nContent-Length: 100000\r\n\r\nx",
     "leave": b"GET /endless?%d HTTP/1.1\r\nHost: h\r\n\r\n",
+    "hang": b"GET /silent?%d HTTP/1.1\r\nHost: h\r\n\r\n",
+    "busy": b"GET /a HTTP/1.1\r\nHost: h\r\n\r\n" * AT_ONCE,
 }
-KINDS = {it: [it] for it in STARTS} | {"mixture": [*STARTS]}
+KINDS = {it: [it] for it in STARTS} | {"mixture": ["idle", "head", "content", "leave"]}
 WHAT_THEY_DO = {
     "idle": "ask once and stay",
     "head": "send a head, a byte every 2 s",
     "content": "send a content, a byte every 2 s",
     "leave": "ask for an answer without an end and close, each second",
-    "mixture": "a quarter of each",
+    "hang": "ask for what its origin never answers, and wait",
+    "busy": f"ask for {AT_ONCE} hits in one write, again and again",
+    "mixture": "are a quarter of each of the first four",
 }
 
 
 class Attacker:
     def __init__(self, number, kind):
         self.number, self.kind, self.socket, self.began, self.is_up = number, kind, None, 0.0, False
+        self.asked_at, self.left, self.rest = 0.0, 0, b""
 
 
 class Attack:
@@ -68,7 +76,8 @@ class Attack:
         one.is_up = True
         self.poll.modify(one.socket, select.EPOLLIN)
         start = STARTS[one.kind]
-        one.socket.send(start % self.told["asked"] if one.kind == "leave" else start)
+        one.asked_at, one.left, one.rest = time.monotonic(), AT_ONCE, b""
+        one.socket.send(start % self.told["asked"] if b"%d" in start else start)
         self.told["asked"] += 1
         if one.kind == "leave":
             self.plan(STAY, self.leave, one)
@@ -100,12 +109,27 @@ class Attack:
                 data = one.socket.recv(65536)
                 if not data:
                     raise ConnectionResetError
-                self.told["answers"] += data.count(b"HTTP/1.1 200")
+                self.count(one, data)
         except BlockingIOError:
             pass
         except OSError:
             self.told["cut" if one.is_up else "refused"] += 1
             self.close(one, AGAIN)
+
+    def count(self, one, data):
+        """Answers by their status, and the longest that one with another status than 200 took."""
+        # (a status may come in two parts)
+        data = one.rest + data
+        one.rest, began = data[-11:], self.told["200"]
+        for it in STATUSES:
+            self.told[it.decode()] += data.count(b"HTTP/1.1 " + it)
+        if data.startswith(b"HTTP/1.1 5"):
+            self.told["slowest error, ms"] = max(self.told["slowest error, ms"], int((time.monotonic() - one.asked_at) * 1000))
+        if one.kind == "busy":
+            one.left -= self.told["200"] - began
+            if one.left <= 0:
+                one.left += AT_ONCE
+                one.socket.send(STARTS["busy"])
 
     def act(self):
         """What is due by the clock; the seconds until the next of it."""

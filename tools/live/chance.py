@@ -9,8 +9,8 @@ from live.origin import Origin, byte_by_byte, ends, head_of, raw, whole
 from live.scenario import KEPT, scenario
 
 CLIENTS, STEPS, SEED = 24, 12, 9111
-# Clients whose requests don't come whole: more than there are places.
-DRIPS = 260
+# Clients whose requests don't come whole.
+DRIPS = 300
 STALE = ["Cache-Control: max-age=0, stale-if-error=600", 'ETag: "v1"']
 
 
@@ -42,13 +42,13 @@ LINES = ["Cache-Control: no-cache", "Cache-Control: max-stale=10", 'If-None-Matc
 WRONG = [b"GET /a/../b HTTP/1.1\r\nHost: h\r\n\r\n", b"GET / HTTP/3.0\r\nHost: h\r\n\r\n", b"hello\r\n\r\n"]
 
 
-def some_request(dice, largest):
-    """The bytes of a request, whose content has so many bytes at most, and its method."""
+def some_request(dice):
+    """The bytes of a request, and its method."""
     target, method = dice.choice([*ANSWERS]), dice.choice(["GET"] * 6 + ["HEAD", "POST", "POST"])
     lines = dice.sample(LINES, dice.choice([0, 0, 1]))
     if method != "POST":
         return request(target, *lines, method=method), method
-    content = b"x" * min(largest, dice.choice([0, 1, 5000, 20000]))
+    content = b"x" * dice.choice([0, 1, 5000, 20000])
     if dice.random() < 0.5:
         return request(target, method=method, content=content), method
     chunks = b"%x\r\n%s\r\n" % (len(content), content) if content else b""
@@ -64,10 +64,9 @@ def send_in_pieces(client, data, dice):
             time.sleep(dice.random() / 200)
 
 
-def step(client, dice, among_drips):
-    """Does one of the things that clients do; whether the client can go on. Where places are short a client that sends its end is
-    taken to have left, and a large content may have to wait: neither is done there."""
-    asked = [some_request(dice, 5000 if among_drips else 20000) for _ in range(dice.choice([1, 1, 1, 2, 5]))]
+def step(client, dice):
+    """Does one of the things that clients do; whether the client can go on."""
+    asked = [some_request(dice) for _ in range(dice.choice([1, 1, 1, 2, 5]))]
     way = dice.random()
     if way < 0.04:
         client.send(dice.choice(WRONG))
@@ -77,24 +76,23 @@ def step(client, dice, among_drips):
         time.sleep(dice.random() / 50)
         client.leave(reset=dice.random() < 0.5)
         return False
-    if way < 0.15 and not among_drips:
+    if way < 0.15:
         client.half_close()
     for _, method in asked:
         answer = client.response(method)
         if not (answer.value("Cache-Status") or answer.value("Refusal")):
             raise Unexpected("an answer that names its reason", "Cache-Status or Refusal", answer.head)
     if way > 0.9:
-        # (long enough for some to be parked)
         time.sleep(dice.random() * 3)
     return way >= 0.15
 
 
-def go_about(proxy, seed, faults, among_drips):
+def go_about(proxy, seed, faults):
     dice, client = random.Random(seed), None
     try:
         for _ in range(STEPS):
             client = client or proxy.client()
-            if not step(client, dice, among_drips):
+            if not step(client, dice):
                 client = None
     except (Unexpected, OSError) as fault:
         faults.append(fault)
@@ -102,16 +100,16 @@ def go_about(proxy, seed, faults, among_drips):
 
 @scenario
 def whatever_happens_can_be_replayed(stage):
-    """Clients of every kind before origins of every kind, side by side, some of which are parked at times: each answer names its
+    """Clients of every kind before origins of every kind, side by side, some of which are idle at times: each answer names its
     reason, and the replay of the record has what each of them got, to the byte."""
     stage.origin(Origin(dict(ANSWERS)))
     all_go_about(stage.proxy(capacity=8), SEED)
 
 
-def all_go_about(proxy, seed, among_drips=False):
+def all_go_about(proxy, seed):
     """The clients, each by a seed of its own, until they have ended."""
     faults = []
-    threads = [threading.Thread(target=go_about, args=[proxy, seed + i, faults, among_drips]) for i in range(CLIENTS)]
+    threads = [threading.Thread(target=go_about, args=[proxy, seed + i, faults]) for i in range(CLIENTS)]
     for it in threads:
         it.start()
     for it in threads:
@@ -123,11 +121,11 @@ def all_go_about(proxy, seed, among_drips=False):
 
 @scenario
 def whatever_happens_among_drips_can_be_replayed(stage):
-    """The same where all places are taken by requests that don't come whole: these give way, and whoever asks has its answers."""
+    """The same beside 300 requests that don't come whole: whoever asks has its answers."""
     stage.origin(Origin(dict(ANSWERS)))
     proxy = stage.proxy(capacity=8)
     for i in range(DRIPS):
         start = request("/kept") if i % 2 else request("/kept", "Content-Length: 9", method="POST")
         proxy.client().send(start[:-2] if i % 2 else start)
     time.sleep(2)
-    all_go_about(proxy, SEED + CLIENTS, among_drips=True)
+    all_go_about(proxy, SEED + CLIENTS)

@@ -2,13 +2,16 @@
 import threading
 import time
 
+from live.asking import asked
+from live.attackers import Attackers
+from live.busy_origin import ANSWER
 from live.client import request
 from live.expect import Unexpected, expect, expect_answer, expect_member, expect_within
 from live.origin import Origin, held_back, silent, whole
 from live.scenario import AT_ONCE, KEPT, LATEST, scenario, timed
 
-# The requests that are served at a time.
-MOST_AT_A_TIME = 256
+# Requests and connections side by side: more than a small server would serve at a time.
+CROWD = 300
 # The most bytes that are kept for an end that doesn't read.
 MOST_UNSENT = 64 << 20
 
@@ -56,50 +59,33 @@ def a_slow_origin_stops_nobody(stage):
 
 
 @scenario
-def two_hundred_idle_connections(stage):
-    """Connections that send nothing cost no other client its answer, and are served when they ask."""
-    stage.origin(Origin({"/a": whole(200, KEPT, content=b"hello")}))
-    proxy = stage.proxy()
-    idle = [proxy.client() for _ in range(200)]
-    busy = proxy.client()
-    expect_answer(busy.ask("/a"), 200, "edge;fwd=uri-miss;ttl=600;stored", b"hello")
-    for _ in range(20):
-        answer, seconds = timed(busy, "/a")
-        expect_answer(answer, 200, "edge;hit;ttl=600", b"hello")
-        expect_within("a busy client's answer", 0, AT_ONCE, seconds)
-    for it in idle:
-        expect_answer(it.ask("/a"), 200, "edge;hit;ttl=600", b"hello")
-
-
-@scenario
-def a_request_beyond_256_waits_its_turn(stage):
-    """256 requests are with their origin at a time. The next one, though it is stored, is answered when one of them is. The server says
-    once that one waits."""
-    stage.lines = 1
+def hundreds_that_wait_keep_nobody_waiting(stage):
+    """300 requests are with their origin at a time. What is stored is answered at once meanwhile, and what isn't goes to the same origin; at
+    last each of the 300 has its answer."""
     go = threading.Event()
     late = held_back(go, whole(200, "Cache-Control: no-store", content=b"late"))
-    origin = stage.origin(Origin({"/a": whole(200, KEPT, content=b"hello"), "/late": late}))
+    origin = stage.origin(Origin({"/a": whole(200, KEPT, content=b"hello"), "/b": whole(200, content=b"soon"), "/late": late}))
     proxy = stage.proxy()
     proxy.client().ask("/a")
-    busy = [proxy.client() for _ in range(MOST_AT_A_TIME)]
+    busy = [proxy.client() for _ in range(CROWD)]
     for i, it in enumerate(busy):
         it.send(request(f"/late?{i}"))
-    origin.wait_for(MOST_AT_A_TIME + 1)
-    last = proxy.client()
-    last.send(request("/a"))
-    expect("an answer while 256 are served", False, not last.has_nothing_to_read(1.5))
+    origin.wait_for(CROWD + 1)
+    for target, member, content in (("/a", "edge;hit;ttl=600", b"hello"), ("/b", "edge;fwd=uri-miss", b"soon")):
+        answer, seconds = timed(proxy.client(), target)
+        expect_answer(answer, 200, member, content)
+        expect_within("an answer beside them", 0, AT_ONCE, seconds)
     go.set()
-    expect_answer(last.response(), 200, "edge;hit;ttl=600", b"hello")
     for it in busy:
         expect_answer(it.response(), 200, "edge;fwd=uri-miss", b"late")
 
 
 @scenario
-def idle_clients_make_room(stage):
-    """Connections that send nothing keep nobody out, as many as there are places for requests."""
+def idle_clients_keep_nobody_out(stage):
+    """300 connections that send nothing cost no other client its answer, and are served when they ask."""
     stage.origin(Origin({"/a": whole(200, KEPT, content=b"hello")}))
     proxy = stage.proxy()
-    idle = [proxy.client() for _ in range(MOST_AT_A_TIME)]
+    idle = [proxy.client() for _ in range(CROWD)]
     answer, seconds = timed(proxy.client(), "/a")
     expect_answer(answer, 200, "edge;fwd=uri-miss;ttl=600;stored", b"hello")
     expect_within("the answer", 0, AT_ONCE, seconds)
@@ -264,3 +250,22 @@ def uploads_beside_one_another_wait_for_none(stage):
         for it in clients:
             expect_answer(it.response("POST"), 201, "edge;fwd=method", b"made")
     expect_within("the last answer", 0, 3 * AT_ONCE, time.monotonic() - began)
+
+
+@scenario
+def busy_clients_leave_an_honest_one_its_answers(stage):
+    """200 clients ask for twenty hits in one write each, and again when they have them, for as long as another one asks 200 times: none of
+    its answers fails, half of them come within a tenth of a second, and all at once."""
+    stage.origin(Origin({"/a": whole(200, KEPT, content=ANSWER[-1024:])}))
+    proxy = stage.proxy(records=False)
+    proxy.client().ask("/a")
+    attackers = Attackers(proxy.port, "busy", 200)
+    try:
+        told = asked(proxy.port, ["/a"] * 200)
+    finally:
+        did = attackers.end()
+    expect("of the honest client's requests the unanswered", 0, told.count(None))
+    expect_within("the middle one of its answers", 0, 0.1, sorted(told)[len(told) // 2])
+    expect_within("its last answer", 0, AT_ONCE, max(told))
+    if did["200"] < 2000:
+        raise Unexpected("answers to the others", "at least 2,000", did)

@@ -53,8 +53,8 @@ def a_drained_server_ends_in_order(stage):
     answers = {"/late": held_back(go, whole(200, KEPT, content=text)), "/a": whole(200, KEPT, content=b"hello")}
     origin = stage.origin(Origin(answers))
     proxy, file = drained_by(stage, "--drain-timeout", "15")
-    parked, silent_one, half = proxy.client(), proxy.client(), proxy.client()
-    expect_answer(parked.ask("/a"), 200, STORED, b"hello")
+    kept, silent_one, half = proxy.client(), proxy.client(), proxy.client()
+    expect_answer(kept.ask("/a"), 200, STORED, b"hello")
     half.send(request("/a")[:20])
     time.sleep(2)
     idle, first, second = proxy.client(), proxy.client(), proxy.client()
@@ -65,7 +65,7 @@ def a_drained_server_ends_in_order(stage):
     time.sleep(0.3)
     put(file)
     began = time.monotonic()
-    for it in (parked, silent_one, idle):
+    for it in (kept, silent_one, idle):
         expect("an idle connection closed", True, it.is_closed(5))
     expect_within("the idle connections' ends", 0, 5, time.monotonic() - began)
     expect("a new connection refused", True, is_refused(proxy))
@@ -90,7 +90,8 @@ def a_drained_server_sends_what_is_unsent(stage):
     proxy = stage.proxy(options=["--drain", file, "--drain-timeout", "15"], max_body=16 << 20, max_stored=16 << 20)
     slow = proxy.client(window=8192)
     slow.send(request("/a"))
-    proxy.wait_until_happened("gone", 1)
+    origin.wait_for(1)
+    time.sleep(0.5)
     put(file)
     time.sleep(2.5)
     expect("the program's status while bytes wait", None, proxy.process.poll())
@@ -104,15 +105,15 @@ def a_drained_server_sends_what_is_unsent(stage):
 
 @scenario
 def a_drained_server_answers_what_was_sent_ahead(stage):
-    """Of two clients that sent four requests at once and read slowly one is parked when the drain begins, and one isn't: both have
-    all of their answers before the server ends."""
+    """Of two clients that sent four requests at once and read slowly one has done so for a while when the drain begins, the other just
+    has: both have all of their answers before the server ends."""
     text = bytes(i * 7 % 251 for i in range(2000000))
     origin = stage.origin(Origin({"/a": whole(200, KEPT, content=text)}))
     file = f"{stage.room.name}/drain"
     proxy = stage.proxy(options=["--drain", file, "--drain-timeout", "15"], max_body=16 << 20, max_stored=16 << 20)
     clients = [proxy.client(window=8192)]
     clients[0].send(request("/a") * 4)
-    proxy.wait_until_happened("gone", 1)
+    time.sleep(2.5)
     clients.append(proxy.client(window=8192))
     clients[1].send(request("/a") * 4)
     time.sleep(0.3)
@@ -210,8 +211,9 @@ def a_record_is_never_written_over(stage):
 
 @scenario
 def other_bytes_than_the_replay_has_are_refused(stage):
-    """The comparison itself: of clients that had two numbers each, one with a byte changed, without its last answer, with one
-    more, with its answers in another order or with another client's, and one that nobody counts, are all told."""
+    """The comparison itself: of clients that had two answers each, one with a byte changed, without its last answer, with one
+    more, with its answers in another order or with another client's, one that has another's requests, and one that nobody counts, are
+    all told."""
     origin = stage.origin(Origin({f"/{i}": whole(200, KEPT, content=b"hello %d" % i) for i in range(4)}))
     proxy = stage.proxy()
     clients, ends = [proxy.client() for _ in range(3)], {}
@@ -219,7 +221,6 @@ def other_bytes_than_the_replay_has_are_refused(stage):
         for i, it in enumerate(clients):
             it.ask(f"/{i + target}")
             ends[i, target] = it.at
-        proxy.wait_until_happened("gone", 3 * target + 3)
     proxy.stop(0)
     proxy.compare([origin])
     effects, got = replay(proxy.program, proxy.record), [bytes(it.received) for it in clients]

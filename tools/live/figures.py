@@ -124,7 +124,7 @@ def expect_bytes(samples, stage, client, origin):
 
 @scenario
 def figures_of_connections_and_times(stage):
-    """Who is open, parked and cut off by a time-out, how long an answer took, and how long an origin is being waited for."""
+    """Who is open and cut off by a time-out, how long an answer took, and how long an origin is being waited for."""
     wait = 0.3
     answers = {"/a": whole(200, KEPT, content=b"hello"), "/silent": silent}
     answers["/late"] = lambda fetch: (time.sleep(wait), whole(200, content=b"late")(fetch))
@@ -132,13 +132,13 @@ def figures_of_connections_and_times(stage):
     file = f"{stage.room.name}/figures"
     options = ["--stats", file, "--client-timeout", "8", "--origin-timeout", "4", "--log", f"{stage.room.name}/log"]
     proxy = stage.proxy(options=options)
-    parked, late, waiting = proxy.client(), proxy.client(), proxy.client()
-    parked.ask("/a")
+    idle, late, waiting = proxy.client(), proxy.client(), proxy.client()
+    idle.ask("/a")
     late.ask("/late")
     waiting.send(b"GET /silent HTTP/1.1\r\nHost: h\r\n\r\n")
     figures_with(file, of("log_lines_total"), 2, LATEST)
-    samples = figures_with(file, of("connections", state="parked"), 2, LATEST)
-    expect_samples(samples, {of("connections", state="open"): 1, of("connections", state="parked"): 2})
+    samples = figures_with(file, of("origin_exchanges", origin=origin.address), 1, LATEST)
+    expect_samples(samples, {of("connections", state="open"): 3})
     expect_samples(samples, {of("origin_exchanges", origin=origin.address): 1})
     if not 0 < samples["revcache_oldest_exchange_age_seconds"] < LATEST:
         raise Unexpected("the age of the oldest exchange", "above 0", samples["revcache_oldest_exchange_age_seconds"])

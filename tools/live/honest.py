@@ -13,6 +13,10 @@ RATE, LONGEST = 5, 5.0
 SIDE_BY_SIDE = 32
 
 
+def connect(proxy):
+    return socket.create_connection(("127.0.0.1", proxy.port), timeout=PATIENCE)
+
+
 def ask(port, told, target, source):
     """One request over a connection of its own; the seconds until its answer was whole, or None."""
     began = time.monotonic()
@@ -63,7 +67,7 @@ def read_answers(connection, count):
 
 def hits_a_second(proxy, count):
     """Of the program's processor: one request after another on a few connections."""
-    ends = [socket.create_connection(("127.0.0.1", proxy.port), timeout=PATIENCE) for _ in range(SIDE_BY_SIDE)]
+    ends = [connect(proxy) for _ in range(SIDE_BY_SIDE)]
     before = proxy.processor_seconds()
     for _ in range(count // SIDE_BY_SIDE):
         for it in ends:

@@ -295,6 +295,8 @@ def a_line_lets_stale_pages_stand_in(stage):
     }
     origin = stage.origin(Origin({it: whole(200, *lines, content=b"hello") for it, lines in pages.items()}))
     lines = {"/plain": {}, "/short": {"stale-if-error": 1}, "/given": {"lifetime": 1, "stale-if-error": 600}, "/": {"stale-if-error": 600}}
+    # (an origin that is stopped counts as silent, which is warned of when the second is over)
+    stage.lines = range(2)
     client = stage.proxy(*((path, ["*"], origin.address, words) for path, words in lines.items()), version=3).client()
     for it in pages:
         expect("status", 200, client.ask(it).status)

@@ -1,214 +1,123 @@
-"""Whose bytes are whose. The proxy numbers connections as it takes them, and a client that was idle comes back under the next
-number. So a client has had one number or several, and which ones is told by the bytes alone."""
-from collections import Counter
-from math import inf
-
+"""Whose bytes are whose. The proxy numbers connections as it takes them, so each client has had one number, and no number two clients. Which
+one is told by the bytes alone."""
 from live.expect import Unexpected
 from live.script import happenings_of
 
-# The most numbers that are tried, back and forth, before it counts as not to be told.
-MOST_TRIES = 100000
-
 
 class Number:
-    """One number of a record: when it was accepted and when it went, what came from it, and what the replay tells it."""
+    """One number of a record: what came from it, and what the replay tells it."""
 
-    def __init__(self, number, accepted):
-        self.number, self.accepted, self.gone = number, accepted, inf
-        self.sent, self.told, self.is_last = bytearray(), b"", False
-
-    def is_last_of_its_client(self):
-        """Whether its client can have no number behind this one: it is open still, was closed, has ended its input, or went amid
-        its first request."""
-        return self.is_last or self.gone == inf
+    def __init__(self, number):
+        self.number, self.sent, self.told = number, bytearray(), b""
 
 
 def numbers_of(script, effects):
-    """The numbers of a record that have bytes, in the order in which they were accepted."""
-    numbers = {}
-    for at, (words, block) in enumerate(happenings_of(script)):
+    """The numbers of a record that have bytes. Each was accepted once, and is gone once at most."""
+    numbers, gone = {}, set()
+    for words, block in happenings_of(script):
         word, _, rest = words.partition(b" ")
         if word == b"accept":
-            numbers[int(rest)] = Number(int(rest), at)
+            if int(rest) in numbers:
+                raise Unexpected(f"of number {int(rest)} in the record", "one accept", "another one")
+            numbers[int(rest)] = Number(int(rest))
         elif word == b"client":
             numbers[int(rest)].sent += block
         elif word == b"gone":
-            numbers[int(rest)].gone = at
-        elif word == b"end":
-            numbers[int(rest)].is_last = True
+            if int(rest) in gone:
+                raise Unexpected(f"of number {int(rest)} in the record", "one gone", "another one")
+            gone.add(int(rest))
     for it in numbers.values():
-        it.sent = bytes(it.sent)
-        it.told = bytes(effects.clients.get(it.number, b""))
-        # (who was told nothing wasn't parked: that happens between two requests alone)
-        it.is_last |= it.number in effects.closed or not it.told
+        it.sent, it.told = bytes(it.sent), bytes(effects.clients.get(it.number, b""))
     return [it for it in numbers.values() if it.sent or it.told]
 
 
 class Seen:
     """What is known of a client: what it sent and got, as far as that is known, and whether it got all that it was told."""
 
-    def __init__(self, client, texts):
+    def __init__(self, client):
         self.sent = None if client.sent is None else bytes(client.sent)
         self.received = None if client.received is None else bytes(client.received)
         self.lacks = client.has_left or client.is_cut_off
-        # (equal texts have one object, so that clients can be compared by it)
-        self.sent, self.received = texts.setdefault(self.sent, self.sent), texts.setdefault(self.received, self.received)
-        self.kind = id(self.sent), id(self.received), self.lacks
-        self.free = -1
 
-    def fits(self, place, number, is_cut):
-        """Whether this number can be the client's next one, behind so many bytes that it has sent and got."""
-        at_sent, at_received = place
-        if self.sent is not None and not self.sent.startswith(number.sent, at_sent):
-            return False
-        if self.received is None:
+    def has_sent(self, number):
+        return self.sent is None or self.sent.startswith(number.sent)
+
+    def has_got(self, number, is_cut):
+        if self.received is None or self.received == number.told:
             return True
-        rest = len(self.received) - at_received
-        if len(number.told) > rest:
-            return self.lacks and number.told.startswith(self.received[at_received:])
-        is_whole = is_cut or self.lacks or len(number.told) == rest or not number.is_last_of_its_client()
-        return is_whole and self.received.startswith(number.told, at_received)
+        return (self.lacks and number.told.startswith(self.received)) or (is_cut and self.received.startswith(number.told))
 
-    def behind(self, place, number):
-        at_sent, at_received = place
-        return at_sent + len(number.sent), min(at_received + len(number.told), len(self.received or b""))
+    def fits(self, number, is_cut):
+        return self.has_sent(number) and self.has_got(number, is_cut)
 
-    def left(self, place):
-        """How many bytes it got that no number has been told yet."""
-        return len(self.received or b"") - place[1]
+    def known(self):
+        """How much: who got all its bytes is found a number before others."""
+        return (self.sent is None) + (self.received is None), self.lacks, -len(self.received or b"")
 
 
 class Matching:
-    """The search: number by number, whose it can be; back where one is nobody's. Clients of whom the same is known, and that
-    have come as far, stand for one another."""
+    """Clients and numbers in pairs."""
 
     def __init__(self, numbers, clients, is_cut):
-        texts = {}
-        self.numbers, self.is_cut = numbers, is_cut
-        self.seen = [Seen(it, texts) for it in clients]
-        self.places, self.groups, self.failed = {}, {}, set()
-        self.furthest, self.fault, self.deadlines = -1, None, {}
-        for i in range(len(self.seen)):
-            self.put(i, (0, 0))
+        self.numbers, self.is_cut, self.seen = numbers, is_cut, [Seen(it) for it in clients]
+        self.client_of, self.number_of, self.fitting = {}, {}, {}
 
-    def put(self, i, place):
-        self.places[i] = place
-        self.groups.setdefault((self.seen[i].kind, place), []).append(i)
+    def fits(self, i, k):
+        """Whether the i-th client can have had the k-th number. Equal texts are looked at once."""
+        it, number = self.seen[i], self.numbers[k]
+        key = it.sent, it.received, it.lacks, number.sent, number.told
+        if key not in self.fitting:
+            self.fitting[key] = it.fits(number, self.is_cut)
+        return self.fitting[key]
 
-    def take(self, i):
-        place = self.places.pop(i)
-        key = self.seen[i].kind, place
-        self.groups[key].remove(i)
-        if not self.groups[key]:
-            del self.groups[key]
-        return place
-
-    def deadline(self, i, place):
-        """The place in the record of the last number that can be this client's next one; beyond all where it needs none."""
-        it = self.seen[i]
-        if it.received is None or not it.left(place):
-            return inf
-        key = it.kind, place
-        if key not in self.deadlines:
-            fitting = (at for at in reversed(range(len(self.numbers))) if it.fits(place, self.numbers[at], self.is_cut))
-            self.deadlines[key] = next(fitting, -1)
-        return self.deadlines[key]
-
-    def is_too_late(self, depth):
-        """Whether a client got bytes that no number from this one on can have been told."""
-        groups = ((members[0], place) for (_, place), members in self.groups.items())
-        return not self.is_cut and any(self.deadline(i, place) < depth for i, place in groups if not self.seen[i].lacks)
-
-    def candidates(self, number, depth):
-        """A client of each group that this number can belong to, the one first that can wait the least; those that nothing is
-        known of come last."""
-        found = []
-        for (_, place), members in self.groups.items():
-            i = next((i for i in members if self.seen[i].free < number.accepted), None)
-            if i is not None and self.seen[i].fits(place, number, self.is_cut):
-                it = self.seen[i]
-                is_unknown = (it.sent is None) + (it.received is None)
-                found.append((is_unknown, self.deadline(i, place), self.deadline(i, it.behind(place, number)), i))
-        return [] if self.is_too_late(depth) else [it[-1] for it in sorted(found)]
-
-    def state(self, number):
-        """What the rest of the search depends on."""
-        free = (max(self.seen[i].free, number.accepted) for i in self.places)
-        return number.number, frozenset(Counter((self.seen[i].kind, place, it) for (i, place), it in zip(self.places.items(), free)).items())
-
-    def is_told_all(self):
-        """Whether every client got what some number was told, and nothing else."""
-        return self.is_cut or not any(not it.lacks and it.left(self.places[i]) for i, it in enumerate(self.seen))
+    def pair(self, i):
+        """Finds a number for a client, for which others may have to take another one; whether there is one."""
+        paths, tried = [(i, iter(range(len(self.numbers))))], set()
+        taken = []
+        while paths:
+            one, left = paths[-1]
+            k = next((it for it in left if it not in tried and self.fits(one, it)), None)
+            if k is None:
+                paths.pop()
+                if taken:
+                    taken.pop()
+                continue
+            tried.add(k)
+            taken.append(k)
+            if k not in self.client_of:
+                for (client, _), number in zip(paths, taken):
+                    self.client_of[number], self.number_of[client] = client, number
+                return True
+            paths.append((self.client_of[k], iter(range(len(self.numbers)))))
+        return False
 
     def search(self):
-        """For each client the numbers that it had."""
-        given, choices, tries = [], [], 0
-        while len(given) < len(self.numbers) or not self.is_told_all():
-            tries += 1
-            if tries > MOST_TRIES:
-                raise Unexpected("a record whose numbers can be told apart", f"within {MOST_TRIES} tries", "none")
-            depth = len(given)
-            if len(choices) == depth:
-                choices.append(self.choices_at(depth))
-            if choices[depth]:
-                given.append(self.give(choices[depth].pop(0), self.numbers[depth]))
-                continue
-            if depth < len(self.numbers):
-                self.failed.add(self.state(self.numbers[depth]))
-            choices.pop()
-            if not given:
-                raise self.fault
-            self.give_back(given.pop())
-        chains = [[] for _ in self.seen]
-        for (i, _, _), number in zip(given, self.numbers):
-            chains[i].append(number.number)
-        return chains
-
-    def choices_at(self, depth):
-        """Whose this number can be; where nobody's, that is kept if no number behind it was come to."""
-        if depth == len(self.numbers):
-            found, fault = [], self.untold
-        else:
-            number = self.numbers[depth]
-            is_known = self.failed and self.state(number) in self.failed
-            found, fault = ([] if is_known else self.candidates(number, depth)), lambda: self.nearest(number)
-        if not found and depth > self.furthest:
-            self.furthest, self.fault = depth, fault()
-        return found
-
-    def give(self, i, number):
-        """Makes it the client's next number; what is needed to take it away again."""
-        place, free = self.take(i), self.seen[i].free
-        self.seen[i].free = inf if number.is_last else number.gone
-        self.put(i, self.seen[i].behind(place, number))
-        return i, place, free
-
-    def give_back(self, given):
-        i, place, free = given
-        self.take(i)
-        self.seen[i].free = free
-        self.put(i, place)
+        """For each client its number, or None: of who got bytes each has one, and each number is a client's."""
+        for i in sorted(range(len(self.seen)), key=lambda it: self.seen[it].known()):
+            is_paired = self.pair(i)
+            if not is_paired and self.seen[i].received and not self.seen[i].lacks and not self.is_cut:
+                raise self.untold(i)
+        for k, number in enumerate(self.numbers):
+            if k not in self.client_of:
+                raise self.nearest(number)
+        return [self.numbers[self.number_of[i]].number if i in self.number_of else None for i in range(len(self.seen))]
 
     def nearest(self, number):
         """What is said where a number is nobody's: what the client got that got most of it."""
-        near = b""
-        for i, (at_sent, at_received) in self.places.items():
-            it = self.seen[i]
-            is_asked = it.sent is None or it.sent.startswith(number.sent, at_sent)
-            if is_asked and it.received is not None and it.free < number.accepted:
-                rest = it.received[at_received:]
-                near = max(near, rest, key=lambda text: common(text, number.told))
-        return Unexpected(f"for number {number.number}, which sent {number.sent[:80]!r}, by the replay,", *parts(number.told, near))
+        others = [it for i, it in enumerate(self.seen) if i not in self.number_of and it.has_sent(number)]
+        near = max((it.received or b"" for it in others), key=lambda it: common(it, number.told), default=b"")
+        return Unexpected(f"by the replay for number {number.number}", *parts(number.told, near))
 
-    def untold(self):
-        """What is said where a client got bytes that no number was told."""
-        i = next(i for i, it in enumerate(self.seen) if not it.lacks and it.left(self.places[i]))
-        rest = self.seen[i].received[self.places[i][1] :]
-        return Unexpected(f"by the replay for client {i + 1} behind {self.places[i][1]} bytes", "nothing", rest)
+    def untold(self, i):
+        """What is said where a client got what no number was told."""
+        received = self.seen[i].received
+        free = [it for k, it in enumerate(self.numbers) if k not in self.client_of and self.seen[i].has_sent(it)]
+        near = max((it.told for it in free), key=lambda it: common(it, received), default=b"")
+        return Unexpected(f"by the replay for client {i + 1}", *parts(near, received))
 
 
 def common(a, b):
-    """How many bytes two texts begin with that are the same."""
+    """How many bytes two texts have in common at their start."""
     least, most = 0, min(len(a), len(b))
     while least < most:
         middle = (least + most + 1) // 2
@@ -223,6 +132,6 @@ def parts(expected, got):
 
 
 def match(numbers, clients, is_cut):
-    """For each client the numbers that it had: each number's bytes went to one client, and each client got all of its
-    numbers' bytes, in their order, and no others. A record that was cut has the first part of what happened."""
+    """For each client the number that it had, or None where it has left no bytes: each number's bytes went to one client, and each client got
+    all of its number's bytes, and no others. A record that was cut has the first part of what happened."""
     return Matching(numbers, clients, is_cut).search()

@@ -1,37 +1,19 @@
-"""What is measured by hand: memory over many connections and contents, and what an honest client has to wait beside others. The
-gate doesn't, since figures differ by machine."""
-import resource
-import socket
+"""What is measured by hand: memory over many connections, and what an honest client has to wait beside others. The gate doesn't, since
+figures differ by machine."""
 import sys
 import tempfile
 import threading
 import time
 
-from live.attackers import KINDS, WHAT_THEY_DO, Attackers
+from live import beside, contents
+from live.attackers import WHAT_THEY_DO, Attackers
 from live.busy_origin import BusyOrigin
-from live.client import PATIENCE, request
+from live.client import request
 from live.expect import Skipped, Unexpected
-from live.honest import SIDE_BY_SIDE, hits_a_second, read_answers, summed, waits
+from live.honest import SIDE_BY_SIDE, connect, hits_a_second, read_answers, summed, waits
 from live.peers import Ours, started
 
-STEPS, PLACES, MAX_BODY, HITS = 10, 256, 1000000, 64000
-# What slow readers may leave unsent in all, by default.
-UNSENT_LIMIT = 256 << 20
-
-
-def within_descriptors(count):
-    """So many connections, or as many as a process may have here."""
-    most = resource.getrlimit(resource.RLIMIT_NOFILE)[1]
-    resource.setrlimit(resource.RLIMIT_NOFILE, (most, most))
-    return count if most == resource.RLIM_INFINITY else min(count, most - 600)
-
-
-def connect(proxy):
-    return socket.create_connection(("127.0.0.1", proxy.port), timeout=PATIENCE)
-
-
-def megabytes(count):
-    return f"{count / 1000000:,.1f} MB"
+STEPS, HITS = 10, 64000
 
 
 def misses(proxy, first, count):
@@ -66,7 +48,7 @@ def connections(proxy, _first, count):
 
 def memory_over(step, count, program, room, origin):
     """Prints the memory that the program holds, at each tenth of the way."""
-    proxy = Ours(program, room, origin, capacity=1000)
+    proxy = Ours(program, room, [origin], capacity=1000)
     try:
         began = time.monotonic()
         print(f"{0:>8} {step.__name__}: {proxy.resident() // 1024:>8} KiB", flush=True)
@@ -86,10 +68,10 @@ def measure_connections(program, room, origin, count=100000):
     memory_over(connections, count, program, room, origin)
 
 
-def measure_parked(program, room, origin, count=10000):
-    """So many clients that are parked and come back in turn: the memory behind each round."""
-    count = within_descriptors(count)
-    proxy = Ours(program, room, origin, options=["--connections", str(count + 100), "--client-timeout", "600"])
+def measure_returning(program, room, origin, count=10000):
+    """So many clients that come back in turn: the memory behind each round."""
+    count = beside.within(count)
+    proxy = Ours(program, room, [origin], options=["--connections", str(count + 100), "--client-timeout", "600"])
     try:
         empty, began = proxy.resident(), time.monotonic()
         clients = [connect(proxy) for _ in range(count)]
@@ -107,40 +89,9 @@ def measure_parked(program, room, origin, count=10000):
         proxy.end()
 
 
-def measure_idle(program, room, origin, count=10000):
-    """So many idle clients: what an honest one waits beside them, what each takes of memory, and what hits cost."""
-    count = within_descriptors(count)
-    proxy = Ours(program, room, origin, options=["--connections", str(count + 500), "--client-timeout", "600"])
-    try:
-        hits_a_second(proxy, HITS // 4)
-        alone, before = hits_a_second(proxy, HITS), proxy.resident()
-        attackers = Attackers(proxy.port, "idle", count)
-        try:
-            wait_until_calm(proxy)
-            held, spent = proxy.resident() - before, proxy.processor_seconds()
-            print(f"memory: {held / count:,.0f} bytes for each of {count:,} idle clients, {megabytes(held)} in all", flush=True)
-            told = waits(proxy.port, 20)
-            print(f"an honest client for 20 s: {summed(told)}; of the processor {proxy.processor_seconds() - spent:.2f} s", flush=True)
-            beside = hits_a_second(proxy, HITS)
-            print(f"hits a second of its processor: {alone:,.0f} without them, {beside:,.0f} with them, {beside / alone:.2f} times")
-        finally:
-            print(f"the idle ones: {attackers.end()}")
-    finally:
-        proxy.end()
-
-
-def wait_until_calm(proxy):
-    """Until the program takes less than half a processor, for a minute at most."""
-    for _ in range(60):
-        spent = proxy.processor_seconds()
-        time.sleep(1)
-        if proxy.processor_seconds() - spent < 0.5:
-            return
-
-
 def measure_pipelined(program, room, origin, count=1000):
     """So many hits that are asked for in one write, beside ten in a write and one: what they cost of the program's processor."""
-    proxy = Ours(program, room, origin)
+    proxy = Ours(program, room, [origin])
     try:
         hits_a_second(proxy, HITS // 4)
         for ahead in (1, 10, count):
@@ -159,8 +110,8 @@ def measure_pipelined(program, room, origin, count=1000):
 
 def measure_attacks(program, _room, origin, *kinds, count=1000, seconds=10):
     """Attackers of each kind before the program, haproxy and nginx: what an honest client waits for a stored answer."""
-    count = within_descriptors(count)
-    for kind in kinds or KINDS:
+    count = beside.within(count)
+    for kind in kinds or ("idle", "head", "content", "leave", "mixture"):
         print(f"{count:,} that {WHAT_THEY_DO[kind]}:", flush=True)
         for name in ("revcache", "haproxy", "nginx"):
             with tempfile.TemporaryDirectory(prefix="live-test-") as room:
@@ -182,119 +133,20 @@ def measure_attacks(program, _room, origin, *kinds, count=1000, seconds=10):
                     proxy.end()
 
 
-def upload(proxy, told):
-    """One content, whose answer takes three seconds: whether it came."""
-    try:
-        with connect(proxy) as it:
-            it.sendall(request("/late", f"Content-Length: {MAX_BODY}", method="POST") + b"x" * MAX_BODY)
-            told.append(it.recv(65536).startswith(b"HTTP/1.1 201"))
-    except OSError:
-        told.append(False)
-
-
-def uploads(proxy):
-    """256 contents side by side."""
-    told = []
-    crowd = [threading.Thread(target=upload, args=[proxy, told]) for _ in range(PLACES)]
-    for it in crowd:
-        it.start()
-    for it in crowd:
-        it.join()
-    return f"{told.count(True)} answered and {told.count(False)} cut off of {PLACES} uploads"
-
-
-def unread(proxy):
-    """256 clients that ask for four contents each, one behind the other, and read nothing: until no more is kept for them."""
-    ends = []
-    for i in range(PLACES):
-        it = socket.socket()
-        it.setsockopt(socket.SOL_SOCKET, socket.SO_RCVBUF, 4096)
-        it.connect(("127.0.0.1", proxy.port))
-        it.sendall(b"".join(request(f"/large?{MAX_BODY}-{i}-{j}") for j in range(4)))
-        ends.append(it)
-    time.sleep(1)
-    wait_until_calm(proxy)
-    held = proxy.resident()
-    for it in ends:
-        it.close()
-    return f"{megabytes(held)} for {PLACES} that ask for four answers each and read nothing"
-
-
-class HeldBack:
-    """An origin that reads nothing, and sends all of an answer but its last byte."""
-
-    def __init__(self):
-        self.listener, self.ends = socket.create_server(("127.0.0.1", 0), backlog=1024), []
-        self.address = f"127.0.0.1:{self.listener.getsockname()[1]}"
-        threading.Thread(target=self.serve, daemon=True).start()
-
-    def serve(self):
-        while True:
-            try:
-                end, _ = self.listener.accept()
-            except OSError:
-                return
-            self.ends.append(end)
-            threading.Thread(target=self.answer, args=[end], daemon=True).start()
-
-    def answer(self, end):
-        head = f"HTTP/1.1 200 OK\r\nContent-Length: {MAX_BODY}\r\n\r\n".encode()
-        try:
-            end.sendall(head + b"x" * (MAX_BODY - 1))
-        except OSError:
-            pass
-
-    def close(self):
-        self.listener.close()
-        for it in self.ends:
-            it.close()
-
-
-def stuck(proxy):
-    """256 whole contents whose origin reads none of them, and of whose answers a byte is missing: the most that a request takes."""
-    ends = []
-    for _ in range(PLACES):
-        it = connect(proxy)
-        it.sendall(request("/", f"Content-Length: {MAX_BODY}", method="POST") + b"x" * MAX_BODY)
-        ends.append(it)
-    time.sleep(1)
-    wait_until_calm(proxy)
-    held = proxy.resident()
-    for it in ends:
-        it.close()
-    return f"{megabytes(held)} for {PLACES} that wait for their last byte"
-
-
-def measure_contents(program, _room, origin):
-    """The most memory that 256 contents of 1,000,000 bytes take: on their way in, at an origin that reads nothing and holds its
-    answers back, and out to clients that don't read; beside it the bound of docs/LIMITS.md, "Memory"."""
-    held_back = HeldBack()
-    for has_log in (False, True):
-        for step, it in ((uploads, origin), (stuck, held_back.address), (unread, origin)):
-            bound = PLACES * MAX_BODY * 5 + (UNSENT_LIMIT if step is unread else 0)
-            with tempfile.TemporaryDirectory(prefix="live-test-") as room:
-                proxy = Ours(program, room, it, ["--log", f"{room}/log"] if has_log else [], max_body=MAX_BODY)
-                try:
-                    told, peak = step(proxy), proxy.memory("VmHWM:")
-                    print(f"{step.__name__}, {'with' if has_log else 'without'} a log: {told}", flush=True)
-                    most = f"{megabytes(peak)}, {peak / PLACES / MAX_BODY:.2f} times 256 contents"
-                    print(f"    at most {most}; {'within' if peak <= bound else 'BEYOND'} the bound of {megabytes(bound)}", flush=True)
-                finally:
-                    proxy.end()
-    held_back.close()
-
-
 MODES = {it.__name__.removeprefix("measure_"): it for it in (
-    measure_misses, measure_connections, measure_parked, measure_idle, measure_pipelined, measure_attacks, measure_contents)}
+    measure_misses, measure_connections, measure_returning, measure_pipelined, measure_attacks,
+    beside.measure_hanging, beside.measure_idle, beside.measure_dripping, beside.measure_busy, contents.measure_contents)}
 
 
 def run(mode, program, words):
-    """Measures; a number among the words is the count, others are kinds of attackers."""
-    counts = {"count": int(it) for it in words if it.isdecimal()}
+    """Measures; a number among the words is the count, of `hanging` and `busy` some counts, others are kinds of attackers."""
+    numbers = [int(it) for it in words if it.isdecimal()]
+    are_many = mode in ("hanging", "busy")
     origin = BusyOrigin()
     try:
         with tempfile.TemporaryDirectory(prefix="live-test-") as room:
-            MODES[mode](program, room, origin.address, *(it for it in words if not it.isdecimal()), **counts)
+            kinds = numbers if are_many else [it for it in words if not it.isdecimal()]
+            MODES[mode](program, room, origin.address, *kinds, **({} if are_many else {"count": it for it in numbers}))
     except (Unexpected, OSError) as fault:
         print(fault, file=sys.stderr)
         return 1

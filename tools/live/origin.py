@@ -59,9 +59,9 @@ class Fetch:
 class Origin:
     """`answers` has a function of a `Fetch` for each path; what isn't there is 404."""
 
-    def __init__(self, answers):
+    def __init__(self, answers, port=0):
         self.answers, self.fetches, self.came = answers, [], threading.Condition()
-        self.listener = socket.create_server(("127.0.0.1", 0), backlog=512)
+        self.listener = socket.create_server(("127.0.0.1", port), backlog=512)
         self.address = "127.0.0.1:%d" % self.listener.getsockname()[1]
         threading.Thread(target=self.accept, daemon=True).start()
 

@@ -18,8 +18,10 @@ from live.scenario import KEPT, scenario
 
 TOOLS = os.path.dirname(os.path.dirname(os.path.realpath(__file__)))
 NO_ADDRESSES = ["localhost:0", "127.0.0.1", ":0", "[::1]:0", "127.0.0.1:65536", "127.0.0.1:08", "127.0.0.01:8", "127.0.0.1:+1"]
-# Options of `serve` whose number is outside of their range.
-NO_NUMBERS = [("--turns", "0"), ("--turns", "4294967296"), ("--connections", "0"), ("--connections", "65537")]
+# Options of `serve` whose number is outside of their range, or whose word is none of theirs.
+NO_NUMBERS = [("--turns", "0"), ("--turns", "4294967296"), ("--connections", "0"), ("--connections", "1048577")]
+NO_NUMBERS += [("--origin-connections", "0"), ("--origin-connections", "65537"), ("--origin-probe", "maybe")]
+NO_NUMBERS += [(f"--{it}-limit", number) for it in ("content", "unsent") for number in ("0", "1099511627777")]
 NO_NUMBERS += [(f"--{it}-timeout", "0") for it in ("client", "request", "abandon", "connect", "origin", "exchange", "drain")]
 WRONG_CAPACITY = "capacity has to be a whole number from 1 to 65536, without quotes"
 # A table at fault, made of a good one by putting something in a text's place: the line on standard error, and a part of what
@@ -199,7 +201,7 @@ def the_command_line_checks_a_table(stage):
 def help_has_groups_defaults_and_statuses(stage):
     """`--help` and `serve --help` have each option with its default under its heading, an example and the exit statuses; `--version` the release."""
     said = run(stage, "serve", "--help")[1]
-    for it in ("Times of clients:", "Times of origins:", "Bounds:", "Files:", "--stats <FILE>", "[default: 4096]", "Example:", "Exit statuses:", "  64  "):
+    for it in ("Times of clients:", "Times of origins:", "Bounds:", "Files:", "--stats <FILE>", "[default: 16384]", "[default: 1024]", "[default: 1073741824]", "Example:", "Exit statuses:", "  64  "):
         if it not in said:
             raise Unexpected("from serve --help", f"`{it}`", said)
     said = run(stage, "--help")[1]

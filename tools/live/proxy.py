@@ -164,7 +164,7 @@ class Proxy:
             it.drain()
         effects = record.replay(self.program, self.record)
         record.compare_clients(self.record, effects, self.clients, is_cut)
-        record.compare_origins(effects, origins, is_cut)
+        record.compare_origins(self.record, effects, origins, is_cut)
 
 
 class Stage:

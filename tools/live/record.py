@@ -3,6 +3,7 @@ import subprocess
 
 from live.expect import Unexpected, expect
 from live.matching import match, numbers_of
+from live.script import happenings_of
 
 
 class Effects:
@@ -21,7 +22,7 @@ class Effects:
             if word == "client":
                 self.clients.setdefault(int(number), bytearray()).extend(block)
             elif word == "forward":
-                self.forwards.setdefault(rest[0], []).append(block)
+                self.forwards.setdefault(rest[0], []).append((int(number), block))
             elif word == "close":
                 self.closed.add(int(number))
 
@@ -35,19 +36,28 @@ def replay(program, file):
 
 
 def compare_clients(file, effects, clients, is_cut):
-    """Each client got the bytes of the replay, those of its numbers one behind the other: all of them, but where it went away
-    itself or was cut off. A record that was cut has the first part of what happened."""
+    """Each client got the bytes of the replay, those of its number: all of them, but where it went away itself or was cut off. A record
+    that was cut has the first part of what happened."""
     with open(file, "rb") as script:
         numbers = numbers_of(script.read(), effects)
-    for it, chain in zip(clients, match(numbers, clients, is_cut)):
-        if effects.closed.intersection(chain) and not it.has_left and not it.has_ended:
+    for it, number in zip(clients, match(numbers, clients, is_cut)):
+        if number in effects.closed and not it.has_left and not it.has_ended:
             raise Unexpected(f"client {it.number}, by the replay,", "to be closed", "an open connection")
 
 
-def compare_origins(effects, origins, is_cut):
-    """Each connection that an origin accepted brought the bytes of the replay's forward."""
+def refused_in(script):
+    """The links of a record that were refused: by their origin, or at once, since it has as many as may be or is silent."""
+    lines = (words.split(b" ") for words, _ in happenings_of(script))
+    return {int(it[1]) for it in lines if it[0] == b"fail" and it[2] == b"refused"}
+
+
+def compare_origins(file, effects, origins, is_cut):
+    """Each connection that an origin accepted brought the bytes of the replay's forward, but for those that were refused."""
+    with open(file, "rb") as script:
+        refused = refused_in(script.read())
     for it in origins:
-        wanted, got = effects.forwards.get(it.address, []), it.fetches
+        wanted = [text for number, text in effects.forwards.get(it.address, []) if number not in refused]
+        got = it.fetches
         it.wait_for_connections(len(wanted))
         for i, (text, fetch) in enumerate(zip(wanted, got)):
             came = bytes(fetch.received)

@@ -247,6 +247,8 @@ def a_crowd_outlasts_a_silent_origin(stage):
     pages = {"/a": WAITS, "/b": {**WAITS, **ERROR}}
     origin = stage.origin(Origin({it: whole(200, STALE, TAG, content=b"old") for it in pages}))
     lines = [(path, ["*"], origin.address, words) for path, words in pages.items()]
+    # (three and more time out in a row, which is warned of when the second is over)
+    stage.lines = range(2)
     proxy = stage.proxy(*lines, version=3, options=["--origin-timeout", str(SHORT)])
     for it in pages:
         expect("status", 200, proxy.client().ask(it).status)

@@ -1,5 +1,6 @@
-"""Scenarios of a server that stays, and of clients that do: an idle one is parked, costs no place, and is served when it comes
-back."""
+"""Scenarios of a server that stays, and of clients that do: an idle one keeps its connection, costs nobody anything, and is served when it
+asks again. Where all connections are open the longest idle one gives its own to a new one."""
+import os
 import socket
 import threading
 import time
@@ -11,8 +12,8 @@ from live.origin import Origin, held_back, whole
 from live.scenario import AT_ONCE, KEPT, LATEST, scenario, timed
 
 STORED, HIT = "edge;fwd=uri-miss;ttl=600;stored", "edge;hit;ttl=600"
-# Seconds of idleness after which a client is parked, at the latest.
-PARKED = 4
+# A pause in which a client counts as idle for long, and the longest that a new one waits where the others came in its very millisecond.
+PAUSE, SOON = 2.5, 2
 
 
 def kept_by(stage, content=b"hello", **more):
@@ -39,24 +40,32 @@ def it_stays_without_turns(stage):
 
 
 @scenario
-def an_idle_client_is_parked_and_comes_back(stage):
-    """A client that is idle for a second or so gives its place back, and keeps its connection: whenever it asks again it is
-    taken under another number."""
+def a_client_has_one_number(stage):
+    """A record has one `accept` of a client, however long it is idle between its requests, and one `gone` where it breaks off, or one `end`
+    where it ends in order. (Each scenario's record is replayed, and has the bytes that its clients got.)"""
     proxy = kept_by(stage)
-    client = proxy.client()
-    expect_answer(client.ask("/a"), 200, STORED, b"hello")
-    for i in range(1, 4):
-        expect("numbers that are gone", list(range(1, i + 1)), proxy.wait_until_happened("gone", i, PARKED))
-        answer, seconds = timed(client, "/a", method="HEAD" if i == 2 else "GET")
-        expect_answer(answer, 200, HIT, b"" if i == 2 else b"hello")
-        expect_within("the answer", 0, AT_ONCE, seconds)
-        expect("numbers that were accepted", list(range(1, i + 2)), proxy.happened("accept"))
-    expect("connections that were closed", [], ended([client]))
+    first, second, third = (proxy.client() for _ in range(3))
+    expect_answer(first.ask("/a"), 200, STORED, b"hello")
+    for i in range(3):
+        time.sleep(PAUSE)
+        for it in (first, second, third):
+            answer, seconds = timed(it, "/a", method="HEAD" if i == 1 else "GET")
+            expect_answer(answer, 200, HIT, b"" if i == 1 else b"hello")
+            expect_within("the answer", 0, AT_ONCE, seconds)
+    told = lambda: [proxy.happened(it) for it in ("accept", "gone", "end")]  # noqa: E731
+    expect("numbers that were accepted, are gone and have ended", [[1, 2, 3], [], []], told())
+    second.leave(reset=True)
+    proxy.wait_until_happened("gone", 1)
+    third.leave()
+    proxy.wait_until_happened("end", 1)
+    for it in (first, proxy.client()):
+        expect_answer(it.ask("/a"), 200, HIT, b"hello")
+    expect("numbers that were accepted, are gone and have ended", [[1, 2, 3, 4], [2], [3]], told())
 
 
 @scenario
-def a_client_is_let_go_from_where_it_is_parked(stage):
-    """The clients' time-out counts from the last byte, parked or not, and whether a byte ever came."""
+def an_idle_client_is_let_go_in_time(stage):
+    """The clients' time-out counts from the last byte, and whether a byte ever came."""
     proxy = kept_by(stage, options=["--client-timeout", "3"])
     began = time.monotonic()
     silent, idle, busy = proxy.client(), proxy.client(), proxy.client()
@@ -72,7 +81,7 @@ def a_client_is_let_go_from_where_it_is_parked(stage):
 
 @scenario
 def three_hundred_idle_clients_and_an_honest_one(stage):
-    """More clients than there are places, half of which never asked: another one is answered at once, and so are they all."""
+    """Half of the 300 never asked: another one is answered at once, and so are they all."""
     proxy = kept_by(stage)
     expect_answer(proxy.client().ask("/a"), 200, STORED, b"hello")
     idle = [proxy.client() for _ in range(300)]
@@ -90,16 +99,12 @@ def three_hundred_idle_clients_and_an_honest_one(stage):
 
 @scenario
 def three_hundred_clients_come_back_at_once(stage):
-    """All of them are parked, and then ask in one moment: more than there are places, so some wait for a place, and all have
-    their answers."""
-    # (a warning, where a turn ends with all places taken)
-    stage.lines = range(2)
+    """All of them were idle, and then ask in one moment: each has its answers."""
     proxy = kept_by(stage)
     clients = [proxy.client() for _ in range(300)]
-    expect_answer(clients[0].ask("/a"), 200, STORED, b"hello")
-    for it in clients[1:]:
-        expect_answer(it.ask("/a"), 200, HIT, b"hello")
-    proxy.wait_until_happened("gone", 300)
+    for i, it in enumerate(clients):
+        expect_answer(it.ask("/a"), 200, HIT if i else STORED, b"hello")
+    time.sleep(PAUSE)
     for _ in range(2):
         for it in clients:
             it.send(request("/a") * 2)
@@ -108,14 +113,14 @@ def three_hundred_clients_come_back_at_once(stage):
 
 
 @scenario
-def a_parked_client_takes_the_rest_of_its_answer(stage):
-    """A client that reads slowly is idle as any other: it gives its place back while bytes wait for it, and gets them all."""
+def a_slow_client_takes_the_rest_of_its_answer(stage):
+    """A client that reads slowly keeps its connection while bytes wait for it, and gets them all."""
     # (more than the system's buffers hold)
     text = bytes(i * 7 % 251 for i in range(12000000))
     proxy = kept_by(stage, text, max_body=16 << 20, max_stored=16 << 20)
     slow = proxy.client(window=8192)
     slow.send(request("/a"))
-    expect("numbers that are gone", [1], proxy.wait_until_happened("gone", 1))
+    time.sleep(PAUSE)
     slow.open_window()
     if slow.response().content != text:
         raise Unexpected("content", "as the origin sent it", "another one")
@@ -124,18 +129,18 @@ def a_parked_client_takes_the_rest_of_its_answer(stage):
 
 @scenario
 def a_client_that_takes_nothing_is_let_go(stage):
-    """The clients' time-out ends a connection whose bytes nobody takes, parked or not."""
+    """The clients' time-out ends a connection whose bytes nobody takes."""
     text = bytes(i * 7 % 251 for i in range(8000000))
     proxy = kept_by(stage, text, max_body=16 << 20, max_stored=16 << 20, options=["--client-timeout", "3"])
+    before = proxy.descriptors()
     stuck, began = proxy.client(window=4096), time.monotonic()
     stuck.is_cut_off = True
     stuck.send(request("/a"))
     stuck.read_some(1)
-    proxy.wait_until_happened("gone", 1)
-    before = proxy.descriptors()
-    while proxy.descriptors() == before and time.monotonic() - began < 3 * LATEST:
-        time.sleep(0.1)
-    expect("descriptors behind it", before - 1, proxy.descriptors())
+    proxy.wait_until_happened("gone", 1, 3 * LATEST)
+    expect_within("its end", 2, 3 * LATEST, time.monotonic() - began)
+    time.sleep(0.2)
+    expect("descriptors behind it", before, proxy.descriptors())
     stuck.open_window()
     stuck.drain()
     if len(stuck.received) >= len(text):
@@ -143,35 +148,33 @@ def a_client_that_takes_nothing_is_let_go(stage):
 
 
 @scenario
-def a_parked_client_has_its_address_in_the_log(stage):
-    """A line of the log names its client by address and port, under whichever number it came."""
+def a_client_has_its_address_in_the_log(stage):
+    """A line of the log names its client by address and port, also behind a pause."""
     log = f"{stage.room.name}/log"
     proxy = kept_by(stage, options=["--log", log])
     clients = [proxy.client() for _ in range(3)]
     for i in range(2):
         for it in clients:
             expect_answer(it.ask("/a"), 200, STORED if it is clients[0] and not i else HIT, b"hello")
-        proxy.wait_until_happened("gone", 3 * i + 3, PARKED)
+        time.sleep(PAUSE)
     told = [it[1] for it in lines_of(log, 6)]
     expect("addresses in the log", [address_of(it) for it in clients] * 2, told)
 
 
 @scenario
-def a_request_comes_in_pieces_behind_parking(stage):
-    """The first byte brings a parked client back, and the others find it there: a head byte by byte, with a pause in which an
-    idle client is parked, and a content after another such pause."""
+def a_request_comes_in_pieces_behind_a_pause(stage):
+    """A head byte by byte, with a pause in it, and a content in pieces behind another one."""
     origin = stage.origin(Origin({"/a": whole(200, KEPT, content=b"hello"), "/post": whole(201, content=b"made")}))
     proxy = stage.proxy()
     client = proxy.client()
     expect_answer(client.ask("/a"), 200, STORED, b"hello")
-    proxy.wait_until_happened("gone", 1, PARKED)
+    time.sleep(PAUSE)
     head = request("/a")
     client.send_slowly(head[:10])
-    time.sleep(2.5)
+    time.sleep(PAUSE)
     client.send_slowly(head[10:])
     expect_answer(client.response(), 200, HIT, b"hello")
-    expect("numbers, and those that are gone", ([1, 2], [1]), (proxy.happened("accept"), proxy.happened("gone")[:1]))
-    proxy.wait_until_happened("gone", 2, PARKED)
+    time.sleep(PAUSE)
     text = request("/post", method="POST", content=b"x" * 3000)
     for piece in (text[:60], text[60:1000], text[1000:-1]):
         client.send(piece)
@@ -179,17 +182,16 @@ def a_request_comes_in_pieces_behind_parking(stage):
     client.send(text[-1:])
     expect_answer(client.response("POST"), 201, "edge;fwd=method", b"made")
     expect("content at the origin", b"x" * 3000, origin.fetches[1].content)
-    expect("numbers", [1, 2, 3], proxy.happened("accept"))
+    expect("numbers", [1], proxy.happened("accept"))
 
 
 @scenario
-def pipelined_requests_around_parking(stage):
-    """Several requests at once from a client that was parked, one of them in two halves with a pause between: all are
-    answered in their order."""
+def pipelined_requests_around_pauses(stage):
+    """Several requests at once from a client that was idle, one of them in two halves with a pause between: all are answered in their
+    order."""
     names = [f"/{it}" for it in "abcde"]
     stage.origin(Origin({it: whole(200, KEPT, content=it.encode() * 1000) for it in names}))
-    proxy = stage.proxy()
-    client = proxy.client()
+    client = stage.proxy().client()
     for i in range(3):
         client.send(b"".join(map(request, names)) + request("/a")[:20])
         for it in names:
@@ -198,12 +200,12 @@ def pipelined_requests_around_parking(stage):
         client.send(request("/a")[20:] + request("/b"))
         expect_answer(client.response(), 200, HIT, b"/a" * 1000)
         expect_answer(client.response(), 200, HIT, b"/b" * 1000)
-        expect("numbers that are gone", i + 1, len(proxy.wait_until_happened("gone", i + 1, PARKED)))
+        time.sleep(PAUSE)
 
 
 @scenario
-def a_parked_client_that_ends_is_let_go(stage):
-    """Clients that close while they are parked leave nothing behind: no descriptor is kept for them."""
+def an_idle_client_that_ends_is_let_go(stage):
+    """Clients that close while they are idle leave nothing behind: no descriptor is kept for them."""
     proxy = kept_by(stage)
     expect_answer(proxy.client().ask("/a"), 200, STORED, b"hello")
     time.sleep(0.5)
@@ -212,7 +214,7 @@ def a_parked_client_that_ends_is_let_go(stage):
         clients = [proxy.client() for _ in range(50)]
         for it in clients[::2]:
             expect_answer(it.ask("/a"), 200, HIT, b"hello")
-        time.sleep(2.5)
+        time.sleep(PAUSE)
         for it in clients:
             it.leave(reset)
         deadline = time.monotonic() + LATEST
@@ -222,12 +224,11 @@ def a_parked_client_that_ends_is_let_go(stage):
 
 
 @scenario
-def a_half_closed_client_behind_parking(stage):
+def a_half_closed_client_behind_a_pause(stage):
     """RFC 9112, 9.6: one that comes back with its last request and its end is answered, and then closed."""
-    proxy = kept_by(stage)
-    client = proxy.client()
+    client = kept_by(stage).client()
     expect_answer(client.ask("/a"), 200, STORED, b"hello")
-    proxy.wait_until_happened("gone", 1, PARKED)
+    time.sleep(PAUSE)
     client.send(request("/a") * 2)
     client.half_close()
     for _ in range(2):
@@ -237,17 +238,39 @@ def a_half_closed_client_behind_parking(stage):
 
 @scenario
 def the_longest_idle_gives_its_connection(stage):
-    """`--connections 50`: the ten that come when fifty are parked take the places of ten that have been idle for longest.
-    Whoever comes then is answered at once, and the others still are."""
+    """`--connections 4`: where all are open and one more comes, the one that has been between two requests for longest is closed for it,
+    whoever came first, and the others aren't."""
+    proxy = kept_by(stage, options=["--connections", "4"])
+    clients = [proxy.client() for _ in range(4)]
+    for i, it in enumerate([*clients, clients[0]]):
+        expect_answer(it.ask("/a"), 200, HIT if i else STORED, b"hello")
+        # (who was idle for longest is told by milliseconds)
+        time.sleep(0.05)
+    for longest in (1, 2, 3, 0):
+        new = proxy.client()
+        answer, seconds = timed(new, "/a")
+        expect_answer(answer, 200, HIT, b"hello")
+        expect_within("a new client's answer", 0, AT_ONCE, seconds)
+        expect("whether the longest idle one is closed", True, clients[longest].is_closed(LATEST))
+        clients.append(new)
+        expect("connections that gave way", clients.index(new) - 3, len(ended(clients)))
+        time.sleep(0.05)
+    for it in clients[4:]:
+        expect_answer(it.ask("/a"), 200, HIT, b"hello")
+
+
+@scenario
+def ten_of_fifty_idle_ones_give_their_connections(stage):
+    """`--connections 50`: the ten that come when fifty are idle take the connections of ten that have been for longest. Whoever comes then
+    is answered at once, and the others still are."""
     proxy = kept_by(stage, options=["--connections", "50"])
     first = [proxy.client() for _ in range(25)]
     for i, it in enumerate(first):
         expect_answer(it.ask("/a"), 200, HIT if i else STORED, b"hello")
-    time.sleep(1.5)
+    time.sleep(0.1)
     second = [proxy.client() for _ in range(25)]
     for it in second:
         expect_answer(it.ask("/a"), 200, HIT, b"hello")
-    proxy.wait_until_happened("gone", 50, PARKED)
     new = [proxy.client() for _ in range(10)]
     for it in new:
         answer, seconds = timed(it, "/a")
@@ -257,6 +280,27 @@ def the_longest_idle_gives_its_connection(stage):
     expect("connections that gave way", 10, len(closed))
     for it in [*new, *second, *(it for it in first if it not in closed)]:
         expect_answer(it.ask("/a"), 200, HIT, b"hello")
+
+
+@scenario
+def where_descriptors_are_few_fewer_connections_are_taken(stage):
+    """A process that may have 100 descriptors takes fewer clients than `--connections` says, which is warned of. 80 that stay are served all
+    the same, one after the other: the longest idle give their connections."""
+    stage.lines = 1
+    script = f"{stage.room.name}/few"
+    with open(script, "w", encoding="utf-8") as it:
+        it.write(f'#!/bin/sh\nulimit -n 100\nexec "{stage.program}" "$@"\n')
+    os.chmod(script, 0o755)
+    stage.program = script
+    proxy = kept_by(stage)
+    clients = [proxy.client() for _ in range(40)]
+    for i in range(80):
+        if i >= 40:
+            clients.append(proxy.client())
+        answer, seconds = timed(clients[i], "/a")
+        expect_answer(answer, 200, HIT if i else STORED, b"hello")
+        expect_within("its answer", 0, AT_ONCE, seconds)
+    expect_within("connections that gave way", 1, 60, len(ended(clients)))
 
 
 @scenario
@@ -284,16 +328,18 @@ def connections_that_wait_keep_theirs(stage):
 @scenario
 def silent_connections_keep_nobody_out(stage):
     """`--connections 50`, and sixty clients that connect and never say a word, and then twenty more three times: each time another
-    one is answered at once, and as many give way as are too many."""
+    one is answered soon, and as many give way as are too many."""
+    # (who came in this very millisecond stays: then new ones wait for the next second, which may be warned of)
+    stage.lines = range(2)
     proxy = kept_by(stage, options=["--connections", "50"])
     crowd = []
     for i in range(4):
         crowd += [proxy.client() for _ in range(60 if i == 0 else 20)]
         answer, seconds = timed(proxy.client(), "/a")
         expect_answer(answer, 200, HIT if i else STORED, b"hello")
-        expect_within("an honest client's answer", 0, AT_ONCE, seconds)
-    # (of the four that asked the first may have gone with those that were there before it)
-    expect_within("connections that gave way", 73, 74, len(ended(crowd)))
+        expect_within("an honest client's answer", 0, SOON, seconds)
+    # (of the four that asked the first two may have gone with those that were there before them)
+    expect_within("connections that gave way", 72, 74, len(ended(crowd)))
 
 
 @scenario

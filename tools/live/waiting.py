@@ -96,6 +96,8 @@ def who_waits_outlasts_a_silent_origin(stage):
     """The first request times out, and those that waited for it go forward: each waits its own time-out then. No client
     that waits counts as idle, though it waits longer than the clients' time-out."""
     origin = stage.origin(Origin({"/a": silent}))
+    # (three time out in a row, which is warned of when the second is over)
+    stage.lines = range(2)
     proxy = stage.proxy(options=["--origin-timeout", str(SHORT), "--client-timeout", "1"])
     began = time.monotonic()
     first, *others = asking(proxy, 3, "/a")

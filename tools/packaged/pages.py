@@ -97,4 +97,4 @@ def options_of_help(text):
 def options_of_table(operations):
     """The options that the table of OPERATIONS names, each with its default."""
     rows = [it for it in map(ROW.match, operations.split("\n")) if it]
-    return {it[1]: it[2] if it[2][0].isdigit() else None for it in rows}
+    return {it[1]: None if it[2].startswith("none") else it[2] for it in rows}
