@@ -12,6 +12,8 @@ from live.scenario import AT_ONCE, KEPT, LATEST, scenario, timed
 
 # Requests and connections side by side: more than a small server would serve at a time.
 CROWD = 300
+# Clients that stay and ask for nothing more, and the bytes of memory that each may take.
+IDLE, MOST_OF_AN_IDLE_CLIENT = 700, 3000
 # The most bytes that are kept for an end that doesn't read.
 MOST_UNSENT = 64 << 20
 
@@ -89,6 +91,26 @@ def idle_clients_keep_nobody_out(stage):
     answer, seconds = timed(proxy.client(), "/a")
     expect_answer(answer, 200, "edge;fwd=uri-miss;ttl=600;stored", b"hello")
     expect_within("the answer", 0, AT_ONCE, seconds)
+    for it in idle:
+        expect_answer(it.ask("/a"), 200, "edge;hit;ttl=600", b"hello")
+
+
+@scenario
+def idle_clients_cost_little(stage):
+    """700 clients ask once and stay. Each takes at most 3,000 bytes: the room for its next read, 4,096 bytes, is given back. All of them
+    are served when they ask again."""
+    stage.origin(Origin({"/a": whole(200, KEPT, content=b"hello")}))
+    proxy = stage.proxy()
+    for _ in range(50):
+        proxy.client().ask("/a")
+    before = proxy.resident()
+    idle = [proxy.client() for _ in range(IDLE)]
+    for it in idle:
+        expect_answer(it.ask("/a"), 200, "edge;hit;ttl=600", b"hello")
+    time.sleep(1)
+    each = (proxy.resident() - before) / IDLE
+    if each > MOST_OF_AN_IDLE_CLIENT:
+        raise Unexpected("memory for an idle client", f"{MOST_OF_AN_IDLE_CLIENT} bytes at most", f"{each:.0f} bytes")
     for it in idle:
         expect_answer(it.ask("/a"), 200, "edge;hit;ttl=600", b"hello")
 

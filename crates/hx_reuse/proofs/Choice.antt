@@ -1,5 +1,5 @@
--- The chosen response is the latest that could answer, and there is one where one could.
-use Rattle.std.proofs.Common.{◌≡◌, ◌≤◌, ◌⊎◌, inl, inr, false, List, [], ◌∷◌, refl, sym, ◌∙◌, ap, subst, arith}
+-- The chosen response is preferred to all others that could answer, and there is one where one could.
+use Rattle.std.proofs.Common.{◌≡◌, ◌≤◌, ◌⊎◌, inl, inr, true, false, List, [], ◌∷◌, refl, sym, ◌∙◌, ap, subst, arith}
 use Rattle.std.specs.Prelude.{nat_eq, Option, Some, None}
 use Rattle.std.specs.List.{Contains}
 use Rattle.std.proofs.lemmas.Bool.Decides.{nat_tests}
@@ -10,11 +10,11 @@ use Rattle.hx_hop.specs.declared.request_view.Asked.{Asked}
 use Rattle.hx_store.specs.Stored.{Stored}
 use Rattle.hx_store.specs.Serials.{Distinct}
 use Rattle.hx_store.specs.Shelf.{serials, find_entry}
-use Rattle.hx_reuse.specs.Chosen.{is_more_recent, entries_of_key, entries_that_match, most_recent, chosen_of}
+use Rattle.hx_reuse.specs.Chosen.{nominates, is_more_recent, entries_of_key, entries_that_match, most_preferred, chosen_of}
 use Rattle.hx_reuse.specs.ChosenAndNamed.{ResponseIsCandidate, ResponseIsChosen}
 use Rattle.hx_fields.proofs.FirstThat.{IsMember}
 use Rattle.hx_reuse.proofs.Members.{distinct_entries}
-use Rattle.hx_reuse.proofs.Latest.{fold_latest, fold_some, same_serial, filter_member, member_filter, find_member, member_find, find_entry-find, nat_eq_true, nat_eq_same}
+use Rattle.hx_reuse.proofs.Preferred.{fold_preferred, fold_some, same_serial, above_alike, above_keeps, filter_member, member_filter, find_member, member_find, find_entry-find, nat_eq_true, nat_eq_same}
 
 -- the members are what the list contains
 contains_member : (xs : List Stored) (e : Stored) → IsMember e xs → Contains xs e
@@ -68,19 +68,23 @@ module _ (held : List Stored) (asked : Asked) where
       never f k = cc
   taken_member e es (inr m) = m
 
-  pub chosen_is_latest : (e : Stored) → chosen_of held asked ≡ Some e → ResponseIsChosen held asked e
-  chosen_is_latest e h =
-      let r = fold_latest (entries_that_match held asked) None e h in
-      record { is_candidate = candidate e (taken_member e (entries_that_match held asked) r.taken); none_later = λ other c. r.above other (matches other c) }
+  pub chosen_is_preferred : (e : Stored) → chosen_of held asked ≡ Some e → ResponseIsChosen held asked e
+  chosen_is_preferred e h =
+      let r = fold_preferred (entries_that_match held asked) None e h in
+      record { is_candidate = candidate e (taken_member e (entries_that_match held asked) r.taken); none_preferred = λ other c. r.above other (matches other c) }
 
-  pub chosen_by_date : (e f : Stored) → chosen_of held asked ≡ Some e → ResponseIsCandidate held asked f →
+  pub chosen_nominates : (e f : Stored) → chosen_of held asked ≡ Some e → ResponseIsCandidate held asked f → nominates f ≡ true → nominates e ≡ true
+  chosen_nominates e f h c k = above_keeps (nominates f) (nominates e) (is_more_recent f e) ((chosen_is_preferred e h).none_preferred f c) k
+
+  pub chosen_by_date : (e f : Stored) → chosen_of held asked ≡ Some e → ResponseIsCandidate held asked f → nominates f ≡ nominates e →
       (f.times.date ≤ e.times.date) × (f.times.date ≡ e.times.date → f.serial ≤ e.serial)
-  chosen_by_date e f h c = by_numbers f e ((chosen_is_latest e h).none_later f c)
+  chosen_by_date e f h c same =
+      by_numbers f e (above_alike (nominates f) (nominates e) (is_more_recent f e) same ((chosen_is_preferred e h).none_preferred f c))
 
   pub chosen_is_held : (e : Stored) → chosen_of held asked ≡ Some e → Contains held e
-  chosen_is_held e h = let is = chosen_is_latest e h in is.is_candidate.is_held
+  chosen_is_held e h = let is = chosen_is_preferred e h in is.is_candidate.is_held
 
-  none_of : (es : List Stored) (e : Stored) → most_recent es ≡ None → IsMember e es → ⊥
+  none_of : (es : List Stored) (e : Stored) → most_preferred es ≡ None → IsMember e es → ⊥
   none_of [] e h m = m
   none_of (x ∷ xs) e h m = let some = fold_some xs x in never some.0 (sym h ∙ some.1)
     where
@@ -90,13 +94,13 @@ module _ (held : List Stored) (asked : Asked) where
   pub none_is_candidate : (e : Stored) → chosen_of held asked ≡ None → ResponseIsCandidate held asked e → ⊥
   none_is_candidate e h c = none_of (entries_that_match held asked) e h (matches e c)
 
-  pub latest_is_the_chosen : (e : Stored) → Distinct (serials held) → ResponseIsChosen held asked e → chosen_of held asked ≡ Some e
-  latest_is_the_chosen e distinct is = at (chosen_of held asked) refl
+  pub preferred_is_the_chosen : (e : Stored) → Distinct (serials held) → ResponseIsChosen held asked e → chosen_of held asked ≡ Some e
+  preferred_is_the_chosen e distinct is = at (chosen_of held asked) refl
     where
       at : (o : Option Stored) → chosen_of held asked ≡ o → chosen_of held asked ≡ Some e
       at None h = absurd (none_is_candidate e h is.is_candidate)
       at (Some f) h =
-          let other = chosen_is_latest f h in
+          let other = chosen_is_preferred f h in
           let same : f ≡ e = distinct_entries held distinct f e (member_contained held f other.is_candidate.is_held) (member_contained held e is.is_candidate.is_held)
-          (same_serial f e (is.none_later f other.is_candidate) (other.none_later e is.is_candidate)) in
+          (same_serial f e (is.none_preferred f other.is_candidate) (other.none_preferred e is.is_candidate)) in
           h ∙ ap Some same

@@ -1,6 +1,6 @@
 pub mod Members
 pub mod ValueTests
-pub mod Latest
+pub mod Preferred
 pub mod RuleLemmas
 pub mod LeastRule
 pub mod Choice

@@ -13,7 +13,7 @@ use Rattle.hx_reuse.specs.Chosen.{chosen_of}
 use Rattle.hx_reuse.specs.Rules.{reuse_rule_applies, rule_condition, situation_of_request, is_some_and, names_chosen, reuse_rule_of, decision_by_rule, decision_of}
 use Rattle.hx_reuse.specs.ChosenAndNamed.{ResponseIsChosen, ResponseMayBeSent, IsLeastReuseRule, RuleNamesTheResponse}
 use Rattle.hx_reuse.proofs.LeastRule.{rule_is_least, least_is_rule, no_rule_applies, no_rule_found}
-use Rattle.hx_reuse.proofs.Choice.{chosen_is_latest, chosen_is_held, found_by_serial}
+use Rattle.hx_reuse.proofs.Choice.{chosen_is_preferred, chosen_is_held, found_by_serial}
 
 same_hit : (m n : ℕ) → Hit m ≡ Hit n → m ≡ n
 same_hit m n h = cc
@@ -94,7 +94,7 @@ module _ (policy : Policy) (held : List Stored) (asked : Asked) (now : ℕ) wher
   pub is_held : (serial : ℕ) → decision_of policy held asked now ≡ Hit serial → (response : Stored) × ResponseIsChosen held asked response × (response.serial ≡ serial)
   is_held serial h =
       let may = may_be_sent serial h in
-      (may.response, chosen_is_latest held asked may.response may.chosen_is, may.serial_is)
+      (may.response, chosen_is_preferred held asked may.response may.chosen_is, may.serial_is)
 
   pub is_found : (serial : ℕ) → Distinct (serials held) → decision_of policy held asked now ≡ Hit serial → find_entry serial held ≡ chosen_of held asked
   is_found serial distinct h =

@@ -20,9 +20,9 @@ use Rattle.hx_reuse.specs.Rules.{Situation, reuse_rule_applies, rule_condition, 
 use Rattle.hx_reuse.specs.Reusable.{ResponseIsWithinMaxAge, ResponseIsFreshForMinFresh, MayBeSentFresh, MayBeSentStale, MaxStaleTakesStaleness, ResponseMayBeReused}
 use Rattle.hx_fields.proofs.JoinedTests.{never, second_false, first_absent, last_absent, under_not, not_first, not_false, left_false, right_false, neither, no_value, not_below, is_not_below, below, is_below, not_true}
 use Rattle.hx_reuse.proofs.ValueTests.{test_false, none_tests}
-use Rattle.hx_reuse.proofs.Latest.{member_filter}
+use Rattle.hx_reuse.proofs.Preferred.{member_filter}
 use Rattle.hx_reuse.proofs.RuleLemmas.{some_there}
-use Rattle.hx_reuse.proofs.Choice.{chosen_is_latest, latest_is_the_chosen, member_contained}
+use Rattle.hx_reuse.proofs.Choice.{chosen_is_preferred, preferred_is_the_chosen, member_contained}
 use Rattle.hx_reuse.proofs.MeaningLemmas.{may_be_sent, is_sent}
 
 -- ---- the request's method and its max-stale
@@ -197,7 +197,7 @@ module _ (policy : Policy) (held : List Stored) (asked : Asked) (now : ℕ) wher
         may.response,
         record {
           operator_allows = not_false policy.caches (may.no_rule Operator);
-          is_chosen = chosen_is_latest held asked may.response may.chosen_is;
+          is_chosen = chosen_is_preferred held asked may.response may.chosen_is;
           request_allows = record { method_allows = method_allows asked.method (may.no_rule Method); no_content = may.no_rule Content; no_range = may.no_rule Range; no_precondition = may.no_rule Precondition };
           no_no_cache = none ResponseNoCache;
           fresh_or_stale = sent_somehow policy may.response asked now none (is_fresh_situation (situation_of_request policy may.response asked now)) refl;
@@ -222,5 +222,5 @@ module _ (policy : Policy) (held : List Stored) (asked : Asked) (now : ℕ) wher
 
   pub allowed_is_reused : (response : Stored) → Distinct (serials held) → ResponseMayBeReused policy held asked now response → decision_of policy held asked now ≡ Hit response.serial
   allowed_is_reused response distinct may =
-      let is = latest_is_the_chosen held asked response distinct may.is_chosen in
+      let is = preferred_is_the_chosen held asked response distinct may.is_chosen in
       is_sent policy held asked now response.serial (record { response = response; chosen_is = is; serial_is = refl; no_rule = none_applies response is may })

@@ -11,7 +11,7 @@ use Rattle.hx_store.specs.Shelf.{serials_of}
 use Rattle.hx_reuse.specs.declared.decision.Decision.TheVariants.{Hit, Forward}
 use Rattle.hx_reuse.specs.declared.rule.ReuseRule.{ReuseRule}
 use Rattle.hx_reuse.specs.declared.rule.ReuseRule.TheVariants.{Operator, UriMiss, VaryMiss, ResponseNoCache, RequestNoCache, AboveMaxAge, BelowMinFresh, MustRevalidate, NoLifetime, StaleNoCache, NoMaxStale, PastMaxStale, StaleMaxAge, StaleMinFresh}
-use Rattle.hx_reuse.specs.Chosen.{entries_of_key, chosen_of, most_recent}
+use Rattle.hx_reuse.specs.Chosen.{entries_of_key, chosen_of, most_preferred}
 use Rattle.hx_reuse.specs.Rules.{rule_condition, situation_of_request, reuse_rule_applies, is_some_and, request_rules, rules_on_chosen, reuse_rule_of, names_chosen, decision_by_rule, decision_of}
 use Rattle.hx_fields.proofs.FirstThat.{IsMember}
 use Rattle.hx_reuse.proofs.Members.{AreSerialsOf, are_serials}
@@ -99,7 +99,7 @@ key_held held asked h =
 pub chosen_key : (held : List Stored) (asked : Asked) (e : Stored) → chosen_of held asked ≡ Some e → (length (entries_of_key held asked) == 0) ≡ false
 chosen_key held asked e h = at (entries_of_key held asked) h
   where
-    at : (xs : List Stored) → most_recent (filter (λ x. vary_matches x.nominated asked.fields) xs) ≡ Some e → (length xs == 0) ≡ false
+    at : (xs : List Stored) → most_preferred (filter (λ x. vary_matches x.nominated asked.fields) xs) ≡ Some e → (length xs == 0) ≡ false
     at [] k = absurd cc
     at (x ∷ xs) k = grind (arith, common_steps)
 

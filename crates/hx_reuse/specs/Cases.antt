@@ -73,6 +73,23 @@ abbrev pub one_held_in_german : List Stored
 one_held_in_german = stored_at 0 (accept_language (codes "de") ∷ []) (line (codes "Vary") (codes "Accept-Language")
     ∷ cache_control_fields (codes "max-age=60")) ∷ []
 
+-- what answered a request in this language, made at a moment, of a minute, with a Vary that names the language; and
+-- what answers in any, without a Vary
+abbrev pub variant_made_at : ℕ → ℕ → List ℕ → Stored
+variant_made_at moment serial language = record (stored_at moment (accept_language language ∷ [])
+    (line (codes "Vary") (codes "Accept-Language") ∷ cache_control_fields (codes "max-age=60"))) { serial = serial }
+
+abbrev pub default_made_at : ℕ → ℕ → Stored
+default_made_at moment serial = record (stored_at moment [] (cache_control_fields (codes "max-age=60"))) { serial = serial }
+
+-- an answer in English was stored at 100 as 1, and at 110 the default as 2
+abbrev pub english_and_default : List Stored
+english_and_default = default_made_at 110 2 ∷ variant_made_at 100 1 (codes "en") ∷ []
+
+-- a GET of /a in this language
+abbrev pub get_a_in : List ℕ → Asked
+get_a_in language = get_a_with (accept_language language ∷ [])
+
 -- the one response that is held, with an entity tag alone
 abbrev pub one_held_with_etag : List Field → List Stored
 one_held_with_etag more = stored_at 0 [] (line (codes "ETag") (codes "\"e\"") ∷ more) ∷ []

@@ -1,7 +1,7 @@
 -- What the reuse rules come to, without their table: which response is chosen, which may be sent, which rule is named
--- (RFC 9111, section 4).
+-- (RFC 9111, sections 4 and 4.1).
 --
--- ResponseIsCandidate, ResponseIsChosen: a held response that matches, the latest of these
+-- ResponseIsCandidate, ResponseIsChosen: a held response that matches, the one of these that comes before the others
 -- ResponseMayBeSent: it, where no rule stands
 -- IsLeastReuseRule: a rule that stands, and none before it
 -- RuleNamesTheResponse: the response that a rule is named with
@@ -15,7 +15,7 @@ use Rattle.hx_store.specs.Stored.{Stored}
 use Rattle.hx_policy.specs.declared.words.Policy.{Policy}
 use Rattle.hx_store.specs.Serials.{Distinct}
 use Rattle.hx_store.specs.Shelf.{serials, find_entry}
-use Rattle.hx_reuse.specs.Chosen.{is_more_recent, chosen_of}
+use Rattle.hx_reuse.specs.Chosen.{nominates, is_preferred, chosen_of}
 use Rattle.hx_reuse.specs.RuleNames.{reuse_rule_number, reuse_rule_reason, reuse_rule_detail, error_rule_word}
 use Rattle.hx_reuse.specs.Rules.{reuse_rule_applies, names_chosen, decision_of}
 use Rattle.hx_reuse.specs.declared.rule.ReuseRule.{ReuseRule}
@@ -30,10 +30,10 @@ pub record ResponseIsCandidate (held : List Stored) (asked : Asked) (response : 
   pub has_the_key : same_key response.key asked.target.key ≡ true
   pub has_the_values : vary_matches response.nominated asked.fields ≡ true
 
--- of all that could answer none comes later (RFC 9111, section 4)
+-- of all that could answer none is preferred to it (RFC 9111, sections 4 and 4.1)
 pub record ResponseIsChosen (held : List Stored) (asked : Asked) (response : Stored) : Type 0 where
   pub is_candidate : ResponseIsCandidate held asked response
-  pub none_later : (other : Stored) → ResponseIsCandidate held asked other → is_more_recent other response ≡ false
+  pub none_preferred : (other : Stored) → ResponseIsCandidate held asked other → is_preferred other response ≡ false
 
 -- the chosen response has this serial, and no rule stands
 pub record ResponseMayBeSent (policy : Policy) (held : List Stored) (asked : Asked) (now serial : ℕ) : Type 0 where
@@ -58,22 +58,29 @@ RuleNamesTheResponse held asked rule named =
 
 -- ---- the statements
 
-abbrev pub MostRecentIsChosen : Type 0
-MostRecentIsChosen = (held : List Stored) (asked : Asked) (response : Stored) →
+abbrev pub PreferredIsChosen : Type 0
+PreferredIsChosen = (held : List Stored) (asked : Asked) (response : Stored) →
     chosen_of held asked ≡ Some response → ResponseIsChosen held asked response
 
--- "the most recent one (as determined by the Date header field)" (RFC 9111, section 4); own: of one
--- Date the greater serial
+-- where one that could answer has a Vary, the chosen one has, so none without it hides what an origin made for such
+-- requests (RFC 9111, section 4.1)
+abbrev pub ChosenHasAVaryWhereOneHas : Type 0
+ChosenHasAVaryWhereOneHas = (held : List Stored) (asked : Asked) (response other : Stored) →
+    chosen_of held asked ≡ Some response → ResponseIsCandidate held asked other → nominates other ≡ true
+    → nominates response ≡ true
+
+-- of those with a Vary, and of those without, "the most recent one (as determined by the Date header field)"
+-- (RFC 9111, section 4); own: of one Date the greater serial
 abbrev pub ChosenByDate : Type 0
 ChosenByDate = (held : List Stored) (asked : Asked) (response other : Stored) →
-    chosen_of held asked ≡ Some response → ResponseIsCandidate held asked other →
+    chosen_of held asked ≡ Some response → ResponseIsCandidate held asked other → nominates other ≡ nominates response →
     (other.times.date ≤ response.times.date) × (other.times.date ≡ response.times.date → other.serial ≤ response.serial)
 
 abbrev pub OneIsChosenWhereOneCan : Type 0
 OneIsChosenWhereOneCan = (held : List Stored) (asked : Asked) (response : Stored) →
     chosen_of held asked ≡ None → ResponseIsCandidate held asked response → ⊥
 
--- where each serial names one response, the latest is one
+-- where each serial names one response, the preferred one is one
 abbrev pub NoOtherIsChosen : Type 0
 NoOtherIsChosen = (held : List Stored) (asked : Asked) (response : Stored) →
     Distinct (serials held) → ResponseIsChosen held asked response → chosen_of held asked ≡ Some response

@@ -75,6 +75,7 @@ pub record MayBeSentStale (policy : Policy) (response : Stored) (asked : Asked) 
 
 -- all that is asked of a response which isn't validated first (RFC 9111, sections 4 and 5.2.2.4)
 -- own: the operator lets the request be answered from the store
+-- own: of all that match the preferred one alone may be sent; where it may not, none is, though another may be fresh
 pub record ResponseMayBeReused (policy : Policy) (held : List Stored) (asked : Asked) (now : ℕ)
     (response : Stored) : Type 0 where
   pub operator_allows : policy.caches ≡ true

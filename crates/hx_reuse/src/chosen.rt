@@ -1,8 +1,8 @@
-//! The most recent of some held responses.
+//! Of some held responses the preferred one: one with a Vary before one without, and then the most recent.
 ghost use Rattle.std.specs.Prelude.{◌≡◌, option_copied};
 ghost use Rattle.std.specs.List.{filter_map};
 ghost use Rattle.hx_store.specs.Shelf.{find_entry};
-ghost use Rattle.hx_reuse.specs.Chosen.{is_more_recent, more_recent_of, most_recent};
+ghost use Rattle.hx_reuse.specs.Chosen.{is_more_recent, is_preferred, preferred_of, most_preferred};
 
 use hx_store::{Entry, Shelf};
 
@@ -12,13 +12,26 @@ fn is_more_recent(a: &Entry, b: &Entry) -> bool
     b.times.date < a.times.date || (b.times.date == a.times.date && b.serial < a.serial)
 }
 
-fn more_recent_of<'a>(best: Option<&'a Entry>, entry: &'a Entry) -> Option<&'a Entry>
-    ensures { option_copied result ≡ more_recent_of (option_copied best.entry) entry.now }
+fn is_preferred(a: &Entry, b: &Entry) -> bool
+    ensures { result ≡ is_preferred a.now b.now }
+{
+    match (
+        a.nominated.nominates_a_field(),
+        b.nominated.nominates_a_field(),
+    ) {
+        (true, false) => true,
+        (false, true) => false,
+        _ => is_more_recent(a, b),
+    }
+}
+
+fn preferred_of<'a>(best: Option<&'a Entry>, entry: &'a Entry) -> Option<&'a Entry>
+    ensures { option_copied result ≡ preferred_of (option_copied best.entry) entry.now }
 {
     match best {
         None => Some(entry),
         Some(best) => {
-            if is_more_recent(entry, best) {
+            if is_preferred(entry, best) {
                 Some(entry)
             } else {
                 Some(best)
@@ -27,14 +40,14 @@ fn more_recent_of<'a>(best: Option<&'a Entry>, entry: &'a Entry) -> Option<&'a E
     }
 }
 
-/// The latest of the held responses with these serials.
-pub(crate) fn most_recent_of<'a, S: Shelf>(shelf: &'a S, serials: &[u64]) -> Option<&'a Entry>
-    ensures { option_copied result ≡ most_recent (filter_map (λ s. find_entry s (S.entries shelf.now)) serials.now) }
+/// The preferred one of the held responses with these serials.
+pub(crate) fn preferred_among<'a, S: Shelf>(shelf: &'a S, serials: &[u64]) -> Option<&'a Entry>
+    ensures { option_copied result ≡ most_preferred (filter_map (λ s. find_entry s (S.entries shelf.now)) serials.now) }
 {
     let mut best = None;
     for serial in serials {
         if let Some(entry) = shelf.peek(*serial) {
-            best = more_recent_of(best, entry);
+            best = preferred_of(best, entry);
         }
     }
     best

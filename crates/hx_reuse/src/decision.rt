@@ -5,7 +5,7 @@ ghost use Rattle.hx_store.specs.Shelf.{serials_of};
 ghost use Rattle.hx_reuse.specs.declared.rule.ReuseRule.TheVariants.{UriMiss, VaryMiss};
 ghost use Rattle.hx_reuse.specs.Rules.{decision_of};
 
-use crate::chosen::most_recent_of;
+use crate::chosen::preferred_among;
 use crate::reuse_rules::{request_rule, rule_on};
 use crate::rule::ReuseRule;
 use hx_directives::Directives;
@@ -62,7 +62,7 @@ fn decide_from_store<S: Shelf>(
     }
     let key = &asked.target.key;
     let matching = shelf.find_matching(alloc, key, &asked.fields)?;
-    let Some(entry) = most_recent_of(shelf, matching.as_slice()) else {
+    let Some(entry) = preferred_among(shelf, matching.as_slice()) else {
         return Ok(Decision::Forward(miss_rule(shelf, key), None));
     };
     match rule_on(entry, asked, asked_directives, now, policy) {

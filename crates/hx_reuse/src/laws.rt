@@ -1,7 +1,7 @@
 //! What the definitions that `decide` and `may_serve_on_error` are held to say of every list of held responses, request
 //! and moment.
-ghost use Rattle.hx_reuse.specs.ChosenAndNamed.{MostRecentIsChosen, ChosenByDate, OneIsChosenWhereOneCan};
-ghost use Rattle.hx_reuse.specs.ChosenAndNamed.{NoOtherIsChosen};
+ghost use Rattle.hx_reuse.specs.ChosenAndNamed.{PreferredIsChosen, ChosenHasAVaryWhereOneHas, ChosenByDate};
+ghost use Rattle.hx_reuse.specs.ChosenAndNamed.{OneIsChosenWhereOneCan, NoOtherIsChosen};
 ghost use Rattle.hx_reuse.specs.ChosenAndNamed.{WhatMayBeSentIsSent, NothingElseIsSent, SentResponseIsHeld};
 ghost use Rattle.hx_reuse.specs.ChosenAndNamed.{SentResponseIsFound};
 ghost use Rattle.hx_reuse.specs.ChosenAndNamed.{LeastReuseRuleIsNamed, ForwardsWhereARuleApplies, ForwardsWithoutCache};
@@ -32,10 +32,12 @@ ghost use Rattle.hx_reuse.specs.RuleTables.{ErrorRulesAreInOrder, EachErrorRuleI
 
 use hx_vary::kept_is_enough;
 
-/// The chosen response is held, has the request's key and nominated values, and none that has comes
-/// later: none has a later Date. None is chosen only where none has them.
-pub fn the_latest_that_matches_is_chosen()
-    ensures latest { MostRecentIsChosen }
+/// The chosen response is held, has the request's key and nominated values, and none that has is
+/// preferred to it: it has a Vary where one of them has, and of those that are like it in this none
+/// has a later Date. None is chosen only where none has them.
+pub fn the_preferred_that_matches_is_chosen()
+    ensures preferred { PreferredIsChosen }
+    ensures with_vary { ChosenHasAVaryWhereOneHas }
     ensures by_date { ChosenByDate }
     ensures some { OneIsChosenWhereOneCan }
     ensures no_other { NoOtherIsChosen }

@@ -23,8 +23,8 @@ pub use crate::laws::{
     default_policy_changes_nothing, details_of_the_rules, forward_names_the_least_rule,
     ignored_directives_are_not_asked, no_other_requests_variant_is_sent, no_other_variant_is_sent,
     nothing_is_reused_against_the_operator, reasons_of_the_rules, sent_on_error_where_it_may_be,
-    sent_where_it_may_be_reused, sent_where_no_rule_applies, the_latest_that_matches_is_chosen,
-    the_least_error_rule_is_named, the_operators_stale_if_error_counts,
+    sent_where_it_may_be_reused, sent_where_no_rule_applies, the_least_error_rule_is_named,
+    the_operators_stale_if_error_counts, the_preferred_that_matches_is_chosen,
     the_tables_of_the_rules_agree, what_has_to_be_validated_is, words_name_the_rule,
     words_of_the_error_rules,
 };
@@ -32,8 +32,9 @@ pub use crate::lifetimes::lifetime_under;
 pub use crate::on_error::may_serve_on_error;
 pub use crate::rule::{ErrorRule, ReuseRule};
 pub use crate::worked_cases::{
-    age_equal_to_lifetime_is_stale, bypass_rules_in_order, least_error_rule, least_reuse_rule,
-    line_without_cache, minute_after_an_error, minute_from_the_line, moment_goes_backwards,
-    no_lifetime_is_only_validated, reload_is_ignored, request_max_age_and_only_if_cached,
+    a_variant_comes_before_the_default, age_equal_to_lifetime_is_stale, bypass_rules_in_order,
+    least_error_rule, least_reuse_rule, line_without_cache, minute_after_an_error,
+    minute_from_the_line, moment_goes_backwards, no_lifetime_is_only_validated,
+    of_two_alike_the_later_comes_first, reload_is_ignored, request_max_age_and_only_if_cached,
     stale_if_error_of_request, stale_if_error_of_response, vary_values_are_compared,
 };

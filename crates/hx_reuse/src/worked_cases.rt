@@ -13,7 +13,8 @@ ghost use Rattle.hx_reuse.specs.Cases.{cache_control_fields, accept_language, ge
 ghost use Rattle.hx_reuse.specs.Cases.{stored_at, stored_with_cache_control, one_held_with_cache_control};
 ghost use Rattle.hx_reuse.specs.Cases.{one_held_in_german, one_held_with_etag, request_directives, lifetime_policy};
 ghost use Rattle.hx_reuse.specs.Cases.{stale_if_error_policy, ignore_directives_policy, stored_with_status};
-ghost use Rattle.hx_reuse.specs.Cases.{one_held_of_status};
+ghost use Rattle.hx_reuse.specs.Cases.{one_held_of_status, variant_made_at, default_made_at, english_and_default};
+ghost use Rattle.hx_reuse.specs.Cases.{get_a_in};
 
 use crate::{Decision, ErrorRule, ReuseRule};
 
@@ -28,6 +29,32 @@ pub fn vary_values_are_compared()
         ≡ Decision.Forward ReuseRule.VaryMiss None }
     ensures another_path { decision_of (plain true) one_held_in_german get_b 1
         ≡ Decision.Forward ReuseRule.UriMiss None }
+{}
+
+/// English with a Vary was stored at 100, a default without at 110. An English client gets what was made for it,
+/// whatever the order in the store, and its twin in German the default, as who asks in no language.
+pub fn a_variant_comes_before_the_default()
+    ensures english { decision_of (plain true) english_and_default (get_a_in (codes "en")) 120 ≡ Decision.Hit 1 }
+    ensures another_order { decision_of (plain true) (variant_made_at 100 1 (codes "en") ∷ default_made_at 110 2 ∷ [])
+        (get_a_in (codes "en")) 120 ≡ Decision.Hit 1 }
+    ensures german { decision_of (plain true) english_and_default (get_a_in (codes "de")) 120 ≡ Decision.Hit 2 }
+    ensures no_language { decision_of (plain true) english_and_default (get_a_with []) 120 ≡ Decision.Hit 2 }
+    ensures expired { decision_of (plain true) english_and_default (get_a_in (codes "en")) 165
+        ≡ Decision.Forward ReuseRule.NoMaxStale (Some 1) }
+{}
+
+/// Two that are alike in this: with a Vary, and without, of two Dates and of one.
+pub fn of_two_alike_the_later_comes_first()
+    ensures with_vary { decision_of (plain true)
+        (variant_made_at 110 1 (codes "en") ∷ variant_made_at 100 2 (codes "en") ∷ [])
+        (get_a_in (codes "en")) 120 ≡ Decision.Hit 1 }
+    ensures with_vary_of_one_date { decision_of (plain true)
+        (variant_made_at 100 1 (codes "en") ∷ variant_made_at 100 2 (codes "en") ∷ [])
+        (get_a_in (codes "en")) 120 ≡ Decision.Hit 2 }
+    ensures without { decision_of (plain true) (default_made_at 110 1 ∷ default_made_at 100 2 ∷ []) (get_a_with []) 120
+        ≡ Decision.Hit 1 }
+    ensures without_of_one_date { decision_of (plain true) (default_made_at 100 2 ∷ default_made_at 100 1 ∷ [])
+        (get_a_with []) 120 ≡ Decision.Hit 2 }
 {}
 
 /// A response of a minute at 90, stored at 101: it was a second on the way.

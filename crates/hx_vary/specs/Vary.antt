@@ -1,10 +1,10 @@
 -- What a response's Vary says of the requests that it may answer (RFC 9111, section 4.1; RFC 9110, section 12.5.5).
 --
--- nominated_of: what is kept of the earlier request
+-- nominated_of: what is kept of the earlier request         nominates_a_field: it isn't nothing
 -- vary_matches: a later request's values are those that were kept
 -- both_select_alike: the same question, asked of the whole earlier request
 use Rattle.std.specs.Prelude.{◌≡◌, ℕ, Bool, true, false, if◌then◌else◌, ◌||◌, not, List, [], ◌∷◌, map, filter, codes}
-use Rattle.std.specs.Prelude.{bytes_eq, Option, Some, None}
+use Rattle.std.specs.Prelude.{bytes_eq, length, ◌==◌, Option, Some, None}
 use Rattle.std.specs.List.{list_all, list_any}
 use Rattle.hx_fields.specs.FieldLines.{combined_of, members_of}
 use Rattle.hx_fields.specs.Names.{is_same_name}
@@ -51,6 +51,10 @@ kept_values response request = map (kept_value request) (each_once (vary_names r
 abbrev pub nominated_of : List Field → List Field → Nomination
 nominated_of response request = if is_star response then Star else Names (kept_values response request)
 
+-- a field is nominated
+abbrev pub nominates_a_field : List NominatedValue → Bool
+nominates_a_field kept = not (length kept == 0)
+
 -- a request has each value that was kept
 abbrev pub vary_matches : List NominatedValue → List Field → Bool
 vary_matches kept request = list_all (λ k. is_same_value k.value (combined_of request k.name)) kept
@@ -77,3 +81,9 @@ NothingIsKeptForAStar = (response request : List Field) → is_star response ≡
 abbrev pub EachNominatedNameIsKept : Type 0
 EachNominatedNameIsKept = (response request : List Field) → is_star response ≡ false
     → nominated_of response request ≡ Names (kept_values response request)
+
+-- a response nominates a field exactly where its Vary has a member
+-- own: a Vary without members counts as none
+abbrev pub AMemberOfVaryNominates : Type 0
+AMemberOfVaryNominates = (response request : List Field) →
+    nominates_a_field (kept_values response request) ≡ not (length (vary_names response) == 0)

@@ -2,8 +2,8 @@
 
 ghost use Rattle.std.specs.Prelude.{◌≡◌, true, false, [], ◌∷◌, codes};
 ghost use Rattle.hx_vary.specs.Vary.{EachNominatedNameIsKept, NothingIsKeptForAStar, KeptValuesAreEnough};
-ghost use Rattle.hx_vary.specs.Vary.{RequestMatchesItself, each_once};
-ghost use Rattle.hx_vary.specs.Vary.{is_star, nominated_of, vary_matches};
+ghost use Rattle.hx_vary.specs.Vary.{RequestMatchesItself, AMemberOfVaryNominates, each_once, nominates_a_field};
+ghost use Rattle.hx_vary.specs.Vary.{is_star, kept_values, nominated_of, vary_matches};
 ghost use Rattle.hx_vary.specs.Marks.{MarksMissNoMatch, NoValueIsUnmarked};
 ghost use Rattle.hx_vary.specs.Cases.{values_kept_for, accept_language, vary_fields};
 
@@ -33,6 +33,15 @@ pub fn no_value_is_unmarked()
 pub fn a_star_is_kept_as_one()
     ensures star { NothingIsKeptForAStar }
     ensures names { EachNominatedNameIsKept }
+{}
+
+/// A response nominates a field exactly where its Vary has a member; by one without members it
+/// nominates none.
+pub fn a_member_of_vary_nominates()
+    ensures every { AMemberOfVaryNominates }
+    ensures a_name { nominates_a_field (values_kept_for []) ≡ true }
+    ensures no_member { nominates_a_field (kept_values (vary_fields (codes ", ,")) []) ≡ false }
+    ensures no_vary { nominates_a_field (kept_values [] []) ≡ false }
 {}
 
 /// Stored for a request in German: the same value, none, an empty one, two lines, and a response without Vary.

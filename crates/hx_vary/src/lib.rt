@@ -12,8 +12,8 @@ mod nominations;
 mod request_values;
 
 pub use laws::{
-    a_request_matches_itself, a_star_is_kept_as_one, kept_is_enough, marks_miss_nothing,
-    no_value_is_unmarked, star_nominates_everything, vary_values_are_compared,
+    a_member_of_vary_nominates, a_request_matches_itself, a_star_is_kept_as_one, kept_is_enough,
+    marks_miss_nothing, no_value_is_unmarked, star_nominates_everything, vary_values_are_compared,
 };
 pub use marks::Mark;
 pub use nominated_values::NominatedValue;

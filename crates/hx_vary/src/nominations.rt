@@ -2,7 +2,7 @@
 
 ghost use Rattle.std.specs.Prelude.{◌≡◌, map, IfOk};
 ghost use Rattle.std.specs.List.{list_any};
-ghost use Rattle.hx_vary.specs.Vary.{each_once, is_star_member, kept_value, vary_matches};
+ghost use Rattle.hx_vary.specs.Vary.{each_once, is_star_member, kept_value, nominates_a_field, vary_matches};
 ghost use Rattle.hx_vary.specs.Marks.{mark_of_values};
 
 use crate::marks::{Mark, value_tag_at};
@@ -65,6 +65,13 @@ impl Nominated {
             values.push(kept.copy(alloc)?)?;
         }
         Ok(Nominated { values })
+    }
+
+    /// Whether a field is nominated. No memory is taken.
+    pub fn nominates_a_field(&self) -> bool
+        ensures { result ≡ nominates_a_field self.now }
+    {
+        !self.values.is_empty()
     }
 
     /// The mark of these values by a seed, by which a request that can't match is told. No memory is taken.

@@ -38,8 +38,7 @@ use Rattle.proxy_core.specs.Histories.{open_exchanges, IsGoodHistory}
 use Rattle.proxy_core.specs.Promises.{outcome_goes_forward, count_of_outcomes}
 use Rattle.proxy_core.specs.Carrying.{judges_a_request, second_forward_item, WentForwardOnce, WentForwardASecondTime, HasWaitedSinceItsArrival, ExchangeWasJudged, RuleWasLeastWhenJudged, OpenExchangeCarriesItsArrival}
 use Rattle.proxy_core.proofs.ExchangeLists.{overtaken_by, released_by, changed_by, find-map, find-push, find-gone_out, sent_out-id, found-id}
-use Rattle.proxy_core.proofs.Moves.{Move, apart, opens, queues, passes, again, wakes, closes, out_again, woken_form, asked_of, ended_by, move_of, and_none, failed_back}
-use Rattle.proxy_core.specs.Promises.{key_invalidated_by_step}
+use Rattle.proxy_core.proofs.Moves.{Move, apart, opens, queues, passes, again, wakes, closes, out_again, woken_form, asked_of, ended_by, move_of, and_none, failed_back, key_taken_by_step}
 use Rattle.proxy_core.proofs.Tracing.{same_table}
 use Rattle.proxy_core.proofs.HeldLaw.{good_plain, entries_are_held, exchanges_are_open}
 
@@ -526,7 +525,7 @@ module _ (table : Table) (limit first : ℕ) where
       by_event (Wake now n) o same late out is found = absurd (false≢true (sym late))
       by_event (Abandon n) o same late out is found = absurd (false≢true (sym (ap outcome_goes_forward is) ∙ out))
 
-  carries : (past : List Item) → IsGood (initial_state table limit first) past → (id : ℕ) (x : Exchange) → exchange id past ≡ Some x → Carried table limit id past x
+  pub carries : (past : List Item) → IsGood (initial_state table limit first) past → (id : ℕ) (x : Exchange) → exchange id past ≡ Some x → Carried table limit id past x
   carries [] g id x h = absurd (cc)
   carries (i ∷ past) g id x h = by_move (λ z q. carries past g.1 id z q) (exchange id (i ∷ past)) (move_of table (state_after_trace (initial_state table limit first) past) i id (same_table (initial_state table limit first) past) g.0) h refl
     where
@@ -546,7 +545,7 @@ module _ (table : Table) (limit first : ℕ) where
       by_move : ((z : Exchange) → exchange id past ≡ Some z → Carried table limit id past z) → (y : Option Exchange) → Move id (find_exchange (exchange_id_of_event i.event) s.exchanges) i.event i.outcome (exchange id past) y → y ≡ Some x → exchange id (i ∷ past) ≡ y →
           Carried table limit id (i ∷ past) x
       by_move was y (apart n e) h k =
-          carried_apart table limit id i past (key_invalidated_by_step (asked_of (find_exchange (exchange_id_of_event i.event) s.exchanges)) i.event i.outcome) (ended_by i.event i.outcome) (exchange id past) x n was (sym e ∙ h)
+          carried_apart table limit id i past (key_taken_by_step (asked_of (find_exchange (exchange_id_of_event i.event) s.exchanges)) i.event i.outcome) (ended_by i.event i.outcome) (exchange id past) x n was (sym e ∙ h)
       by_move was y (opens at es now asked line e x_is f q) h k =
           let item : record { event = Arrive now id asked; outcome = i.outcome } ≡ i = ap (λ (v : Event). record { event = v; outcome = i.outcome }) (sym e) in
           subst (λ (j : Item). Carried table limit id (j ∷ past) x) item

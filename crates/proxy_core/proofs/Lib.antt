@@ -5,6 +5,8 @@ pub mod Storable
 pub mod Tracing
 pub mod ExchangeLists
 pub mod Arrivals
+pub mod UnsafeRequests
+pub mod UnsafeAnswers
 pub mod Moves
 pub mod TwiceForward
 pub mod HeldEntries
@@ -32,6 +34,7 @@ pub mod Waits
 pub mod Indexed
 pub mod Waiters
 pub mod Releases
-pub mod GetIndices
-pub mod Gets
+pub mod KeyIndices
+pub mod AskedArrivals
+pub mod Overtaking
 pub mod AddedLines

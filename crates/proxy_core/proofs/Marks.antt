@@ -10,15 +10,19 @@ use Rattle.proxy_core.specs.declared.open.exchange.Exchange.{Exchange}
 use Rattle.proxy_core.specs.declared.outcome.Outcome.{Outcome}
 use Rattle.proxy_core.specs.declared.event.Event.{Event}
 use Rattle.proxy_core.specs.declared.event.Event.TheVariants.{Arrive, Answer, Fail, Wake, Abandon}
-use Rattle.proxy_core.specs.Outcomes.{find_exchange, exchange_id_of_event, fault_at_exchange}
+use Rattle.hx_store.specs.Stored.{Stored}
+use Rattle.proxy_core.specs.Outcomes.{find_exchange, exchange_id_of_event, fault_at_exchange, outcome_of}
+use Rattle.proxy_core.specs.Carrying.{ExchangeWasJudged}
 use Rattle.proxy_core.specs.State.{overtaken_exchange}
 use Rattle.proxy_core.specs.Traces.{Item, initial_state, state_after_trace, IsGood}
-use Rattle.proxy_core.specs.Promises.{outcome_goes_forward, is_arrival_event, count_of_outcomes, request_after_event, latest_request_of, key_invalidated_by_step, is_invalidated_key, invalidates_key, NoItemInvalidates, some_item_invalidates}
+use Rattle.proxy_core.specs.Promises.{outcome_goes_forward, is_arrival_event, count_of_outcomes, request_after_event, latest_request_of, key_invalidated_by_event, is_invalidated_key, invalidates_key, NoItemInvalidates, some_item_invalidates}
 use Rattle.proxy_core.specs.declared.open.stage.Stage.TheVariants.{Forwarded, Waiting, Released}
 use Rattle.proxy_core.specs.Leading.{waits_for}
 use Rattle.proxy_core.specs.State.{released_exchange}
 use Rattle.proxy_core.proofs.ExchangeLists.{overtaken_by, released_by}
-use Rattle.proxy_core.proofs.Moves.{Move, apart, opens, queues, passes, again, wakes, closes, asked_of, ended_by, move_of}
+use Rattle.proxy_core.proofs.Moves.{Move, apart, opens, queues, passes, again, wakes, closes, asked_of, ended_by, move_of, key_taken_by_answer, key_taken_by_step}
+use Rattle.proxy_core.proofs.Carries.{carries}
+use Rattle.proxy_core.proofs.UnsafeAnswers.{status_is_shown}
 use Rattle.proxy_core.proofs.Tracing.{same_table}
 
 -- ---- the request of an open exchange is that of the latest arrival of its id
@@ -66,7 +70,7 @@ none_asked (Some z) a h g = cc
 asked_more : (id : ℕ) (w : Option Exchange) (event : Event) (o : Outcome) (x y : Option Exchange) (b : Option Asked) (a : Asked) → Move id w event o x y →
     ((a : Asked) → asked_of x ≡ Some a → b ≡ Some a) → asked_of y ≡ Some a → request_after_event id event b ≡ Some a
 asked_more id w event o x y b a (apart n h) f g =
-    asked_apart id event b n ∙ f a (sym (asked_released (ended_by event o) x) ∙ sym (asked_overtaken (key_invalidated_by_step (asked_of w) event o) (released_by (ended_by event o) x)) ∙ sym (ap asked_of h) ∙ g)
+    asked_apart id event b n ∙ f a (sym (asked_released (ended_by event o) x) ∙ sym (asked_overtaken (key_taken_by_step (asked_of w) event o) (released_by (ended_by event o) x)) ∙ sym (ap asked_of h) ∙ g)
 asked_more id w event o x y b a (opens table es now asked line e x_is k h) f g =
     ap (λ v. request_after_event id v b) e ∙ ap (λ c. cond c (Some asked) b) (eq-eqb id id refl) ∙ sym (ap asked_of h) ∙ g
 asked_more id w event o x y b a (queues table es now asked line leader e x_is k l h) f g =
@@ -84,20 +88,37 @@ asked_is table limit first (i ∷ past) g id a k =
     (λ a q. asked_is table limit first past g.1 id a q) k
 
 -- what an item invalidates, by the exchange and by the items before
-key_is : (w : Option Exchange) (event : Event) (o : Outcome) (b : Option Asked) → fault_at_exchange w event ≡ None → ((a : Asked) → asked_of w ≡ Some a → b ≡ Some a) →
-    key_invalidated_by_step b event o ≡ key_invalidated_by_step (asked_of w) event o
-key_is (Some w) event o b f h = ap (λ b. key_invalidated_by_step b event o) (h w.asked refl)
-key_is None (Arrive now i asked) o None f h = refl
-key_is None (Arrive now i asked) o (Some a) f h = refl
-key_is None (Answer now i r) o b f h = absurd (cc)
-key_is None (Fail now i kind) o b f h = absurd (cc)
-key_is None (Wake now i) o b f h = absurd (cc)
-key_is None (Abandon i) o b f h = absurd (cc)
+key_is : (w : Option Exchange) (event : Event) (b : Option Asked) → fault_at_exchange w event ≡ None → ((a : Asked) → asked_of w ≡ Some a → b ≡ Some a) →
+    key_invalidated_by_event b event ≡ key_invalidated_by_event (asked_of w) event
+key_is (Some w) event b f h = ap (λ b. key_invalidated_by_event b event) (h w.asked refl)
+key_is None (Arrive now i asked) None f h = refl
+key_is None (Arrive now i asked) (Some a) f h = refl
+key_is None (Answer now i r) b f h = absurd (cc)
+key_is None (Fail now i kind) b f h = absurd (cc)
+key_is None (Wake now i) b f h = absurd (cc)
+key_is None (Abandon i) b f h = absurd (cc)
+
+-- and as its outcome shows it
+shown : (table : Table) (limit : ℕ) (past : List Item) (es : List Stored) (xs : List Exchange) (next : Option ℕ) (w : Option Exchange) (event : Event) (o : Outcome) →
+    ((z : Exchange) → w ≡ Some z → ExchangeWasJudged table limit z past) → o ≡ outcome_of table es xs w next event →
+    key_invalidated_by_event (asked_of w) event ≡ key_taken_by_step (asked_of w) event o
+shown table limit past es xs next None event o a is = refl
+shown table limit past es xs next (Some z) (Answer now i r) o a is =
+    status_is_shown table limit z past (a z refl) es now r next ∙ ap (key_taken_by_answer z.asked r) (sym is)
+shown table limit past es xs next (Some z) (Arrive now i asked) o a is = refl
+shown table limit past es xs next (Some z) (Fail now i kind) o a is = refl
+shown table limit past es xs next (Some z) (Wake now i) o a is = refl
+shown table limit past es xs next (Some z) (Abandon i) o a is = refl
 
 pub same_key_of_step : (table : Table) (limit first : ℕ) (i : Item) (past : List Item) → IsGood (initial_state table limit first) (i ∷ past) →
-    key_invalidated_by_step (latest_request_of (exchange_id_of_event i.event) past) i.event i.outcome
-    ≡ key_invalidated_by_step (asked_of (find_exchange (exchange_id_of_event i.event) (state_after_trace (initial_state table limit first) past).exchanges)) i.event i.outcome
-same_key_of_step table limit first i past g = key_is _ i.event i.outcome _ g.0.allowed (λ a q. asked_is table limit first past g.1 (exchange_id_of_event i.event) a q)
+    key_invalidated_by_event (latest_request_of (exchange_id_of_event i.event) past) i.event
+    ≡ key_taken_by_step (asked_of (find_exchange (exchange_id_of_event i.event) (state_after_trace (initial_state table limit first) past).exchanges)) i.event i.outcome
+same_key_of_step table limit first i past g =
+    let s = state_after_trace (initial_state table limit first) past in
+    let id = exchange_id_of_event i.event in
+    let w = find_exchange id s.exchanges in
+    key_is w i.event (latest_request_of id past) g.0.allowed (λ a q. asked_is table limit first past g.1 id a q)
+    ∙ shown table limit past s.entries s.exchanges s.next w i.event i.outcome (λ z q. (carries table limit first past g.1 id z q).0) g.0.outcome_is
 
 -- ---- from a going forward on
 
@@ -197,7 +218,7 @@ module _ (table : Table) (limit first : ℕ) (f : Item) (before : List Item) (id
       Move id (find_exchange (exchange_id_of_event i.event) (state_after_trace (initial_state table limit first) (items ++ f ∷ before)).exchanges) i.event i.outcome (exchange items) y →
       (z : Exchange) → y ≡ Some z → z.stage ≡ Forwarded → (latest_request_of id (f ∷ before) ≡ Some z.asked) × (z.overtaken ≡ some_item_invalidates z.asked.target.key (i ∷ items) (f ∷ before))
   out_step i items g n out y (apart a e) z q stage =
-      let key = key_invalidated_by_step (asked_of (find_exchange (exchange_id_of_event i.event) (state_after_trace (initial_state table limit first) (items ++ f ∷ before)).exchanges)) i.event i.outcome in
+      let key = key_taken_by_step (asked_of (find_exchange (exchange_id_of_event i.event) (state_after_trace (initial_state table limit first) (items ++ f ∷ before)).exchanges)) i.event i.outcome in
       let u = unmarked key (released_by (ended_by i.event i.outcome) (exchange items)) z (sym e ∙ q) in
       let stays = sym u.stage ∙ stage in
       let was = out u.was (unreleased (ended_by i.event i.outcome) (exchange items) u.was u.x_is stays) stays in (

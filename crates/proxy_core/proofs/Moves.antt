@@ -4,6 +4,7 @@ use Rattle.std.specs.Prelude.{option_map, nat_le}
 use Rattle.std.proofs.lemmas.Bool.{cases_Bool, eqb-true, false≢true}
 use Rattle.std.proofs.lemmas.Bool.Decides.{nat_tests}
 use Rattle.http.specs.Method.{safe_methods, is_among}
+use Rattle.hx_target.specs.declared.keys.Key.{Key}
 use Rattle.hx_framing.specs.declared.messages.Response.{Response}
 use Rattle.hx_hop.specs.declared.request_view.Asked.{Asked}
 use Rattle.hx_allow.specs.TableLines.{Table}
@@ -33,8 +34,9 @@ use Rattle.proxy_core.specs.Storing.{is_304_without_condition, key_invalidated}
 use Rattle.proxy_core.specs.Outcomes.{find_exchange, exchange_id_of_event, fallback_for, outcome_of_failure, is_error_status, outcome_of_passing_on_or_stale, outcome_of_304, outcome_of_answer, outcome_of_wake, outcome_of, or_fault, fault_if_not_forwarded, fault_if_not_released, fault_at_exchange}
 use Rattle.proxy_core.specs.State.{State, state_after, open_exchanges_after, forwarded_exchange, waiting_exchange, line_of_verdict, rule_of_decision, serial_named_by_decision, exchange_gone_forward, exchange_forwarded_again, exchange_sent_forward, exchanges_after_wake, key_invalidated_by_response}
 use Rattle.proxy_core.specs.Traces.{Item, ItemIsAccepted}
-use Rattle.proxy_core.specs.Promises.{outcome_goes_forward, outcome_is_reply, outcome_ends_exchange, is_arrival_event, reply_uses_no_stored_response, key_invalidated_by_answer, key_invalidated_by_step}
+use Rattle.proxy_core.specs.Promises.{outcome_goes_forward, outcome_is_reply, outcome_ends_exchange, is_arrival_event, reply_uses_no_stored_response}
 use Rattle.proxy_core.specs.Carrying.{judges_a_request}
+use Rattle.proxy_core.proofs.UnsafeRequests.{unsafe_refuses}
 use Rattle.proxy_core.proofs.ExchangeLists.{find-map, find-closed, find-push, find-gone_out, find-left_open, found-id, sent_out-id, overtaken_by, changed_by}
 
 abbrev pub asked_of : Option Exchange → Option Asked
@@ -66,9 +68,23 @@ forward_goes_on (Forward line bytes) h = refl
 forward_goes_on (Waits leader) h = refl
 forward_goes_on Ended h = absurd (false≢true h)
 
+-- what an answer invalidates, as its outcome shows it: no stored response is sent to an unsafe request
+abbrev pub key_taken_by_answer : Asked → Response → Outcome → Option Key
+key_taken_by_answer asked r outcome =
+    cond (not (is_among safe_methods asked.method) && ((nat_le 200 r.status && nat_le r.status 399) && reply_uses_no_stored_response outcome))
+    (Some asked.target.key) None
+
+abbrev pub key_taken_by_step : Option Asked → Event → Outcome → Option Key
+key_taken_by_step None event outcome = None
+key_taken_by_step (Some asked) (Answer now id r) outcome = key_taken_by_answer asked r outcome
+key_taken_by_step (Some asked) (Arrive now id other) outcome = None
+key_taken_by_step (Some asked) (Fail now id kind) outcome = None
+key_taken_by_step (Some asked) (Wake now id) outcome = None
+key_taken_by_step (Some asked) (Abandon id) outcome = None
+
 -- of a step of the exchange w of its own id, what becomes of the exchange x of an id
 pub data Move (id : ℕ) (w : Option Exchange) (event : Event) (o : Outcome) (x y : Option Exchange) : Type 0 where
-  apart : eqb (exchange_id_of_event event) id ≡ false → y ≡ changed_by (key_invalidated_by_step (asked_of w) event o) (ended_by event o) x → Move id w event o x y
+  apart : eqb (exchange_id_of_event event) id ≡ false → y ≡ changed_by (key_taken_by_step (asked_of w) event o) (ended_by event o) x → Move id w event o x y
   opens : (table : Table) (es : List Stored) (now : ℕ) (asked : Asked) (line : ℕ) → event ≡ Arrive now id asked → x ≡ None → outcome_goes_forward o ≡ true → y ≡ Some (forwarded_exchange table es now id asked line) → Move id w event o x y
   queues : (table : Table) (es : List Stored) (now : ℕ) (asked : Asked) (line leader : ℕ) → event ≡ Arrive now id asked → x ≡ None → o ≡ Waits leader →
       line ≡ line_of_verdict (verdict_of table.lines asked.method asked.target) → y ≡ Some (waiting_exchange table es now id asked line leader) → Move id w event o x y
@@ -133,27 +149,27 @@ error_is_none status h = grind (arith, nat_tests)
 passed_sends : (table : Table) (es : List Stored) (now : ℕ) (x : Exchange) (r : Response) (next : Option ℕ) (fallback : Fallback) → reply_uses_no_stored_response (outcome_of_passing_on_or_stale table es now x r next false fallback) ≡ true
 passed_sends table es now x r next fallback = refl
 
--- the tests of both definitions: u unsafe, c no error, v a 304 to the proxy's conditions, n one that nobody asked for
-same_tests : (u c v n s : Bool) → (v ≡ true → s ≡ false) → (v ≡ false → n ≡ false → c ≡ true → s ≡ true) → (u && c && not (v || n)) ≡ (u && (c && (s && not n)))
-same_tests false c v n s h k = refl
-same_tests true false v n s h k = refl
-same_tests true true true n s h k = sym (ap (λ b. b && not n) (h refl))
-same_tests true true false true s h k = sym (and_none s)
-same_tests true true false false s h k = sym (ap (λ b. b && true) (k refl refl refl))
+-- the tests of both definitions: u unsafe, c no error, v a 304 to the proxy's conditions, s no stored response is sent
+same_tests : (u c v s : Bool) → (v ≡ true → s ≡ false) → (v ≡ false → u ≡ true → c ≡ true → s ≡ true) → ((u && c) && not v) ≡ (u && (c && s))
+same_tests false c v s h k = refl
+same_tests true false v s h k = refl
+same_tests true true true s h k = sym (h refl)
+same_tests true true false s h k = sym (k refl refl refl)
 
-answer_sends : (table : Table) (es : List Stored) (now : ℕ) (x : Exchange) (r : Response) (next : Option ℕ) (d : Decision)
-    → (v n e : Bool) → v ≡ false → n ≡ false → e ≡ false
+answer_sends : (table : Table) (es : List Stored) (now : ℕ) (x : Exchange) (r : Response) (next : Option ℕ) (d : Decision) (rule : ReuseRule)
+    → (v n e : Bool) → v ≡ false → e ≡ false → fallback_for (policy_of table.lines x.line) es x.asked now d ≡ Refuses rule None
     → reply_uses_no_stored_response (cond v (outcome_of_304 table es now x r (stored_response_validated es x r now) d)
     (cond n (outcome_of_failure table es now x BadAnswer (Some r.status) (fallback_for (policy_of table.lines x.line) es x.asked now d)) (outcome_of_passing_on_or_stale table es now x r next e (fallback_for (policy_of table.lines x.line) es x.asked now d)))) ≡ true
-answer_sends table es now x r next d true n e hv hn he = absurd (false≢true (sym hv))
-answer_sends table es now x r next d false true e hv hn he = absurd (false≢true (sym hn))
-answer_sends table es now x r next d false false true hv hn he = absurd (false≢true (sym he))
-answer_sends table es now x r next d false false false hv hn he = refl
+answer_sends table es now x r next d rule true n e hv he f = absurd (false≢true (sym hv))
+answer_sends table es now x r next d rule false true e hv he f = ap (λ (o : Fallback). reply_uses_no_stored_response (outcome_of_failure table es now x BadAnswer (Some r.status) o)) f
+answer_sends table es now x r next d rule false false true hv he f = absurd (false≢true (sym he))
+answer_sends table es now x r next d rule false false false hv he f = refl
 
 -- the key that an answer invalidates, by the exchange and by the outcome
-pub same_key_invalidated : (table : Table) (es : List Stored) (now : ℕ) (x : Exchange) (r : Response) (next : Option ℕ) (d : Decision) →
-    key_invalidated x r ≡ key_invalidated_by_answer x.asked r (outcome_of_answer table es now x r next d)
-same_key_invalidated table es now x r next d =
+pub same_key_invalidated : (table : Table) (es : List Stored) (now : ℕ) (x : Exchange) (r : Response) (next : Option ℕ) →
+    key_invalidated x r ≡ key_taken_by_answer x.asked r (outcome_of_answer table es now x r next (decision_of (policy_of table.lines x.line) es x.asked now))
+same_key_invalidated table es now x r next =
+    let d = decision_of (policy_of table.lines x.line) es x.asked now in
     let o = outcome_of_answer table es now x r next d in
     let v = is_validation x r in
     let n = is_304_without_condition x.asked r in
@@ -164,10 +180,15 @@ same_key_invalidated table es now x r next d =
     (cond n (outcome_of_failure table es now x BadAnswer (Some r.status) (fallback_for (policy_of table.lines x.line) es x.asked now d)) (outcome_of_passing_on_or_stale table es now x r next e (fallback_for (policy_of table.lines x.line) es x.asked now d))))) h
     ∙ held_sent table es now x r (stored_response_validated es x r now) d
     in
-    let by_passing : v ≡ false → n ≡ false → c ≡ true → reply_uses_no_stored_response o ≡ true = λ hv hn hc.
-    answer_sends table es now x r next d v n e hv hn (elim (cases_Bool e) [ inl t ↦ absurd (false≢true (sym (error_is_none r.status t) ∙ hc)) | inr f ↦ f ])
+    let by_status : v ≡ false → not (is_among safe_methods x.asked.method) ≡ true → c ≡ true → reply_uses_no_stored_response o ≡ true = λ hv hu hc.
+    let refuses = unsafe_refuses (policy_of table.lines x.line) es x.asked now (turned (is_among safe_methods x.asked.method) hu) in
+    answer_sends table es now x r next d refuses.0 v n e hv (elim (cases_Bool e) [ inl t ↦ absurd (false≢true (sym (error_is_none r.status t) ∙ hc)) | inr f ↦ f ]) refuses.1
     in
-    ap (λ b. cond b (Some x.asked.target.key) None) (same_tests (not (is_among safe_methods x.asked.method)) c v n (reply_uses_no_stored_response o) by_304 by_passing)
+    ap (λ b. cond b (Some x.asked.target.key) None) (same_tests (not (is_among safe_methods x.asked.method)) c v (reply_uses_no_stored_response o) by_304 by_status)
+  where
+    turned : (b : Bool) → not b ≡ true → b ≡ false
+    turned true h = sym h
+    turned false h = refl
 
 -- what is done to an exchange of another id
 other_out : (i now : ℕ) (id : ℕ) (o : Option Exchange) → eqb i id ≡ false → ((z : Exchange) → o ≡ Some z → eqb z.id id ≡ true) →
@@ -204,7 +225,7 @@ released_from None s h = by_test (is_released s) h
     by_test true h = refl
     by_test false h = absurd (cc)
 
-no_key : (asked : Asked) (r : Response) (line : ℕ) (bytes : List ℕ) → key_invalidated_by_answer asked r (Forward line bytes) ≡ None
+no_key : (asked : Asked) (r : Response) (line : ℕ) (bytes : List ℕ) → key_taken_by_answer asked r (Forward line bytes) ≡ None
 no_key asked r line bytes = ap (λ b. cond b (Some asked.target.key) None)
     (ap (λ b. not (is_among safe_methods asked.method) && b) (and_none (nat_le 200 r.status && nat_le r.status 399)) ∙ and_none (not (is_among safe_methods asked.method)))
 
@@ -246,14 +267,14 @@ module _ (table : Table) (es : List Stored) (xs : List Exchange) (next : Option 
   -- the exchange of the step's id ends
   gone : (w : Exchange) (event : Event) (o : Outcome) → find_exchange (exchange_id_of_event event) xs ≡ Some w → is_arrival_event event ≡ false → outcome_ends_exchange o ≡ true →
       (y : Option Exchange) →
-      y ≡ cond (eqb (exchange_id_of_event event) id) None (changed_by (key_invalidated_by_step (Some w.asked) event o) (Some (exchange_id_of_event event)) (find_exchange id xs)) →
+      y ≡ cond (eqb (exchange_id_of_event event) id) None (changed_by (key_taken_by_step (Some w.asked) event o) (Some (exchange_id_of_event event)) (find_exchange id xs)) →
       Move id (Some w) event o (find_exchange id xs) y
   gone w event o f a g y h =
-      let rest = changed_by (key_invalidated_by_step (Some w.asked) event o) (Some (exchange_id_of_event event)) (find_exchange id xs) in
+      let rest = changed_by (key_taken_by_step (Some w.asked) event o) (Some (exchange_id_of_event event)) (find_exchange id xs) in
       let by : Some (exchange_id_of_event event) ≡ ended_by event o = sym (ap (λ b. cond (not b && outcome_ends_exchange o) (Some (exchange_id_of_event event)) None) a ∙ ap (λ b. cond b (Some (exchange_id_of_event event)) None) g) in
       elim (cases_Bool (eqb (exchange_id_of_event event) id)) [
         | inl t ↦ closes w t a (ap (λ n. find_exchange n xs) (sym (eqb-true (exchange_id_of_event event) id t)) ∙ f) g (h ∙ ap (λ b. cond b None rest) t)
-        | inr n ↦ apart n (h ∙ ap (λ b. cond b None rest) n ∙ ap (λ k. changed_by (key_invalidated_by_step (Some w.asked) event o) k (find_exchange id xs)) by)
+        | inr n ↦ apart n (h ∙ ap (λ b. cond b None rest) n ∙ ap (λ k. changed_by (key_taken_by_step (Some w.asked) event o) k (find_exchange id xs)) by)
       ]
 
   arrives : (now i : ℕ) (asked : Asked) (o : Outcome) → find_exchange i xs ≡ None →
@@ -306,7 +327,7 @@ module _ (table : Table) (es : List Stored) (xs : List Exchange) (next : Option 
   answers now i r z (Reply p) f s h = gone z (Answer now i r) (Reply p) f refl refl _ (
       find-left_open (key_invalidated_by_response (find_exchange i xs) r) i id xs
       ∙ ap (λ k. cond (eqb i id) None (changed_by k (Some i) (find_exchange id xs)))
-      (ap (λ w. key_invalidated_by_response w r) f ∙ same_key_invalidated table es now z r next (decision_of (policy_of table.lines z.line) es z.asked now) ∙ ap (key_invalidated_by_answer z.asked r) (sym h))
+      (ap (λ w. key_invalidated_by_response w r) f ∙ same_key_invalidated table es now z r next ∙ ap (key_taken_by_answer z.asked r) (sym h))
       )
   answers now i r z (Waits leader) f s h = absurd (false≢true (ap is_either h ∙ answer_either table es now z r next (decision_of (policy_of table.lines z.line) es z.asked now)))
   answers now i r z Ended f s h = absurd (false≢true (ap is_either h ∙ answer_either table es now z r next (decision_of (policy_of table.lines z.line) es z.asked now)))

@@ -49,12 +49,12 @@ use Rattle.proxy_core.specs.Outcomes.{hit_status_info, find_exchange, exchange_i
 use Rattle.proxy_core.specs.State.{serial_stored_by_outcome, serial_used_by_outcome, serials_removed_by_outcome, stored_response_as_used}
 use Rattle.proxy_core.specs.Traces.{Item}
 use Rattle.proxy_core.specs.Histories.{held_entries, open_exchanges, next_serial, IsGoodHistory}
-use Rattle.proxy_core.specs.Promises.{key_invalidated_by_answer}
 use Rattle.proxy_core.specs.Sending.{StoredResponseIsReusable, StoredResponseMayBeSentAt, RequestGoesForward, NoLeaderIsOpen, RequestWaitsForTheFirst, RequestReachesCacheOrOrigin, RequestIsTurnedAway, DetailWordAfterError, DetailWordAtAnswer, CacheStatusShowsHow, IsAbout, ReplyIsThatStoredResponse}
 use Rattle.proxy_core.specs.GoingOn.{EventMayCome, IsClientReply, ExchangeGoesOnBy}
 use Rattle.proxy_core.specs.Naming.{AnswerNamesErrorRule, AnswerAfterFailureNames, AnswerNamesByEvent, AnswerNamesFirstRule}
 use Rattle.proxy_core.specs.StoredAnswers.{serials_held_for_key, serial_not_kept_after_304, serials_removed_at}
 use Rattle.proxy_core.specs.Headline.{HoldsAtEachItem, ExchangeGoesOnToItsAnswer, RequestReachesExactlyWhereAllowed, StoredResponseIsSentExactlyWhereItMayBe, SentResponseIsTheStoredOne, OtherAnswerNamesTheFirstRule, AnswerIsStoredExactlyWhereItMayBe, StoredResponsesAreRemovedExactlyWhereTheyMustBe, ConnectionClosesAsAsked, Headline, AnswerHasFinalStatus, NoOtherTraceHasTheHeadline}
+use Rattle.proxy_core.specs.Promises.{key_invalidated_by_answer}
 use Rattle.proxy_core.proofs.FirstRules.{held_distinct}
 use Rattle.proxy_core.proofs.Leads.{leads_for_none, leads_for}
 use Rattle.proxy_core.proofs.SendLaws.{reusable_hit}
@@ -238,8 +238,7 @@ removed_same : (table : Table) (es : List Stored) (x : Option Exchange) (event :
     serials_removed_at table es x event (Replied a) ≡ serials_removed_at table es x event (Replied b)
 removed_same table es x (Arrive now id asked) a b stored used = refl
 removed_same table es (Some x) (Answer now id r) a b stored used =
-    ap (λ (z : Option ℕ). cond (is_some z) (replaced_by es x.asked) (serials_held_for_key es (key_invalidated_by_answer x.asked r (Replied a)) (serial_not_kept_after_304 table x now r (stored_response_validated es x r now)))) stored
-    ∙ ap (λ (z : Option ℕ). cond (is_some b.stored) (replaced_by es x.asked) (serials_held_for_key es (key_invalidated_by_answer x.asked r (Replied (record { bytes = []; close = false; stored = None; used = z; removed = [] }))) (serial_not_kept_after_304 table x now r (stored_response_validated es x r now)))) used
+    ap (λ (z : Option ℕ). cond (is_some z) (replaced_by es x.asked) (serials_held_for_key es (key_invalidated_by_answer x.asked r) (serial_not_kept_after_304 table x now r (stored_response_validated es x r now)))) stored
 removed_same table es None (Answer now id r) a b stored used = refl
 removed_same table es x (Fail now id kind) a b stored used = refl
 removed_same table es x (Wake now id) a b stored used = refl

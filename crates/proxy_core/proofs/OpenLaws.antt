@@ -20,11 +20,11 @@ use Rattle.proxy_core.specs.Leading.{waits_for}
 use Rattle.proxy_core.specs.State.{State, released_exchange, overtaken_exchange, forwarded_exchange, waiting_exchange, line_of_verdict, rule_of_decision, open_exchanges_after}
 use Rattle.proxy_core.specs.Traces.{Item, initial_state, state_after_trace, IsGood}
 use Rattle.proxy_core.specs.Histories.{held_entries, open_exchanges}
-use Rattle.proxy_core.specs.Promises.{outcome_goes_forward, outcome_ends_exchange, is_arrival_event, NoRequestArrives, key_invalidated_by_step}
+use Rattle.proxy_core.specs.Promises.{outcome_goes_forward, outcome_ends_exchange, is_arrival_event, NoRequestArrives}
 use Rattle.proxy_core.specs.Carrying.{judges_a_request, NoRequestIsJudged}
 use Rattle.proxy_core.specs.TraceMeaning.{exchange_has_ended, opens_an_exchange, ExchangeIsOpenFromArrivalToEnd, ExchangeOpensByArrivalAlone, OpenExchangeHasItsRequest, OpenExchangeKeepsItsRule, ExchangeIsOvertakenWhereInvalidated}
 use Rattle.proxy_core.proofs.ExchangeLists.{overtaken_by, released_by, changed_by, find-push}
-use Rattle.proxy_core.proofs.Moves.{Move, apart, opens, queues, passes, again, wakes, closes, asked_of, ended_by, forward_goes_on, move_of, and_none}
+use Rattle.proxy_core.proofs.Moves.{Move, apart, opens, queues, passes, again, wakes, closes, asked_of, ended_by, forward_goes_on, move_of, and_none, key_taken_by_step}
 use Rattle.proxy_core.proofs.Tracing.{same_table}
 use Rattle.proxy_core.proofs.TwiceForward.{not_both, fresh_arrival, part}
 use Rattle.proxy_core.proofs.HeldLaw.{good_plain, entries_are_held, exchanges_are_open}
@@ -48,7 +48,7 @@ open_step : (id : ℕ) (w : Option Exchange) (event : Event) (o : Outcome) (x y 
     (eqb (exchange_id_of_event event) id && is_arrival_event event) ≡ false → is_some x ≡ (b && not e) →
     is_some y ≡ (b && not ((eqb (exchange_id_of_event event) id && outcome_ends_exchange o) || e))
 open_step id w event o x y b e (apart n h) a i =
-    ap is_some h ∙ some_changed (key_invalidated_by_step (asked_of w) event o) (ended_by event o) x ∙ i ∙ sym (ap (λ c. b && not ((c && outcome_ends_exchange o) || e)) n)
+    ap is_some h ∙ some_changed (key_taken_by_step (asked_of w) event o) (ended_by event o) x ∙ i ∙ sym (ap (λ c. b && not ((c && outcome_ends_exchange o) || e)) n)
 open_step id w event o x y b e (opens table es now asked line ev x_is f h) a i = absurd (fresh_arrival id now asked event ev a)
 open_step id w event o x y b e (queues table es now asked line leader ev x_is f l h) a i = absurd (fresh_arrival id now asked event ev a)
 open_step id w event o x y b e (passes t ev x_is f h) a i = absurd (not_both _ _ t ev a)
@@ -101,7 +101,7 @@ open_from_arrival_to_end table limit first items before arrival g a n =
 
 none_step : (id : ℕ) (w : Option Exchange) (event : Event) (o : Outcome) (x y : Option Exchange) → Move id w event o x y →
     (eqb (exchange_id_of_event event) id && is_arrival_event event) ≡ false → x ≡ None → y ≡ None
-none_step id w event o x y (apart n h) a i = h ∙ ap (changed_by (key_invalidated_by_step (asked_of w) event o) (ended_by event o)) i ∙ none_changed (key_invalidated_by_step (asked_of w) event o) (ended_by event o)
+none_step id w event o x y (apart n h) a i = h ∙ ap (changed_by (key_taken_by_step (asked_of w) event o) (ended_by event o)) i ∙ none_changed (key_taken_by_step (asked_of w) event o) (ended_by event o)
   where
     none_changed : (key : Option Key) (gone : Option ℕ) → changed_by key gone None ≡ None
     none_changed None None = refl
@@ -179,7 +179,7 @@ rule_step : (rule : ℕ → ReuseRule) (id : ℕ) (w : Option Exchange) (event :
     (eqb (exchange_id_of_event event) id && judges_a_request event) ≡ false → HasRule rule x → HasRule rule y
 unfolding HasRule
 rule_step rule id w event o x y (apart n h) a i =
-    subst (HasRule rule) (sym h) (rule_marked rule (key_invalidated_by_step (asked_of w) event o) (released_by (ended_by event o) x) (rule_released rule (ended_by event o) x i))
+    subst (HasRule rule) (sym h) (rule_marked rule (key_taken_by_step (asked_of w) event o) (released_by (ended_by event o) x) (rule_released rule (ended_by event o) x i))
 rule_step rule id w event o x y (opens table es now asked line ev x_is f h) a i = absurd (judged_now id event (ap (λ v. eqb (exchange_id_of_event v) id && judges_a_request v) ev ∙ ap (λ b. b && true) (eq-eqb id id refl)) a)
 rule_step rule id w event o x y (queues table es now asked line leader ev x_is f l h) a i = absurd (judged_now id event (ap (λ v. eqb (exchange_id_of_event v) id && judges_a_request v) ev ∙ ap (λ b. b && true) (eq-eqb id id refl)) a)
 rule_step rule id w event o x y (wakes table es z now ev x_is s f h) a i = absurd (judged_now id event (ap (λ v. eqb (exchange_id_of_event v) id && judges_a_request v) ev ∙ ap (λ b. b && true) (eq-eqb id id refl)) a)

@@ -24,7 +24,7 @@ use Rattle.hx_reuse.specs.declared.rule.ReuseRule.TheVariants as rules
 use Rattle.hx_reuse.specs.declared.rule.ErrorRule.{ErrorRule}
 use Rattle.hx_reuse.specs.declared.decision.Decision.{Decision}
 use Rattle.hx_reuse.specs.declared.decision.Decision.TheVariants as decision
-use Rattle.hx_reuse.proofs.Choice.{chosen_is_held, chosen_is_latest, latest_is_the_chosen, found_by_serial}
+use Rattle.hx_reuse.proofs.Choice.{chosen_is_held, chosen_is_preferred, preferred_is_the_chosen, found_by_serial}
 use Rattle.hx_reuse.proofs.MeaningLemmas.{is_held, names_the_least, forwards}
 use Rattle.hx_reuse.proofs.ReusableLemmas.{allowed_is_reused, reused_is_allowed}
 use Rattle.hx_reuse.proofs.OnErrorLemmas.{may_be_sent_on_error, sent_may_be}
@@ -163,7 +163,7 @@ module _ (policy : Policy) (es : List Stored) (distinct : Distinct (serials es))
             n.response,
             record {
               operator_allows = allowed_by policy es asked now rule least n.late;
-              is_chosen = chosen_is_latest es asked n.response n.chosen;
+              is_chosen = chosen_is_preferred es asked n.response n.chosen;
               is_for_the_cache = λ other low. least.none_before other (comes_before other rule low late);
               may_be_sent = sent_may_be policy n.response (occurrences_of asked.fields) now (sym n.rule_at ∙ k);
             },
@@ -183,7 +183,7 @@ module _ (policy : Policy) (es : List Stored) (distinct : Distinct (serials es))
   instead_sent s response may serial (decision.Hit t) d_is =
       let hit = is_held policy es asked now t d_is in
       let same : hit.0 ≡ response =
-      same_Some hit.0 response (sym (latest_is_the_chosen es asked hit.0 distinct hit.1) ∙ latest_is_the_chosen es asked response distinct may.is_chosen)
+      same_Some hit.0 response (sym (preferred_is_the_chosen es asked hit.0 distinct hit.1) ∙ preferred_is_the_chosen es asked response distinct may.is_chosen)
       in
       let t_is : t ≡ s = sym hit.2 ∙ ap (λ (e : Stored). e.serial) same ∙ serial in
       record { detail = ReuseAfterError; fallback = ap (fallback_for policy es asked now) d_is ∙ ap (λ n. Sends n ReuseAfterError) t_is }
@@ -196,7 +196,7 @@ module _ (policy : Policy) (es : List Stored) (distinct : Distinct (serials es))
       by_number least (inr high) = never_one high.1.0.serial high.1.2
   instead_sent s response may serial (decision.Forward rule (Some t)) d_is =
       let n = named_is rule t d_is in
-      let same : n.response ≡ response = same_Some n.response response (sym n.chosen ∙ latest_is_the_chosen es asked response distinct may.is_chosen) in
+      let same : n.response ≡ response = same_Some n.response response (sym n.chosen ∙ preferred_is_the_chosen es asked response distinct may.is_chosen) in
       let t_is : t ≡ s = sym n.serial ∙ ap (λ (e : Stored). e.serial) same ∙ serial in
       let none : error_rule_at policy es t asked now ≡ None =
       n.rule_at ∙ ap (λ (e : Stored). error_rule_on policy e (occurrences_of asked.fields) now) same ∙ may_be_sent_on_error policy response (occurrences_of asked.fields) now may.may_be_sent

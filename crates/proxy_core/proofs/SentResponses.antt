@@ -18,7 +18,7 @@ use Rattle.hx_reuse.specs.declared.rule.ReuseRule.{ReuseRule}
 use Rattle.hx_reuse.specs.declared.rule.ErrorRule.{ErrorRule}
 use Rattle.hx_reuse.specs.declared.decision.Decision.{Decision}
 use Rattle.hx_reuse.specs.declared.decision.Decision.TheVariants as decision
-use Rattle.hx_reuse.proofs.Choice.{chosen_is_held, latest_is_the_chosen, found_by_serial}
+use Rattle.hx_reuse.proofs.Choice.{chosen_is_held, preferred_is_the_chosen, found_by_serial}
 use Rattle.hx_reuse.proofs.MeaningLemmas.{is_held}
 use Rattle.hx_reuse.proofs.ReusableLemmas.{reused_is_allowed}
 use Rattle.hx_status.specs.declared.status.Detail.{Detail}
@@ -59,7 +59,7 @@ module _ (table : Table) (es : List Stored) (distinct : Distinct (serials es)) w
   found_hit : (policy : Policy) (asked : Asked) (now s : ℕ) → decision_of policy es asked now ≡ decision.Hit s → IsFound es s
   found_hit policy asked now s h =
       let hit = is_held policy es asked now s h in
-      let chosen = latest_is_the_chosen es asked hit.0 distinct hit.1 in
+      let chosen = preferred_is_the_chosen es asked hit.0 distinct hit.1 in
       (hit.0, ap (λ z. find_entry z es) (sym hit.2) ∙ found_by_serial es distinct hit.0 (chosen_is_held es asked hit.0 chosen))
 
   found_fallback : (policy : Policy) (asked : Asked) (now s : ℕ) (detail : Detail) (d : Decision) → decision_of policy es asked now ≡ d → fallback_for policy es asked now d ≡ Sends s detail → IsFound es s

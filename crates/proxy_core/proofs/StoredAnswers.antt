@@ -1,6 +1,6 @@
 -- An answer is stored exactly where it may be, and no stored response is sent in its place.
 use Rattle.std.proofs.Common.{◌≡◌, inl, inr, ℕ, Bool, true, false, not, ◌&&◌, ◌||◌, cond, List, [], ◌∷◌, length, refl, sym, ap, ◌∙◌, subst}
-use Rattle.std.specs.Prelude.{Option, Some, None, is_none, ◌==◌, nat_le}
+use Rattle.std.specs.Prelude.{Option, Some, None, is_none, is_some, ◌==◌, nat_le}
 use Rattle.std.proofs.lemmas.Bool.{false_from_ne_true, eqb-true}
 use Rattle.http.specs.Method.{safe_methods, is_among}
 use Rattle.hx_target.specs.declared.keys.Key.{Key}
@@ -35,13 +35,16 @@ use Rattle.proxy_core.specs.declared.steps.fallback.Fallback.TheVariants.{Sends,
 use Rattle.proxy_core.specs.Leading.{leader_of_request}
 use Rattle.proxy_core.specs.Outcomes.{outcome_of_allowed_request, outcome_of_answer, outcome_of_arrival, outcome_of_failure, fallback_for, find_exchange, forward_text, forwarded_status_info, exchange_id_of_event, is_error_status, is_only_if_cached, outcome_of, outcome_of_passing_on, outcome_of_passing_on_or_stale, outcome_of_refusal, serials_removed_by_answer, outcome_of_304, outcome_of_sending_stored, outcome_of_waiting_or_forwarding, outcome_of_sending_freshened, serial_of_stored_answer, outcome_without_stored_response, outcome_of_wake}
 use Rattle.proxy_core.specs.State.{serial_stored_by_outcome, serial_used_by_outcome, serials_removed_by_outcome}
-use Rattle.proxy_core.specs.Storing.{storing_rule_to_explain, storing_facts_of_answer, is_storable, is_304_without_condition}
+use Rattle.proxy_core.specs.Storing.{replaced_by, storing_rule_to_explain, storing_facts_of_answer, is_storable, is_304_without_condition}
 use Rattle.proxy_core.specs.Validating.{stored_response_asked_about, condition_about_serial, stored_response_if_answered, freshened_may_be_kept, is_validation, freshened_by_304, stored_response_validated}
 use Rattle.proxy_core.specs.Traces.{Item}
 use Rattle.proxy_core.specs.Histories.{held_entries, IsGoodHistory, next_serial, open_exchanges}
-use Rattle.proxy_core.specs.Promises.{answer_is_passed_on, key_invalidated_by_answer}
+use Rattle.proxy_core.proofs.Moves.{key_taken_by_answer}
+use Rattle.proxy_core.specs.Promises.{reply_uses_no_stored_response, key_invalidated_by_answer}
 use Rattle.proxy_core.proofs.Leaving.{serial_stays, unanswered as never_answered}
 use Rattle.proxy_core.proofs.Unsent.{storing_of}
+use Rattle.proxy_core.proofs.Carries.{carries_its_arrival}
+use Rattle.proxy_core.proofs.UnsafeAnswers.{status_is_shown}
 use Rattle.proxy_core.specs.StoredAnswers.{AnswerMayBeStored, IsAnswerThatMayBeStored, serial_not_kept_after_304, serials_held_for_key, removed_by_answer, serials_removed_at, NothingElseIsStored, AnswerIsStoredWhereItMayBe, ItemRemovesExactlyThese}
 use Rattle.proxy_core.proofs.StoringWords.{can_be_reused, fields_named, fits_in, may_be_released, keeps_all, lasts_or_validates, lists_none, none_is_not, some_left, star_absent}
 
@@ -214,22 +217,35 @@ and_together : (a b c : Bool) → a && b && c ≡ a && (b && c)
 and_together true b c = refl
 and_together false b c = refl
 
+and_true : (b : Bool) → b && true ≡ b
+and_true true = refl
+and_true false = refl
+
 and_false : (b : Bool) → b && false ≡ false
 and_false true = refl
 and_false false = refl
 
--- an answer that isn't passed on invalidates nothing
-none_by : (x : Exchange) (r : Response) (o : Outcome) → answer_is_passed_on x.asked r o ≡ false → key_invalidated_by_answer x.asked r o ≡ None
+-- an answer in whose place a stored response is sent takes nothing away
+none_by : (x : Exchange) (r : Response) (o : Outcome) → reply_uses_no_stored_response o ≡ false → key_taken_by_answer x.asked r o ≡ None
 none_by x r o h =
     ap (λ b. cond (not (is_among safe_methods x.asked.method) && ((nat_le 200 r.status && nat_le r.status 399) && b)) (Some x.asked.target.key) None) h
     ∙ ap (λ b. cond (not (is_among safe_methods x.asked.method) && b) (Some x.asked.target.key) None) (and_false (nat_le 200 r.status && nat_le r.status 399))
     ∙ ap (λ b. cond b (Some x.asked.target.key) None) (and_false (not (is_among safe_methods x.asked.method)))
 
 module _ (table : Table) (es : List Stored) (now : ℕ) (x : Exchange) (r : Response) (next : Option ℕ) where
-  abbrev Goes : Outcome → Type 0
-  Goes o = serials_removed_by_outcome o ≡ removed_by_answer table es x now r o
+  -- what goes where this key does
+  abbrev removed_with : Option Key → Outcome → List ℕ
+  removed_with key o = cond (is_some (serial_stored_by_outcome o)) (replaced_by es x.asked)
+      (serials_held_for_key es key (serial_not_kept_after_304 table x now r (stored_response_validated es x r now)))
 
-  nothing_held_for : (o : Outcome) → answer_is_passed_on x.asked r o ≡ false → serials_held_for_key es (key_invalidated_by_answer x.asked r o) (serial_not_kept_after_304 table x now r (stored_response_validated es x r now)) ≡ serial_not_kept_after_304 table x now r (stored_response_validated es x r now)
+  abbrev Goes : Outcome → Type 0
+  Goes o = serials_removed_by_outcome o ≡ removed_with (key_taken_by_answer x.asked r o) o
+
+  all_goes : (b : Bool) → cond b (serials_of x.asked.target.key es) [] ≡ serials_held_for_key es (cond b (Some x.asked.target.key) None) []
+  all_goes true = refl
+  all_goes false = refl
+
+  nothing_held_for : (o : Outcome) → reply_uses_no_stored_response o ≡ false → serials_held_for_key es (key_taken_by_answer x.asked r o) (serial_not_kept_after_304 table x now r (stored_response_validated es x r now)) ≡ serial_not_kept_after_304 table x now r (stored_response_validated es x r now)
   nothing_held_for o h = ap (λ (k : Option Key). serials_held_for_key es k (serial_not_kept_after_304 table x now r (stored_response_validated es x r now))) (none_by x r o h)
 
   no_304_goes : is_validation x r ≡ false → serial_not_kept_after_304 table x now r (stored_response_validated es x r now) ≡ []
@@ -241,33 +257,27 @@ module _ (table : Table) (es : List Stored) (now : ℕ) (x : Exchange) (r : Resp
 
   failed_goes : is_validation x r ≡ false → is_304_without_condition x.asked r ≡ true → (fallback : Fallback) → Goes (outcome_of_failure table es now x BadAnswer (Some r.status) fallback)
   failed_goes n u (Sends serial detail) = sym (nothing_held_for (outcome_of_sending_stored table es serial now (forwarded_status_info (policy_of table.lines x.line) x (Some r.status) (Some detail)) x.asked) refl ∙ no_304_goes n)
-  failed_goes n u (Refuses rule error) = sym (nothing_held_for (outcome_of_refusal now (Origin BadAnswer rule error) x.asked) (ap not u) ∙ no_304_goes n)
-
-  passed_goes : (rule : Option StoreRule) (stored : Option ℕ) → is_validation x r ≡ false → is_304_without_condition x.asked r ≡ false → Goes (outcome_of_passing_on table es now x r rule stored)
-  passed_goes rule (Some s) n u = refl
-  passed_goes rule None n u =
+  failed_goes n u (Refuses rule error) =
       let unsafe = not (is_among safe_methods x.asked.method) in
       let plain = nat_le 200 r.status && nat_le r.status 399 in
-      let same : serials_removed_by_answer es x r None ≡ cond (unsafe && (plain && true)) (serials_of x.asked.target.key es) [] =
-      ap (λ b. cond (unsafe && plain && not (b || is_304_without_condition x.asked r)) (serials_of x.asked.target.key es) []) n
-      ∙ ap (λ b. cond (unsafe && plain && not b) (serials_of x.asked.target.key es) []) u
-      ∙ ap (λ b. cond b (serials_of x.asked.target.key es) []) (and_together unsafe plain true)
-      in
-      let theirs : serials_held_for_key es (key_invalidated_by_answer x.asked r (outcome_of_passing_on table es now x r rule None)) (serial_not_kept_after_304 table x now r (stored_response_validated es x r now)) ≡ cond (unsafe && (plain && true)) (serials_of x.asked.target.key es) [] =
-      ap (λ b. serials_held_for_key es (cond (unsafe && (plain && not b)) (Some x.asked.target.key) None) (serial_not_kept_after_304 table x now r (stored_response_validated es x r now))) u
-      ∙ ap (serials_held_for_key es (cond (unsafe && (plain && true)) (Some x.asked.target.key) None)) (no_304_goes n)
-      ∙ by_test (unsafe && (plain && true))
-      in
-      same ∙ sym theirs
-    where
-      by_test : (b : Bool) → serials_held_for_key es (cond b (Some x.asked.target.key) None) [] ≡ cond b (serials_of x.asked.target.key es) []
-      by_test true = refl
-      by_test false = refl
+      ap (λ b. cond (unsafe && b) (serials_of x.asked.target.key es) []) (sym (and_true plain))
+      ∙ all_goes (unsafe && (plain && true))
+      ∙ sym (ap (serials_held_for_key es (cond (unsafe && (plain && true)) (Some x.asked.target.key) None)) (no_304_goes n))
 
-  unless_goes : is_validation x r ≡ false → is_304_without_condition x.asked r ≡ false → (b : Bool) → is_error_status r.status ≡ b → (fallback : Fallback) → Goes (outcome_of_passing_on_or_stale table es now x r next b fallback)
-  unless_goes n u true e (Sends serial detail) = sym (nothing_held_for (outcome_of_sending_stored table es serial now (forwarded_status_info (policy_of table.lines x.line) x (Some r.status) (Some detail)) x.asked) refl ∙ no_304_goes n)
-  unless_goes n u true e (Refuses rule error) = passed_goes (storing_rule_to_explain table x r now next) (serial_of_stored_answer table x r now next) n u
-  unless_goes n u false e fallback = passed_goes (storing_rule_to_explain table x r now next) (serial_of_stored_answer table x r now next) n u
+  passed_goes : (rule : Option StoreRule) (stored : Option ℕ) → is_validation x r ≡ false → Goes (outcome_of_passing_on table es now x r rule stored)
+  passed_goes rule (Some s) n = refl
+  passed_goes rule None n =
+      let unsafe = not (is_among safe_methods x.asked.method) in
+      let plain = nat_le 200 r.status && nat_le r.status 399 in
+      ap (λ b. cond (unsafe && plain && not b) (serials_of x.asked.target.key es) []) n
+      ∙ ap (λ b. cond b (serials_of x.asked.target.key es) []) (and_together unsafe plain true)
+      ∙ all_goes (unsafe && (plain && true))
+      ∙ sym (ap (serials_held_for_key es (cond (unsafe && (plain && true)) (Some x.asked.target.key) None)) (no_304_goes n))
+
+  unless_goes : is_validation x r ≡ false → (b : Bool) → is_error_status r.status ≡ b → (fallback : Fallback) → Goes (outcome_of_passing_on_or_stale table es now x r next b fallback)
+  unless_goes n true e (Sends serial detail) = sym (nothing_held_for (outcome_of_sending_stored table es serial now (forwarded_status_info (policy_of table.lines x.line) x (Some r.status) (Some detail)) x.asked) refl ∙ no_304_goes n)
+  unless_goes n true e (Refuses rule error) = passed_goes (storing_rule_to_explain table x r now next) (serial_of_stored_answer table x r now next) n
+  unless_goes n false e fallback = passed_goes (storing_rule_to_explain table x r now next) (serial_of_stored_answer table x r now next) n
 
   revalidated_goes : (o : Option Stored) (d : Decision) → stored_response_validated es x r now ≡ o → Goes (outcome_of_304 table es now x r o d)
   revalidated_goes (Some e) d v =
@@ -282,7 +292,7 @@ module _ (table : Table) (es : List Stored) (now : ℕ) (x : Exchange) (r : Resp
       by_unasked : is_validation x r ≡ false → (b : Bool) → is_304_without_condition x.asked r ≡ b →
           Goes (cond b (outcome_of_failure table es now x BadAnswer (Some r.status) (fallback_for (policy_of table.lines x.line) es x.asked now d)) (outcome_of_passing_on_or_stale table es now x r next (is_error_status r.status) (fallback_for (policy_of table.lines x.line) es x.asked now d)))
       by_unasked n true u = failed_goes n u (fallback_for (policy_of table.lines x.line) es x.asked now d)
-      by_unasked n false u = unless_goes n u (is_error_status r.status) refl (fallback_for (policy_of table.lines x.line) es x.asked now d)
+      by_unasked n false u = unless_goes n (is_error_status r.status) refl (fallback_for (policy_of table.lines x.line) es x.asked now d)
 
       by_304 : (b : Bool) → is_validation x r ≡ b →
           Goes (cond b (outcome_of_304 table es now x r (stored_response_validated es x r now) d)
@@ -290,9 +300,15 @@ module _ (table : Table) (es : List Stored) (now : ℕ) (x : Exchange) (r : Resp
       by_304 true k = revalidated_goes (stored_response_validated es x r now) d refl
       by_304 false k = by_unasked k (is_304_without_condition x.asked r) refl
 
+-- what the status of an answer to an open exchange says is what its outcome shows
+abbrev StatusIsShown : Table → List Stored → Option ℕ → Exchange → Type 0
+StatusIsShown table es next x = (now : ℕ) (r : Response) →
+    key_invalidated_by_answer x.asked r ≡ key_taken_by_answer x.asked r (outcome_of_answer table es now x r next (decision_of (policy_of table.lines x.line) es x.asked now))
+
 module _ (table : Table) (es : List Stored) (xs : List Exchange) (next : Option ℕ) where
-  goes_by_event : (x : Option Exchange) (event : Event) → serials_removed_by_outcome (outcome_of table es xs x next event) ≡ serials_removed_at table es x event (outcome_of table es xs x next event)
-  goes_by_event x (Arrive now id asked) = by_verdict (verdict_of table.lines asked.method asked.target)
+  goes_by_event : (x : Option Exchange) (event : Event) → ((z : Exchange) → x ≡ Some z → StatusIsShown table es next z) →
+      serials_removed_by_outcome (outcome_of table es xs x next event) ≡ serials_removed_at table es x event (outcome_of table es xs x next event)
+  goes_by_event x (Arrive now id asked) shown = by_verdict (verdict_of table.lines asked.method asked.target)
     where
       on : (line : ℕ) (condition : Option Condition) (leader : Option ℕ) → serials_removed_by_outcome (outcome_of_waiting_or_forwarding table line asked condition leader) ≡ []
       on line condition None = refl
@@ -310,25 +326,29 @@ module _ (table : Table) (es : List Stored) (xs : List Exchange) (next : Option 
       by_verdict (verdict.Allowed line) = by_decision line (decision_of (policy_of table.lines line) es asked now)
       by_verdict (verdict.DeniedBy line) = refl
       by_verdict verdict.NoLine = refl
-  goes_by_event (Some x) (Answer now id r) = answer_goes table es now x r next (decision_of (policy_of table.lines x.line) es x.asked now)
-  goes_by_event None (Answer now id r) = refl
-  goes_by_event (Some x) (Fail now id kind) = by_fallback (fallback_for (policy_of table.lines x.line) es x.asked now (decision_of (policy_of table.lines x.line) es x.asked now))
+  goes_by_event (Some x) (Answer now id r) shown =
+      let o = outcome_of_answer table es now x r next (decision_of (policy_of table.lines x.line) es x.asked now) in
+      answer_goes table es now x r next (decision_of (policy_of table.lines x.line) es x.asked now) ∙ ap (λ (key : Option Key). removed_with table es now x r next key o) (sym (shown x refl now r))
+  goes_by_event None (Answer now id r) shown = refl
+  goes_by_event (Some x) (Fail now id kind) shown = by_fallback (fallback_for (policy_of table.lines x.line) es x.asked now (decision_of (policy_of table.lines x.line) es x.asked now))
     where
       by_fallback : (fallback : Fallback) → serials_removed_by_outcome (outcome_of_failure table es now x kind None fallback) ≡ []
       by_fallback (Sends serial detail) = refl
       by_fallback (Refuses rule error) = refl
-  goes_by_event None (Fail now id kind) = refl
-  goes_by_event (Some x) (Wake now id) = by_decision (decision_of (policy_of table.lines x.line) es x.asked now)
+  goes_by_event None (Fail now id kind) shown = refl
+  goes_by_event (Some x) (Wake now id) shown = by_decision (decision_of (policy_of table.lines x.line) es x.asked now)
     where
       by_decision : (d : Decision) → serials_removed_by_outcome (outcome_of_wake table es now x d) ≡ []
       by_decision (decision.Hit s) = refl
       by_decision (decision.Forward rule against) = refl
-  goes_by_event None (Wake now id) = refl
-  goes_by_event x (Abandon id) = refl
+  goes_by_event None (Wake now id) shown = refl
+  goes_by_event x (Abandon id) shown = refl
 
 pub removes_just_that : ItemRemovesExactlyThese
 removes_just_that table limit first item past good =
     let es = held_entries table limit past in
     let xs = open_exchanges table limit past in
     let x = find_exchange (exchange_id_of_event item.event) xs in
-    subst (λ (o : Outcome). serials_removed_by_outcome o ≡ serials_removed_at table es x item.event o) (sym good.0.outcome_is) (goes_by_event table es xs (next_serial first past) x item.event)
+    subst (λ (o : Outcome). serials_removed_by_outcome o ≡ serials_removed_at table es x item.event o) (sym good.0.outcome_is)
+    (goes_by_event table es xs (next_serial first past) x item.event
+    (λ z is now r. status_is_shown table limit z past (carries_its_arrival table limit first (exchange_id_of_event item.event) past z good.1 is).0 es now r (next_serial first past)))

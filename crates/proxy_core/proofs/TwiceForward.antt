@@ -15,9 +15,9 @@ use Rattle.proxy_core.specs.declared.open.stage.Stage.TheVariants.{Forwarded, Wa
 use Rattle.proxy_core.specs.Leading.{is_forwarded, is_released, waits_for}
 use Rattle.proxy_core.specs.State.{State, released_exchange, overtaken_exchange, forwarded_exchange}
 use Rattle.proxy_core.specs.Traces.{Item, state_after_trace, IsGood}
-use Rattle.proxy_core.specs.Promises.{outcome_goes_forward, outcome_is_reply, is_arrival_event, key_invalidated_by_step, count_of_outcomes, NoRequestArrives, TwiceForwardOneReply}
+use Rattle.proxy_core.specs.Promises.{outcome_goes_forward, outcome_is_reply, is_arrival_event, count_of_outcomes, NoRequestArrives, TwiceForwardOneReply}
 use Rattle.proxy_core.proofs.ExchangeLists.{overtaken_by, released_by}
-use Rattle.proxy_core.proofs.Moves.{Move, apart, opens, queues, passes, again, wakes, closes, woken_form, asked_of, ended_by, ends_back, move_of, and_none}
+use Rattle.proxy_core.proofs.Moves.{Move, apart, opens, queues, passes, again, wakes, closes, woken_form, asked_of, ended_by, ends_back, move_of, and_none, key_taken_by_step}
 use Rattle.proxy_core.proofs.Tracing.{same_table}
 
 -- a part of a good trace
@@ -118,7 +118,7 @@ budget : (id : ℕ) (w : Option Exchange) (event : Event) (o : Outcome) (x y : O
     (eqb (exchange_id_of_event event) id && is_arrival_event event) ≡ false → Budget id event o x y
 unfolding one forwards_left replies_left by_stage
 budget id w event o x y (apart n h) a =
-    let m = budget_overtaken (key_invalidated_by_step (asked_of w) event o) (released_by (ended_by event o) x) in
+    let m = budget_overtaken (key_taken_by_step (asked_of w) event o) (released_by (ended_by event o) x) in
     let k = budget_released (ended_by event o) x in
     let f0 : one (eqb (exchange_id_of_event event) id && outcome_goes_forward o) ≡ 0 = ap (λ b. one (b && outcome_goes_forward o)) n in
     let r0 : one (eqb (exchange_id_of_event event) id && outcome_is_reply o) ≡ 0 = ap (λ b. one (b && outcome_is_reply o)) n in

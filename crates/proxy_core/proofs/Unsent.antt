@@ -43,7 +43,7 @@ use Rattle.proxy_core.specs.Outcomes.{find_exchange, exchange_id_of_event, outco
 use Rattle.proxy_core.specs.State.{serial_stored_by_outcome, serial_used_by_outcome, serials_removed_by_outcome, next_serial_after, serial_after_this, stored_response_by_answer, stored_response_as_used}
 use Rattle.proxy_core.specs.Traces.{Item, initial_state, state_after_trace, IsGood}
 use Rattle.proxy_core.specs.Histories.{held_serials, held_entry, store_change_of, exchanges_and_responses_after}
-use Rattle.proxy_core.specs.Promises.{answer_is_passed_on, key_invalidated_by_answer, key_invalidated_by_step, is_invalidated_key, invalidates_key, NoItemInvalidates, NothingInvalidatedIsSent}
+use Rattle.proxy_core.specs.Promises.{reply_uses_no_stored_response, is_invalidated_key, invalidates_key, NoItemInvalidates, NothingInvalidatedIsSent}
 use Rattle.proxy_core.proofs.Storable.{none_of}
 use Rattle.proxy_core.proofs.Leaving.{key_stays}
 use Rattle.proxy_core.proofs.HeldEntries.{EachIs-find, held_found, some_of_key}
@@ -52,7 +52,8 @@ use Rattle.proxy_core.proofs.HeldLaw.{look_after, stands_for}
 use Rattle.proxy_core.specs.declared.open.stage.Stage.{Stage}
 use Rattle.proxy_core.specs.declared.open.stage.Stage.TheVariants.{Forwarded, Waiting, Released}
 use Rattle.proxy_core.specs.Moments.{moment_too_late_fault}
-use Rattle.proxy_core.proofs.Moves.{asked_of, same_key_invalidated, error_is_none, forwarded_by}
+use Rattle.proxy_core.proofs.Moves.{asked_of, same_key_invalidated, error_is_none, forwarded_by, key_taken_by_answer, key_taken_by_step}
+use Rattle.proxy_core.proofs.UnsafeRequests.{unsafe_refuses}
 use Rattle.proxy_core.proofs.TwiceForward.{part}
 use Rattle.proxy_core.proofs.Marks.{same_key_of_step, out_since, none_of_some}
 
@@ -171,19 +172,17 @@ storing_of table es xs w next (Abandon i) s h = absurd (none_stored s h)
 
 -- ---- what an item that invalidates removes
 
--- the parts of the test of an exchange and its answer: u unsafe, c no error, v a 304 to the proxy's conditions, n one that nobody asked for
-record Tested (u c v n : Bool) : Type 0 where
+-- the parts of the test of an exchange and its answer: u unsafe, c no error, v a 304 to the proxy's conditions
+record Tested (u c v : Bool) : Type 0 where
   unsafe : u ≡ true
   no_error : c ≡ true
   no_validation : v ≡ false
-  no_unasked : n ≡ false
 
-tested : (u c v n : Bool) → (u && c && not (v || n)) ≡ true → Tested u c v n
-tested false c v n h = absurd (false≢true h)
-tested true false v n h = absurd (false≢true h)
-tested true true true n h = absurd (false≢true h)
-tested true true false true h = absurd (false≢true h)
-tested true true false false h = record { unsafe = refl; no_error = refl; no_validation = refl; no_unasked = refl }
+tested : (u c v : Bool) → (u && c && not v) ≡ true → Tested u c v
+tested false c v h = absurd (false≢true h)
+tested true false v h = absurd (false≢true h)
+tested true true true h = absurd (false≢true h)
+tested true true false h = record { unsafe = refl; no_error = refl; no_validation = refl }
 
 key_parts : (x : Exchange) (r : Response) (k : Key) → key_invalidated x r ≡ Some k → (answer_invalidates x r ≡ true) × (x.asked.target.key ≡ k)
 key_parts x r k h = by_test (answer_invalidates x r) h
@@ -202,28 +201,53 @@ passed_at table es now x r next d false true e hv hn he = absurd (false≢true (
 passed_at table es now x r next d false false true hv hn he = absurd (false≢true (sym he))
 passed_at table es now x r next d false false false hv hn he = refl
 
-answer_removes : (table : Table) (es : List Stored) (now : ℕ) (x : Exchange) (r : Response) (next : Option ℕ) (d : Decision) (k : Key) →
-    key_invalidated x r ≡ Some k → serials_removed_by_outcome (outcome_of_answer table es now x r next d) ≡ serials_of k es
-answer_removes table es now x r next d k h =
+-- a 304 that nobody asked for is a failure
+failed_at : (validated failed passed : Outcome) (v n : Bool) → v ≡ false → n ≡ true → cond v validated (cond n failed passed) ≡ failed
+failed_at validated failed passed true n hv hn = absurd (false≢true (sym hv))
+failed_at validated failed passed false true hv hn = refl
+failed_at validated failed passed false false hv hn = absurd (false≢true hn)
+
+answer_removes : (table : Table) (es : List Stored) (now : ℕ) (x : Exchange) (r : Response) (next : Option ℕ) (k : Key) →
+    key_invalidated x r ≡ Some k → serials_removed_by_outcome (outcome_of_answer table es now x r next (decision_of (policy_of table.lines x.line) es x.asked now)) ≡ serials_of k es
+answer_removes table es now x r next k h =
+    let d = decision_of (policy_of table.lines x.line) es x.asked now in
+    let c = nat_le 200 r.status && nat_le r.status 399 in
     let p = key_parts x r k h in
-    let t = tested (not (is_among safe_methods x.asked.method)) (nat_le 200 r.status && nat_le r.status 399) (is_validation x r) (is_304_without_condition x.asked r) p.0 in
-    let fine : is_error_status r.status ≡ false = false_from_ne_true _ (λ e. false≢true (sym (error_is_none r.status e) ∙ t.no_error)) in
-    let unstored : is_storable table x r now next ≡ false = false_from_ne_true _ (λ e.
-    let plain = storable_is table x r now next e in
-    false≢true (sym (ap not plain.safe) ∙ t.unsafe)) in
-    ap serials_removed_by_outcome (passed_at table es now x r next d (is_validation x r) (is_304_without_condition x.asked r) (is_error_status r.status) t.no_validation t.no_unasked fine)
-    ∙ ap (λ b. serials_removed_by_answer es x r (cond b next None)) unstored
-    ∙ ap (λ b. cond b (serials_of x.asked.target.key es) []) p.0
-    ∙ ap (λ key. serials_of key es) p.1
+    let t = tested (not (is_among safe_methods x.asked.method)) c (is_validation x r) p.0 in
+    elim (cases_Bool (is_304_without_condition x.asked r)) [
+      | inl u ↦ (
+          let refuses = unsafe_refuses (policy_of table.lines x.line) es x.asked now (turned (is_among safe_methods x.asked.method) t.unsafe) in
+          ap serials_removed_by_outcome (failed_at (outcome_of_304 table es now x r (stored_response_validated es x r now) d)
+          (outcome_of_failure table es now x BadAnswer (Some r.status) (fallback_for (policy_of table.lines x.line) es x.asked now d))
+          (outcome_of_passing_on_or_stale table es now x r next (is_error_status r.status) (fallback_for (policy_of table.lines x.line) es x.asked now d)) (is_validation x r) (is_304_without_condition x.asked r) t.no_validation u)
+          ∙ ap (λ (o : Fallback). serials_removed_by_outcome (outcome_of_failure table es now x BadAnswer (Some r.status) o)) refuses.1
+          ∙ ap (λ b. cond (b && c) (serials_of x.asked.target.key es) []) t.unsafe
+          ∙ ap (λ b. cond b (serials_of x.asked.target.key es) []) t.no_error
+          ∙ ap (λ key. serials_of key es) p.1
+          )
+      | inr f ↦ (
+          let fine : is_error_status r.status ≡ false = false_from_ne_true _ (λ e. false≢true (sym (error_is_none r.status e) ∙ t.no_error)) in
+          let unstored : is_storable table x r now next ≡ false = false_from_ne_true _ (λ e.
+          let plain = storable_is table x r now next e in
+          false≢true (sym (ap not plain.safe) ∙ t.unsafe)) in
+          ap serials_removed_by_outcome (passed_at table es now x r next d (is_validation x r) (is_304_without_condition x.asked r) (is_error_status r.status) t.no_validation f fine)
+          ∙ ap (λ b. serials_removed_by_answer es x r (cond b next None)) unstored
+          ∙ ap (λ b. cond b (serials_of x.asked.target.key es) []) p.0
+          ∙ ap (λ key. serials_of key es) p.1
+          )
+    ]
+  where
+    turned : (b : Bool) → not b ≡ true → b ≡ false
+    turned true h = sym h
+    turned false h = refl
 
 removes_key : (table : Table) (es : List Stored) (xs : List Exchange) (w : Option Exchange) (next : Option ℕ) (event : Event) (o : Outcome) (k : Key) →
-    o ≡ outcome_of table es xs w next event → key_invalidated_by_step (asked_of w) event o ≡ Some k → serials_removed_by_outcome o ≡ serials_of k es
+    o ≡ outcome_of table es xs w next event → key_taken_by_step (asked_of w) event o ≡ Some k → serials_removed_by_outcome o ≡ serials_of k es
 removes_key table es xs None next event o k e h = absurd (cc)
 removes_key table es xs (Some z) next (Arrive now i asked) o k e h = absurd (cc)
 removes_key table es xs (Some z) next (Answer now i r) o k e h =
-    let d = decision_of (policy_of table.lines z.line) es z.asked now in
     ap serials_removed_by_outcome e
-    ∙ answer_removes table es now z r next d k (same_key_invalidated table es now z r next d ∙ ap (key_invalidated_by_answer z.asked r) (sym e) ∙ h)
+    ∙ answer_removes table es now z r next k (same_key_invalidated table es now z r next ∙ ap (key_taken_by_answer z.asked r) (sym e) ∙ h)
 removes_key table es xs (Some z) next (Fail now i kind) o k e h = absurd (cc)
 removes_key table es xs (Some z) next (Wake now i) o k e h = absurd (cc)
 removes_key table es xs (Some z) next (Abandon i) o k e h = absurd (cc)
@@ -333,7 +357,7 @@ module _ (table : Table) (limit first : ℕ) where
         held_before = was;
         clean = ap (λ o. is_invalidated_key o k) (same_key_of_step table limit first i past g)
             ∙ false_from_ne_true _ (λ t.
-            let named = gone_key (key_invalidated_by_step (asked_of w) i.event i.outcome) t in
+            let named = gone_key (key_taken_by_step (asked_of w) i.event i.outcome) t in
             let r : serials_removed_by_outcome i.outcome ≡ serials_of named.0 es = removes_key table es st.exchanges w st.next i.event i.outcome named.0 g.0.outcome_is named.1 in
             let there = some_of_key named.0 s es f.0 f.1 (ap (λ key. same_key key named.0) its_key ∙ named.2) in
             false≢true (sym (ap not (ap (serial_is_in s) r ∙ there)) ∙ stays));
@@ -404,9 +428,9 @@ module _ (table : Table) (limit first : ℕ) where
           clean = λ m. tt;
         };
         clean = λ k. ap (λ o. is_invalidated_key o k) (same_key_of_step table limit first storing past g
-            ∙ ap (λ x. key_invalidated_by_step (asked_of x) storing.event storing.outcome) d.w_is
-            ∙ ap (λ v. key_invalidated_by_step (Some z.asked) v storing.outcome) d.event_is
-            ∙ no_key z.asked.target.key (not (is_among safe_methods z.asked.method)) ((nat_le 200 d.r.status && nat_le d.r.status 399) && answer_is_passed_on z.asked d.r storing.outcome) safe);
+            ∙ ap (λ x. key_taken_by_step (asked_of x) storing.event storing.outcome) d.w_is
+            ∙ ap (λ v. key_taken_by_step (Some z.asked) v storing.outcome) d.event_is
+            ∙ no_key z.asked.target.key (not (is_among safe_methods z.asked.method)) ((nat_le 200 d.r.status && nat_le d.r.status 399) && reply_uses_no_stored_response storing.outcome) safe);
       }
     where
       no_key : (key : Key) (u rest : Bool) → u ≡ false → cond (u && rest) (Some key) None ≡ None

@@ -38,13 +38,13 @@ use Rattle.proxy_core.specs.Outcomes.{find_exchange, exchange_id_of_event, outco
 use Rattle.proxy_core.specs.State.{State, overtaken_exchange, released_exchange, forwarded_exchange, waiting_exchange, rule_of_decision, open_exchanges_after, serial_used_by_outcome}
 use Rattle.proxy_core.specs.Traces.{Item, initial_state, state_after_trace, IsGood}
 use Rattle.proxy_core.specs.Histories.{held_entries, open_exchanges, next_serial, IsGoodHistory}
-use Rattle.proxy_core.specs.Promises.{outcome_goes_forward, outcome_ends_exchange, is_arrival_event, NoRequestArrives, key_invalidated_by_step}
+use Rattle.proxy_core.specs.Promises.{outcome_goes_forward, outcome_ends_exchange, is_arrival_event, NoRequestArrives}
 use Rattle.proxy_core.specs.Carrying.{ArrivesBefore, IdsAreInOrderOfArrival, exchange_ids}
 use Rattle.proxy_core.specs.Sending.{StoredResponseIsReusable}
 use Rattle.proxy_core.specs.Waiting.{RequestCouldWait, RequestWaitsWhereOneLeads, RequestIsToWait, RequestWaitsNowhereElse, exchange_has_closed, OnlyOneGoesForwardForKey, PlainLinesWaitForMisses, is_wake_event, was_woken, NothingHappenedToExchange, stage_of_exchange, ExchangeMayBeWoken, RequestWaitsUntilItsLeaderEnds, RequestIsWokenOnceBehindItsLeader, ReleasedAreInOrderOfArrival, WakeIsAcceptedExactlyWhereReady, WokenRequestIsJudgedAnew}
 use Rattle.proxy_core.proofs.Leads.{led_by, led_for, first_leads, is_led}
 use Rattle.proxy_core.proofs.ExchangeLists.{changed_by, find-push}
-use Rattle.proxy_core.proofs.Moves.{Move, apart, opens, queues, passes, again, wakes, closes, asked_of, ended_by, move_of, and_none, is_either, answer_either, released_from}
+use Rattle.proxy_core.proofs.Moves.{Move, apart, opens, queues, passes, again, wakes, closes, asked_of, ended_by, move_of, and_none, is_either, answer_either, released_from, key_taken_by_step}
 use Rattle.proxy_core.proofs.Tracing.{same_table}
 use Rattle.proxy_core.proofs.TwiceForward.{part, not_both, fresh_arrival}
 use Rattle.proxy_core.proofs.HeldLaw.{good_plain, entries_are_held, exchanges_are_open}
@@ -302,16 +302,16 @@ module _ (table : Table) (limit first l : ℕ) (before : List Item) (arrival : I
       by_move y (closes z t e x_is f h) = absurd (no_end f)
 
   fate_more : (i : Item) (items : List Item) (x y : Option Exchange) (w : Option Exchange) → (eqb (exchange_id_of_event i.event) id && is_arrival_event i.event) ≡ false → Move id w i.event i.outcome x y → Fate items x → Fate (i ∷ items) y
-  fate_more i items x y w a (apart n h) (stands_by s) = stands_by (stands_apart id l i items (key_invalidated_by_step (asked_of w) i.event i.outcome) x y n h s)
+  fate_more i items x y w a (apart n h) (stands_by s) = stands_by (stands_apart id l i items (key_taken_by_step (asked_of w) i.event i.outcome) x y n h s)
   fate_more i items x y w a (apart n h) (out z x_is s) =
-      let c = stage_changed (key_invalidated_by_step (asked_of w) i.event i.outcome) (ended_by i.event i.outcome) z x x_is in
+      let c = stage_changed (key_taken_by_step (asked_of w) i.event i.outcome) (ended_by i.event i.outcome) z x x_is in
       out c.0 (h ∙ c.1) (c.2 ∙ (ap (stage_by (ended_by i.event i.outcome)) s ∙ stays (ended_by i.event i.outcome)))
     where
       stays : (gone : Option ℕ) → stage_by gone Forwarded ≡ Forwarded
       stays None = refl
       stays (Some j) = refl
   fate_more i items x y w a (apart n h) (over x_is) =
-      over (h ∙ (ap (changed_by (key_invalidated_by_step (asked_of w) i.event i.outcome) (ended_by i.event i.outcome)) x_is ∙ none_changed (key_invalidated_by_step (asked_of w) i.event i.outcome) (ended_by i.event i.outcome)))
+      over (h ∙ (ap (changed_by (key_taken_by_step (asked_of w) i.event i.outcome) (ended_by i.event i.outcome)) x_is ∙ none_changed (key_taken_by_step (asked_of w) i.event i.outcome) (ended_by i.event i.outcome)))
     where
       none_changed : (key : Option Key) (gone : Option ℕ) → changed_by key gone None ≡ None
       none_changed None None = refl
@@ -546,7 +546,7 @@ module _ (table : Table) (limit first now id : ℕ) (rule : ReuseRule) (asked : 
   changed_at (Some key) (Some i) (Some x) a = overtaken_at key (released_exchange i x) (released_at i x a)
 
   origin_more : (i : Item) (items : List Item) (w x y : Option Exchange) → Move id w i.event i.outcome x y → AtTheOrigin rule asked x → (exchange_has_closed id (i ∷ items) ≡ true) ⊎ AtTheOrigin rule asked y
-  origin_more i items w x y (apart n h) a = inr (subst (AtTheOrigin rule asked) (sym h) (changed_at (key_invalidated_by_step (asked_of w) i.event i.outcome) (ended_by i.event i.outcome) x a))
+  origin_more i items w x y (apart n h) a = inr (subst (AtTheOrigin rule asked) (sym h) (changed_at (key_taken_by_step (asked_of w) i.event i.outcome) (ended_by i.event i.outcome) x a))
   origin_more i items w x y (opens at es t r line e x_is f h) a =
       let none : None ≡ Some a.x = sym x_is ∙ a.y_is in
       absurd (cc)

@@ -50,6 +50,10 @@ WaitingArrivalsPass id test es = SelectedArrivalsPass (λ x. waits_for id x.stag
 abbrev pub map_exchanges : (Exchange → Exchange) → List (ℕ × Exchange) → List (ℕ × Exchange)
 map_exchanges f es = map (λ e. (e.0, f e.1)) es
 
+-- the same change of those alone whose numbers pass
+abbrev pub map_passing : (ℕ → Bool) → (Exchange → Exchange) → List (ℕ × Exchange) → List (ℕ × Exchange)
+map_passing test f es = map (λ e. (e.0, cond (test e.0) (f e.1) e.1)) es
+
 -- the indexes tell the arrival of each id, and who waits for it: nothing else stands there
 pub record IndexesMatchExchanges (es : List (ℕ × Exchange)) (arrivals : ℕ → Option ℕ)
     (waiting : ℕ → ℕ → Bool) : Type 0 where

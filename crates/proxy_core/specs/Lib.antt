@@ -23,7 +23,7 @@ pub mod Waking
 pub mod Validating
 pub mod Waiters
 pub mod Releases
-pub mod Gets
+pub mod ByKey
 pub mod ExchangeIndexes
 pub mod Cases
 pub mod WrongTraces

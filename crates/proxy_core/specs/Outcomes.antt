@@ -53,7 +53,7 @@ use Rattle.proxy_core.specs.Replies.{stored_text, passed_answer_text, refusal_re
 use Rattle.proxy_core.specs.Validating.{conditions_to_send, condition_about_serial, is_validation}
 use Rattle.proxy_core.specs.Validating.{stored_response_validated, freshened_by_304, freshened_may_be_kept}
 use Rattle.proxy_core.specs.Storing.{is_storable, storing_rule_to_explain, replaced_by, is_304_without_condition}
-use Rattle.proxy_core.specs.Storing.{answer_invalidates}
+use Rattle.proxy_core.specs.Storing.{status_invalidates, answer_invalidates}
 
 -- the open exchange of an id
 abbrev pub find_exchange : ℕ → List Exchange → Option Exchange
@@ -153,13 +153,27 @@ fallback_for policy es asked now (decision.Forward rule None) = Refuses rule Non
 fallback_for policy es asked now (decision.Forward rule (Some serial)) =
     fallback_with_error_rule rule serial (error_rule_at policy es serial asked now)
 
--- a failure sends such a response, else it is named with the rules that keep it back
+-- what is held for the key of a request goes where the status that came invalidates it (RFC 9111, section 4.4)
+abbrev pub serials_removed_by_status : List Stored → Asked → Option ℕ → List ℕ
+serials_removed_by_status es asked None = []
+serials_removed_by_status es asked (Some status) =
+    cond (status_invalidates asked status) (serials_of asked.target.key es) []
+
+-- a reply by which these are held no longer
+abbrev pub outcome_that_removes : List ℕ → Outcome → Outcome
+outcome_that_removes removed (Reply r) = Reply (record r { removed = removed })
+outcome_that_removes removed (Forward line bytes) = Forward line bytes
+outcome_that_removes removed (Waits leader) = Waits leader
+outcome_that_removes removed Ended = Ended
+
+-- A failure sends such a response, else it is named with the rules that keep it back. A status may have come with it.
 abbrev pub outcome_of_failure : Table → List Stored → ℕ → Exchange → FailKind → Option ℕ → Fallback → Outcome
 outcome_of_failure table es now x kind came (Sends serial detail) =
     outcome_of_sending_stored table es serial now (forwarded_status_info (policy_of table.lines x.line) x came
     (Some detail)) x.asked
-outcome_of_failure table es now x kind came (Refuses rule error) = outcome_of_refusal now
-    (Origin kind rule error) x.asked
+outcome_of_failure table es now x kind came (Refuses rule error) =
+    outcome_that_removes (serials_removed_by_status es x.asked came)
+    (outcome_of_refusal now (Origin kind rule error) x.asked)
 
 -- the serial under which an answer is stored, if it is
 abbrev pub serial_of_stored_answer : Table → Exchange → Response → ℕ → Option ℕ → Option ℕ

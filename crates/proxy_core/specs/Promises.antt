@@ -4,9 +4,8 @@
 -- latest_request_of: the request of an exchange
 -- invalidates_key: an item that invalidates what is held for a key
 -- TwiceForwardOneReply, NothingInvalidatedIsSent: the promises
-use Rattle.std.specs.Prelude.{◌≡◌, ℕ, ◌+◌, ◌≤◌, ◌==◌, ◌&&◌, ◌||◌, nat_le, not, Bool, true, false, List, [], ◌∷◌, ◌++◌}
+use Rattle.std.specs.Prelude.{◌≡◌, ℕ, ◌+◌, ◌≤◌, ◌==◌, ◌&&◌, ◌||◌, Bool, true, false, List, [], ◌∷◌, ◌++◌}
 use Rattle.std.specs.Prelude.{Option, Some, None, is_none, cond}
-use Rattle.http.specs.Method.{safe_methods, is_among}
 use Rattle.hx_framing.specs.declared.messages.Response.{Response}
 use Rattle.hx_target.specs.declared.keys.Key.{Key}
 use Rattle.hx_target.specs.Keys.{same_key}
@@ -15,7 +14,7 @@ use Rattle.proxy_core.specs.declared.outcome.Outcome.{Outcome}
 use Rattle.proxy_core.specs.declared.outcome.Outcome.TheVariants.{Reply, Forward, Waits, Ended}
 use Rattle.proxy_core.specs.declared.event.Event.{Event}
 use Rattle.proxy_core.specs.declared.event.Event.TheVariants.{Arrive, Answer, Fail, Wake, Abandon}
-use Rattle.proxy_core.specs.Storing.{is_304_without_condition}
+use Rattle.proxy_core.specs.Storing.{status_invalidates}
 use Rattle.proxy_core.specs.Outcomes.{exchange_id_of_event}
 use Rattle.proxy_core.specs.State.{serial_stored_by_outcome, serial_used_by_outcome}
 use Rattle.proxy_core.specs.Traces.{Item}
@@ -89,27 +88,19 @@ reply_uses_no_stored_response (Forward line bytes) = false
 reply_uses_no_stored_response (Waits leader) = false
 reply_uses_no_stored_response Ended = false
 
--- an answer of the origin is passed on: it isn't replaced by a stored response, nor by the proxy's
--- own where nobody asked for a 304
-abbrev pub answer_is_passed_on : Asked → Response → Outcome → Bool
-answer_is_passed_on asked r outcome = reply_uses_no_stored_response outcome && not (is_304_without_condition asked r)
+-- A status that isn't an error, 2xx or 3xx, came in response to an unsafe request: what is held for
+-- its key is invalidated (RFC 9111, section 4.4), whatever the client is told.
+abbrev pub key_invalidated_by_answer : Asked → Response → Option Key
+key_invalidated_by_answer asked r = cond (status_invalidates asked r.status) (Some asked.target.key) None
 
--- such an answer to an unsafe method, and no error (RFC 9111, section 4.4), invalidates what is
--- held for the request's key
-abbrev pub key_invalidated_by_answer : Asked → Response → Outcome → Option Key
-key_invalidated_by_answer asked r outcome =
-    cond (not (is_among safe_methods asked.method)
-    && ((nat_le 200 r.status && nat_le r.status 399) && answer_is_passed_on asked r outcome))
-    (Some asked.target.key) None
-
--- the key that a step invalidates, of an exchange with this request
-abbrev pub key_invalidated_by_step : Option Asked → Event → Outcome → Option Key
-key_invalidated_by_step None event outcome = None
-key_invalidated_by_step (Some asked) (Answer now id r) outcome = key_invalidated_by_answer asked r outcome
-key_invalidated_by_step (Some asked) (Arrive now id other) outcome = None
-key_invalidated_by_step (Some asked) (Fail now id kind) outcome = None
-key_invalidated_by_step (Some asked) (Wake now id) outcome = None
-key_invalidated_by_step (Some asked) (Abandon id) outcome = None
+-- the key that an event invalidates, of an exchange with this request
+abbrev pub key_invalidated_by_event : Option Asked → Event → Option Key
+key_invalidated_by_event None event = None
+key_invalidated_by_event (Some asked) (Answer now id r) = key_invalidated_by_answer asked r
+key_invalidated_by_event (Some asked) (Arrive now id other) = None
+key_invalidated_by_event (Some asked) (Fail now id kind) = None
+key_invalidated_by_event (Some asked) (Wake now id) = None
+key_invalidated_by_event (Some asked) (Abandon id) = None
 
 abbrev pub is_invalidated_key : Option Key → Key → Bool
 is_invalidated_key None key = false
@@ -118,7 +109,7 @@ is_invalidated_key (Some gone) key = same_key key gone
 -- this item, after this past, invalidates the key
 abbrev pub invalidates_key : Key → Item → List Item → Bool
 invalidates_key key i past = is_invalidated_key
-    (key_invalidated_by_step (latest_request_of (exchange_id_of_event i.event) past) i.event i.outcome) key
+    (key_invalidated_by_event (latest_request_of (exchange_id_of_event i.event) past) i.event) key
 
 -- none of these items, after this past, invalidates the key
 abbrev pub NoItemInvalidates : Key → List Item → List Item → Type 0

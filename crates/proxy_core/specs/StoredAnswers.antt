@@ -106,7 +106,7 @@ serials_held_for_key held (Some key) others = serials_of key held
 abbrev pub removed_by_answer : Table → List Stored → Exchange → ℕ → Response → Outcome → List ℕ
 removed_by_answer table held x now r outcome =
     cond (is_some (serial_stored_by_outcome outcome)) (replaced_by held x.asked)
-    (serials_held_for_key held (key_invalidated_by_answer x.asked r outcome) (serial_not_kept_after_304 table x now r
+    (serials_held_for_key held (key_invalidated_by_answer x.asked r) (serial_not_kept_after_304 table x now r
     (stored_response_validated held x r now)))
 
 -- no other event takes anything away

@@ -4,7 +4,7 @@
 -- stored_response_made: the stored response
 -- replaced_by: those that it takes the place of
 -- is_304_without_condition: a 304 that answers nothing
--- answer_invalidates: what is held for its key goes
+-- status_invalidates, answer_invalidates: what is held for its key goes
 use Rattle.std.specs.Prelude.{ℕ, ◌==◌, nat_lt, nat_le, ◌&&◌, ◌||◌, not, List, length, codes, Bool, true, false, Option}
 use Rattle.std.specs.Prelude.{Some, None, is_none, cond}
 use Rattle.http.specs.Method.{safe_methods, is_among}
@@ -82,11 +82,15 @@ abbrev pub is_304_without_condition : Asked → Response → Bool
 is_304_without_condition asked r =
     (r.status == 304) && not (has_field asked.fields (codes "If-None-Match") || has_field asked.fields (codes "If-Modified-Since"))
 
--- the answer to an unsafe request is passed on, and wasn't an error (RFC 9111, section 4.4)
+-- A status that isn't an error, 2xx or 3xx, came in response to an unsafe request (RFC 9111, section 4.4). What the
+-- client is then told doesn't count.
+abbrev pub status_invalidates : Asked → ℕ → Bool
+status_invalidates asked status =
+    not (is_among safe_methods asked.method) && (nat_le 200 status && nat_le status 399)
+
+-- Such an answer came. To an unsafe request the proxy adds no conditions, so that no 304 validates anything there.
 abbrev pub answer_invalidates : Exchange → Response → Bool
-answer_invalidates x r =
-    not (is_among safe_methods x.asked.method) && (nat_le 200 r.status && nat_le r.status 399)
-    && not (is_validation x r || is_304_without_condition x.asked r)
+answer_invalidates x r = status_invalidates x.asked r.status && not (is_validation x r)
 
 -- the key of which nothing is kept
 abbrev pub key_invalidated : Exchange → Response → Option Key

@@ -61,6 +61,7 @@ abbrev pub serial_asked_about : Option Condition → Option ℕ
 serial_asked_about condition = option_map (λ (c : Condition). c.serial) condition
 
 -- the held response that is asked about
+-- own: of all that a 304 identifies it alone is updated, where RFC 9111, section 4.3.4 asks for each of them
 abbrev pub stored_response_asked_about : List Stored → Exchange → Option Stored
 stored_response_asked_about es x = option_and_then (λ serial. find_entry serial es) (serial_asked_about x.condition)
 

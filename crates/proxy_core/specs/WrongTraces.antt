@@ -74,6 +74,9 @@ get_raw = get_of (codes "/raw")
 abbrev pub post_a : Asked
 post_a = get_or_other_request (codes "POST") (codes "/a") []
 
+abbrev pub delete_a : Asked
+delete_a = get_or_other_request (codes "DELETE") (codes "/a") []
+
 abbrev pub get_a_only_if_cached : Asked
 get_a_only_if_cached = get_or_other_request (codes "GET") (codes "/a") (cache_control (codes "only-if-cached") ∷ [])
 
@@ -114,6 +117,11 @@ reply_that_sends_stored serial bytes = Reply
 abbrev pub events_that_store_a : List Event
 events_that_store_a = Answer 101 1 fresh_for_a_minute ∷ Arrive 100 1 get_a ∷ []
 
+-- GET /a in English was answered at 101, with a Vary, and is held as 1; in no language at 111, without one, as 2
+abbrev pub events_that_store_english_and_default : List Event
+events_that_store_english_and_default = Answer 111 2 fresh_for_a_minute ∷ Arrive 110 2 get_a
+    ∷ Answer 101 1 varies_by_language ∷ Arrive 100 1 (get_a_in_language (codes "en")) ∷ []
+
 -- two are at the origin, of /a: the second waits for the first
 abbrev pub events_where_one_waits : List Event
 events_where_one_waits = Arrive 100 2 get_a ∷ Arrive 100 1 get_a ∷ []
@@ -125,6 +133,10 @@ events_before_a_wake = Answer 101 1 (response_with 200 (cache_control (codes "no
 -- stale, and the request asks about it
 abbrev pub events_that_revalidate : List Event
 events_that_revalidate = Arrive 200 2 get_a ∷ events_that_store_a
+
+-- GET /a is held as 1, and DELETE /a was answered by a 304 that nobody asked for
+abbrev pub events_that_invalidate_a_by_a_304 : List Event
+events_that_invalidate_a_by_a_304 = Answer 111 2 (response_304 []) ∷ Arrive 110 2 delete_a ∷ events_that_store_a
 
 -- the 304 to that answered none
 abbrev pub events_with_second_forward : List Event
@@ -173,3 +185,11 @@ trace_stores_invalidated =
     ∷ item_of (Answer 111 2 (response_with 200 [])) (reply_without_store []) ∷ item_of
     (Arrive 110 2 post_a) forward_over_line_3
     ∷ item_of (Arrive 100 1 get_a) forward_over_line_3 ∷ []
+
+-- GET /a was stored as 1, DELETE /a was answered by this, and what is stored is sent
+abbrev pub trace_sends_behind : Response → List Item
+trace_sends_behind response =
+    item_of (Arrive 120 3 get_a) (reply_that_sends_stored 1 [])
+    ∷ item_of (Answer 111 2 response) (reply_without_store []) ∷ item_of (Arrive 110 2 delete_a) forward_over_line_3
+    ∷ item_of (Answer 101 1 fresh_for_a_minute) (reply_that_stores [] (Some 1) []) ∷ item_of
+    (Arrive 100 1 get_a) forward_over_line_3 ∷ []

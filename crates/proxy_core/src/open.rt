@@ -1,9 +1,10 @@
 //! Exchanges that are open: what each keeps, how it is found, and who waits for whom.
 
+pub(crate) mod arrivals_by_key;
 pub(crate) mod exchange;
 pub(crate) mod exchanges;
-pub(crate) mod get_index;
 pub(crate) mod ids;
+pub(crate) mod key_index;
 pub(crate) mod leading;
 pub(crate) mod released;
 pub(crate) mod serial_numbers;

@@ -14,7 +14,7 @@ use Rattle.proxy_core.specs.Histories.{held_entries, open_exchanges}
 use Rattle.proxy_core.specs.Outcomes.{find_exchange}
 use Rattle.proxy_core.specs.State.{exchanges_after_close, exchanges_after_end, exchange_forwarded_again, open_exchanges_after, forwarded_exchange, overtaken_exchange, waiting_exchange, released_exchange, exchange_sent_forward, exchanges_after_wake, key_invalidated_by_response}
 use Rattle.proxy_core.specs.Traces.{Item}
-use Rattle.proxy_core.proofs.Gets.{gone_out-asked, overtake-asked, release-asked, sent_out-asked}
+use Rattle.proxy_core.proofs.AskedArrivals.{gone_out-asked, overtake-asked, release-asked, sent_out-asked}
 use Rattle.proxy_core_laws.specs.SentMessages.{EventsWereRead, EventWasRead, RequestWasRead, OpenRequestsWereRead}
 
 -- (a record, so that what it is of can be read off it)

@@ -17,7 +17,7 @@ use Rattle.proxy_engine.specs.declared.endpoints.ends.Link.{Link}
 use Rattle.proxy_engine.specs.Lookahead.{lookahead_after_input}
 use Rattle.proxy_engine.specs.EngineModel.{ConnectionModel, LinkModel, connection_after_bytes, connection_after_end, link_after_bytes, link_after_shut}
 use Rattle.proxy_engine.specs.State.{ConnectionHolds, LinkHolds}
-use Rattle.proxy_engine.specs.Marked.{OnlyGainsRoom, ConnectionAfterLook, LinkAfterLook, connection_may_be_due, link_may_be_due}
+use Rattle.proxy_engine.specs.Marked.{DiffersInRoom, ConnectionAfterLook, LinkAfterLook, connection_may_be_due, link_may_be_due}
 use Rattle.proxy_engine.proofs.Peeking.{kept_ahead, fed_ahead, finished_ahead, request_spare_represents, spare_represents}
 
 peeked_is : {S M : Type 0} (w : Peeked S M) (r : S) (l : Lookahead M) → w.inner ≡ r → w.ahead ≡ l → w ≡ record { inner = r; ahead = l }
@@ -25,7 +25,7 @@ peeked_is {S} {M} w r l same again = ap {B = Peeked S M} (λ (s : S). record { i
 
 -- ---- room
 
-pub connection_grows : (x : Connection) (r : RequestState) → r ≡ record x.reader.inner { spare = r.spare } → OnlyGainsRoom ConnectionAfterLook connection_may_be_due x (record x { reader = record { inner = r; ahead = x.reader.ahead } })
+pub connection_grows : (x : Connection) (r : RequestState) → r ≡ record x.reader.inner { spare = r.spare } → DiffersInRoom ConnectionAfterLook connection_may_be_due x (record x { reader = record { inner = r; ahead = x.reader.ahead } })
 connection_grows x r same =
     let as_much : weight r ≡ weight x.reader.inner = ap weight same in
     record {
@@ -45,7 +45,7 @@ connection_grows x r same =
       shows = refl;
     }
 
-pub link_grows : (x : Link) (r : ResponseState) → r ≡ record x.reader.inner { spare = r.spare } → OnlyGainsRoom LinkAfterLook link_may_be_due x (record x { reader = record { inner = r; ahead = x.reader.ahead } })
+pub link_grows : (x : Link) (r : ResponseState) → r ≡ record x.reader.inner { spare = r.spare } → DiffersInRoom LinkAfterLook link_may_be_due x (record x { reader = record { inner = r; ahead = x.reader.ahead } })
 link_grows x r same = record {
   alike = record {
     represents = λ k h. record {

@@ -2,7 +2,8 @@
 --
 -- EndList, item_at, kept_count: what contracts see of the connections and links
 -- may_be_lost, connection_may_be_due, link_may_be_due: something may be due there
--- ConnectionAfterLook, LinkAfterLook, RelatesAtEachPlace: what a look leaves     OnlyGainsRoom: where room was made
+-- ConnectionAfterLook, LinkAfterLook, RelatesAtEachPlace: what a look leaves
+-- DiffersInRoom: room was made or given back
 -- NoneHasFlagBelow, NoneHasFlag: nothing may be due     NoneIsBeyond: nothing is kept beyond a count
 -- lost_connection_at, LinkIsDueAsLookShows, ConnectionIsDueAsLookShows: something is
 -- LostAreMarked: where a connection may be lost
@@ -57,8 +58,8 @@ pub record LinkAfterLook (old new : Link) : Type 0 where
   pub connection : new.connection ≡ old.connection
   pub load : link_load (Some new) ≤ link_load (Some old)
 
--- room was made for bytes: it is alike, and as much may be due
-pub record OnlyGainsRoom {A : Type 0} (Alike : A → A → Type 0) (flag : A → Bool) (old new : A) : Type 0 where
+-- room was made for bytes, or given back: it is alike, and as much may be due
+pub record DiffersInRoom {A : Type 0} (Alike : A → A → Type 0) (flag : A → Bool) (old new : A) : Type 0 where
   pub alike : Alike old new
   pub shows : flag new ≡ flag old
 

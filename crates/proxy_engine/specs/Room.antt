@@ -3,7 +3,8 @@
 -- HasSpareBytes, ConnectionHasSpare, LinkHasSpare: so many bytes of an end do
 -- HappeningFindsMemory: a happening does
 -- NextHappeningFindsMemory: the next one of an end does
-use Rattle.std.specs.Prelude.{◌≡◌, ℕ, ◌≤◌, ◌^◌, ◌⊎◌, length, true, Option, None, Some, slice_index_or}
+-- RoomIsGivenBack, ConnectionRoomIsGivenBack, ClientRoomIsGivenBack: no room is kept where no byte waits
+use Rattle.std.specs.Prelude.{◌≡◌, ℕ, ◌≤◌, ◌^◌, ◌⊎◌, List, [], length, true, Option, None, Some, slice_index_or}
 use Rattle.proxy_engine.specs.ConnectionNumbers.{connection_number, connection_place, link_place}
 use Rattle.proxy_engine.specs.Happenings.{PlainHappening, Accepts, Sends, Hears, Ends, Leaves, Shuts, Fails}
 use Rattle.proxy_engine.specs.State.{State}
@@ -46,3 +47,15 @@ NextHappeningFindsMemory e (ends.Client n) = ConnectionHasSpare
     (slice_index_or e.connections (connection_place n) None) most_bytes_of_read
 NextHappeningFindsMemory e (ends.Link l) = LinkHasSpare
     (slice_index_or e.links (link_place e.first l) None) most_bytes_of_read
+
+-- where no byte waits to be read, no room is kept for more
+abbrev pub RoomIsGivenBack : {A : Type 0} → (A → List ℕ) → (A → ℕ) → Option A → Type 0
+RoomIsGivenBack unread spare None = Unit {0}
+RoomIsGivenBack unread spare (Some x) = unread x ≡ [] → spare x ≡ 0
+
+abbrev pub ConnectionRoomIsGivenBack : Option Connection → Type 0
+ConnectionRoomIsGivenBack o = RoomIsGivenBack (λ (c : Connection). c.reader.inner.unread)
+    (λ (c : Connection). c.reader.inner.spare) o
+
+abbrev pub ClientRoomIsGivenBack : State → ℕ → Type 0
+ClientRoomIsGivenBack e n = ConnectionRoomIsGivenBack (slice_index_or e.connections (connection_place n) None)

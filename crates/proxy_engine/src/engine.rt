@@ -4,7 +4,7 @@ ghost use Rattle.proxy_engine.specs.EngineModel.{EngineModel, connection_at, hap
 ghost use Rattle.proxy_engine.specs.Happenings.{plain_happening, happening_takes_memory};
 ghost use Rattle.proxy_engine.specs.Reading.{readable_ends_of, failed_links, open_connection_count};
 ghost use Rattle.proxy_engine.specs.Reading.{next_connection_number, end_may_send, IsBetweenRequests};
-ghost use Rattle.proxy_engine.specs.Room.{HappeningFindsMemory, NextHappeningFindsMemory};
+ghost use Rattle.proxy_engine.specs.Room.{HappeningFindsMemory, NextHappeningFindsMemory, ClientRoomIsGivenBack};
 ghost use Rattle.proxy_engine.specs.State.{State, EngineRepresents, EngineTakesHappening, IsFaultOfTaking};
 ghost use Rattle.proxy_engine.specs.State.{new_engine_model};
 
@@ -145,6 +145,17 @@ impl<S: Shelf> Engine<S> {
                 .links
                 .reserve_piece(LinkPlace::of_number(l, self.ends.first_link)),
         }
+    }
+
+    /// Gives back the room for the bytes of a client of which none waits, as `reserve` made it: who is idle keeps
+    /// none. Its next bytes find their memory behind a `reserve` again.
+    pub fn release_room(&mut self, alloc: Global, n: u64)
+        ensures given { ClientRoomIsGivenBack self.new n }
+        ensures represents { (s : EngineModel) → EngineRepresents self.old s → EngineRepresents self.new s }
+    {
+        self.ends
+            .connections
+            .release_room(ConnectionPlace::of_number(n), alloc)
     }
 
     /// The number of the next connection, if one is left.

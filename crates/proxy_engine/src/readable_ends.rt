@@ -5,12 +5,12 @@ ghost use Rattle.std.specs.Ordering.{nat_cmp};
 ghost use Rattle.std.specs.BTreeMap.{get};
 ghost use Rattle.proxy_engine.specs.Held.{has_flag, is_kept, connection_may_send, connection_is_open, link_may_send};
 ghost use Rattle.proxy_engine.specs.Held.{link_failed};
-ghost use Rattle.proxy_engine.specs.Marked.{OnlyGainsRoom, RelatesAtEachPlace, NoneIsBeyond};
+ghost use Rattle.proxy_engine.specs.Marked.{DiffersInRoom, RelatesAtEachPlace, NoneIsBeyond};
 ghost use Rattle.proxy_engine.specs.ReadyList.{entries_below, PlacesDescend, PlacesAreBelow};
 ghost use Rattle.proxy_engine.specs.Reading.{places_with_flag, client_end_at, link_end_at, IsBetweenRequests};
 ghost use Rattle.proxy_engine.specs.State.{ConnectionHolds};
 ghost use Rattle.proxy_engine.specs.EngineModel.{ConnectionModel};
-ghost use Rattle.proxy_engine.specs.Room.{HasSpareBytes, most_bytes_of_read};
+ghost use Rattle.proxy_engine.specs.Room.{HasSpareBytes, RoomIsGivenBack, most_bytes_of_read};
 
 use crate::endpoints::endpoint::Endpoint;
 use crate::endpoints::ends::{Connection, Link};
@@ -142,7 +142,7 @@ pub(crate) fn reserve_at<E: Endpoint>(
     ends: &mut BTreeMap<u64, E>,
     place: u64,
 ) -> Result<(), AllocError>
-    ensures grows { RelatesAtEachPlace (OnlyGainsRoom E.LooksLike E.may_show) (get nat_cmp ends.old)
+    ensures grows { RelatesAtEachPlace (DiffersInRoom E.LooksLike E.may_show) (get nat_cmp ends.old)
         (get nat_cmp ends.new) }
     ensures others { (q : ℕ) → q ≢ place → get nat_cmp ends.new q ≡ get nat_cmp ends.old q }
     ensures size { length ends.new.entries ≡ length ends.old.entries }
@@ -152,5 +152,18 @@ pub(crate) fn reserve_at<E: Endpoint>(
     match ends.get_mut(&place) {
         Some(end) => end.reserve(PIECE),
         None => Ok(()),
+    }
+}
+
+/// Gives back the room of the end at a place, if one is there and no byte waits.
+pub(crate) fn release_at<E: Endpoint>(ends: &mut BTreeMap<u64, E>, place: u64, alloc: Global)
+    ensures alike { RelatesAtEachPlace (DiffersInRoom E.LooksLike E.may_show) (get nat_cmp ends.old)
+        (get nat_cmp ends.new) }
+    ensures others { (q : ℕ) → q ≢ place → get nat_cmp ends.new q ≡ get nat_cmp ends.old q }
+    ensures size { length ends.new.entries ≡ length ends.old.entries }
+    ensures given { RoomIsGivenBack E.unread E.spare (get nat_cmp ends.new place) }
+{
+    if let Some(end) = ends.get_mut(&place) {
+        end.release_room(alloc);
     }
 }

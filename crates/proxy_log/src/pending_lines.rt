@@ -20,7 +20,11 @@ pub struct Lines {
 }
 
 impl Lines {
-    pub fn new(alloc: Global) -> Lines {
+    pub fn new(alloc: Global) -> Lines
+        ensures text { result.text.items ≡ [] }
+        ensures added { result.added ≡ 0 }
+        ensures lost { result.lost ≡ 0 }
+    {
         Lines {
             alloc,
             text: Vec::new(alloc),
@@ -64,12 +68,16 @@ impl Lines {
     }
 
     /// How many lines were added.
-    pub fn added(&self) -> u64 {
+    pub fn added(&self) -> u64
+        ensures { result ≡ self.now.added }
+    {
         self.added
     }
 
     /// How many lines were lost because memory ran out.
-    pub fn lost(&self) -> u64 {
+    pub fn lost(&self) -> u64
+        ensures { result ≡ self.now.lost }
+    {
         self.lost
     }
 

@@ -7,7 +7,7 @@ use Rattle.slab.specs.Slab as slab
 use Rattle.slab.specs.Slab.{Slab}
 use Rattle.proxy_server.specs.Closing.{FirstGivesWay, ClosedStreamsAreBounded, AtMostOneOtherStreamGoes, StreamIsClosedByNumber, longest_waiting_in_queue}
 use Rattle.proxy_server.specs.OtherEntries.{OtherSlabKeysStay}
-use Rattle.proxy_server.specs.declared.client.Client.{Client}
+use Rattle.proxy_server.specs.declared.clients.client.Client.{Client}
 
 pub none_goes : {A : Type 0} (key : ℕ) (old new : Slab A) → OtherSlabKeysStay key old new → AtMostOneOtherStreamGoes key old new
 none_goes key old new stay = record { other = key; gone = λ other. absurd (other refl); others = λ k not_key not_other. stay k not_key }

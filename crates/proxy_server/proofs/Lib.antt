@@ -1,9 +1,5 @@
-mod AskedLemmas
 mod Closings
 mod Living
 mod Losing
-mod Passing
 mod Peering
-mod Scripts
 mod Streaming
-mod TurnRecords

@@ -36,6 +36,10 @@ module _ (none : NoLossIsALossList) (one : OneLossIsTaken) where
   on_same : (e new : State) → new ≡ e → EngineTakesLosses e new
   on_same e new is = subst (EngineTakesLosses e) (sym is) (none e)
 
+  -- it stands for the same: no end was lost
+  pub roomier : (e new : State) → ((s : EngineModel) → EngineRepresents e s → EngineRepresents new s) → EngineTakesLosses e new
+  roomier e new same = λ s h. let nothing = none e s h in record { lost = nothing.lost; are_losses = nothing.are_losses; after = nothing.after; takes = nothing.takes; represents = same nothing.after nothing.represents }
+
   pub end_on : (end : End) (kind : FailKind) (e new : State) → EndIsLost end kind e new → EngineTakesLosses e new
   end_on ends.Listener kind e new is = on_same e new is
   end_on (ends.Client n) kind e new (inl same) = on_same e new same

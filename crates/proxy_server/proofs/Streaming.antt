@@ -3,7 +3,7 @@ use Rattle.std.proofs.Common.{◌≡◌, ℕ, true, false, List, [], ◌++◌, r
 use Rattle.std.proofs.lemmas.Bool.{true≢false}
 use Rattle.proxy_server.specs.Peers.{PeerReadOutcome, BytesAreHandedOn, BytesAreHandedOnInPart}
 use Rattle.proxy_server.specs.Streams.{PeerIsWritten}
-use Rattle.proxy_server.specs.declared.peer.Peer.{Peer}
+use Rattle.proxy_server.specs.declared.sockets.peer.Peer.{Peer}
 
 module _ {S : Type 0} (Passed : S → List ℕ → List PeerReadOutcome → S → Type 0) (bytes : List ℕ) (old new : Peer S) where
   pub written_whole : BytesAreHandedOn (λ took. Passed old.stream took [] new.stream) (old.unsent.bytes ++ bytes) new.unsent.bytes → PeerIsWritten Passed bytes old new

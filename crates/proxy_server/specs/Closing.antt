@@ -12,13 +12,13 @@ use Rattle.std.specs.BTreeMap.{get, btree_map_len, BTreeMap}
 use Rattle.slab.specs.Slab as slab
 use Rattle.slab.specs.Slab.{Slab}
 use Rattle.proxy_server.specs.OtherEntries.{OtherEntriesStay, OtherSlabKeysStay}
-use Rattle.proxy_server.specs.declared.client.Client.{Client}
-use Rattle.proxy_server.specs.declared.client.Place.{Place}
-use Rattle.proxy_server.specs.declared.client.Place.TheVariants as place
-use Rattle.proxy_server.specs.declared.stream_queues.StreamQueue.{StreamQueue}
-use Rattle.proxy_server.specs.declared.stream_queues.StreamQueue.TheVariants.{Leaving}
-use Rattle.proxy_server.specs.declared.stream_queues.StreamQueue.TheVariants.{Lingering}
-use Rattle.proxy_server.specs.declared.stream_queues.StreamQueues.{StreamQueues}
+use Rattle.proxy_server.specs.declared.clients.client.Client.{Client}
+use Rattle.proxy_server.specs.declared.clients.client.Place.{Place}
+use Rattle.proxy_server.specs.declared.clients.client.Place.TheVariants as place
+use Rattle.proxy_server.specs.declared.clients.stream_queues.StreamQueue.{StreamQueue}
+use Rattle.proxy_server.specs.declared.clients.stream_queues.StreamQueue.TheVariants.{Leaving}
+use Rattle.proxy_server.specs.declared.clients.stream_queues.StreamQueue.TheVariants.{Lingering}
+use Rattle.proxy_server.specs.declared.clients.stream_queues.StreamQueues.{StreamQueues}
 
 abbrev pub queue_of_streams : StreamQueue → StreamQueues → BTreeMap ℕ ℕ
 queue_of_streams Leaving queues = queues.leaving

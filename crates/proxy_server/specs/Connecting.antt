@@ -1,7 +1,7 @@
 -- Whether the connection of a link is still being made: until then nothing can have come of its origin.
 use Rattle.std.specs.Prelude.{Bool, false, Option, unwrap_or, option_map}
 use Rattle.std.specs.Option.{option_and_then}
-use Rattle.proxy_server.specs.declared.links.Link.{Link}
+use Rattle.proxy_server.specs.declared.links.link.Link.{Link}
 
 -- not of a link that has no stream, or isn't there
 abbrev pub link_is_connecting : {S : Type 0} → Option (Link S) → Bool

@@ -1,7 +1,7 @@
 -- Why a server ends or nothing more is recorded, and what to do about it, in words.
 use Rattle.std.specs.Prelude.{ℕ, List, codes}
-use Rattle.proxy_server.specs.declared.recorder.RecordFault.{RecordFault}
-use Rattle.proxy_server.specs.declared.recorder.RecordFault.TheVariants.{Write, NoMemory}
+use Rattle.proxy_record.specs.declared.recorder.RecordFault.{RecordFault}
+use Rattle.proxy_record.specs.declared.recorder.RecordFault.TheVariants.{Write, NoMemory}
 use Rattle.proxy_server.specs.declared.server.ServeFault.{ServeFault}
 use Rattle.proxy_server.specs.declared.server.ServeFault.TheVariants.{Socket, Clock, Record, Spent}
 

@@ -14,8 +14,8 @@ use Rattle.proxy_log.specs.declared.asked.UnansweredRequests.{UnansweredRequests
 use Rattle.proxy_log.specs.declared.asked.Question.{Question}
 use Rattle.proxy_log.specs.declared.line.Line.{Line}
 use Rattle.proxy_log.specs.declared.pending_lines.Lines.{Lines}
-use Rattle.proxy_server.specs.declared.client.Logged.{Logged}
-use Rattle.proxy_server.specs.declared.reply_log.Reply.{Reply}
+use Rattle.proxy_server.specs.declared.clients.client.Logged.{Logged}
+use Rattle.proxy_server.specs.declared.sockets.reply_log.Reply.{Reply}
 
 pub record IsLogLineOf (question : Question) (address : SocketAddr) (reply : Reply) (line : Line) : Type 0 where
   pub moment : line.moment ≡ reply.moment

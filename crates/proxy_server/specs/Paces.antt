@@ -1,7 +1,7 @@
 -- Whether the next turn waits, and at which moment it is.
 --
 -- next_turn_must_not_wait: what a turn leaves to the next
--- moment_and_milliseconds, milliseconds_of_duration: what a clock tells
+-- moment_and_milliseconds, milliseconds_of_duration: what a clock tells      milliseconds_of_moment: the same moment
 use Rattle.std.specs.Prelude.{ℕ, ◌+◌, ◌-◌, ◌*◌, ◌/◌, ◌%◌, min, nat_lt, Bool, true, false, not, ◌||◌, Result, Ok}
 use Rattle.std.specs.Prelude.{Err}
 use Rattle.std.specs.Duration.{as_nanos}
@@ -40,3 +40,8 @@ abbrev pub milliseconds_of_duration : Duration → ℕ
 milliseconds_of_duration time =
     min (min ((as_nanos time / 1_000_000_000) * 1000) 18446744073709551615
     + as_nanos time % 1_000_000_000 / 1_000_000) 18446744073709551615
+
+-- a moment in seconds, and its milliseconds
+abbrev pub milliseconds_of_moment : ℕ → ℕ → ℕ
+milliseconds_of_moment moment milliseconds =
+    min (min (moment * 1000) 18446744073709551615 + milliseconds) 18446744073709551615

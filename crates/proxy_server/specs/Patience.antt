@@ -2,19 +2,27 @@
 --
 -- has_lasted_longer: something was so for longer      closed_time_is_over: of who was closed
 -- client_has_left: of who has sent its end           incomplete_since: since when a request has been incomplete
+-- milliseconds_since: for how long something is so, if at all
+-- client_is_silent, client_has_left_or_gone: of the client of a number; who isn't there is, and has
+-- age_of_link: of a link, 0 where there is none
+-- link_time_may_be_over_at: the first moment of a link at which a time of it may be
 -- end_is_silent: of an end                         link_overtime: which time of a link is over
 use Rattle.std.specs.Prelude.{ℕ, ◌-◌, ◌==◌, min, max, nat_lt, Bool, true, false, not, ◌&&◌, ◌||◌, List, length, Option}
 use Rattle.std.specs.Prelude.{None, Some, is_some, cond, if◌then◌else◌}
 use Rattle.std.specs.Option.{option_and_then}
+use Rattle.proxy_figures.specs.Counts.{count_plus}
+use Rattle.proxy_server.specs.Streams.{client_may_give}
+use Rattle.proxy_server.specs.declared.clients.client.Client.{Client}
 use Rattle.proxy_server.specs.declared.limits.Limits.{Limits}
 use Rattle.proxy_server.specs.declared.limits.TheConstants.{PATIENCE_MILLISECONDS}
 use Rattle.proxy_server.specs.declared.limits.TheConstants.{QUIET_MILLISECONDS}
-use Rattle.proxy_server.specs.declared.links.Link.{Link}
-use Rattle.proxy_server.specs.declared.links.Overtime.{Overtime}
-use Rattle.proxy_server.specs.declared.links.Overtime.TheVariants.{Connect, Silence, Exchange}
-use Rattle.proxy_server.specs.declared.stream_queues.StreamQueue.{StreamQueue}
-use Rattle.proxy_server.specs.declared.stream_queues.StreamQueue.TheVariants.{Leaving}
-use Rattle.proxy_server.specs.declared.stream_queues.StreamQueue.TheVariants.{Lingering}
+use Rattle.proxy_server.specs.declared.links.link.Link.{Link}
+use Rattle.proxy_server.specs.declared.sockets.peer.Peer.{Peer}
+use Rattle.proxy_figures.specs.declared.link_timeouts.Overtime.{Overtime}
+use Rattle.proxy_figures.specs.declared.link_timeouts.Overtime.TheVariants.{Connect, Silence, Exchange}
+use Rattle.proxy_server.specs.declared.clients.stream_queues.StreamQueue.{StreamQueue}
+use Rattle.proxy_server.specs.declared.clients.stream_queues.StreamQueue.TheVariants.{Leaving}
+use Rattle.proxy_server.specs.declared.clients.stream_queues.StreamQueue.TheVariants.{Lingering}
 
 -- since then, if at all, for more than so many milliseconds
 abbrev pub has_lasted_longer : ℕ → Option ℕ → ℕ → Bool
@@ -61,3 +69,31 @@ link_overtime link limits now =
 abbrev pub link_time_is_over : {S : Type 0} → Option (Link S) → Limits → ℕ → Bool
 link_time_is_over None limits now = true
 link_time_is_over (Some link) limits now = not (is_some link.peer) || is_some (link_overtime link limits now)
+
+abbrev pub milliseconds_since : ℕ → Option ℕ → ℕ
+milliseconds_since now None = 0
+milliseconds_since now (Some since) = now - since
+
+-- nothing of it waits to be read, and no byte came or went for more than so many milliseconds
+abbrev pub client_is_silent : {S : Type 0} → ℕ → ℕ → Option (Client S) → Bool
+client_is_silent limit now None = true
+client_is_silent limit now (Some client) = not (client_may_give client) && nat_lt limit (now - client.peer.heard)
+
+abbrev pub client_has_left_or_gone : {S : Type 0} → ℕ → ℕ → Option (Client S) → Bool
+client_has_left_or_gone limit now None = true
+client_has_left_or_gone limit now (Some client) = client_has_left now client.left client.peer.heard limit
+
+abbrev pub age_of_link : {S : Type 0} → ℕ → Option (Link S) → ℕ
+age_of_link now None = 0
+age_of_link now (Some link) = now - link.began
+
+-- the end of the time for its connection, or for its silence
+abbrev pub end_of_time_of_peer : {S : Type 0} → Limits → ℕ → Option (Peer S) → ℕ
+end_of_time_of_peer limits began None = count_plus began limits.exchange_timeout
+end_of_time_of_peer limits began (Some peer) =
+    if peer.connecting then count_plus began limits.connect_timeout else count_plus peer.heard limits.origin_timeout
+
+-- the first moment at which that, or all of its time, is over
+abbrev pub link_time_may_be_over_at : {S : Type 0} → Limits → Link S → ℕ
+link_time_may_be_over_at limits link =
+    count_plus (min (count_plus link.began limits.exchange_timeout) (end_of_time_of_peer limits link.began link.peer)) 1

@@ -8,25 +8,32 @@
 -- client_may_give: a read of a client would give something, or may
 -- ClientIsRead: what a read of a client hands in
 -- number_to_list, link_is_to_be_listed: who is to be put among the ends that are read next
+-- listed_client, listed_link: who is to be put there is marked
+-- unlisted_client, unlisted_link: who is taken from there is not
+-- new_peer, new_client: one with which nothing was done
+-- client_is_idle: a client is between two requests      bytes_held_of_peer: what is held for a peer
 use Rattle.std.specs.Prelude.{◌≡◌, ◌<◌, ℕ, Bool, true, false, not, ◌&&◌, ◌||◌, ◌==◌, if◌then◌else◌, nat_lt}
 use Rattle.std.specs.Prelude.{List, [], ◌∷◌, ◌++◌, length}
 use Rattle.std.specs.Prelude.{take, Option, Some, None, IsSomeAnd, Result, Ok}
 use Rattle.std.specs.Option.{option_and_then}
 use Rattle.std.specs.Ordering.{nat_cmp}
 use Rattle.std.specs.BTreeMap.{get, BTreeMap}
+use Rattle.std.specs.declared.alloc.Global.{Global}
 use Rattle.std.specs.declared.io.Error.{Error}
 use Rattle.slab.specs.Slab as slab
 use Rattle.slab.specs.Slab.{Slab}
 use Rattle.proxy_turn.specs.declared.sockets.Received.{Received}
 use Rattle.proxy_turn.specs.declared.sockets.Received.TheVariants as received
-use Rattle.proxy_server.specs.Peers.{PeerReadOutcome, peer_read_outcome, BytesAreHandedOn, BytesAreHandedOnInPart}
+use Rattle.proxy_figures.specs.Counts.{count_plus}
+use Rattle.proxy_server.specs.Peers.{PeerReadOutcome, UnsentBytes, peer_read_outcome, BytesAreHandedOn}
+use Rattle.proxy_server.specs.Peers.{BytesAreHandedOnInPart}
 use Rattle.proxy_server.specs.Peers.{Nothing, Bytes, Ended}
 use Rattle.proxy_server.specs.Peers.{MoreMayBeLeft}
-use Rattle.proxy_server.specs.declared.client.Client.{Client}
-use Rattle.proxy_server.specs.declared.client.Place.{Place}
-use Rattle.proxy_server.specs.declared.client.Place.TheVariants as place
-use Rattle.proxy_server.specs.declared.links.Link.{Link}
-use Rattle.proxy_server.specs.declared.peer.Peer.{Peer}
+use Rattle.proxy_server.specs.declared.clients.client.Client.{Client}
+use Rattle.proxy_server.specs.declared.clients.client.Place.{Place}
+use Rattle.proxy_server.specs.declared.clients.client.Place.TheVariants as place
+use Rattle.proxy_server.specs.declared.links.link.Link.{Link}
+use Rattle.proxy_server.specs.declared.sockets.peer.Peer.{Peer}
 
 -- What a write to a peer does: the stream took of what is to be written the front, and the rest is kept, or else is
 -- lost, and nothing more is written.
@@ -110,13 +117,29 @@ received_bytes received.Nothing buf = []
 received_bytes (received.Bytes n) buf = take n buf
 received_bytes received.End buf = []
 
+-- an answer tells what a read gave: nothing, bytes, of which some are handed in, or the end
+abbrev pub OutcomeIsTold : PeerReadOutcome → Received → List ℕ → Type 0
+OutcomeIsTold (Nothing reason) answer buf = answer ≡ received.Nothing
+OutcomeIsTold (Bytes bytes) answer buf = 0 < length bytes → 0 < length (received_bytes answer buf)
+OutcomeIsTold Ended answer buf = answer ≡ received.End
+
+-- there was one read, and its outcome is told
+abbrev pub OneReadIsTold : List PeerReadOutcome → Received → List ℕ → Type 0
+OneReadIsTold [] answer buf = ⊥
+OneReadIsTold (outcome ∷ []) answer buf = OutcomeIsTold outcome answer buf
+OneReadIsTold (outcome ∷ (further ∷ more)) answer buf = ⊥
+
 -- What a read of a client hands in, and what is left for later reads behind it, is what was left before, and what its
--- stream gave since: each byte once, in order, and no other.
+-- stream gave since: each byte once, in order, and no other. From a client that has taken everything something is
+-- handed in where something was left, else its stream is read where something may have come.
 pub record ClientIsRead {S : Type 0} (Passed : S → List ℕ → List PeerReadOutcome → S → Type 0) (received : Received)
     (buf : List ℕ) (old new : Client S) : Type 0 where
   pub gave : List PeerReadOutcome
   pub passed : Passed old.peer.stream [] gave new.peer.stream
   pub bytes : received_bytes received buf ++ rest_bytes new.rest ≡ rest_bytes old.rest ++ bytes_of_outcomes gave
+  pub left : old.peer.unsent.bytes ≡ [] → 0 < length (rest_bytes old.rest) → 0 < length (received_bytes received buf)
+  pub told : old.peer.unsent.bytes ≡ [] → rest_bytes old.rest ≡ [] → old.peer.readable ≡ true
+      → OneReadIsTold gave received buf
 
 -- it was done to the client of a number, or there is none
 abbrev pub IsDoneToClient : {S : Type 0} → (Client S → Client S → Type 0) → Option (Client S) → Option (Client S)
@@ -128,11 +151,30 @@ abbrev pub number_of_place : Place → Option ℕ
 number_of_place (place.Open n) = Some n
 number_of_place (place.In queue since) = None
 
+-- it is between two requests: nothing of one was handed in, nor is to be
+abbrev pub place_is_open : Place → Bool
+place_is_open (place.Open n) = true
+place_is_open (place.In queue since) = false
+
+abbrev pub client_is_idle : {S : Type 0} → Client S → Bool
+client_is_idle client = place_is_open client.place && (not client.is_begun && not (client_has_rest client.rest))
+
 -- a client that may give something and doesn't stand among the ends that are read next
 abbrev pub number_to_list : {S : Type 0} → Option (Client S) → Option ℕ
 number_to_list None = None
 number_to_list (Some client) =
     if client.is_listed || not (client_may_give client) then None else number_of_place client.place
+
+-- who is to be put there is marked
+abbrev pub listed_client : {S : Type 0} → Client S → Client S
+listed_client client = record client { is_listed = client.is_listed || client_may_give client }
+
+-- it is looked at next at a moment
+abbrev pub looked_at_next : {S : Type 0} → ℕ → Client S → Client S
+looked_at_next moment client = record client { look = moment }
+
+abbrev pub unlisted_client : {S : Type 0} → Client S → Client S
+unlisted_client client = record client { is_listed = false }
 
 abbrev pub peer_may_give : {S : Type 0} → Option (Peer S) → Bool
 peer_may_give None = false
@@ -141,3 +183,51 @@ peer_may_give (Some peer) = peer.readable
 abbrev pub link_is_to_be_listed : {S : Type 0} → Option (Link S) → Bool
 link_is_to_be_listed None = false
 link_is_to_be_listed (Some link) = not link.is_listed && peer_may_give link.peer
+
+abbrev pub listed_link : {S : Type 0} → Link S → Link S
+listed_link link = record link { is_listed = link.is_listed || peer_may_give link.peer }
+
+abbrev pub unlisted_link : {S : Type 0} → Link S → Link S
+unlisted_link link = record link { is_listed = false }
+
+-- bytes that came from a peer, and those that it hasn't taken yet
+abbrev pub bytes_held_of_peer : {S : Type 0} → Option (Peer S) → ℕ
+bytes_held_of_peer None = 0
+bytes_held_of_peer (Some peer) = count_plus peer.unsent.held peer.received
+
+-- a peer from which something may have come, and to which nothing was written
+abbrev pub new_peer : {S : Type 0} → S → UnsentBytes → ℕ → Peer S
+new_peer stream unsent now = record {
+  stream = stream;
+  connecting = false;
+  readable = true;
+  hung = false;
+  ended = false;
+  broken = false;
+  unsent = unsent;
+  heard = now;
+  half_closed = false;
+  received = 0;
+  written = 0;
+}
+
+-- a client from which nothing has come, under its number
+abbrev pub new_client : {S : Type 0} → Global → Peer S → ℕ → ℕ → Client S
+new_client alloc peer n now = record {
+  peer = peer;
+  alloc = alloc;
+  place = place.Open n;
+  rest = None;
+  asked = None;
+  is_begun = false;
+  handed = 0;
+  left = None;
+  departed_mark = None;
+  has_asked = false;
+  is_listed = false;
+  idle_since = now;
+  idle_mark = None;
+  look = 0;
+  closed = 0;
+  logged = None;
+}

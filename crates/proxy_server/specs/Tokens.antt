@@ -1,8 +1,8 @@
 -- Whose token a number is.
 use Rattle.std.specs.Prelude.{ℕ, ◌<◌, ◌^◌, ◌/◌, ◌%◌, ◌==◌, if◌then◌else◌}
 use Rattle.mio.specs.declared.token.Token.{Token}
-use Rattle.proxy_server.specs.declared.socket_tokens.Holder.{Holder}
-use Rattle.proxy_server.specs.declared.socket_tokens.Holder.TheVariants.{Listener, Client, Link}
+use Rattle.proxy_server.specs.declared.sockets.socket_tokens.Holder.{Holder}
+use Rattle.proxy_server.specs.declared.sockets.socket_tokens.Holder.TheVariants.{Listener, Client, Link}
 
 -- the remainder by 4 tells whether it is a client or a link, the quotient which one
 abbrev pub holder_of_token : Token → Holder

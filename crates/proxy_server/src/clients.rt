@@ -1,27 +1,40 @@
 //! The streams of clients: those that the engine knows by a number, and those that were closed.
 //!
 //! A stream keeps its key, which is its token, and its number from its accept to its end.
-ghost use Rattle.std.specs.Prelude.{◌≡◌, ◌<◌, true, false, length, option_copied, IsSome, IfOk, Ok, None};
-ghost use Rattle.std.specs.Option.{option_copied_mut};
+ghost use Rattle.std.specs.Prelude.{◌≡◌, ◌<◌, ◌+◌, ◌-◌, ◌^◌, ◌++◌, ◌==◌, min, true, false, length, vec_len};
+ghost use Rattle.std.specs.Prelude.{option_copied, option_map, option_to_list, is_some, IsSome, IfSome, IfOk, Ok};
+ghost use Rattle.std.specs.Prelude.{Some, None};
+ghost use Rattle.std.specs.Option.{option_copied_mut, option_and_then};
 ghost use Rattle.std.specs.Bool.{OnTrue, OnFalse};
 ghost use Rattle.std.specs.Ordering.{nat_cmp};
-ghost use Rattle.std.specs.BTreeMap.{get};
+ghost use Rattle.std.specs.BTreeMap.{get, btree_map_len};
 ghost use Rattle.slab.specs.Slab as slab;
+ghost use Rattle.slab.specs.Slab.{slab_len};
 ghost use Rattle.proxy_turn.specs.Received.{FitsTheBuffer};
 ghost use Rattle.proxy_server.specs.OtherEntries.{OtherEntriesStay, OtherSlabKeysStay, ChangesOnlyAtNumber};
 ghost use Rattle.proxy_server.specs.Streams.{PeerIsWritten, IsDoneToClientsPeer, stream_at_number, client_is_cut};
-ghost use Rattle.proxy_server.specs.Streams.{ClientIsRead, IsDoneToClient, number_to_list};
+ghost use Rattle.proxy_server.specs.Streams.{ClientIsRead, IsDoneToClient, number_to_list, listed_client};
 ghost use Rattle.proxy_server.specs.Closing.{ClientStandsInQueue, ClientLeavesItsPlace};
+ghost use Rattle.proxy_server.specs.Streams.{unlisted_client, looked_at_next};
+ghost use Rattle.proxy_server.specs.Patience.{milliseconds_since};
+ghost use Rattle.proxy_figures.specs.EndingCounts.{endings_with_cut};
 
-use crate::client::{Client, Place};
-use crate::endings::{CutReason, Endings};
+pub(crate) mod client;
+mod closing;
+mod patience;
+mod pieces;
+mod rest;
+pub(crate) mod stream_queues;
+
+use crate::clients::client::{Client, Place};
+use crate::clients::stream_queues::{StreamQueue, StreamQueues};
 use crate::limits::Limits;
 use crate::moments::Moments;
-use crate::peer::Peer;
-use crate::stream::Stream;
-use crate::stream_queues::{StreamQueue, StreamQueues};
+use crate::sockets::peer::Peer;
+use crate::sockets::stream::Stream;
 use mio::event::Event;
 use mio::net::TcpStream;
+use proxy_figures::{CutReason, Endings};
 use proxy_turn::Received;
 use slab::Slab;
 use std::alloc::Global;
@@ -56,7 +69,13 @@ pub(crate) struct Clients<S: Stream + Drop = TcpStream> {
 }
 
 impl<S: Stream + Drop> Clients<S> {
-    pub(crate) fn new(alloc: Global, limits: Limits) -> Clients<S> {
+    pub(crate) fn new(alloc: Global, limits: Limits) -> Clients<S>
+        ensures streams { slab_len result.streams ≡ 0 }
+        ensures open { btree_map_len result.open ≡ 0 }
+        ensures limits { result.limits ≡ limits }
+        ensures unsent { result.unsent ≡ 0 }
+        ensures handed { result.handed ≡ 0 }
+    {
         Clients {
             alloc,
             streams: Slab::new(alloc),
@@ -75,13 +94,27 @@ impl<S: Stream + Drop> Clients<S> {
     }
 
     /// How many streams there are.
-    pub(crate) fn len(&self) -> usize {
+    pub(crate) fn len(&self) -> usize
+        ensures { result ≡ slab_len self.now.streams }
+    {
         self.streams.len()
     }
 
     /// How many the engine knows.
-    pub(crate) fn open_count(&self) -> usize {
+    pub(crate) fn open_count(&self) -> usize
+        ensures { result ≡ btree_map_len self.now.open }
+    {
         self.open.len()
+    }
+
+    /// How many of those that were closed still wait for their clients.
+    pub(crate) fn closing_count(&self) -> usize
+        ensures { result ≡ min (btree_map_len self.now.queues.leaving + btree_map_len self.now.queues.lingering)
+            (2 ^ 64 - 1) }
+    {
+        self.queues
+            .len(StreamQueue::Leaving)
+            .saturating_add(self.queues.len(StreamQueue::Lingering))
     }
 
     /// The key of a number.
@@ -149,12 +182,15 @@ impl<S: Stream + Drop> Clients<S> {
         ensures gone { get nat_cmp self.new.open n ≡ None }
         ensures others { OtherEntriesStay n self.old.open self.new.open }
         ensures streams { self.new.streams ≡ self.old.streams }
+        ensures counts { self.new.endings ≡ self.old.endings }
     {
         self.open.remove(&n)
     }
 
     /// Adds the stream of a new client under its number; its key.
-    pub(crate) fn add(&mut self, peer: Peer<S>, n: u64, now: u64) -> Option<usize> {
+    pub(crate) fn add(&mut self, peer: Peer<S>, n: u64, now: u64) -> Option<usize>
+        ensures { IfSome result (λ key. get nat_cmp self.new.open n ≡ Some key) }
+    {
         let client = Client::new(self.alloc, peer, n, now);
         let Ok(key) = self.streams.insert(client) else {
             return None;
@@ -168,7 +204,10 @@ impl<S: Stream + Drop> Clients<S> {
     }
 
     /// A client is between two requests: it stands among those. Whether there was memory for it.
-    fn mark_idle(&mut self, key: usize) -> bool {
+    fn mark_idle(&mut self, key: usize) -> bool
+        ensures open { self.new.open ≡ self.old.open }
+        ensures others { OtherSlabKeysStay key self.old.streams self.new.streams }
+    {
         let Some(client) = self.streams.get_mut(key) else {
             return true;
         };
@@ -182,7 +221,12 @@ impl<S: Stream + Drop> Clients<S> {
     }
 
     /// A client is looked at next at this moment. Whether there was memory for it.
-    pub(crate) fn look_at(&mut self, key: usize, moment: u64) -> bool {
+    pub(crate) fn look_at(&mut self, key: usize, moment: u64) -> bool
+        ensures look { slab.get self.new.streams key
+            ≡ option_map (looked_at_next moment) (slab.get self.old.streams key) }
+        ensures open { self.new.open ≡ self.old.open }
+        ensures others { OtherSlabKeysStay key self.old.streams self.new.streams }
+    {
         let Some(client) = self.streams.get_mut(key) else {
             return true;
         };
@@ -196,6 +240,7 @@ impl<S: Stream + Drop> Clients<S> {
         ensures value { result ≡ slab.get self.old.streams key }
         ensures gone { slab.get self.new.streams key ≡ None }
         ensures open { self.new.open ≡ self.old.open }
+        ensures counts { self.new.endings ≡ self.old.endings }
         ensures others { OtherSlabKeysStay key self.old.streams self.new.streams }
     {
         let client = self.streams.try_remove(key)?;
@@ -213,6 +258,7 @@ impl<S: Stream + Drop> Clients<S> {
 
     /// Drops a stream, wherever it stands. The engine is told before the next turn where it knows it.
     pub(crate) fn drop_stream(&mut self, key: usize)
+        ensures counts { self.new.endings ≡ self.old.endings }
         ensures gone { slab.get self.new.streams key ≡ None }
         ensures open { ClientLeavesItsPlace (slab.get self.old.streams key) self.old.open self.new.open }
         ensures others { OtherSlabKeysStay key self.old.streams self.new.streams }
@@ -243,27 +289,42 @@ impl<S: Stream + Drop> Clients<S> {
     }
 
     /// Drops a stream for a reason that is counted.
-    pub(crate) fn cut_stream(&mut self, key: usize, cut: CutReason) {
+    pub(crate) fn cut_stream(&mut self, key: usize, cut: CutReason)
+        ensures counted { self.new.endings ≡ endings_with_cut self.old.endings cut }
+        ensures gone { slab.get self.new.streams key ≡ None }
+        ensures open { ClientLeavesItsPlace (slab.get self.old.streams key) self.old.open self.new.open }
+        ensures others { OtherSlabKeysStay key self.old.streams self.new.streams }
+    {
         self.endings.count_cut(cut);
         self.drop_stream(key);
     }
 
     /// Bytes that are kept for clients.
-    pub(crate) fn unsent(&self) -> usize {
+    pub(crate) fn unsent(&self) -> usize
+        ensures { result ≡ self.now.unsent }
+    {
         self.unsent
     }
 
     /// Bytes that are kept for clients, and of their requests that aren't answered yet.
-    pub(crate) fn held(&self) -> usize {
+    pub(crate) fn held(&self) -> usize
+        ensures { result ≡ min (self.now.unsent + self.now.handed) (2 ^ 64 - 1) }
+    {
         self.unsent.saturating_add(self.handed)
     }
 
     /// How many failed since they were last asked for.
-    pub(crate) fn lost_count(&self) -> usize {
+    pub(crate) fn lost_count(&self) -> usize
+        ensures { result ≡ vec_len self.now.lost }
+    {
         self.lost.len()
     }
 
-    pub(crate) fn next_lost(&mut self) -> Option<u64> {
+    /// The number of one that failed since the last turn.
+    pub(crate) fn next_lost(&mut self) -> Option<u64>
+        ensures taken { self.old.lost.items ≡ self.new.lost.items ++ option_to_list result }
+        ensures rest { self.new ≡ record self.old { lost = self.new.lost } }
+    {
         self.lost.pop()
     }
 
@@ -374,7 +435,11 @@ impl<S: Stream + Drop> Clients<S> {
 
     /// The request of a client was answered, so many milliseconds after its first byte had come. Without memory to
     /// keep that it is between two requests, it is cut off.
-    pub(crate) fn answered(&mut self, key: usize, now: u64) -> u64 {
+    pub(crate) fn answered(&mut self, key: usize, now: u64) -> u64
+        ensures took { result ≡ milliseconds_since now
+            (option_and_then (λ client. client.asked) (slab.get self.old.streams key)) }
+        ensures others { OtherSlabKeysStay key self.old.streams self.new.streams }
+    {
         let Some(client) = self.streams.get_mut(key) else {
             return 0;
         };
@@ -388,7 +453,9 @@ impl<S: Stream + Drop> Clients<S> {
     }
 
     /// Whether no client waits for anything.
-    pub(crate) fn is_done(&self) -> bool {
+    pub(crate) fn is_done(&self) -> bool
+        ensures { result ≡ (slab_len self.now.streams == btree_map_len self.now.queues.lingering) }
+    {
         self.streams.len() == self.queues.len(StreamQueue::Lingering)
     }
 
@@ -442,7 +509,10 @@ impl<S: Stream + Drop> Clients<S> {
 
     /// A client that has sent its end stands behind the others that have. Where there is no memory for that, it has its
     /// time as others have.
-    pub(crate) fn mark_departed(&mut self, key: usize, now: u64) {
+    pub(crate) fn mark_departed(&mut self, key: usize, now: u64)
+        ensures open { self.new.open ≡ self.old.open }
+        ensures others { OtherSlabKeysStay key self.old.streams self.new.streams }
+    {
         let Some(client) = self.streams.get_mut(key) else {
             return;
         };
@@ -493,6 +563,7 @@ impl<S: Stream + Drop> Clients<S> {
     /// is to be added then.
     pub(crate) fn begin_listing(&mut self, key: usize) -> Option<u64>
         ensures number { result ≡ number_to_list (slab.get self.old.streams key) }
+        ensures marked { slab.get self.new.streams key ≡ option_map listed_client (slab.get self.old.streams key) }
         ensures open { self.new.open ≡ self.old.open }
         ensures others { OtherSlabKeysStay key self.old.streams self.new.streams }
     {
@@ -507,14 +578,21 @@ impl<S: Stream + Drop> Clients<S> {
     }
 
     /// Takes a client from the ends that are read next. Whether it is there.
-    pub(crate) fn end_listing(&mut self, n: u64) -> bool {
-        match self.get_mut(n) {
-            Some(client) => {
-                client.is_listed = false;
-                true
-            }
-            None => false,
-        }
+    pub(crate) fn end_listing(&mut self, n: u64) -> bool
+        ensures there { result ≡ is_some (stream_at_number self.old.open self.old.streams n) }
+        ensures marked { stream_at_number self.new.open self.new.streams n
+            ≡ option_map unlisted_client (stream_at_number self.old.open self.old.streams n) }
+        ensures open { self.new.open ≡ self.old.open }
+        ensures others { ChangesOnlyAtNumber self.old.open n self.old.streams self.new.streams }
+    {
+        let Some(key) = self.key_of(n) else {
+            return false;
+        };
+        let Some(client) = self.streams.get_mut(key) else {
+            return false;
+        };
+        client.is_listed = false;
+        true
     }
 
     /// Takes what an event told of a stream.

@@ -2,8 +2,8 @@
 ghost use Rattle.std.specs.Prelude.{◌≡◌};
 ghost use Rattle.proxy_server.specs.FaultTexts.{record_fault_text, serve_fault_text};
 
-use crate::recorder::RecordFault;
 use crate::server::ServeFault;
+use proxy_record::RecordFault;
 use std::fmt;
 use std::fmt::Formatter;
 

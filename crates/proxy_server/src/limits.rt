@@ -1,4 +1,5 @@
 //! How long clients and origins may take, how many connections there are, and what may wait for them.
+ghost use Rattle.std.specs.Prelude.{◌≡◌, min, max};
 
 /// The bounds of a server. Times are in milliseconds of a clock that never goes back; each is looked at about once a
 /// second.
@@ -32,7 +33,10 @@ pub struct Limits {
 impl Limits {
     /// A client is looked at no later than so many milliseconds after it was looked at last: none of its times is over
     /// sooner than that.
-    pub(crate) fn client_look(&self) -> u64 {
+    pub(crate) fn client_look(&self) -> u64
+        ensures { result ≡ max
+            (min (min (min self.now.client_timeout self.now.request_timeout) self.now.abandon_timeout) 5000) 1000 }
+    {
         self.client_timeout
             .min(self.request_timeout)
             .min(self.abandon_timeout)
@@ -41,7 +45,10 @@ impl Limits {
     }
 
     /// The same of a link.
-    pub(crate) fn link_look(&self) -> u64 {
+    pub(crate) fn link_look(&self) -> u64
+        ensures { result ≡ max
+            (min (min self.now.connect_timeout self.now.origin_timeout) self.now.exchange_timeout) 1000 }
+    {
         self.connect_timeout
             .min(self.origin_timeout)
             .min(self.exchange_timeout)
@@ -63,12 +70,6 @@ pub(crate) const MOST_ACCEPTED: u64 = 64;
 /// `Limits::connections`.
 pub(crate) const MOST_OPEN: usize = 1_048_640;
 
-/// Links that have failed and of which it is kept which reply is theirs, at most.
-pub(crate) const MOST_FAILED_KEPT: usize = 256;
-
-/// Exchanges with an origin in a row that were timed out or couldn't connect, from which on it counts as silent.
-pub(crate) const SILENT_EXCHANGES: u64 = 3;
-
 /// While no more connections are taken, one that has asked for nothing is given so many milliseconds.
 pub(crate) const FIRST_REQUEST_MILLISECONDS: u64 = 1000;
 
@@ -82,3 +83,9 @@ pub(crate) const QUIET_MILLISECONDS: u64 = 5000;
 /// One whose client goes on sending is given so many milliseconds in all, and one whose client has something to take so
 /// many without a byte taken.
 pub(crate) const PATIENCE_MILLISECONDS: u64 = 30_000;
+
+/// The most events of one wait.
+pub(crate) const MOST_EVENTS: usize = 1024;
+
+/// The longest wait, in milliseconds: what has had its time is looked for once a second.
+pub(crate) const LONGEST_WAIT: u64 = SECOND;

@@ -1,130 +1,30 @@
 //! The links to origins, by number, and what was counted of each origin.
 ghost use Rattle.std.specs.Prelude.{◌≡◌, true, false, length, option_map, option_copied, IfOk, IfErr, Ok, Err, Some};
-ghost use Rattle.std.specs.Prelude.{None};
+ghost use Rattle.std.specs.Prelude.{None, IsTrue, ◌↔◌, is_some, slice_get};
 ghost use Rattle.std.specs.Ordering.{nat_cmp};
-ghost use Rattle.std.specs.BTreeMap.{get};
+ghost use Rattle.std.specs.BTreeMap.{get, btree_map_len, values};
 ghost use Rattle.std.specs.Bool.{OnTrue, OnFalse};
 ghost use Rattle.proxy_turn.specs.Received.{FitsTheBuffer};
 ghost use Rattle.proxy_server.specs.Connecting.{link_is_connecting};
 ghost use Rattle.proxy_server.specs.OtherEntries.{OtherEntriesStay};
-ghost use Rattle.proxy_server.specs.Patience.{link_overtime, link_time_is_over};
+ghost use Rattle.proxy_server.specs.Patience.{link_time_is_over, age_of_link};
 ghost use Rattle.proxy_server.specs.Streams.{PeerIsRead, PeerIsWritten, IsDoneToLinksPeer, peer_of_link};
-ghost use Rattle.proxy_server.specs.Streams.{peer_is_broken, peer_is_lost, link_is_to_be_listed};
+ghost use Rattle.proxy_server.specs.Streams.{peer_is_broken, peer_is_lost};
+ghost use Rattle.proxy_server.specs.Streams.{link_is_to_be_listed, listed_link, unlisted_link};
+
+pub(crate) mod link;
 
 use crate::limits::{Limits, SECOND};
+use crate::links::link::{Link, mark_peer_ready};
 use crate::moments::Moments;
-use crate::origins::{Admission, Origins};
-use crate::peer::Peer;
-use crate::stream::Stream;
+use crate::sockets::stream::Stream;
 use mio::event::Event;
 use mio::net::TcpStream;
+use proxy_figures::{LinkTimeouts, Origins};
 use proxy_turn::Received;
 use std::alloc::Global;
 use std::collections::BTreeMap;
 use std::io;
-
-/// A link.
-#[derive(Drop)]
-pub(crate) struct Link<S: Stream + Drop = TcpStream> {
-    /// Its stream, until that has failed.
-    peer: Option<Peer<S>>,
-    /// When it began, in milliseconds of the clock that never goes back.
-    began: u64,
-    /// The place of its origin.
-    origin: usize,
-    /// Whether its origin was to be asked.
-    admission: Admission,
-    /// It stands among the ends that are read next.
-    is_listed: bool,
-    /// When it is looked at next.
-    look: u64,
-}
-
-/// Which time of a link is over.
-#[derive(Clone, Copy, Debug, PartialEq, Eq)]
-pub(crate) enum Overtime {
-    Connect,
-    Silence,
-    Exchange,
-}
-
-impl<S: Stream + Drop> Link<S> {
-    /// A link that begins; without a stream where that couldn't be had.
-    pub(crate) fn new(
-        peer: Option<Peer<S>>,
-        now: u64,
-        origin: usize,
-        admission: Admission,
-    ) -> Link<S> {
-        Link {
-            peer,
-            began: now,
-            origin,
-            admission,
-            is_listed: false,
-            look: 0,
-        }
-    }
-
-    /// Bytes that came on it, and those that its origin hasn't taken yet.
-    fn held(&self) -> usize {
-        match &self.peer {
-            Some(peer) => peer.unsent().saturating_add(peer.received as usize),
-            None => 0,
-        }
-    }
-
-    /// The first moment at which a time of it may be over.
-    fn next_time(&self, limits: &Limits) -> u64 {
-        let last = self.began.saturating_add(limits.exchange_timeout);
-        let next = match &self.peer {
-            Some(peer) if peer.connecting => self.began.saturating_add(limits.connect_timeout),
-            Some(peer) => peer.heard.saturating_add(limits.origin_timeout),
-            None => last,
-        };
-        last.min(next).saturating_add(1)
-    }
-
-    /// Whether its connection, its silence or all of it has taken too long.
-    fn overtime(&self, now: u64, limits: &Limits) -> Option<Overtime>
-        ensures { result ≡ link_overtime self.now limits.now now }
-    {
-        let Some(peer) = &self.peer else {
-            return None;
-        };
-        let lasts = now.saturating_sub(self.began);
-        if lasts > limits.exchange_timeout {
-            return Some(Overtime::Exchange);
-        }
-        if peer.connecting {
-            return if lasts > limits.connect_timeout {
-                Some(Overtime::Connect)
-            } else {
-                None
-            };
-        }
-        if peer.is_silent(now, limits.origin_timeout) {
-            return Some(Overtime::Silence);
-        }
-        None
-    }
-}
-
-/// Takes what an event told of the stream of a link; the answer is an error where its connection couldn't be made.
-fn mark_peer_ready(peer: &mut Peer<TcpStream>, event: &Event, now: u64) -> io::Result<()> {
-    if peer.connecting {
-        if !peer.has_connected(event)? {
-            return Ok(());
-        }
-        peer.heard = now;
-    }
-    peer.mark_ready(event);
-    if event.is_writable() {
-        // What the origin had said before it broke off can still be read.
-        let _ = peer.flush(now);
-    }
-    Ok(())
-}
 
 /// Links by their numbers.
 #[derive(Drop)]
@@ -136,9 +36,7 @@ pub(crate) struct Links<S: Stream + Drop = TcpStream> {
     /// Bytes that came on them, and those that their origins haven't taken yet.
     held: usize,
     /// How often the time of a link was over, by which.
-    pub(crate) connect_timeouts: u64,
-    pub(crate) origin_timeouts: u64,
-    pub(crate) exchange_timeouts: u64,
+    pub(crate) timeouts: LinkTimeouts,
 }
 
 impl Links {
@@ -164,19 +62,22 @@ impl Links {
 }
 
 impl<S: Stream + Drop> Links<S> {
-    pub(crate) fn new(alloc: Global, limits: &Limits) -> Links<S> {
+    pub(crate) fn new(alloc: Global, limits: &Limits) -> Links<S>
+        ensures items { btree_map_len result.items ≡ 0 }
+        ensures held { result.held ≡ 0 }
+    {
         Links {
             items: BTreeMap::new(alloc),
             origins: Origins::new(alloc, limits.origin_connections),
             looks: Moments::new(alloc),
             held: 0,
-            connect_timeouts: 0,
-            origin_timeouts: 0,
-            exchange_timeouts: 0,
+            timeouts: LinkTimeouts::new(),
         }
     }
 
-    pub(crate) fn is_empty(&self) -> bool {
+    pub(crate) fn is_empty(&self) -> bool
+        ensures { IsTrue result ↔ (btree_map_len self.now.items ≡ 0) }
+    {
         self.items.is_empty()
     }
 
@@ -262,7 +163,9 @@ impl<S: Stream + Drop> Links<S> {
     }
 
     /// The number of a link that is to be looked at now.
-    pub(crate) fn next_to_look_at(&mut self, now: u64) -> Option<u64> {
+    pub(crate) fn next_to_look_at(&mut self, now: u64) -> Option<u64>
+        ensures { self.new ≡ record self.old { looks = self.new.looks } }
+    {
         self.looks.take_due(now)
     }
 
@@ -287,6 +190,8 @@ impl<S: Stream + Drop> Links<S> {
     /// number is to be added.
     pub(crate) fn begin_listing(&mut self, number: u64) -> bool
         ensures listed { result ≡ link_is_to_be_listed (get nat_cmp self.old.items number) }
+        ensures marked { get nat_cmp self.new.items number
+            ≡ option_map listed_link (get nat_cmp self.old.items number) }
         ensures others { OtherEntriesStay number self.old.items self.new.items }
     {
         let Some(link) = self.items.get_mut(&number) else {
@@ -305,6 +210,9 @@ impl<S: Stream + Drop> Links<S> {
 
     /// Takes a link from the ends that are read next. Whether it is there.
     pub(crate) fn end_listing(&mut self, number: u64) -> bool
+        ensures there { result ≡ is_some (get nat_cmp self.old.items number) }
+        ensures marked { get nat_cmp self.new.items number
+            ≡ option_map unlisted_link (get nat_cmp self.old.items number) }
         ensures others { OtherEntriesStay number self.old.items self.new.items }
     {
         match self.items.get_mut(&number) {
@@ -317,7 +225,9 @@ impl<S: Stream + Drop> Links<S> {
     }
 
     /// Bytes that came on links, and those that their origins haven't taken yet.
-    pub(crate) fn held(&self) -> usize {
+    pub(crate) fn held(&self) -> usize
+        ensures { result ≡ self.now.held }
+    {
         self.held
     }
 
@@ -376,23 +286,12 @@ impl<S: Stream + Drop> Links<S> {
         let Some(link) = self.get(number) else {
             return;
         };
-        let overtime = link.overtime(now, limits);
+        let Some(overtime) = link.overtime(now, limits) else {
+            return;
+        };
         let origin = link.origin;
-        if overtime.is_some() {
-            self.origins.note_silence(origin);
-        }
-        match overtime {
-            Some(Overtime::Connect) => self.connect_timeouts = self
-                .connect_timeouts
-                .saturating_add(1),
-            Some(Overtime::Silence) => self.origin_timeouts = self
-                .origin_timeouts
-                .saturating_add(1),
-            Some(Overtime::Exchange) => self.exchange_timeouts = self
-                .exchange_timeouts
-                .saturating_add(1),
-            None => {}
-        }
+        self.origins.note_silence(origin);
+        self.timeouts.count(overtime);
     }
 
     /// Counts that the connection of a link couldn't be made.
@@ -406,7 +305,9 @@ impl<S: Stream + Drop> Links<S> {
     }
 
     /// For how long the oldest link is open, in milliseconds; 0 where there is none.
-    pub(crate) fn oldest_age(&self, now: u64) -> u64 {
+    pub(crate) fn oldest_age(&self, now: u64) -> u64
+        ensures { result ≡ age_of_link now (slice_get (values self.now.items) 0) }
+    {
         match self.items.values().next() {
             Some(link) => now.saturating_sub(link.began),
             None => 0,

@@ -1,5 +1,6 @@
 //! Who comes next, by moments: one ordered structure, in which nothing is looked for.
 ghost use Rattle.std.specs.Prelude.{◌≡◌};
+ghost use Rattle.std.specs.BTreeSet.{btree_set_len};
 
 use std::alloc::Global;
 use std::collections::BTreeSet;
@@ -18,13 +19,17 @@ pub(crate) struct Moments {
 }
 
 impl Moments {
-    pub(crate) fn new(alloc: Global) -> Moments {
+    pub(crate) fn new(alloc: Global) -> Moments
+        ensures { btree_set_len result.items ≡ 0 }
+    {
         Moments {
             items: BTreeSet::new(alloc),
         }
     }
 
-    pub(crate) fn len(&self) -> usize {
+    pub(crate) fn len(&self) -> usize
+        ensures { result ≡ btree_set_len self.now.items }
+    {
         self.items.len()
     }
 

@@ -7,18 +7,17 @@ ghost use Rattle.proxy_server.specs.Losses.{EndIsLost};
 ghost use Rattle.proxy_server.specs.Paces.{next_turn_must_not_wait};
 ghost use Rattle.proxy_server.specs.Serving.{server_bounds, ServeTurnAnswers};
 
-use crate::doors::Troubles;
 use crate::limits::{MOST_ACCEPTED, MOST_OPEN, MOST_READ};
-use crate::live_sockets::LiveSockets;
 use crate::pace::{LATEST, Pace, milliseconds_of_duration, moment_and_milliseconds};
-use crate::recorder::{RecordFault, Recorder};
-use crate::recording::Recording;
+use crate::sockets::live_sockets::LiveSockets;
 use hx_allow::Config;
 use hx_fields::END_OF_TIME;
 use hx_status::FailKind;
 use hx_store::Shelf;
 use proxy_engine::Engine;
+use proxy_figures::Troubles;
 use proxy_log::Lines;
+use proxy_record::{RecordFault, Recorder, Recording};
 use proxy_turn::{
     End, PIECE, Report, TurnBounds, TurnFault, a_turn_is_served_behind_losses, engines_go_on,
     happening_of_lost_end, turn_over,
@@ -308,6 +307,31 @@ impl<'a, S: Shelf + Drop, R: Net, W: Write + Drop> Server<'a, S, R, W> {
         }
     }
 
+    /// A client of which no byte waits gives the room for its next ones back.
+    fn release_room(&mut self, end: End)
+        ensures { EngineTakesLosses self.old self.new }
+    {
+        engines_go_on();
+        a_turn_is_served_behind_losses();
+        if let End::Client(n) = end {
+            self.engine.release_room(self.alloc, n);
+        }
+    }
+
+    /// The ends that the last turn read keep no room: who is idle costs little, and each read goes into memory that was
+    /// used just now.
+    fn release_rooms(&mut self)
+        ensures { EngineTakesLosses self.old self.new }
+    {
+        a_turn_is_served_behind_losses();
+        for _ in 0..self.ready.len() {
+            let Some(end) = self.ready.pop() else {
+                return;
+            };
+            self.release_room(end);
+        }
+    }
+
     /// Hands in the ends that failed since the last turn.
     fn hand_in_lost(&mut self)
         ensures { EngineTakesLosses self.old self.new }
@@ -328,6 +352,7 @@ impl<'a, S: Shelf + Drop, R: Net, W: Write + Drop> Server<'a, S, R, W> {
         ensures { EngineTakesLosses self.old self.new }
     {
         a_turn_is_served_behind_losses();
+        self.release_rooms();
         self.hand_in_lost();
         self.hand_in_overdue();
         self.give_up_departed();

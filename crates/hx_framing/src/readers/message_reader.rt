@@ -133,6 +133,15 @@ impl<H: MessageHead> MessageReader<H> {
         self.unread.reserve(n)
     }
 
+    /// Gives back the room that was made and isn't used, where no byte is kept. A later `feed` takes memory anew. No
+    /// memory is taken.
+    pub fn release_room(&mut self, alloc: Global)
+        ensures same { self.new ≡ record self.old { spare = self.new.spare } }
+        ensures released { self.old.unread ≡ [] → self.new.spare ≡ 0 }
+    {
+        self.unread.release_room(alloc)
+    }
+
     /// Takes the next piece of the stream, before `finish`. An `Err` changes nothing.
     pub fn feed(&mut self, piece: &[u8]) -> Result<(), AllocError>
         ensures represents { OnOk result ((p : Progress H.Message) → H.kind.RepresentsStream self.old p

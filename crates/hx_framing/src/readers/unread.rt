@@ -83,6 +83,16 @@ impl Unread {
         self.bytes.reserve(n)
     }
 
+    /// Gives back the room of what was taken, where nothing is left.
+    pub(crate) fn release_room(&mut self, alloc: Global)
+        ensures items { self.new.items ≡ self.old.items }
+        ensures released { self.old.items ≡ [] → self.new.spare ≡ 0 }
+    {
+        if self.bytes.len() == 0 {
+            self.bytes = Vec::new(alloc);
+        }
+    }
+
     /// Puts a piece at the end. An `Err` changes nothing.
     pub(crate) fn extend(&mut self, piece: &[u8]) -> Result<(), AllocError>
         ensures ok { OnOk result (self.new.items ≡ self.old.items ++ piece.now) }

@@ -12,10 +12,10 @@ ghost use Rattle.proxy_core.specs.Promises.{some_item_invalidates, count_of_outc
 ghost use Rattle.proxy_core.specs.TraceMeaning.{exchange_has_ended, count_of_stored, opens_an_exchange};
 ghost use Rattle.proxy_core.specs.Carrying.{judges_a_request};
 ghost use Rattle.proxy_core.specs.Waiting.{exchange_has_closed, is_wake_event, was_woken};
-ghost use Rattle.proxy_core.specs.Cases.{key_of_path};
+ghost use Rattle.proxy_core.specs.Cases.{key_of_path, response_with};
 ghost use Rattle.proxy_core.specs.WrongTraces.{fresh_for_a_minute, get_a, get_b, forward_over_line_3};
-ghost use Rattle.proxy_core.specs.WrongTraces.{trace_sends_invalidated, item_of, reply_without_store};
-ghost use Rattle.proxy_core.specs.WrongTraces.{reply_that_sends_stored, trace_with_two_replies};
+ghost use Rattle.proxy_core.specs.WrongTraces.{trace_sends_invalidated, trace_sends_behind, item_of};
+ghost use Rattle.proxy_core.specs.WrongTraces.{reply_without_store, reply_that_sends_stored, trace_with_two_replies};
 
 /// Which events are arrivals, which are wakes, and which judge a request.
 pub fn worked_kinds_of_events()
@@ -83,4 +83,8 @@ pub fn worked_counts_of_traces()
     ensures not_woken { was_woken 2 (item_of (Abandon 2) Ended ∷ trace_with_two_replies) ≡ false }
     ensures invalidated { some_item_invalidates (key_of_path (codes "/a")) trace_sends_invalidated [] ≡ true }
     ensures another_key { some_item_invalidates (key_of_path (codes "/b")) trace_sends_invalidated [] ≡ false }
+    ensures by_a_304 { some_item_invalidates (key_of_path (codes "/a")) (trace_sends_behind (response_with 304 [])) []
+        ≡ true }
+    ensures by_no_error { some_item_invalidates (key_of_path (codes "/a")) (trace_sends_behind (response_with 404 [])) []
+        ≡ false }
 {}

@@ -17,10 +17,11 @@ ghost use Rattle.proxy_core.specs.WrongTraces.{HeadlineRefuses, get_a_in_languag
 ghost use Rattle.proxy_core.specs.WrongTraces.{events_that_revalidate, varies_by_language, edge_table};
 ghost use Rattle.proxy_core.specs.WrongTraces.{fresh_for_a_minute};
 ghost use Rattle.proxy_core.specs.WrongTraces.{fresh_or_stale_if_error, get_a, get_admin, get_b, get_c, get_raw};
-ghost use Rattle.proxy_core.specs.WrongTraces.{events_that_store_a};
+ghost use Rattle.proxy_core.specs.WrongTraces.{events_that_store_a, events_that_store_english_and_default};
 ghost use Rattle.proxy_core.specs.WrongTraces.{events_before_a_wake, response_304, events_where_one_waits};
 ghost use Rattle.proxy_core.specs.WrongTraces.{get_a_only_if_cached, post_a, reply_that_stores, reply_without_store};
 ghost use Rattle.proxy_core.specs.WrongTraces.{events_with_second_forward, reply_that_sends_stored};
+ghost use Rattle.proxy_core.specs.WrongTraces.{events_that_invalidate_a_by_a_304, delete_a};
 ghost use Rattle.proxy_core.specs.WrongTraces.{trace_with_wrong_item};
 
 /// A request that the table denies reaches neither origin nor store, and is told its line; one that
@@ -123,10 +124,18 @@ pub fn the_headline_refuses_what_may_not_be_sent()
     ensures another_variant { HeadlineRefuses (trace_with_wrong_item (Answer 101 1 varies_by_language ∷ Arrive 100 1
         (get_a_in_language (codes "de")) ∷ [])
         (Arrive 110 2 (get_a_in_language (codes "en"))) (reply_that_sends_stored 1 (codes "x"))) }
+    ensures default_that_hides_a_variant { HeadlineRefuses
+        (trace_with_wrong_item events_that_store_english_and_default (Arrive 120 3 (get_a_in_language (codes "en")))
+        (reply_that_sends_stored 2 (codes "x"))) }
+    ensures variant_of_no_such_request { HeadlineRefuses
+        (trace_with_wrong_item events_that_store_english_and_default (Arrive 120 3 (get_a_in_language (codes "de")))
+        (reply_that_sends_stored 1 (codes "x"))) }
     ensures another_key { HeadlineRefuses (trace_with_wrong_item events_that_store_a (Arrive 110 2 get_b)
         (reply_that_sends_stored 1 (codes "x"))) }
     ensures invalidated { HeadlineRefuses (trace_with_wrong_item (Answer 111 2 (response_with 200 [])
         ∷ Arrive 110 2 post_a ∷ events_that_store_a)
+        (Arrive 112 3 get_a) (reply_that_sends_stored 1 (codes "x"))) }
+    ensures invalidated_by_a_304 { HeadlineRefuses (trace_with_wrong_item events_that_invalidate_a_by_a_304
         (Arrive 112 3 get_a) (reply_that_sends_stored 1 (codes "x"))) }
     ensures crowded_out { HeadlineRefuses (trace_with_wrong_item (Answer 105 3 fresh_for_a_minute ∷ Arrive 104 3 get_c
         ∷ Answer 103 2 fresh_for_a_minute
@@ -210,6 +219,9 @@ pub fn the_headline_refuses_wrong_storing()
         (Answer 201 2 fresh_for_a_minute) (reply_that_stores [] (Some 2) [])) }
     ensures invalidated_stays { HeadlineRefuses
         (trace_with_wrong_item (Arrive 110 2 post_a ∷ events_that_store_a) (Answer 111 2 (response_with 200 []))
+        (reply_that_stores [] None [])) }
+    ensures invalidated_by_a_304_stays { HeadlineRefuses
+        (trace_with_wrong_item (Arrive 110 2 delete_a ∷ events_that_store_a) (Answer 111 2 (response_304 []))
         (reply_that_stores [] None [])) }
     ensures another_goes { HeadlineRefuses (trace_with_wrong_item (Arrive 110 2 get_b ∷ events_that_store_a)
         (Answer 111 2 fresh_for_a_minute)

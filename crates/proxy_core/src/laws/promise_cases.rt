@@ -15,7 +15,7 @@ ghost use Rattle.proxy_core.specs.Cases.{response_with};
 ghost use Rattle.proxy_core.specs.WrongTraces.{edge_table, fresh_for_a_minute, get_a, get_admin, events_that_store_a};
 ghost use Rattle.proxy_core.specs.WrongTraces.{item_of, condition_about_v, post_a};
 ghost use Rattle.proxy_core.specs.WrongTraces.{reply_that_stores, reply_that_sends_stored, trace_of_good_events};
-ghost use Rattle.proxy_core.specs.WrongTraces.{trace_sends_invalidated};
+ghost use Rattle.proxy_core.specs.WrongTraces.{trace_sends_invalidated, trace_sends_behind, response_304};
 ghost use Rattle.proxy_core.specs.WrongTraces.{trace_stores_invalidated, trace_with_three_forwards};
 ghost use Rattle.proxy_core.specs.WrongTraces.{trace_with_two_replies, GoingForwardIsWrong};
 
@@ -70,6 +70,8 @@ pub fn an_exchange_goes_twice_and_replies_once()
 pub fn sending_what_is_invalidated_is_refused()
     ensures since_stored { NothingInvalidatedIsSent trace_sends_invalidated → ⊥ }
     ensures on_its_way { NothingInvalidatedIsSent trace_stores_invalidated → ⊥ }
+    ensures behind_a_304 { NothingInvalidatedIsSent (trace_sends_behind (response_304 [])) → ⊥ }
+    ensures behind_a_redirect { NothingInvalidatedIsSent (trace_sends_behind (response_with 303 [])) → ⊥ }
 {}
 
 /// No run stops behind its last event, nor at one that no fault stands against, but where memory runs out.

@@ -119,6 +119,10 @@ pub fn what_invalidates()
         (response_with 204 []) ≡ true }
     ensures redirected { answer_invalidates (forwarded_on_miss (request_for (codes "DELETE") (codes "/a") []))
         (response_with 399 []) ≡ true }
+    ensures by_a_304 { answer_invalidates (forwarded_on_miss (request_for (codes "DELETE") (codes "/a") []))
+        (response_with 304 []) ≡ true }
+    ensures interim { answer_invalidates (forwarded_on_miss (request_for (codes "DELETE") (codes "/a") []))
+        (response_with 199 []) ≡ false }
     ensures refusal { answer_invalidates (forwarded_on_miss (request_for (codes "POST") (codes "/a") []))
         (response_with 400 []) ≡ false }
     ensures failed { answer_invalidates (forwarded_on_miss (request_for (codes "POST") (codes "/a") []))

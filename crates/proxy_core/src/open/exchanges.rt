@@ -4,7 +4,8 @@
 //! opened and closed in the logarithm of how many are open, and each that a close releases costs
 //! that too. The first that may be woken is known: `first_ready` costs that logarithm where there
 //! is one, and nothing where there is none (see `released`). `leader` looks through the GETs of its
-//! key up to the one that leads. `ready` and an invalidation go through all of them.
+//! key up to the one that leads, and an invalidation goes through the exchanges of its key.
+//! `ready` goes through all of them.
 ghost use Rattle.std.specs.Prelude.{◌≡◌, ◌<◌, ◌++◌, ◌∷◌, [], map, filter, not, ◌==◌, None, IfOk, OnOk, OnErr};
 ghost use Rattle.std.specs.Prelude.{option_copied, slice_get, IfSome};
 ghost use Rattle.proxy_core.specs.Waiting.{ExchangeMayBeWoken};
@@ -13,10 +14,10 @@ ghost use Rattle.std.specs.Ordering.{nat_cmp};
 ghost use Rattle.std.specs.Map.{remove_entry};
 ghost use Rattle.std.specs.Option.{ForNone, ForSome};
 ghost use Rattle.std.specs.BTreeMap.{get, keys, values, is_at};
-ghost use Rattle.proxy_core.specs.Gets.{GetArrivalsPass, GetArrivalIsEntered, GetArrivalHasLeft, AreSameGetIndex};
-ghost use Rattle.proxy_core.specs.Gets.{IsNotInGetIndex, HasNoEmptyKeys};
+ghost use Rattle.proxy_core.specs.ByKey.{GetArrivalsPass, ArrivalIsEntered, ArrivalHasLeft, AreSameArrivals};
+ghost use Rattle.proxy_core.specs.ByKey.{IsInNeitherIndex, HasNoEmptyKeysInEither, is_in_key_index};
 ghost use Rattle.std.specs.BTreeSet.{contains};
-ghost use Rattle.proxy_core.specs.Arrivals.{WaitingArrivalsPass, map_exchanges};
+ghost use Rattle.proxy_core.specs.Arrivals.{WaitingArrivalsPass, map_exchanges, map_passing};
 ghost use Rattle.proxy_core.specs.Waiters.{WaiterIsEntered, WaiterHasLeft, IsSameWaitIndex, IsNotInWaitIndex};
 ghost use Rattle.proxy_core.specs.Waiters.{HasNoEmptyWaiterSets};
 ghost use Rattle.proxy_core.specs.Outcomes.{find_exchange};
@@ -24,9 +25,10 @@ ghost use Rattle.proxy_core.specs.Leading.{leader, ready_ids};
 ghost use Rattle.proxy_core.specs.State.{exchanges_after_close, released_exchange, overtaken_exchange};
 ghost use Rattle.proxy_core.specs.State.{exchanges_after_end, exchange_forwarded_again, exchange_sent_forward};
 
+use crate::open::arrivals_by_key::ArrivalsByKey;
 use crate::open::exchange::Exchange;
-use crate::open::get_index::GetIndex;
 use crate::open::ids::Ids;
+use crate::open::key_index::KeyIndex;
 use crate::open::leading::{is_released, leads_waiters};
 use crate::open::released::Released;
 use crate::open::wait_index::WaitIndex;
@@ -48,8 +50,8 @@ pub(crate) struct Exchanges {
     waiting: WaitIndex,
     /// Where the released ones stand.
     released: Released,
-    /// The GETs, by the key that they ask for: whatever may come to lead is among them.
-    gets: GetIndex,
+    /// All of them, by the key that they ask for.
+    by_key: ArrivalsByKey,
 }
 
 /// One call drops it, wherever that is.
@@ -60,7 +62,7 @@ impl Drop for Exchanges {
             arrivals: _,
             waiting: _,
             released: _,
-            gets: _,
+            by_key: _,
         } = self;
     }
 }
@@ -77,7 +79,7 @@ impl Model for Exchanges {
     ghost view = { λ x. values x.by_arrival };
 
     ghost invariant = { λ x. IndexesAreRight x.by_arrival.entries (λ id. get nat_cmp x.arrivals id) x.waiting
-        x.released x.gets };
+        x.released x.by_key };
 }
 
 impl Exchanges {
@@ -89,7 +91,7 @@ impl Exchanges {
             arrivals: BTreeMap::new(alloc),
             waiting: WaitIndex::new(alloc),
             released: Released::new(),
-            gets: GetIndex::new(alloc),
+            by_key: ArrivalsByKey::new(alloc),
         }
     }
 
@@ -112,7 +114,7 @@ impl Exchanges {
         match enter(
             &mut self.by_arrival,
             &mut self.waiting,
-            &mut self.gets,
+            &mut self.by_key,
             arrival,
             exchange,
         ) {
@@ -134,7 +136,7 @@ impl Exchanges {
     pub(crate) fn leader(&self, policy: Policy, rule: ReuseRule, key: &Key) -> Option<u64>
         ensures { result ≡ leader policy rule key.now self.now }
     {
-        match self.gets.find(key) {
+        match self.by_key.gets.find(key) {
             Some(arrivals) => first_to_lead(&self.by_arrival, arrivals, policy, rule, key),
             None => None,
         }
@@ -176,7 +178,7 @@ impl Exchanges {
             remove(
                 &mut self.by_arrival,
                 &mut self.waiting,
-                &mut self.gets,
+                &mut self.by_key,
                 arrival,
             );
             self.released.settle(&self.by_arrival);
@@ -238,11 +240,12 @@ impl Exchanges {
         }
     }
 
-    /// Marks each exchange of a key that was invalidated. It goes through all of them.
+    /// Marks each exchange of a key that was invalidated. It goes through those alone.
     fn overtake(&mut self, key: &Key)
         ensures { self.new ≡ map (overtaken_exchange key.now) self.old }
     {
-        overtake_each(&mut self.by_arrival, key);
+        overtake_indexed(&mut self.by_arrival, &self.by_key.gets, key);
+        overtake_indexed(&mut self.by_arrival, &self.by_key.others, key);
         self.released.settle(&self.by_arrival);
     }
 }
@@ -258,56 +261,56 @@ fn arrival_after(by_arrival: &BTreeMap<u64, Exchange>) -> Result<u64, AllocError
     }
 }
 
-/// Puts an exchange behind the others, and into the index of GETs. Out of memory changes nothing.
+/// Puts an exchange behind the others, and into the index of keys. Out of memory changes nothing.
 fn push(
     by_arrival: &mut BTreeMap<u64, Exchange>,
-    gets: &mut GetIndex,
+    by_key: &mut ArrivalsByKey,
     arrival: u64,
     exchange: Exchange,
 ) -> Result<(), AllocError>
     requires last { All (λ k. k < arrival) (keys by_arrival.old) }
-    requires asks_not { IsNotInGetIndex arrival gets.old }
+    requires asks_not { IsInNeitherIndex arrival by_key.old }
     ensures ok { OnOk result (by_arrival.new.entries ≡ by_arrival.old.entries ++ (arrival, exchange) ∷ []) }
-    ensures entered { OnOk result (GetArrivalIsEntered exchange.asked arrival gets.old gets.new) }
+    ensures entered { OnOk result (ArrivalIsEntered exchange.asked arrival by_key.old by_key.new) }
     ensures err { OnErr result (by_arrival.new.entries ≡ by_arrival.old.entries) }
-    ensures left { OnErr result (AreSameGetIndex gets.old gets.new) }
-    ensures trim { HasNoEmptyKeys gets.old → HasNoEmptyKeys gets.new }
+    ensures left { OnErr result (AreSameArrivals by_key.old by_key.new) }
+    ensures trim { HasNoEmptyKeysInEither by_key.old → HasNoEmptyKeysInEither by_key.new }
 {
-    gets.enter(&exchange.asked, arrival)?;
+    by_key.enter(&exchange.asked, arrival)?;
     match by_arrival.insert(arrival, exchange) {
         Ok(_) => Ok(()),
         Err(refused) => {
             let (_, exchange) = refused.value;
-            gets.leave(&exchange.asked, arrival);
+            by_key.leave(&exchange.asked, arrival);
             Err(AllocError)
         }
     }
 }
 
-/// Puts an exchange behind the others, and into the indexes of GETs and of those that wait. Out of memory changes
+/// Puts an exchange behind the others, and into the indexes of keys and of those that wait. Out of memory changes
 /// nothing.
 fn enter(
     by_arrival: &mut BTreeMap<u64, Exchange>,
     waiting: &mut WaitIndex,
-    gets: &mut GetIndex,
+    by_key: &mut ArrivalsByKey,
     arrival: u64,
     exchange: Exchange,
 ) -> Result<(), AllocError>
     requires last { All (λ k. k < arrival) (keys by_arrival.old) }
     requires waits_not { IsNotInWaitIndex arrival waiting.old }
-    requires asks_not { IsNotInGetIndex arrival gets.old }
+    requires asks_not { IsInNeitherIndex arrival by_key.old }
     ensures ok { OnOk result (by_arrival.new.entries ≡ by_arrival.old.entries ++ (arrival, exchange) ∷ []) }
     ensures entered { OnOk result (WaiterIsEntered exchange.stage arrival waiting.old waiting.new) }
-    ensures asks { OnOk result (GetArrivalIsEntered exchange.asked arrival gets.old gets.new) }
+    ensures asks { OnOk result (ArrivalIsEntered exchange.asked arrival by_key.old by_key.new) }
     ensures err { OnErr result (by_arrival.new.entries ≡ by_arrival.old.entries) }
     ensures left { OnErr result (IsSameWaitIndex waiting.old waiting.new) }
-    ensures asks_no_more { OnErr result (AreSameGetIndex gets.old gets.new) }
+    ensures asks_no_more { OnErr result (AreSameArrivals by_key.old by_key.new) }
     ensures trim_waits { HasNoEmptyWaiterSets waiting.old → HasNoEmptyWaiterSets waiting.new }
-    ensures trim_gets { HasNoEmptyKeys gets.old → HasNoEmptyKeys gets.new }
+    ensures trim_keys { HasNoEmptyKeysInEither by_key.old → HasNoEmptyKeysInEither by_key.new }
 {
     let stage = exchange.stage;
     waiting.enter(stage, arrival)?;
-    match push(by_arrival, gets, arrival, exchange) {
+    match push(by_arrival, by_key, arrival, exchange) {
         Ok(()) => Ok(()),
         Err(error) => {
             waiting.leave(stage, arrival);
@@ -316,26 +319,26 @@ fn enter(
     }
 }
 
-/// Takes the exchange of an arrival out, also of the indexes of GETs and of those that wait.
+/// Takes the exchange of an arrival out, also of the indexes of keys and of those that wait.
 fn remove(
     by_arrival: &mut BTreeMap<u64, Exchange>,
     waiting: &mut WaitIndex,
-    gets: &mut GetIndex,
+    by_key: &mut ArrivalsByKey,
     arrival: u64,
 )
     ensures entries { by_arrival.new.entries ≡ remove_entry (is_at (nat_cmp arrival)) by_arrival.old.entries }
     ensures left { ForSome (get nat_cmp by_arrival.old arrival)
         (λ x. WaiterHasLeft x.stage arrival waiting.old waiting.new) }
     ensures asks_no_more { ForSome (get nat_cmp by_arrival.old arrival)
-        (λ x. GetArrivalHasLeft x.asked arrival gets.old gets.new) }
+        (λ x. ArrivalHasLeft x.asked arrival by_key.old by_key.new) }
     ensures waits_still { ForNone (get nat_cmp by_arrival.old arrival) (IsSameWaitIndex waiting.old waiting.new) }
-    ensures asks_still { ForNone (get nat_cmp by_arrival.old arrival) (AreSameGetIndex gets.old gets.new) }
+    ensures asks_still { ForNone (get nat_cmp by_arrival.old arrival) (AreSameArrivals by_key.old by_key.new) }
     ensures trim_waits { HasNoEmptyWaiterSets waiting.old → HasNoEmptyWaiterSets waiting.new }
-    ensures trim_gets { HasNoEmptyKeys gets.old → HasNoEmptyKeys gets.new }
+    ensures trim_keys { HasNoEmptyKeysInEither by_key.old → HasNoEmptyKeysInEither by_key.new }
 {
     if let Some(x) = by_arrival.remove(&arrival) {
         waiting.leave(x.stage, arrival);
-        gets.leave(&x.asked, arrival);
+        by_key.leave(&x.asked, arrival);
     }
 }
 
@@ -374,12 +377,24 @@ fn release_each(by_arrival: &mut BTreeMap<u64, Exchange>, waiting: &BTreeSet<u64
     }
 }
 
-/// Marks each exchange of a key that was invalidated.
-fn overtake_each(by_arrival: &mut BTreeMap<u64, Exchange>, key: &Key)
-    ensures { by_arrival.new.entries ≡ map_exchanges (overtaken_exchange key.now) by_arrival.old.entries }
+/// Marks those of a key that an index tells.
+fn overtake_indexed(by_arrival: &mut BTreeMap<u64, Exchange>, index: &KeyIndex, key: &Key)
+    ensures { by_arrival.new.entries ≡ map_passing (is_in_key_index index.now key.now) (overtaken_exchange key.now)
+        by_arrival.old.entries }
 {
-    by_arrival.retain(|_, x| {
-        x.overtake(key);
-        true
-    });
+    if let Some(arrivals) = index.find(key) {
+        overtake_each(by_arrival, arrivals, key);
+    }
+}
+
+/// Marks those of these arrivals that are of a key.
+fn overtake_each(by_arrival: &mut BTreeMap<u64, Exchange>, arrivals: &BTreeSet<u64>, key: &Key)
+    ensures { by_arrival.new.entries ≡ map_passing (contains nat_cmp arrivals.now) (overtaken_exchange key.now)
+        by_arrival.old.entries }
+{
+    for arrival in arrivals {
+        if let Some(x) = by_arrival.get_mut(arrival) {
+            x.overtake(key);
+        }
+    }
 }

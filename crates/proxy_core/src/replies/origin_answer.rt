@@ -2,13 +2,21 @@
 ghost use Rattle.std.specs.Prelude.{◌≡◌, ◌<◌, IfOk};
 ghost use Rattle.hx_hop.specs.Answering.{answered_of};
 ghost use Rattle.proxy_core.specs.Storing.{is_304_without_condition, answer_invalidates, key_invalidated};
+ghost use Rattle.proxy_core.specs.Storing.{status_invalidates};
 ghost use Rattle.proxy_core.specs.Validating.{is_validation};
 
 use crate::open::exchange::Exchange;
 use hx_framing::Response;
-use hx_hop::{Answered, answered};
+use hx_hop::{Answered, Asked, answered};
 use hx_target::Key;
 use std::alloc::{AllocError, Global};
+
+/// Whether a status that isn't an error came in response to an unsafe request (RFC 9111, section 4.4).
+pub(crate) fn status_invalidates(asked: &Asked, status: u16) -> bool
+    ensures { result ≡ status_invalidates asked.now status }
+{
+    !asked.method.is_safe() && (200 <= status && status <= 399)
+}
 
 /// An answer of the origin to an open exchange.
 #[derive(Clone, Copy)]
@@ -48,9 +56,7 @@ impl OriginAnswer<'_> {
     pub(crate) fn invalidates(&self) -> bool
         ensures { result ≡ answer_invalidates self.now.exchange.now self.now.response.now }
     {
-        !self.exchange.asked.method.is_safe()
-            && (200 <= self.response.status && self.response.status <= 399)
-            && !(self.is_validation() || self.is_unasked())
+        status_invalidates(&self.exchange.asked, self.response.status) && !self.is_validation()
     }
 
     /// The key that it invalidates.

@@ -4,10 +4,12 @@ ghost use Rattle.hx_directives.specs.Occurrences.{occurrences_of};
 ghost use Rattle.hx_allow.specs.Matching.{policy_of};
 ghost use Rattle.hx_reuse.specs.Rules.{decision_of};
 ghost use Rattle.proxy_core.specs.Outcomes.{error_rule_at, fallback_with_error_rule, fallback_for, outcome_of_failure};
+ghost use Rattle.proxy_core.specs.Outcomes.{serials_removed_by_status, outcome_that_removes, outcome_of_refusal};
 ghost use Rattle.proxy_core.specs.Pending.{outcome_of_pending_reply, ChangeStoresNothing};
 
 use crate::core_state::Core;
 use crate::open::exchange::Exchange;
+use crate::replies::origin_answer::status_invalidates;
 use crate::replies::pending::{Change, PendingReply};
 use crate::replies::stored_reply::CacheStatusInfo;
 use crate::steps::sending::refuse;
@@ -16,7 +18,7 @@ use hx_hop::Asked;
 use hx_policy::Policy;
 use hx_reuse::{Decision, ErrorRule, ReuseRule, decide, may_serve_on_error};
 use hx_status::{Cause, Detail, FailKind};
-use hx_store::Shelf;
+use hx_store::{Serials, Shelf};
 use std::alloc::{AllocError, Global};
 
 /// What a failure comes to.
@@ -77,6 +79,50 @@ pub(crate) fn fallback_for<S: Shelf>(
     }
 }
 
+/// What goes for the status of an answer that is a failure, if one came.
+fn removed_by_status<S: Shelf>(
+    alloc: Global,
+    shelf: &S,
+    asked: &Asked,
+    came: Option<u16>,
+) -> Result<Serials, AllocError>
+    ensures { IfOk result (λ removed. removed ≡ serials_removed_by_status (S.entries shelf.now) asked.now came) }
+{
+    if let Some(status) = came {
+        if status_invalidates(asked, status) {
+            return shelf.find(alloc, &asked.target.key);
+        }
+    }
+    Ok(Serials::new(alloc))
+}
+
+/// The proxy's own reply, by which these are held no longer.
+fn refuse_and_remove(
+    alloc: Global,
+    now: u64,
+    cause: Cause,
+    asked: &Asked,
+    removed: Serials,
+) -> Result<PendingReply, AllocError>
+    requires { now < 253_402_300_800 }
+    ensures outcome { IfOk result (λ pending. outcome_of_pending_reply pending
+        ≡ outcome_that_removes removed (outcome_of_refusal now cause asked.now)) }
+    ensures change { IfOk result (λ pending. pending.change ≡ Change.Keep) }
+{
+    let PendingReply {
+        bytes,
+        close,
+        change,
+        removed: _,
+    } = refuse(alloc, now, cause, asked)?;
+    Ok(PendingReply {
+        bytes,
+        close,
+        change,
+        removed,
+    })
+}
+
 impl<S: Shelf> Core<S> {
     /// What a failure leads to, where an answer of some status came or none.
     pub(crate) fn reply_to_failure(
@@ -102,7 +148,8 @@ impl<S: Shelf> Core<S> {
                 self.send(alloc, serial, now, info, asked)
             }
             Fallback::Refuses(rule, error) => {
-                refuse(alloc, now, Cause::Origin(kind, rule, error), asked)
+                let removed = removed_by_status(alloc, &self.shelf, asked, came)?;
+                refuse_and_remove(alloc, now, Cause::Origin(kind, rule, error), asked, removed)
             }
         }
     }

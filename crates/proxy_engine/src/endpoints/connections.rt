@@ -9,7 +9,7 @@ ghost use Rattle.proxy_engine.specs.EngineModel.{ConnectionModel, no_connection}
 ghost use Rattle.proxy_engine.specs.Due.{IsFirstAtWhich, IsLostConnection};
 ghost use Rattle.proxy_engine.specs.Reading.{places_with_flag, connection_is_open_in_model};
 ghost use Rattle.proxy_engine.specs.Reading.{connection_may_send_request, client_end_at, IsBetweenRequests};
-ghost use Rattle.proxy_engine.specs.Room.{ConnectionHasSpare, most_bytes_of_read};
+ghost use Rattle.proxy_engine.specs.Room.{ConnectionHasSpare, ConnectionRoomIsGivenBack, most_bytes_of_read};
 ghost use Rattle.proxy_engine.specs.Activities.{link_place_of_activity, has_exchange};
 ghost use Rattle.proxy_engine.specs.Pairing.{activity_at, activity_of, activities_of};
 ghost use Rattle.proxy_engine.specs.State.{RelatesLists, ConnectionRepresents, is_gone_at, NoConnectionIsLost};
@@ -202,6 +202,17 @@ impl Connections {
         ensures err { OnErr result (self.new ≡ self.old) }
     {
         self.ends.reserve_bytes(i)
+    }
+
+    /// Gives back the room for the client's bytes at a place, where none waits.
+    pub(crate) fn release_room(&mut self, i: ConnectionPlace, alloc: Global)
+        ensures given { ConnectionRoomIsGivenBack (slice_index_or self.new.items i None) }
+        ensures represents { (ss : List ConnectionModel) → RelatesLists ConnectionRepresents self.old.items ss
+            → RelatesLists ConnectionRepresents self.new.items ss }
+        ensures activities { activities_of self.new.items ≡ activities_of self.old.items }
+        ensures room { self.new.has_room ≡ self.old.has_room }
+    {
+        self.ends.release_room(i, alloc)
     }
 
     /// Lets go of the connection at a place, which is over.

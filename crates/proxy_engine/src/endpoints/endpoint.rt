@@ -1,6 +1,6 @@
 //! What a connection and a link have in common: something may be due there, and bytes may come.
-ghost use Rattle.std.specs.Prelude.{◌≡◌, ℕ, ◌≤◌, Bool, true, false, Option, Some, IfOk, OnOk, OnErr};
-ghost use Rattle.proxy_engine.specs.Marked.{OnlyGainsRoom};
+ghost use Rattle.std.specs.Prelude.{◌≡◌, ℕ, ◌≤◌, Bool, true, false, List, [], Option, Some, IfOk, OnOk, OnErr};
+ghost use Rattle.proxy_engine.specs.Marked.{DiffersInRoom};
 
 use crate::endpoints::activities::Activity;
 use crate::endpoints::ends::{Connection, Link};
@@ -26,6 +26,9 @@ pub(crate) trait Endpoint: Drop {
     /// For how many bytes there is room.
     ghost spare: { Self → ℕ };
 
+    /// The bytes that wait there.
+    ghost unread: { Self → List ℕ };
+
     /// Nothing is known of it: it wasn't asked, or found no memory.
     ghost is_unknown: { Self → Bool };
 
@@ -42,9 +45,14 @@ pub(crate) trait Endpoint: Drop {
 
     /// Makes room for so many bytes. An `Err` changes nothing.
     fn reserve(&mut self, n: usize) -> Result<(), AllocError>
-        ensures grows { OnlyGainsRoom LooksLike may_show self.old self.new }
+        ensures grows { DiffersInRoom LooksLike may_show self.old self.new }
         ensures ok { OnOk result (n ≤ spare self.new) }
         ensures err { OnErr result (self.new ≡ self.old) };
+
+    /// Gives back the room that was made, where no byte waits.
+    fn release_room(&mut self, alloc: Global)
+        ensures alike { DiffersInRoom LooksLike may_show self.old self.new }
+        ensures given { unread self.new ≡ [] → spare self.new ≡ 0 };
 
     ghost looks_like_itself: { (x : Self) → LooksLike x x };
 
@@ -67,6 +75,8 @@ impl Endpoint for Connection {
 
     ghost spare = { λ c. c.reader.inner.spare };
 
+    ghost unread = { λ c. c.reader.inner.unread };
+
     ghost is_unknown = { connection_unknown };
 
     fn empty(alloc: Global) -> Self {
@@ -88,6 +98,10 @@ impl Endpoint for Connection {
 
     fn reserve(&mut self, n: usize) -> Result<(), AllocError> {
         self.reader.inner.reserve(n)
+    }
+
+    fn release_room(&mut self, alloc: Global) {
+        self.reader.inner.release_room(alloc)
     }
 
     ghost looks_like_itself = { λ c. record { represents = λ s h. h; gone = refl; activity = refl; load = le_refl _ } };
@@ -116,6 +130,8 @@ impl Endpoint for Link {
 
     ghost spare = { λ k. k.reader.inner.spare };
 
+    ghost unread = { λ k. k.reader.inner.unread };
+
     ghost is_unknown = { link_unknown };
 
     fn empty(alloc: Global) -> Self {
@@ -134,6 +150,10 @@ impl Endpoint for Link {
 
     fn reserve(&mut self, n: usize) -> Result<(), AllocError> {
         self.reader.inner.reserve(n)
+    }
+
+    fn release_room(&mut self, alloc: Global) {
+        self.reader.inner.release_room(alloc)
     }
 
     ghost looks_like_itself = { λ k. record { represents = λ s h. h; connection = refl; load = le_refl _ } };

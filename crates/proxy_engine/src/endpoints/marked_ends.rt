@@ -4,9 +4,9 @@ ghost use Rattle.std.specs.Prelude.{IsOk, IfOk, OnOk, OnErr, MatchOption, slice_
 ghost use Rattle.std.specs.Option.{option_copied, option_copied_mut};
 ghost use Rattle.std.specs.Borrow.{LendsIf, sem};
 ghost use Rattle.proxy_engine.specs.Exhausted.{IsKeptWithFlag};
-ghost use Rattle.proxy_engine.specs.Marked.{item_at, kept_count, OnlyGainsRoom, RelatesAtEachPlace};
+ghost use Rattle.proxy_engine.specs.Marked.{item_at, kept_count, DiffersInRoom, RelatesAtEachPlace};
 ghost use Rattle.proxy_engine.specs.Marked.{NoneHasFlagBelow, NoneHasFlag};
-ghost use Rattle.proxy_engine.specs.Room.{HasSpareBytes, most_bytes_of_read};
+ghost use Rattle.proxy_engine.specs.Room.{HasSpareBytes, RoomIsGivenBack, most_bytes_of_read};
 
 use crate::endpoints::endpoint::Endpoint;
 use crate::endpoints::numbers::Place;
@@ -171,7 +171,7 @@ impl<E: Endpoint> MarkedEnds<E> {
     /// Makes room for one piece of bytes at a place, if the end isn't over.
     pub(crate) fn reserve_bytes(&mut self, place: Place<E::Kind>) -> Result<(), AllocError>
         ensures ok { OnOk result (HasSpareBytes E.spare (item_at self.new.items place) most_bytes_of_read) }
-        ensures grows { RelatesAtEachPlace (OnlyGainsRoom E.LooksLike E.may_show)
+        ensures grows { RelatesAtEachPlace (DiffersInRoom E.LooksLike E.may_show)
             (item_at self.old.items) (item_at self.new.items) }
         ensures length { length self.new.items ≡ length self.old.items }
         ensures room { self.new.has_room ≡ self.old.has_room }
@@ -182,6 +182,21 @@ impl<E: Endpoint> MarkedEnds<E> {
             return Ok(());
         }
         readable_ends::reserve_at(&mut self.ends, key)
+    }
+
+    /// Gives back the room for bytes at a place, if the end isn't over and no byte waits there.
+    pub(crate) fn release_room(&mut self, place: Place<E::Kind>, alloc: Global)
+        ensures given { RoomIsGivenBack E.unread E.spare (item_at self.new.items place) }
+        ensures alike { RelatesAtEachPlace (DiffersInRoom E.LooksLike E.may_show)
+            (item_at self.old.items) (item_at self.new.items) }
+        ensures length { length self.new.items ≡ length self.old.items }
+        ensures room { self.new.has_room ≡ self.old.has_room }
+    {
+        let key = place.key();
+        if key >= self.count {
+            return;
+        }
+        readable_ends::release_at(&mut self.ends, key, alloc);
     }
 
     /// Lets go of the end at a place, which is over.

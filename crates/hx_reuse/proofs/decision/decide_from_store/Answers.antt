@@ -7,10 +7,10 @@ use Rattle.hx_store.specs.Stored.{Stored}
 use Rattle.hx_policy.specs.declared.words.Policy.{Policy}
 use Rattle.hx_store.specs.Shelf.{find_entry, matching_serials, serials_of}
 use Rattle.hx_reuse.specs.declared.decision.Decision.TheVariants.{Hit, Forward}
-use Rattle.hx_reuse.specs.Chosen.{chosen_of, most_recent}
+use Rattle.hx_reuse.specs.Chosen.{chosen_of, most_preferred}
 use Rattle.hx_reuse.specs.declared.rule.ReuseRule.TheVariants.{UriMiss, VaryMiss}
 use Rattle.hx_reuse.specs.Rules.{decision_of, request_rules, reuse_rule_applies}
-use Rattle.hx_reuse.proofs.Latest.{latest_is_the_chosen}
+use Rattle.hx_reuse.proofs.Preferred.{preferred_match_is_chosen}
 use Rattle.hx_reuse.proofs.RuleLemmas.{by_none, by_request, by_rule, by_uri, by_vary, chosen_key, key_held, unheld}
 use Rattle.hx_reuse.proofs.decision.decide_from_store.Goals as goal
 
@@ -25,17 +25,17 @@ missed : (policy : Policy) (caches : policy.caches ≡ true) (es : List Stored) 
 missed policy caches es asked now true h free chosen = by_uri policy caches es asked now free (unheld es asked (ap not h))
 missed policy caches es asked now false h free chosen = by_vary policy caches es asked now free (key_held es asked (ap not h)) chosen
 
-pub returns-in_default-most_recent_of : goal.returns-in_default-most_recent_of
-returns-in_default-most_recent_of g c =
+pub returns-in_default-preferred_among : goal.returns-in_default-preferred_among
+returns-in_default-preferred_among g c =
     let es = g.S.Shelf.entries c.args.shelf.now in
     let asked = c.args.asked.now in
     let free : find (λ r. reuse_rule_applies r c.args.policy es asked c.args.now) request_rules ≡ None =
     sym (c.request_rule.ensures c.args.policy es c.args.now) ∙ c.in_default.is in
     let matching : c.as_slice.result.now ≡ matching_serials asked.target.key asked.fields es = search rules in
     let chosen : chosen_of es asked ≡ None =
-    sym (latest_is_the_chosen es asked c.find_matching.ensures.distinct)
-    ∙ ap (λ ss. most_recent (filter_map (λ s. find_entry s es) ss)) (sym matching)
-    ∙ sym c.most_recent_of.ensures ∙ ap option_copied c.in_default-most_recent_of.is in
+    sym (preferred_match_is_chosen es asked c.find_matching.ensures.distinct)
+    ∙ ap (λ ss. most_preferred (filter_map (λ s. find_entry s es) ss)) (sym matching)
+    ∙ sym c.preferred_among.ensures ∙ ap option_copied c.in_default-preferred_among.is in
     ap (λ r. Forward r None) c.miss_rule.ensures
     ∙ missed c.args.policy c.requires.caches es asked c.args.now _ refl free chosen
 
@@ -46,12 +46,12 @@ returns-in-Some-rule_on g c =
     let free : find (λ r. reuse_rule_applies r c.args.policy es asked c.args.now) request_rules ≡ None =
     sym (c.request_rule.ensures c.args.policy es c.args.now) ∙ c.in_default.is in
     let matching : c.as_slice.result.now ≡ matching_serials asked.target.key asked.fields es = search rules in
-    let chosen : chosen_of es asked ≡ Some c.in-Some-most_recent_of.entry.now =
-    sym (latest_is_the_chosen es asked c.find_matching.ensures.distinct)
-    ∙ ap (λ ss. most_recent (filter_map (λ s. find_entry s es) ss)) (sym matching)
-    ∙ sym c.most_recent_of.ensures ∙ ap option_copied c.in-Some-most_recent_of.is in
+    let chosen : chosen_of es asked ≡ Some c.in-Some-preferred_among.entry.now =
+    sym (preferred_match_is_chosen es asked c.find_matching.ensures.distinct)
+    ∙ ap (λ ss. most_preferred (filter_map (λ s. find_entry s es) ss)) (sym matching)
+    ∙ sym c.preferred_among.ensures ∙ ap option_copied c.in-Some-preferred_among.is in
     ap (λ (e : Stored). Forward c.in-Some-rule_on.rule (Some e.serial)) c.entry.view_is
-    ∙ by_rule c.args.policy c.requires.caches es asked c.args.now free (chosen_key es asked c.in-Some-most_recent_of.entry.now chosen) c.in-Some-most_recent_of.entry.now chosen c.in-Some-rule_on.rule (sym c.in-Some-rule_on.ensures)
+    ∙ by_rule c.args.policy c.requires.caches es asked c.args.now free (chosen_key es asked c.in-Some-preferred_among.entry.now chosen) c.in-Some-preferred_among.entry.now chosen c.in-Some-rule_on.rule (sym c.in-Some-rule_on.ensures)
 
 pub returns : goal.returns
 returns g c =
@@ -60,9 +60,9 @@ returns g c =
     let free : find (λ r. reuse_rule_applies r c.args.policy es asked c.args.now) request_rules ≡ None =
     sym (c.request_rule.ensures c.args.policy es c.args.now) ∙ c.in_default.is in
     let matching : c.as_slice.result.now ≡ matching_serials asked.target.key asked.fields es = search rules in
-    let chosen : chosen_of es asked ≡ Some c.in-Some-most_recent_of.entry.now =
-    sym (latest_is_the_chosen es asked c.find_matching.ensures.distinct)
-    ∙ ap (λ ss. most_recent (filter_map (λ s. find_entry s es) ss)) (sym matching)
-    ∙ sym c.most_recent_of.ensures ∙ ap option_copied c.in-Some-most_recent_of.is in
+    let chosen : chosen_of es asked ≡ Some c.in-Some-preferred_among.entry.now =
+    sym (preferred_match_is_chosen es asked c.find_matching.ensures.distinct)
+    ∙ ap (λ ss. most_preferred (filter_map (λ s. find_entry s es) ss)) (sym matching)
+    ∙ sym c.preferred_among.ensures ∙ ap option_copied c.in-Some-preferred_among.is in
     ap (λ (e : Stored). Hit e.serial) c.entry.view_is
-    ∙ by_none c.args.policy c.requires.caches es asked c.args.now free (chosen_key es asked c.in-Some-most_recent_of.entry.now chosen) c.in-Some-most_recent_of.entry.now chosen (sym c.in-None.ensures)
+    ∙ by_none c.args.policy c.requires.caches es asked c.args.now free (chosen_key es asked c.in-Some-preferred_among.entry.now chosen) c.in-Some-preferred_among.entry.now chosen (sym c.in-None.ensures)

@@ -16,8 +16,9 @@ use Rattle.proxy_core.specs.Replies.{passed_answer_text}
 use Rattle.proxy_core.specs.Outcomes.{forward_text}
 use Rattle.proxy_core.specs.Promises.{outcome_goes_forward}
 use Rattle.proxy_core.specs.Cases.{response_with, cache_control, forwarded_on_miss}
-use Rattle.proxy_core.specs.WrongTraces.{get_a_in_language, get_or_other_request, events_that_revalidate, varies_by_language, edge_table, fresh_for_a_minute, fresh_or_stale_if_error, get_a, get_b, get_c, get_raw, events_that_store_a, events_before_a_wake, post_a, reply_without_store, reply_that_sends_stored}
+use Rattle.proxy_core.specs.WrongTraces.{get_a_in_language, get_or_other_request, events_that_revalidate, varies_by_language, edge_table, fresh_for_a_minute, fresh_or_stale_if_error, get_a, get_b, get_c, get_raw, events_that_store_a, events_that_store_english_and_default, events_before_a_wake, post_a, reply_without_store, reply_that_sends_stored}
 use Rattle.proxy_core.proofs.Refusals.{closes, has_bytes, refuse, uses}
+use Rattle.proxy_core.specs.WrongTraces.{delete_a, response_304}
 use Rattle.proxy_core.proofs.laws.headline_cases.the_headline_refuses_what_may_not_be_sent.Goals as goal
 
 pub returns-clause-stale : goal.returns-clause-stale
@@ -28,6 +29,14 @@ pub returns-clause-another_variant : goal.returns-clause-another_variant
 unfolding digits httpdate_on_literals matches_line verdict_of policy_of decision_of reuse_rule_of storage_rule_of forwarded_of part_holding_day freshened_of error_rule_on
 returns-clause-another_variant c = refuse (Answer 101 1 varies_by_language ∷ Arrive 100 1 (get_a_in_language (codes "de")) ∷ []) (Arrive 110 2 (get_a_in_language (codes "en"))) (reply_that_sends_stored 1 (codes "x")) (uses 1) refl refl refl
 
+pub returns-clause-default_that_hides_a_variant : goal.returns-clause-default_that_hides_a_variant
+unfolding digits httpdate_on_literals matches_line verdict_of policy_of decision_of reuse_rule_of storage_rule_of forwarded_of part_holding_day freshened_of error_rule_on
+returns-clause-default_that_hides_a_variant c = refuse events_that_store_english_and_default (Arrive 120 3 (get_a_in_language (codes "en"))) (reply_that_sends_stored 2 (codes "x")) (uses 2) refl refl refl
+
+pub returns-clause-variant_of_no_such_request : goal.returns-clause-variant_of_no_such_request
+unfolding digits httpdate_on_literals matches_line verdict_of policy_of decision_of reuse_rule_of storage_rule_of forwarded_of part_holding_day freshened_of error_rule_on
+returns-clause-variant_of_no_such_request c = refuse events_that_store_english_and_default (Arrive 120 3 (get_a_in_language (codes "de"))) (reply_that_sends_stored 1 (codes "x")) (uses 1) refl refl refl
+
 pub returns-clause-another_key : goal.returns-clause-another_key
 unfolding digits httpdate_on_literals matches_line verdict_of policy_of decision_of reuse_rule_of storage_rule_of forwarded_of part_holding_day freshened_of error_rule_on
 returns-clause-another_key c = refuse events_that_store_a (Arrive 110 2 get_b) (reply_that_sends_stored 1 (codes "x")) (uses 1) refl refl refl
@@ -35,6 +44,10 @@ returns-clause-another_key c = refuse events_that_store_a (Arrive 110 2 get_b) (
 pub returns-clause-invalidated : goal.returns-clause-invalidated
 unfolding digits httpdate_on_literals matches_line verdict_of policy_of decision_of reuse_rule_of storage_rule_of forwarded_of part_holding_day freshened_of error_rule_on
 returns-clause-invalidated c = refuse (Answer 111 2 (response_with 200 []) ∷ Arrive 110 2 post_a ∷ events_that_store_a) (Arrive 112 3 get_a) (reply_that_sends_stored 1 (codes "x")) (uses 1) refl refl refl
+
+pub returns-clause-invalidated_by_a_304 : goal.returns-clause-invalidated_by_a_304
+unfolding digits httpdate_on_literals matches_line verdict_of policy_of decision_of reuse_rule_of storage_rule_of forwarded_of part_holding_day freshened_of error_rule_on
+returns-clause-invalidated_by_a_304 c = refuse (Answer 111 2 (response_304 []) ∷ Arrive 110 2 delete_a ∷ events_that_store_a) (Arrive 112 3 get_a) (reply_that_sends_stored 1 (codes "x")) (uses 1) refl refl refl
 
 pub returns-clause-crowded_out : goal.returns-clause-crowded_out
 unfolding digits httpdate_on_literals matches_line verdict_of policy_of decision_of reuse_rule_of storage_rule_of forwarded_of part_holding_day freshened_of error_rule_on

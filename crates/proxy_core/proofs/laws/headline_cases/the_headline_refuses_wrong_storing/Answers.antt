@@ -14,6 +14,7 @@ use Rattle.proxy_core.specs.declared.event.Event.TheVariants.{Answer, Arrive}
 use Rattle.proxy_core.specs.Cases.{response_with, cache_control, etag_field}
 use Rattle.proxy_core.specs.WrongTraces.{get_or_other_request, events_that_revalidate, fresh_for_a_minute, get_a, get_b, get_raw, events_that_store_a, response_304, post_a, reply_that_stores, reply_that_sends_stored}
 use Rattle.proxy_core.proofs.Refusals.{refuse, removes_none, stores, stores_as}
+use Rattle.proxy_core.specs.WrongTraces.{delete_a}
 use Rattle.proxy_core.proofs.laws.headline_cases.the_headline_refuses_wrong_storing.Goals as goal
 
 pub returns-clause-private : goal.returns-clause-private
@@ -59,6 +60,10 @@ returns-clause-replaced_stays c = refuse events_that_revalidate (Answer 201 2 fr
 pub returns-clause-invalidated_stays : goal.returns-clause-invalidated_stays
 unfolding digits httpdate_on_literals matches_line verdict_of policy_of decision_of reuse_rule_of storage_rule_of forwarded_of part_holding_day freshened_of error_rule_on
 returns-clause-invalidated_stays c = refuse (Arrive 110 2 post_a ∷ events_that_store_a) (Answer 111 2 (response_with 200 [])) (reply_that_stores [] None []) removes_none refl refl refl
+
+pub returns-clause-invalidated_by_a_304_stays : goal.returns-clause-invalidated_by_a_304_stays
+unfolding digits httpdate_on_literals matches_line verdict_of policy_of decision_of reuse_rule_of storage_rule_of forwarded_of part_holding_day freshened_of error_rule_on
+returns-clause-invalidated_by_a_304_stays c = refuse (Arrive 110 2 delete_a ∷ events_that_store_a) (Answer 111 2 (response_304 [])) (reply_that_stores [] None []) removes_none refl refl refl
 
 pub returns-clause-another_goes : goal.returns-clause-another_goes
 unfolding digits httpdate_on_literals matches_line verdict_of policy_of decision_of reuse_rule_of storage_rule_of forwarded_of part_holding_day freshened_of error_rule_on

@@ -1,5 +1,5 @@
 use Rattle.std.proofs.Common.{sym, subst, ◌∙◌}
-use Rattle.proxy_core.proofs.Gets.{LeadersLeft, leaders, none_leads, not_open, not_leading, it_leads}
+use Rattle.proxy_core.proofs.AskedArrivals.{LeadersLeft, leaders, none_leads, not_open, not_leading, it_leads}
 use Rattle.proxy_core.proofs.open.exchanges.first_to_lead.Goals as goal
 
 pub loop-arrival-init : goal.loop-arrival-init

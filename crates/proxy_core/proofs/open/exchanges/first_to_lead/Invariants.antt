@@ -1,4 +1,4 @@
-use Rattle.proxy_core.proofs.Gets.{LeadersLeft}
+use Rattle.proxy_core.proofs.AskedArrivals.{LeadersLeft}
 use Rattle.proxy_core.proofs.open.exchanges.first_to_lead.Given as goal
 
 -- those that lead are still to come

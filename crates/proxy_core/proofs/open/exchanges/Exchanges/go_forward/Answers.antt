@@ -6,8 +6,8 @@ use Rattle.std.specs.Map.{values_of}
 use Rattle.proxy_core.specs.declared.open.exchange.Exchange.{Exchange}
 use Rattle.proxy_core.specs.State.{exchange_forwarded_again}
 use Rattle.proxy_core.specs.Leading.{is_forwarded}
-use Rattle.proxy_core.proofs.Gets as gets
-use Rattle.proxy_core.proofs.Gets.{gets-on_all, gone_out-asked}
+use Rattle.proxy_core.specs.ByKey.{TellsAllByKey}
+use Rattle.proxy_core.proofs.AskedArrivals.{asked-on_all, gone_out-asked}
 use Rattle.proxy_core.specs.Releases.{may_be_released, ReleasedArrivalsPass}
 use Rattle.proxy_core.proofs.Releases.{pass-changed, released-gone}
 use Rattle.proxy_core.proofs.Waiters.{AllIndexed, waiters-written}
@@ -42,9 +42,9 @@ invariant_of-self c =
             (ap (λ (x : Exchange). is_forwarded x.stage) c.go_forward.ensures) c.leave.ensures.left c.self.invariant.indexes.waiters);
       };
       releases = c.settle.ensures.settled;
-      asking = subst (gets.AllIndexed s.gets) (sym is) (gets-on_all (exchange_forwarded_again c.args.id c.args.now) (gone_out-asked c.args.id c.args.now) s.by_arrival.entries s.gets c.self.invariant.asking);
+      asking = subst (TellsAllByKey s.by_key) (sym is) (asked-on_all (exchange_forwarded_again c.args.id c.args.now) (gone_out-asked c.args.id c.args.now) s.by_arrival.entries s.by_key c.self.invariant.asking);
       trim_waits = c.leave.ensures.trim c.self.invariant.trim_waits;
-      trim_gets = c.self.invariant.trim_gets;
+      trim_keys = c.self.invariant.trim_keys;
     }
 
 pub returns-in-Some-get_mut : goal.returns-in-Some-get_mut

@@ -5,7 +5,8 @@ use Rattle.std.specs.Map.{values_of}
 use Rattle.proxy_core.specs.declared.open.exchange.Exchange.{Exchange}
 use Rattle.proxy_core.specs.Outcomes.{find_exchange}
 use Rattle.proxy_core.specs.Arrivals.{IndexesMatchExchanges}
-use Rattle.proxy_core.proofs.Gets.{AllIndexed, gets-entered, gets-again, gets-not}
+use Rattle.proxy_core.specs.ByKey.{TellsAllByKey}
+use Rattle.proxy_core.proofs.AskedArrivals.{asked-entered, asked-again, asked-not}
 use Rattle.proxy_core.specs.Waiters.{is_in_wait_index}
 use Rattle.proxy_core.specs.Releases.{may_be_released, ReleasedArrivalsPass}
 use Rattle.proxy_core.specs.ExchangeIndexes.{IndexesAreRight}
@@ -20,7 +21,7 @@ enter-requires-clause-waits_not c =
 
 pub enter-requires-clause-asks_not : goal.enter-requires-clause-asks_not
 enter-requires-clause-asks_not c =
-    gets-not c.in_ok-arrival.arrival c.self.inside.by_arrival.entries c.self.inside.gets c.in_ok-arrival.ensures c.self.invariant.asking
+    asked-not c.in_ok-arrival.arrival c.self.inside.by_arrival.entries c.self.inside.by_key c.in_ok-arrival.ensures c.self.invariant.asking
 
 pub settle-requires : goal.settle-requires
 settle-requires c =
@@ -43,10 +44,10 @@ invariant_of-self-in-Ok c =
             waiters = waiters-entered n x es s.waiting c.enter.new.waiting c.in_ok-arrival.ensures c.in-Ok.ensures.entered i.waiters;
           });
       releases = c.settle.ensures.settled;
-      asking = subst (AllIndexed c.enter.new.gets) (sym c.in-Ok.ensures.ok)
-          (gets-entered n x es s.gets c.enter.new.gets c.in_ok-arrival.ensures c.in-Ok.ensures.asks c.self.invariant.asking);
+      asking = subst (TellsAllByKey c.enter.new.by_key) (sym c.in-Ok.ensures.ok)
+          (asked-entered n x es s.by_key c.enter.new.by_key c.in_ok-arrival.ensures c.in-Ok.ensures.asks c.self.invariant.asking);
       trim_waits = c.enter.ensures.trim_waits c.self.invariant.trim_waits;
-      trim_gets = c.enter.ensures.trim_gets c.self.invariant.trim_gets;
+      trim_keys = c.enter.ensures.trim_keys c.self.invariant.trim_keys;
     }
 
 pub invariant_of-self-in-Err : goal.invariant_of-self-in-Err
@@ -57,7 +58,7 @@ invariant_of-self-in-Err c =
     let n = c.in_ok-arrival.arrival in
     let i = c.self.invariant.indexes in
     let free : find_exchange x.id (values_of es) ≡ None = ap (find_exchange x.id) c.self.view_is ∙ c.requires in
-    subst (λ (zs : List (ℕ × Exchange)). IndexesAreRight zs (λ id. get nat_cmp c.remove.new.self id) c.enter.new.waiting s.released c.enter.new.gets) (sym c.in-Err.ensures.err)
+    subst (λ (zs : List (ℕ × Exchange)). IndexesAreRight zs (λ id. get nat_cmp c.remove.new.self id) c.enter.new.waiting s.released c.enter.new.by_key) (sym c.in-Err.ensures.err)
     (record {
       indexes = record {
         ids = indexed_again x.id n es (λ id. get nat_cmp s.arrivals id) (λ id. get nat_cmp c.insert.new.self id) (λ id. get nat_cmp c.remove.new.self id) i.ids free
@@ -65,7 +66,7 @@ invariant_of-self-in-Err c =
         waiters = waiters-again es s.waiting c.enter.new.waiting c.in-Err.ensures.left i.waiters;
       };
       releases = c.self.invariant.releases;
-      asking = gets-again es s.gets c.enter.new.gets c.in-Err.ensures.asks_no_more c.self.invariant.asking;
+      asking = asked-again es s.by_key c.enter.new.by_key c.in-Err.ensures.asks_no_more c.self.invariant.asking;
       trim_waits = c.enter.ensures.trim_waits c.self.invariant.trim_waits;
-      trim_gets = c.enter.ensures.trim_gets c.self.invariant.trim_gets;
+      trim_keys = c.enter.ensures.trim_keys c.self.invariant.trim_keys;
     })

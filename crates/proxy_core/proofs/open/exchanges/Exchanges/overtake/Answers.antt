@@ -1,12 +1,14 @@
-use Rattle.std.proofs.Common.{ap, sym, ◌∙◌, subst, List, ℕ, map}
+use Rattle.std.proofs.Common.{◌≡◌, ap, sym, ◌∙◌, subst, List, ℕ, map}
 use Rattle.std.specs.Ordering.{nat_cmp}
 use Rattle.std.specs.BTreeMap.{get}
 use Rattle.std.specs.Map.{values_of}
 use Rattle.proxy_core.specs.declared.open.exchange.Exchange.{Exchange}
 use Rattle.proxy_core.specs.State.{overtaken_exchange}
-use Rattle.proxy_core.proofs.Gets.{AllIndexed, gets-on_all, overtake-asked}
+use Rattle.proxy_core.specs.ByKey.{TellsAllByKey}
+use Rattle.proxy_core.proofs.AskedArrivals.{asked-on_all, overtake-asked}
 use Rattle.proxy_core.specs.Waiters.{is_in_wait_index}
 use Rattle.proxy_core.specs.Releases.{may_be_released, ReleasedArrivalsPass}
+use Rattle.proxy_core.proofs.Overtaking.{all_overtaken}
 use Rattle.proxy_core.proofs.Releases.{pass-changed, released-overtaken}
 use Rattle.proxy_core.proofs.Waiters.{waiters-on_all, overtake-stage}
 use Rattle.proxy_core.specs.Arrivals.{IndexesMatchExchanges}
@@ -17,25 +19,29 @@ use Rattle.proxy_core.proofs.open.exchanges.Exchanges.overtake.Goals as goal
 pub settle-requires : goal.settle-requires
 settle-requires c =
     let s = c.self.inside in
-    subst (ReleasedArrivalsPass (may_be_released s.released)) (sym c.overtake_each.ensures)
+    let is = all_overtaken c.args.key.now s.by_key s.by_arrival.entries c.overtake_indexed.new.by_arrival.entries c.overtake_indexed-2.new.by_arrival.entries c.self.invariant.indexes.ids.apart c.self.invariant.asking c.overtake_indexed.ensures c.overtake_indexed-2.ensures in
+    subst (ReleasedArrivalsPass (may_be_released s.released)) (sym is)
     (pass-changed (may_be_released s.released) (overtaken_exchange c.args.key.now) (released-overtaken c.args.key.now) s.by_arrival.entries c.self.invariant.releases.within)
 
 pub invariant_of-self : goal.invariant_of-self
 invariant_of-self c =
     let s = c.self.inside in
+    let is = all_overtaken c.args.key.now s.by_key s.by_arrival.entries c.overtake_indexed.new.by_arrival.entries c.overtake_indexed-2.new.by_arrival.entries c.self.invariant.indexes.ids.apart c.self.invariant.asking c.overtake_indexed.ensures c.overtake_indexed-2.ensures in
     record {
-      indexes = subst (λ (zs : List (ℕ × Exchange)). IndexesMatchExchanges zs (λ id. get nat_cmp s.arrivals id) (is_in_wait_index s.waiting)) (sym c.overtake_each.ensures)
+      indexes = subst (λ (zs : List (ℕ × Exchange)). IndexesMatchExchanges zs (λ id. get nat_cmp s.arrivals id) (is_in_wait_index s.waiting)) (sym is)
           (record {
             ids = indexed_on_all (overtaken_exchange c.args.key.now) (overtake-id c.args.key.now) s.by_arrival.entries _ c.self.invariant.indexes.ids;
             waiters = waiters-on_all (overtaken_exchange c.args.key.now) (overtake-stage c.args.key.now) s.by_arrival.entries s.waiting c.self.invariant.indexes.waiters;
           });
       releases = c.settle.ensures.settled;
-      asking = subst (AllIndexed s.gets) (sym c.overtake_each.ensures)
-          (gets-on_all (overtaken_exchange c.args.key.now) (overtake-asked c.args.key.now) s.by_arrival.entries s.gets c.self.invariant.asking);
+      asking = subst (TellsAllByKey s.by_key) (sym is)
+          (asked-on_all (overtaken_exchange c.args.key.now) (overtake-asked c.args.key.now) s.by_arrival.entries s.by_key c.self.invariant.asking);
       trim_waits = c.self.invariant.trim_waits;
-      trim_gets = c.self.invariant.trim_gets;
+      trim_keys = c.self.invariant.trim_keys;
     }
 
 pub returns : goal.returns
 returns c =
-    ap values_of c.overtake_each.ensures ∙ (values_on_all (overtaken_exchange c.args.key.now) c.self.inside.by_arrival.entries ∙ ap (map (overtaken_exchange c.args.key.now)) c.self.view_is)
+    let s = c.self.inside in
+    let is = all_overtaken c.args.key.now s.by_key s.by_arrival.entries c.overtake_indexed.new.by_arrival.entries c.overtake_indexed-2.new.by_arrival.entries c.self.invariant.indexes.ids.apart c.self.invariant.asking c.overtake_indexed.ensures c.overtake_indexed-2.ensures in
+    ap values_of is ∙ (values_on_all (overtaken_exchange c.args.key.now) c.self.inside.by_arrival.entries ∙ ap (map (overtaken_exchange c.args.key.now)) c.self.view_is)

@@ -7,7 +7,8 @@ use Rattle.proxy_core.specs.Leading.{waits_for}
 use Rattle.proxy_core.specs.State.{released_exchange}
 use Rattle.proxy_core.specs.Arrivals.{map_exchanges, IndexesMatchExchanges}
 use Rattle.std.specs.BTreeSet.{contains}
-use Rattle.proxy_core.proofs.Gets.{AllIndexed, gets-on_all, release-asked}
+use Rattle.proxy_core.specs.ByKey.{TellsAllByKey}
+use Rattle.proxy_core.proofs.AskedArrivals.{asked-on_all, release-asked}
 use Rattle.proxy_core.specs.Waiters.{is_in_wait_index}
 use Rattle.proxy_core.specs.Releases.{may_be_released, ReleasedArrivalsPass}
 use Rattle.proxy_core.proofs.Releases.{pass-freed}
@@ -44,9 +45,9 @@ invariant_of-self c =
             waiters = waiters-released q s.by_arrival.entries s.waiting c.take.new.self c.take.ensures.emptied c.self.invariant.indexes.waiters;
           });
       releases = c.settle.ensures.settled;
-      asking = subst (AllIndexed s.gets) (sym c.release_each.ensures) (gets-on_all (released_exchange q) (release-asked q) s.by_arrival.entries s.gets c.self.invariant.asking);
+      asking = subst (TellsAllByKey s.by_key) (sym c.release_each.ensures) (asked-on_all (released_exchange q) (release-asked q) s.by_arrival.entries s.by_key c.self.invariant.asking);
       trim_waits = c.take.ensures.trim c.self.invariant.trim_waits;
-      trim_gets = c.self.invariant.trim_gets;
+      trim_keys = c.self.invariant.trim_keys;
     }
 
 -- none waits for it
@@ -69,7 +70,7 @@ invariant_of-self-in_default c =
       releases = c.self.invariant.releases;
       asking = c.self.invariant.asking;
       trim_waits = c.take.ensures.trim c.self.invariant.trim_waits;
-      trim_gets = c.self.invariant.trim_gets;
+      trim_keys = c.self.invariant.trim_keys;
     }
 
 pub returns-in-Some : goal.returns-in-Some

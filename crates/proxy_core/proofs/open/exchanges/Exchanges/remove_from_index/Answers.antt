@@ -5,7 +5,8 @@ use Rattle.std.specs.BTreeMap.{get, is_at}
 use Rattle.std.specs.Map.{lookup, values_of}
 use Rattle.proxy_core.specs.declared.open.exchange.Exchange.{Exchange}
 use Rattle.proxy_core.specs.Arrivals.{IndexesMatchExchanges, IsIdIndexOf, arrival_of}
-use Rattle.proxy_core.proofs.Gets.{AllIndexed, gets-closed}
+use Rattle.proxy_core.specs.ByKey.{TellsAllByKey}
+use Rattle.proxy_core.proofs.AskedArrivals.{asked-closed}
 use Rattle.proxy_core.specs.Waiters.{is_in_wait_index}
 use Rattle.proxy_core.specs.Releases.{may_be_released, ReleasedArrivalsPass}
 use Rattle.proxy_core.proofs.Releases.{pass-closed}
@@ -40,10 +41,10 @@ invariant_of-self c =
             waiters = waiters-closed c.in-Some.arrival x.0 es s.waiting c.remove-in-Some.new.waiting i.ids.apart x.1 (c.remove-in-Some.ensures.left x.0 x.1) i.waiters;
           });
       releases = c.settle.ensures.settled;
-      asking = subst (AllIndexed c.remove-in-Some.new.gets) (sym c.remove-in-Some.ensures.entries)
-          (gets-closed c.in-Some.arrival x.0 es s.gets c.remove-in-Some.new.gets i.ids.apart x.1 (c.remove-in-Some.ensures.asks_no_more x.0 x.1) c.self.invariant.asking);
+      asking = subst (TellsAllByKey c.remove-in-Some.new.by_key) (sym c.remove-in-Some.ensures.entries)
+          (asked-closed c.in-Some.arrival x.0 es s.by_key c.remove-in-Some.new.by_key i.ids.apart x.1 (c.remove-in-Some.ensures.asks_no_more x.0 x.1) c.self.invariant.asking);
       trim_waits = c.remove-in-Some.ensures.trim_waits c.self.invariant.trim_waits;
-      trim_gets = c.remove-in-Some.ensures.trim_gets c.self.invariant.trim_gets;
+      trim_keys = c.remove-in-Some.ensures.trim_keys c.self.invariant.trim_keys;
     }
 
 pub returns-in-Some : goal.returns-in-Some

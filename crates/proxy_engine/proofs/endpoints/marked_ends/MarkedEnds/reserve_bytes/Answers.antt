@@ -3,7 +3,7 @@ use Rattle.std.specs.Ordering.{nat_cmp}
 use Rattle.std.specs.BTreeMap.{get}
 use Rattle.proxy_engine.specs.ReadyList.{entries_below}
 use Rattle.proxy_engine.specs.Room.{HasSpareBytes, most_bytes_of_read}
-use Rattle.proxy_engine.specs.Marked.{EndList, item_at, OnlyGainsRoom, RelatesAtEachPlace}
+use Rattle.proxy_engine.specs.Marked.{EndList, item_at, DiffersInRoom, RelatesAtEachPlace}
 use Rattle.proxy_engine.proofs.Keeping.{listed_at, listed_same, listed_length}
 use Rattle.proxy_engine.proofs.Marking.{marked_alike, alike_some, alike_refl, same_list, none_alike}
 use Rattle.proxy_engine.proofs.Finding.{alike_listed}
@@ -13,7 +13,7 @@ use Rattle.proxy_engine.proofs.endpoints.marked_ends.MarkedEnds.reserve_bytes.Go
 
 pub invariant_of-self : goal.invariant_of-self
 invariant_of-self g c =
-    let grows = OnlyGainsRoom g.E.Endpoint.LooksLike g.E.Endpoint.may_show in
+    let grows = DiffersInRoom g.E.Endpoint.LooksLike g.E.Endpoint.may_show in
     let m = get nat_cmp c.self.inside.ends in
     let k = get nat_cmp c.reserve_at.new.ends in
     let size = c.reserve_at.ensures.size in (
@@ -29,7 +29,7 @@ returns-then-key-self-clause-ok g c =
     rw (← c.key-key.ensures) (subst (λ o. HasSpareBytes g.E.Endpoint.spare o most_bytes_of_read) (sym (beyond c.args.self.now.items c.key-key.result (omega (arith, len, listed_length c.self.inside.ends c.self.inside.count, c.if-key-self.true)))) tt)
 
 pub returns-then-key-self-clause-grows : goal.returns-then-key-self-clause-grows
-returns-then-key-self-clause-grows g c = alike_refl (OnlyGainsRoom g.E.Endpoint.LooksLike g.E.Endpoint.may_show) (λ x. record { alike = g.met.E.Endpoint.looks_like_itself x; shows = refl }) _
+returns-then-key-self-clause-grows g c = alike_refl (DiffersInRoom g.E.Endpoint.LooksLike g.E.Endpoint.may_show) (λ x. record { alike = g.met.E.Endpoint.looks_like_itself x; shows = refl }) _
 
 pub returns-clause-ok : goal.returns-clause-ok
 returns-clause-ok g c = rw (← c.key-key.ensures) (
@@ -39,7 +39,7 @@ returns-clause-ok g c = rw (← c.key-key.ensures) (
 
 pub returns-clause-grows : goal.returns-clause-grows
 returns-clause-grows g c =
-    let grows = OnlyGainsRoom g.E.Endpoint.LooksLike g.E.Endpoint.may_show in
+    let grows = DiffersInRoom g.E.Endpoint.LooksLike g.E.Endpoint.may_show in
     subst (λ (v : EndList g.row.E.Denot). RelatesAtEachPlace grows (item_at v.items) (item_at (entries_below c.reserve_at.new.ends c.self.inside.count))) c.self.view_is
     (alike_listed grows c.self.inside.ends c.reserve_at.new.ends c.self.inside.count c.reserve_at.ensures.grows)
 

@@ -1,0 +1,9 @@
+pub mod AcceptCounts
+pub mod Asked
+pub mod Counts
+pub mod EndingCounts
+pub mod Origins
+pub mod Page
+pub mod Sorts
+pub mod Times
+pub mod TurnCounts

@@ -1,0 +1,75 @@
+-- What is counted of an origin, and whether a link to it may be begun.
+--
+-- is_silent, is_crowded: of an origin
+-- admission_of, admission_where_known: whether a further link may be begun
+-- origin_with_admission, origin_with_answer, origin_with_written, origin_heard: an origin, with one thing more counted
+-- origin_with_link, origin_without_link, origin_silent_once_more: where a link is begun, has ended, or had no answer
+-- name_of_origin: its name, empty where there is none
+use Rattle.std.specs.Prelude.{ℕ, ◌-◌, ◌/◌, nat_le, Bool, true, false, not, ◌||◌, if◌then◌else◌, List, [], Option, None}
+use Rattle.std.specs.Prelude.{Some, string_bytes}
+use Rattle.proxy_figures.specs.Counts.{count_plus_one, count_plus, counts_with_one_more}
+use Rattle.proxy_figures.specs.declared.limits.TheConstants.{SILENT_EXCHANGES}
+use Rattle.proxy_figures.specs.declared.origins.Admission.{Admission}
+use Rattle.proxy_figures.specs.declared.origins.Admission.TheVariants.{Yes, AsProbe, No}
+use Rattle.proxy_figures.specs.declared.origins.Origin.{Origin}
+
+-- so many exchanges in a row were timed out, or couldn't connect
+abbrev pub is_silent : Origin → Bool
+is_silent origin = nat_le SILENT_EXCHANGES origin.silences
+
+-- seven eighths of the links that may be open are
+abbrev pub is_crowded : ℕ → Origin → Bool
+is_crowded most origin = nat_le (most - most / 8) origin.open
+
+-- No link beyond as many as may be open; where silent origins are asked by one request at a time, one that asks.
+abbrev pub admission_of : ℕ → Bool → Origin → Admission
+admission_of most probes origin =
+    if nat_le most origin.open then No
+    else if not probes || not (is_silent origin) then Yes
+    else if origin.is_probed then No else AsProbe
+
+abbrev pub admission_where_known : ℕ → Bool → Option Origin → Admission
+admission_where_known most probes None = No
+admission_where_known most probes (Some origin) = admission_of most probes origin
+
+-- a refusal is counted by its cause
+abbrev pub origin_with_admission : Admission → ℕ → Origin → Origin
+origin_with_admission Yes most origin = origin
+origin_with_admission AsProbe most origin = origin
+origin_with_admission No most origin =
+    if nat_le most origin.open then record origin { beyond_bound = count_plus_one origin.beyond_bound }
+    else record origin { while_silent = count_plus_one origin.while_silent }
+
+-- an answer counts by the hundred of its status
+abbrev pub origin_with_answer : ℕ → Origin → Origin
+origin_with_answer status origin = record origin { answers = counts_with_one_more origin.answers (status / 100 - 2) }
+
+abbrev pub origin_with_written : ℕ → Origin → Origin
+origin_with_written written origin = record origin { written = count_plus origin.written written }
+
+-- bytes came: it isn't silent
+abbrev pub origin_heard : ℕ → Origin → Origin
+origin_heard count origin = record origin { silences = 0; received = count_plus origin.received count }
+
+-- a link is begun, and has ended after so many milliseconds; one that isn't admitted is none
+abbrev pub origin_with_link : Admission → Origin → Origin
+origin_with_link No origin = origin
+origin_with_link Yes origin =
+    record origin { begun = count_plus_one origin.begun; «open» = count_plus_one origin.open }
+origin_with_link AsProbe origin =
+    record origin { begun = count_plus_one origin.begun; «open» = count_plus_one origin.open; is_probed = true }
+
+abbrev pub origin_without_link : Admission → ℕ → Origin → Origin
+origin_without_link No lasted origin = origin
+origin_without_link Yes lasted origin =
+    record origin { «open» = origin.open - 1; lasted = count_plus origin.lasted lasted }
+origin_without_link AsProbe lasted origin =
+    record origin { «open» = origin.open - 1; lasted = count_plus origin.lasted lasted; is_probed = false }
+
+-- an exchange was timed out, or couldn't connect
+abbrev pub origin_silent_once_more : Origin → Origin
+origin_silent_once_more origin = record origin { silences = count_plus_one origin.silences }
+
+abbrev pub name_of_origin : Option Origin → List ℕ
+name_of_origin None = []
+name_of_origin (Some origin) = string_bytes origin.name

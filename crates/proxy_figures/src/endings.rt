@@ -1,0 +1,101 @@
+//! How connections of clients ended that had not come to their end, and how many bytes have come and gone.
+ghost use Rattle.std.specs.Prelude.{◌≡◌};
+ghost use Rattle.proxy_figures.specs.EndingCounts.{endings_with_cut, endings_with_lateness};
+ghost use Rattle.proxy_figures.specs.EndingCounts.{endings_with_received, endings_with_written};
+
+use crate::counts::{count_plus, count_plus_one};
+
+/// Why a connection is closed early.
+#[derive(Clone, Copy, Debug, PartialEq, Eq)]
+pub enum CutReason {
+    /// It was idle, and its room is wanted.
+    Room,
+    /// More is held for requests and answers than may be, and the most for this one.
+    Content,
+    Memory,
+}
+
+/// Which time of a client is over.
+#[derive(Clone, Copy, Debug, PartialEq, Eq)]
+pub enum Lateness {
+    /// It was silent.
+    Client,
+    /// Its request isn't whole.
+    Request,
+    /// It has sent its end.
+    Abandon,
+}
+
+/// Counts of endings.
+#[derive(Clone, Copy, Debug)]
+pub struct Endings {
+    pub for_room: u64,
+    pub for_content: u64,
+    pub for_memory: u64,
+    pub client_timeouts: u64,
+    pub request_timeouts: u64,
+    pub abandon_timeouts: u64,
+    /// Bytes that have come from clients, and that the system has taken for them.
+    pub received: u64,
+    pub written: u64,
+}
+
+impl Endings {
+    pub fn new() -> Endings
+        ensures { result ≡ record {
+          for_room = 0;
+          for_content = 0;
+          for_memory = 0;
+          client_timeouts = 0;
+          request_timeouts = 0;
+          abandon_timeouts = 0;
+          received = 0;
+          written = 0;
+        } }
+    {
+        Endings {
+            for_room: 0,
+            for_content: 0,
+            for_memory: 0,
+            client_timeouts: 0,
+            request_timeouts: 0,
+            abandon_timeouts: 0,
+            received: 0,
+            written: 0,
+        }
+    }
+
+    pub fn count_cut(&mut self, cut: CutReason)
+        ensures { self.new ≡ endings_with_cut self.old cut }
+    {
+        match cut {
+            CutReason::Room => self.for_room = count_plus_one(self.for_room),
+            CutReason::Content => self.for_content = count_plus_one(self.for_content),
+            CutReason::Memory => self.for_memory = count_plus_one(self.for_memory),
+        }
+    }
+
+    pub fn count_lateness(&mut self, lateness: Lateness)
+        ensures { self.new ≡ endings_with_lateness self.old lateness }
+    {
+        match lateness {
+            Lateness::Client => self.client_timeouts = count_plus_one(self.client_timeouts),
+            Lateness::Request => self.request_timeouts = count_plus_one(self.request_timeouts),
+            Lateness::Abandon => self.abandon_timeouts = count_plus_one(self.abandon_timeouts),
+        }
+    }
+
+    /// So many bytes came from a client.
+    pub fn add_received(&mut self, count: u64)
+        ensures { self.new ≡ endings_with_received self.old count }
+    {
+        self.received = count_plus(self.received, count);
+    }
+
+    /// The system has taken so many bytes for a client.
+    pub fn add_written(&mut self, count: u64)
+        ensures { self.new ≡ endings_with_written self.old count }
+    {
+        self.written = count_plus(self.written, count);
+    }
+}

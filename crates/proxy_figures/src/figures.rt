@@ -1,0 +1,576 @@
+//! The page of figures: what a server counts and holds, in Prometheus' text format.
+//!
+//! A label's value is of a closed list, a status, or the address of an origin in the operator's table.
+
+use crate::accept_counts::AcceptCounts;
+use crate::counted_shelf::StoreCounts;
+use crate::endings::Endings;
+use crate::link_timeouts::LinkTimeouts;
+use crate::origins::{FAILURE_KINDS, Origin, Origins, STATUS_CLASSES};
+use crate::page::{Kind, Page};
+use crate::reply_counts::{FIRST_STATUS, ReplyCounts, ReplyTimes, STATUSES, TIME_BOUNDS};
+use crate::sorts::{ALL_CAUSES, ALL_DETAILS, ALL_REASONS, Detail, Reason};
+use crate::turn_counts::Turns;
+use itoa::Buffer;
+use std::alloc::{AllocError, Global};
+
+/// What a server can't know of itself.
+#[derive(Clone, Copy)]
+pub struct ServerFacts<'a> {
+    pub version: &'a str,
+    /// The commit that the program was built from; empty where that isn't known.
+    pub commit: &'a str,
+    /// When it began, in milliseconds since 1970.
+    pub began: u64,
+    /// The most responses that are stored.
+    pub capacity: u64,
+    /// What the store counts.
+    pub store: &'a StoreCounts,
+    /// Lines of the log that couldn't be written.
+    pub lost_lines: u64,
+}
+
+/// Connections of clients.
+#[derive(Clone, Copy)]
+pub struct ClientFigures<'a> {
+    /// How many are open, and how many of those that were closed still wait for their clients.
+    pub open: usize,
+    pub closing: usize,
+    /// The most that are open.
+    pub limit: usize,
+    pub accepts: &'a AcceptCounts,
+    pub endings: &'a Endings,
+    /// Bytes of replies that wait for clients.
+    pub unsent: usize,
+}
+
+/// Links to origins.
+#[derive(Clone, Copy)]
+pub struct LinkFigures<'a> {
+    pub timeouts: &'a LinkTimeouts,
+    pub origins: &'a Origins,
+    /// For how many milliseconds the oldest is open; 0 where there is none.
+    pub oldest: u64,
+}
+
+/// Whether what happens is recorded.
+#[derive(Clone, Copy, Debug, PartialEq, Eq)]
+pub enum RecordState {
+    NoRecord,
+    Writing,
+    /// The record has ended before the limit of a script.
+    Ended,
+}
+
+/// What a server counts and holds.
+#[derive(Clone, Copy)]
+pub struct Figures<'a> {
+    pub about: &'a ServerFacts<'a>,
+    /// The address that it listens on.
+    pub listen: &'a str,
+    /// When the page is written, in milliseconds since 1970.
+    pub now: u64,
+    pub turns: &'a Turns,
+    pub is_draining: bool,
+    /// Replies, where they are counted.
+    pub replies: Option<&'a ReplyCounts>,
+    pub clients: ClientFigures<'a>,
+    pub links: LinkFigures<'a>,
+    /// Bytes of requests and answers in progress, and of replies that wait for clients; and the most of them.
+    pub held: usize,
+    pub held_limit: usize,
+    /// Lines of the log that were made.
+    pub log_lines: u64,
+    pub record: RecordState,
+}
+
+fn push_server_facts(
+    page: &mut Page<'_>,
+    about: &ServerFacts<'_>,
+    now: u64,
+) -> Result<(), AllocError> {
+    page.family("revcache_build_info", Kind::Gauge, "The program that runs.")?;
+    page.sample_with_two_labels(
+        "revcache_build_info",
+        ("version", about.version),
+        ("commit", about.commit),
+        1,
+    )?;
+    page.family(
+        "revcache_start_time_seconds",
+        Kind::Gauge,
+        "When the server began, in Unix seconds.",
+    )?;
+    page.time("revcache_start_time_seconds", about.began)?;
+    page.family(
+        "revcache_stats_time_seconds",
+        Kind::Gauge,
+        "When this page was written, in Unix seconds.",
+    )?;
+    page.time("revcache_stats_time_seconds", now)?;
+    push_store(page, about)
+}
+
+fn push_store(page: &mut Page<'_>, about: &ServerFacts<'_>) -> Result<(), AllocError> {
+    page.single_sample_family(
+        "revcache_store_capacity_responses",
+        Kind::Gauge,
+        "The most responses that are stored.",
+        about.capacity,
+    )?;
+    page.single_sample_family(
+        "revcache_store_responses",
+        Kind::Gauge,
+        "Responses that are stored.",
+        about.store.held(),
+    )?;
+    page.single_sample_family(
+        "revcache_store_evictions_total",
+        Kind::Counter,
+        "Stored responses that went since the store was full.",
+        about.store.evicted(),
+    )?;
+    page.single_sample_family(
+        "revcache_store_removals_total",
+        Kind::Counter,
+        "Stored responses that were replaced, invalidated, or not kept behind a 304.",
+        about.store.removed(),
+    )
+}
+
+fn push_reason(
+    page: &mut Page<'_>,
+    replies: &ReplyCounts,
+    reason: Reason,
+) -> Result<(), AllocError> {
+    for detail in &ALL_DETAILS {
+        let n = replies.with_reason(reason, *detail);
+        if n > 0 || *detail == Detail::Nothing {
+            page.sample_with_two_labels(
+                "revcache_requests_total",
+                ("reason", reason.name()),
+                ("detail", detail.name()),
+                n,
+            )?;
+        }
+    }
+    Ok(())
+}
+
+fn push_reasons(page: &mut Page<'_>, replies: &ReplyCounts) -> Result<(), AllocError> {
+    page.family(
+        "revcache_requests_total",
+        Kind::Counter,
+        "Requests that were answered, by what Cache-Status or Refusal says.",
+    )?;
+    for reason in &ALL_REASONS {
+        push_reason(page, replies, *reason)?;
+    }
+    page.single_sample_family(
+        "revcache_collapsed_requests_total",
+        Kind::Counter,
+        "Requests that waited for the answer to another one and were sent what was stored of it.",
+        replies.collapsed,
+    )?;
+    page.single_sample_family(
+        "revcache_stored_responses_total",
+        Kind::Counter,
+        "Answers of origins that were stored.",
+        replies.stored,
+    )
+}
+
+fn push_statuses(page: &mut Page<'_>, replies: &ReplyCounts) -> Result<(), AllocError> {
+    page.family(
+        "revcache_responses_total",
+        Kind::Counter,
+        "Replies to clients by status.",
+    )?;
+    for i in 0..STATUSES {
+        let status = FIRST_STATUS + i as u16;
+        let n = replies.with_status(status);
+        if n > 0 {
+            let mut digits = Buffer::new();
+            page.sample_with_label("revcache_responses_total", "code", digits.format(status), n)?;
+        }
+    }
+    page.family(
+        "revcache_refusals_total",
+        Kind::Counter,
+        "Replies that the proxy made by itself, by cause.",
+    )?;
+    for cause in &ALL_CAUSES {
+        let n = replies.with_cause(*cause);
+        page.sample_with_label("revcache_refusals_total", "cause", cause.name(), n)?;
+    }
+    Ok(())
+}
+
+fn push_times(page: &mut Page<'_>, source: &str, times: &ReplyTimes) -> Result<(), AllocError> {
+    let mut sum = 0u64;
+    for i in 0..TIME_BOUNDS.len() {
+        sum = sum.saturating_add(times.buckets[i]);
+        page.sample_with_two_labels(
+            "revcache_request_duration_seconds_bucket",
+            ("source", source),
+            ("le", TIME_BOUNDS[i]),
+            sum,
+        )?;
+    }
+    sum = sum.saturating_add(times.buckets[TIME_BOUNDS.len()]);
+    page.sample_with_two_labels(
+        "revcache_request_duration_seconds_bucket",
+        ("source", source),
+        ("le", "+Inf"),
+        sum,
+    )?;
+    page.time_with_label(
+        "revcache_request_duration_seconds_sum",
+        "source",
+        source,
+        times.sum,
+    )?;
+    page.sample_with_label(
+        "revcache_request_duration_seconds_count",
+        "source",
+        source,
+        sum,
+    )
+}
+
+fn push_replies(page: &mut Page<'_>, replies: &ReplyCounts) -> Result<(), AllocError> {
+    push_reasons(page, replies)?;
+    push_statuses(page, replies)?;
+    page.family(
+        "revcache_request_duration_seconds",
+        Kind::Histogram,
+        "From the first byte of a request to the turn in which its reply was written.",
+    )?;
+    push_times(page, "store", &replies.from_store)?;
+    push_times(page, "origin", &replies.from_origin)?;
+    push_times(page, "proxy", &replies.from_proxy)
+}
+
+fn push_endings(page: &mut Page<'_>, endings: &Endings) -> Result<(), AllocError> {
+    let name = "revcache_connections_cut_total";
+    page.family(
+        name,
+        Kind::Counter,
+        "Connections of clients that were closed early, but for time-outs.",
+    )?;
+    page.sample_with_label(name, "cause", "room", endings.for_room)?;
+    page.sample_with_label(name, "cause", "content-limit", endings.for_content)?;
+    page.sample_with_label(name, "cause", "memory", endings.for_memory)
+}
+
+fn push_timeouts(
+    page: &mut Page<'_>,
+    endings: &Endings,
+    links: &LinkTimeouts,
+) -> Result<(), AllocError> {
+    let name = "revcache_timeouts_total";
+    page.family(
+        name,
+        Kind::Counter,
+        "Time-outs, by the option that bounds them.",
+    )?;
+    page.sample_with_label(name, "kind", "client", endings.client_timeouts)?;
+    page.sample_with_label(name, "kind", "request", endings.request_timeouts)?;
+    page.sample_with_label(name, "kind", "abandon", endings.abandon_timeouts)?;
+    page.sample_with_label(name, "kind", "connect", links.connect)?;
+    page.sample_with_label(name, "kind", "origin", links.silence)?;
+    page.sample_with_label(name, "kind", "exchange", links.exchange)
+}
+
+/// Connections of clients, by where they stand.
+fn push_states(page: &mut Page<'_>, clients: &ClientFigures<'_>) -> Result<(), AllocError> {
+    let name = "revcache_connections";
+    page.family(
+        name,
+        Kind::Gauge,
+        "Connections of clients that are open, by what they do.",
+    )?;
+    page.sample_with_label(name, "state", "open", clients.open as u64)?;
+    page.sample_with_label(name, "state", "closing", clients.closing as u64)?;
+    page.single_sample_family(
+        "revcache_connections_limit",
+        Kind::Gauge,
+        "The most connections of clients that are open.",
+        clients.limit as u64,
+    )
+}
+
+/// How connections of clients were taken.
+fn push_accept_counts(page: &mut Page<'_>, accepts: &AcceptCounts) -> Result<(), AllocError> {
+    page.single_sample_family(
+        "revcache_connections_accepted_total",
+        Kind::Counter,
+        "Connections of clients that were taken.",
+        accepts.accepted,
+    )?;
+    let name = "revcache_connections_refused_total";
+    page.family(
+        name,
+        Kind::Counter,
+        "Looks at the queue of the listener that could take nobody, by cause.",
+    )?;
+    page.sample_with_label(name, "cause", "full", accepts.full)?;
+    page.sample_with_label(name, "cause", "descriptors", accepts.no_descriptor)?;
+    page.sample_with_label(name, "cause", "memory", accepts.no_memory)?;
+    page.sample_with_label(name, "cause", "other", accepts.failed)?;
+    page.single_sample_family(
+        "revcache_links_without_descriptor_total",
+        Kind::Counter,
+        "Connections to origins that could not be begun since no descriptor was left.",
+        accepts.no_link,
+    )
+}
+
+/// Bytes of clients.
+fn push_bytes(page: &mut Page<'_>, figures: &Figures<'_>) -> Result<(), AllocError> {
+    page.single_sample_family(
+        "revcache_client_received_bytes_total",
+        Kind::Counter,
+        "Bytes that were read from clients.",
+        figures.clients.endings.received,
+    )?;
+    page.single_sample_family(
+        "revcache_client_sent_bytes_total",
+        Kind::Counter,
+        "Bytes for clients that the system took.",
+        figures.clients.endings.written,
+    )?;
+    page.single_sample_family(
+        "revcache_client_unsent_bytes",
+        Kind::Gauge,
+        "Bytes of replies that wait for clients.",
+        figures.clients.unsent as u64,
+    )?;
+    page.single_sample_family(
+        "revcache_content_bytes",
+        Kind::Gauge,
+        "Bytes of requests and answers in progress, and of replies that wait for clients.",
+        figures.held as u64,
+    )?;
+    page.single_sample_family(
+        "revcache_content_limit_bytes",
+        Kind::Gauge,
+        "The most bytes of requests and answers in progress, and of replies that wait for clients.",
+        figures.held_limit as u64,
+    )
+}
+
+fn push_clients(page: &mut Page<'_>, figures: &Figures<'_>) -> Result<(), AllocError> {
+    let clients = &figures.clients;
+    push_states(page, clients)?;
+    push_accept_counts(page, clients.accepts)?;
+    push_endings(page, clients.endings)?;
+    push_timeouts(page, clients.endings, figures.links.timeouts)?;
+    push_bytes(page, figures)
+}
+
+/// A count of each origin.
+#[derive(Clone, Copy, Debug, PartialEq, Eq)]
+enum Count {
+    Begun,
+    Open,
+    Received,
+    Sent,
+}
+
+fn count_of(origin: &Origin, count: Count) -> u64 {
+    match count {
+        Count::Begun => origin.begun,
+        Count::Open => origin.open,
+        Count::Received => origin.received,
+        Count::Sent => origin.written,
+    }
+}
+
+fn push_count(
+    page: &mut Page<'_>,
+    origins: &Origins,
+    name: &str,
+    kind: Kind,
+    help: &str,
+    count: Count,
+) -> Result<(), AllocError> {
+    page.family(name, kind, help)?;
+    for origin in origins.as_slice() {
+        page.sample_with_label(name, "origin", origin.name(), count_of(origin, count))?;
+    }
+    Ok(())
+}
+
+fn push_answers(page: &mut Page<'_>, origins: &Origins) -> Result<(), AllocError> {
+    let name = "revcache_origin_responses_total";
+    page.family(
+        name,
+        Kind::Counter,
+        "Answers of an origin, by the hundred of their status.",
+    )?;
+    for origin in origins.as_slice() {
+        for i in 0..STATUS_CLASSES.len() {
+            let code = ("code", STATUS_CLASSES[i]);
+            page.sample_with_two_labels(name, ("origin", origin.name()), code, origin.answers[i])?;
+        }
+    }
+    Ok(())
+}
+
+fn push_failures(page: &mut Page<'_>, origins: &Origins) -> Result<(), AllocError> {
+    let name = "revcache_origin_failures_total";
+    page.family(
+        name,
+        Kind::Counter,
+        "Exchanges with an origin that failed, by kind.",
+    )?;
+    for origin in origins.as_slice() {
+        for i in 0..FAILURE_KINDS.len() {
+            let kind = ("kind", FAILURE_KINDS[i]);
+            page.sample_with_two_labels(name, ("origin", origin.name()), kind, origin.failures[i])?;
+        }
+    }
+    Ok(())
+}
+
+/// Connects to an origin that were refused at once, and whether it is silent.
+fn push_refused_connects(page: &mut Page<'_>, origins: &Origins) -> Result<(), AllocError> {
+    let name = "revcache_origin_connections_refused_total";
+    page.family(
+        name,
+        Kind::Counter,
+        "Connections to an origin that were refused at once, by cause.",
+    )?;
+    for origin in origins.as_slice() {
+        let whose = ("origin", origin.name());
+        page.sample_with_two_labels(name, whose, ("cause", "limit"), origin.beyond_bound)?;
+        page.sample_with_two_labels(name, whose, ("cause", "silent"), origin.while_silent)?;
+    }
+    let name = "revcache_origin_silent";
+    page.family(
+        name,
+        Kind::Gauge,
+        "Whether an origin is asked by one request at a time, since it doesn't answer.",
+    )?;
+    for origin in origins.as_slice() {
+        page.sample_with_label(name, "origin", origin.name(), u64::from(origin.is_silent()))?;
+    }
+    Ok(())
+}
+
+fn push_exchange_times(page: &mut Page<'_>, origins: &Origins) -> Result<(), AllocError> {
+    let name = "revcache_origin_exchange_seconds_total";
+    page.family(
+        name,
+        Kind::Counter,
+        "Seconds of the links to an origin that have ended.",
+    )?;
+    for origin in origins.as_slice() {
+        page.time_with_label(name, "origin", origin.name(), origin.lasted)?;
+    }
+    Ok(())
+}
+
+fn push_origins(page: &mut Page<'_>, origins: &Origins) -> Result<(), AllocError> {
+    let name = "revcache_origin_exchanges_total";
+    push_count(
+        page,
+        origins,
+        name,
+        Kind::Counter,
+        "Links to an origin that were begun.",
+        Count::Begun,
+    )?;
+    let name = "revcache_origin_exchanges";
+    push_count(
+        page,
+        origins,
+        name,
+        Kind::Gauge,
+        "Links to an origin that are open.",
+        Count::Open,
+    )?;
+    push_answers(page, origins)?;
+    push_failures(page, origins)?;
+    push_refused_connects(page, origins)?;
+    push_exchange_times(page, origins)?;
+    let name = "revcache_origin_received_bytes_total";
+    let help = "Bytes that were read from an origin.";
+    push_count(page, origins, name, Kind::Counter, help, Count::Received)?;
+    let name = "revcache_origin_sent_bytes_total";
+    let help = "Bytes for an origin that the system took.";
+    push_count(page, origins, name, Kind::Counter, help, Count::Sent)
+}
+
+/// The record's state.
+fn push_record(page: &mut Page<'_>, record: RecordState) -> Result<(), AllocError> {
+    let name = "revcache_record_state";
+    page.family(name, Kind::Gauge, "Whether what happens is recorded.")?;
+    for (word, state) in [
+        ("none", RecordState::NoRecord),
+        ("writing", RecordState::Writing),
+        ("ended", RecordState::Ended),
+    ] {
+        page.sample_with_label(name, "state", word, u64::from(record == state))?;
+    }
+    Ok(())
+}
+
+fn push_log(page: &mut Page<'_>, added: u64, lost: u64) -> Result<(), AllocError> {
+    page.single_sample_family(
+        "revcache_log_lines_total",
+        Kind::Counter,
+        "Lines of the log that were made.",
+        added,
+    )?;
+    page.single_sample_family(
+        "revcache_log_lost_lines_total",
+        Kind::Counter,
+        "Lines of the log that could not be written, or had no memory.",
+        lost,
+    )
+}
+
+fn push_turns(page: &mut Page<'_>, turns: &Turns, is_draining: bool) -> Result<(), AllocError> {
+    page.single_sample_family(
+        "revcache_turns_total",
+        Kind::Counter,
+        "Turns that were served.",
+        turns.served,
+    )?;
+    let name = "revcache_turns_cut_total";
+    page.family(name, Kind::Counter, "Turns that ended early, by cause.")?;
+    page.sample_with_label(name, "cause", "listener", turns.without_listener)?;
+    page.sample_with_label(name, "cause", "memory", turns.without_memory)?;
+    page.single_sample_family(
+        "revcache_draining",
+        Kind::Gauge,
+        "Whether the server is to end and takes no more connections.",
+        u64::from(is_draining),
+    )
+}
+
+impl<'a> Figures<'a> {
+    /// The page of figures. Its only error is out of memory.
+    pub fn page(&self, alloc: Global) -> Result<Vec<u8>, AllocError> {
+        let mut page = Page::new(alloc, self.listen);
+        push_server_facts(&mut page, self.about, self.now)?;
+        push_turns(&mut page, self.turns, self.is_draining)?;
+        if let Some(replies) = self.replies {
+            push_replies(&mut page, replies)?;
+        }
+        push_clients(&mut page, self)?;
+        push_origins(&mut page, self.links.origins)?;
+        let name = "revcache_oldest_exchange_age_seconds";
+        page.family(
+            name,
+            Kind::Gauge,
+            "For how long the oldest link to an origin is open.",
+        )?;
+        page.time(name, self.links.oldest)?;
+        push_log(&mut page, self.log_lines, self.about.lost_lines)?;
+        push_record(&mut page, self.record)?;
+        Ok(page.into_text())
+    }
+}

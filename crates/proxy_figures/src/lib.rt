@@ -1,0 +1,30 @@
+//! The figures of a server: what it counts of replies, connections, turns, origins and the store, which origin a reply
+//! is counted at, and the page of all of them in Prometheus' text format.
+//!
+//! Nothing here has a socket or a clock. Who serves notes what was done, and hands in what it holds for a page.
+#![tactic(auto)]
+
+mod accept_counts;
+mod asked;
+mod counted_shelf;
+mod counts;
+mod endings;
+mod figures;
+mod limits;
+mod link_timeouts;
+mod origins;
+mod page;
+mod reply_counts;
+mod sorts;
+mod turn_counts;
+
+pub use crate::accept_counts::{AcceptCounts, Troubles, is_out_of_descriptors};
+pub use crate::asked::Asked;
+pub use crate::counted_shelf::{CountedShelf, StoreCounts};
+pub use crate::endings::{CutReason, Endings, Lateness};
+pub use crate::figures::{ClientFigures, Figures, LinkFigures, RecordState, ServerFacts};
+pub use crate::link_timeouts::{LinkTimeouts, Overtime};
+pub use crate::origins::{Admission, Origin, Origins};
+pub use crate::reply_counts::ReplyCounts;
+pub use crate::sorts::{ReplySort, Source, sort_of};
+pub use crate::turn_counts::Turns;

@@ -1,0 +1,320 @@
+//! What was counted of each origin. Those of the operator's table are the only ones.
+ghost use Rattle.std.specs.Prelude.{◌≡◌, [], nat_lt, slice_get, option_map, string_bytes};
+ghost use Rattle.std.specs.Option.{option_and_then};
+ghost use Rattle.proxy_figures.specs.Origins.{is_silent, is_crowded, admission_of, origin_with_admission};
+ghost use Rattle.proxy_figures.specs.Origins.{origin_with_answer, name_of_origin, admission_where_known};
+ghost use Rattle.proxy_figures.specs.Origins.{origin_with_written, origin_heard, origin_with_link};
+ghost use Rattle.proxy_figures.specs.Origins.{origin_without_link, origin_silent_once_more};
+
+use crate::counts::{count, count_plus, count_plus_one};
+use crate::limits::SILENT_EXCHANGES;
+use crate::sorts::{Cause, ReplySort};
+use std::alloc::{AllocError, Global};
+use std::net::SocketAddrV4;
+
+/// An origin, and what was counted of it.
+#[derive(Drop)]
+pub struct Origin {
+    address: SocketAddrV4,
+    /// The text of its address.
+    name: String,
+    /// Links that were begun, and of these the ones that are open.
+    pub begun: u64,
+    pub open: u64,
+    /// Milliseconds of the links that have ended.
+    pub lasted: u64,
+    /// Bytes that have come, and that the system has taken.
+    pub received: u64,
+    pub written: u64,
+    /// Answers by the hundreds of their statuses, from 200 on.
+    pub answers: [u64; 4],
+    /// Failures by their kind, and those for which a stored response was sent.
+    pub failures: [u64; 6],
+    /// Exchanges in a row that were timed out, or couldn't connect.
+    silences: u64,
+    /// A link asks whether it answers again.
+    is_probed: bool,
+    /// Connects that were refused at once: as many links were open as may be, or it is silent.
+    pub beyond_bound: u64,
+    pub while_silent: u64,
+}
+
+/// Whether a link to an origin may be begun.
+#[derive(Clone, Copy, Debug, PartialEq, Eq)]
+pub enum Admission {
+    Yes,
+    /// It asks whether a silent origin answers again.
+    AsProbe,
+    No,
+}
+
+/// The hundreds of statuses, and the kinds of failures, in the order of their counts.
+pub(crate) const STATUS_CLASSES: [&str; 4] = ["2xx", "3xx", "4xx", "5xx"];
+
+pub(crate) const FAILURE_KINDS: [&str; 6] = [
+    "refused",
+    "timed-out",
+    "closed",
+    "bad-answer",
+    "too-large",
+    "covered",
+];
+
+/// Where failures are counted for which a stored response was sent.
+pub(crate) const COVERED_FAILURES: usize = 5;
+
+impl Origin {
+    fn new(alloc: Global, address: SocketAddrV4) -> Result<Origin, AllocError> {
+        Ok(Origin {
+            address,
+            name: format!(in alloc; "{address}")?,
+            begun: 0,
+            open: 0,
+            lasted: 0,
+            received: 0,
+            written: 0,
+            answers: [0; 4],
+            failures: [0; 6],
+            silences: 0,
+            is_probed: false,
+            beyond_bound: 0,
+            while_silent: 0,
+        })
+    }
+
+    /// Its name in figures and in the log: the text of its address.
+    pub fn name(&self) -> &str
+        ensures { result.now ≡ string_bytes self.now.name }
+    {
+        self.name.as_str()
+    }
+
+    /// Whether nearly as many links to it are open as may be: seven eighths.
+    fn is_crowded(&self, most: u64) -> bool
+        ensures { result ≡ is_crowded most self.now }
+    {
+        self.open >= most.saturating_sub(most / 8)
+    }
+
+    /// Whether it counts as silent.
+    pub fn is_silent(&self) -> bool
+        ensures { result ≡ is_silent self.now }
+    {
+        self.silences >= SILENT_EXCHANGES
+    }
+
+    /// Whether a further link may be begun; where not, that is counted.
+    fn admit(&mut self, most: u64, probes: bool) -> Admission
+        ensures admission { result ≡ admission_of most probes self.old }
+        ensures counted { self.new ≡ origin_with_admission (admission_of most probes self.old) most self.old }
+    {
+        if self.open >= most {
+            self.beyond_bound = count_plus_one(self.beyond_bound);
+            return Admission::No;
+        }
+        if !probes || !self.is_silent() {
+            return Admission::Yes;
+        }
+        if self.is_probed {
+            self.while_silent = count_plus_one(self.while_silent);
+            return Admission::No;
+        }
+        Admission::AsProbe
+    }
+
+    fn count_answer(&mut self, status: u16)
+        ensures { self.new ≡ origin_with_answer status self.old }
+    {
+        count(&mut self.answers, (status / 100).saturating_sub(2) as usize);
+    }
+
+    fn count_failure(&mut self, cause: Cause) {
+        let at = (cause as usize).saturating_sub(Cause::OriginRefused as usize);
+        count(&mut self.failures, at);
+    }
+
+    /// Counts what the origin said or did, by the reply that was made of it.
+    fn answered(&mut self, status: u16, sort: &ReplySort) {
+        if let Some(cause) = sort.cause {
+            self.count_failure(cause);
+        } else if sort.is_covered() {
+            count(&mut self.failures, COVERED_FAILURES);
+        } else {
+            self.count_answer(sort.fwd_status.unwrap_or(status));
+        }
+    }
+}
+
+/// The origins, each with its place.
+#[derive(Drop)]
+pub struct Origins {
+    alloc: Global,
+    /// Links that may be open to each.
+    most: u64,
+    items: Vec<Origin>,
+    /// How often an origin became silent.
+    pub fallen_silent: u64,
+    /// Origins to which nearly as many links are open as may be.
+    crowded: usize,
+}
+
+impl Origins {
+    pub fn new(alloc: Global, most: u64) -> Origins
+        ensures items { result.items.items ≡ [] }
+        ensures most { result.most ≡ most }
+        ensures counts { (result.fallen_silent ≡ 0) × (result.crowded ≡ 0) }
+    {
+        Origins {
+            alloc,
+            most,
+            items: Vec::new(alloc),
+            fallen_silent: 0,
+            crowded: 0,
+        }
+    }
+
+    /// The place of an address, which is added where it is new.
+    pub fn place(&mut self, address: SocketAddrV4) -> Result<usize, AllocError> {
+        for i in 0..self.items.len() {
+            if self.items[i].address == address {
+                return Ok(i);
+            }
+        }
+        self.items.push(Origin::new(self.alloc, address)?)?;
+        Ok(self.items.len().saturating_sub(1))
+    }
+
+    pub fn as_slice(&self) -> &[Origin]
+        ensures { result.now ≡ self.now.items.items }
+    {
+        self.items.as_slice()
+    }
+
+    /// The name of the origin at a place; empty where there is none.
+    pub fn name(&self, place: Option<usize>) -> &str
+        ensures { result.now ≡ name_of_origin (option_and_then (slice_get self.now.items.items) place) }
+    {
+        match place {
+            Some(place) => match self.items.get(place) {
+                Some(origin) => origin.name(),
+                None => "",
+            },
+            None => "",
+        }
+    }
+
+    /// Whether nearly as many links to some origin are open as may be.
+    pub fn some_is_crowded(&self) -> bool
+        ensures { result ≡ nat_lt 0 self.now.crowded }
+    {
+        self.crowded > 0
+    }
+
+    /// Whether a further link to an origin may be begun.
+    pub fn admit(&mut self, place: usize, probes: bool) -> Admission
+        ensures { result ≡ admission_where_known self.old.most probes (slice_get self.old.items.items place) }
+    {
+        let most = self.most;
+        match self.items.get_mut(place) {
+            Some(origin) => origin.admit(most, probes),
+            None => Admission::No,
+        }
+    }
+
+    /// A link is begun; one that isn't admitted is none.
+    pub fn begin(&mut self, place: usize, admission: Admission)
+        ensures at { slice_get self.new.items.items place
+            ≡ option_map (origin_with_link admission) (slice_get self.old.items.items place) }
+        ensures refused { admission ≡ Admission.No → self.new ≡ self.old }
+    {
+        if admission == Admission::No {
+            return;
+        }
+        let most = self.most;
+        if let Some(origin) = self.items.get_mut(place) {
+            let was_crowded = origin.is_crowded(most);
+            origin.begun = count_plus_one(origin.begun);
+            origin.open = count_plus_one(origin.open);
+            origin.is_probed = origin.is_probed || admission == Admission::AsProbe;
+            if origin.is_crowded(most) && !was_crowded {
+                self.crowded = self.crowded.saturating_add(1);
+            }
+        }
+    }
+
+    /// A link has ended, so many milliseconds after it began.
+    pub fn end(&mut self, place: usize, admission: Admission, milliseconds: u64)
+        ensures at { slice_get self.new.items.items place
+            ≡ option_map (origin_without_link admission milliseconds) (slice_get self.old.items.items place) }
+        ensures refused { admission ≡ Admission.No → self.new ≡ self.old }
+    {
+        if admission == Admission::No {
+            return;
+        }
+        let most = self.most;
+        if let Some(origin) = self.items.get_mut(place) {
+            let was_crowded = origin.is_crowded(most);
+            origin.open = origin.open.saturating_sub(1);
+            origin.lasted = count_plus(origin.lasted, milliseconds);
+            origin.is_probed = origin.is_probed && admission != Admission::AsProbe;
+            if was_crowded && !origin.is_crowded(most) {
+                self.crowded = self.crowded.saturating_sub(1);
+            }
+        }
+    }
+
+    /// So many bytes came from an origin.
+    pub fn note_answer(&mut self, place: usize, count: usize)
+        ensures at { slice_get self.new.items.items place
+            ≡ option_map (origin_heard count) (slice_get self.old.items.items place) }
+        ensures rest { self.new ≡ record self.old { items = self.new.items } }
+    {
+        if let Some(origin) = self.items.get_mut(place) {
+            origin.silences = 0;
+            origin.received = count_plus(origin.received, count as u64);
+        }
+    }
+
+    /// An exchange with an origin was timed out, or couldn't connect.
+    pub fn note_silence(&mut self, place: usize)
+        ensures at { slice_get self.new.items.items place
+            ≡ option_map origin_silent_once_more (slice_get self.old.items.items place) }
+        ensures crowded { self.new.crowded ≡ self.old.crowded }
+    {
+        if let Some(origin) = self.items.get_mut(place) {
+            origin.silences = count_plus_one(origin.silences);
+            if origin.silences == SILENT_EXCHANGES {
+                self.fallen_silent = count_plus_one(self.fallen_silent);
+            }
+        }
+    }
+
+    /// How often connects were refused at once since as many links were open as may be.
+    pub fn beyond_bound(&self) -> u64 {
+        let mut count = 0u64;
+        for origin in &self.items {
+            count = count.saturating_add(origin.beyond_bound);
+        }
+        count
+    }
+
+    /// The system has taken so many bytes for an origin.
+    pub fn add_written(&mut self, place: usize, written: u64)
+        ensures at { slice_get self.new.items.items place
+            ≡ option_map (origin_with_written written) (slice_get self.old.items.items place) }
+        ensures rest { self.new ≡ record self.old { items = self.new.items } }
+    {
+        if let Some(origin) = self.items.get_mut(place) {
+            origin.written = count_plus(origin.written, written);
+        }
+    }
+
+    /// Counts what an origin said or did, by the reply that was made of it.
+    pub fn answered(&mut self, place: usize, status: u16, sort: &ReplySort)
+        ensures { self.new ≡ record self.old { items = self.new.items } }
+    {
+        if let Some(origin) = self.items.get_mut(place) {
+            origin.answered(status, sort);
+        }
+    }
+}

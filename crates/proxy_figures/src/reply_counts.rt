@@ -1,0 +1,132 @@
+//! Counts of replies: by reason, status and cause, and how long they took.
+ghost use Rattle.std.specs.Prelude.{◌≡◌, ◌-◌, unwrap_or, slice_get};
+ghost use Rattle.proxy_figures.specs.Counts.{counts_with_one_more, count_plus_one_if};
+ghost use Rattle.proxy_figures.specs.Times.{time_bucket_of};
+
+use crate::counts::{count, count_at, count_plus_one_if};
+use crate::sorts::{Cause, DETAIL_COUNT, Detail, Reason, ReplySort, Source};
+
+/// The least status of a reply, and how many there may be.
+pub(crate) const FIRST_STATUS: u16 = 200;
+
+pub(crate) const STATUSES: usize = 400;
+
+/// Bounds of times, in seconds; behind the last one all that took longer is counted.
+pub(crate) const TIME_BOUNDS: [&str; 11] = [
+    "0.001", "0.005", "0.01", "0.05", "0.1", "0.5", "1", "5", "10", "30", "60",
+];
+
+/// How many replies took how long, of one source.
+#[derive(Clone, Copy, Debug)]
+pub struct ReplyTimes {
+    /// By the first bound that isn't below it.
+    pub buckets: [u64; 12],
+    /// Milliseconds of all together.
+    pub sum: u64,
+}
+
+/// Counts of replies.
+#[derive(Clone, Copy, Debug)]
+pub struct ReplyCounts {
+    /// By reason, and in a row of each by detail.
+    reasons: [u64; 176],
+    causes: [u64; 24],
+    statuses: [u64; 400],
+    pub stored: u64,
+    pub collapsed: u64,
+    pub from_store: ReplyTimes,
+    pub from_origin: ReplyTimes,
+    pub from_proxy: ReplyTimes,
+}
+
+/// The place of a time among the bounds.
+fn time_bucket_of(milliseconds: u64) -> usize
+    ensures { result ≡ time_bucket_of milliseconds }
+{
+    match milliseconds {
+        0..=1 => 0,
+        2..=5 => 1,
+        6..=10 => 2,
+        11..=50 => 3,
+        51..=100 => 4,
+        101..=500 => 5,
+        501..=1000 => 6,
+        1001..=5000 => 7,
+        5001..=10_000 => 8,
+        10_001..=30_000 => 9,
+        30_001..=60_000 => 10,
+        _ => 11,
+    }
+}
+
+fn place_of(reason: Reason, detail: Detail) -> usize {
+    (reason as usize)
+        .saturating_mul(DETAIL_COUNT)
+        .saturating_add(detail as usize)
+}
+
+impl ReplyTimes {
+    fn new() -> ReplyTimes {
+        ReplyTimes {
+            buckets: [0; 12],
+            sum: 0,
+        }
+    }
+
+    fn add(&mut self, milliseconds: u64) {
+        count(&mut self.buckets, time_bucket_of(milliseconds));
+        self.sum = self.sum.saturating_add(milliseconds);
+    }
+}
+
+impl ReplyCounts {
+    pub fn new() -> ReplyCounts {
+        ReplyCounts {
+            reasons: [0; 176],
+            causes: [0; 24],
+            statuses: [0; 400],
+            stored: 0,
+            collapsed: 0,
+            from_store: ReplyTimes::new(),
+            from_origin: ReplyTimes::new(),
+            from_proxy: ReplyTimes::new(),
+        }
+    }
+
+    /// Counts a reply that took so many milliseconds.
+    pub fn add(&mut self, status: u16, sort: &ReplySort, milliseconds: u64)
+        ensures statuses { self.new.statuses ≡ counts_with_one_more self.old.statuses (status - 200) }
+        ensures stored { self.new.stored ≡ count_plus_one_if sort.now.stored self.old.stored }
+        ensures collapsed { self.new.collapsed ≡ count_plus_one_if sort.now.collapsed self.old.collapsed }
+    {
+        count(&mut self.reasons, place_of(sort.reason, sort.detail));
+        count(
+            &mut self.statuses,
+            status.saturating_sub(FIRST_STATUS) as usize,
+        );
+        if let Some(cause) = sort.cause {
+            count(&mut self.causes, cause as usize);
+        }
+        self.stored = count_plus_one_if(sort.stored, self.stored);
+        self.collapsed = count_plus_one_if(sort.collapsed, self.collapsed);
+        match sort.source() {
+            Source::Store => self.from_store.add(milliseconds),
+            Source::Origin => self.from_origin.add(milliseconds),
+            Source::Proxy => self.from_proxy.add(milliseconds),
+        }
+    }
+
+    pub(crate) fn with_reason(&self, reason: Reason, detail: Detail) -> u64 {
+        count_at(&self.reasons, place_of(reason, detail))
+    }
+
+    pub(crate) fn with_cause(&self, cause: Cause) -> u64 {
+        count_at(&self.causes, cause as usize)
+    }
+
+    pub(crate) fn with_status(&self, status: u16) -> u64
+        ensures { result ≡ unwrap_or (slice_get self.now.statuses (status - 200)) 0 }
+    {
+        count_at(&self.statuses, status.saturating_sub(FIRST_STATUS) as usize)
+    }
+}

@@ -1,0 +1,432 @@
+//! What a reply counts as, by the words that it says of itself in Cache-Status or Refusal.
+//!
+//! Each count has its place in a closed list: so nothing that a client or an origin sends makes a new one.
+ghost use Rattle.std.specs.Prelude.{◌≡◌, ◌&&◌, not, is_some, find, bytes_eq};
+ghost use Rattle.proxy_figures.specs.Sorts.{reason_name, detail_name, cause_name, forward_reasons, origin_failures};
+ghost use Rattle.proxy_figures.specs.Sorts.{failure_name, source_of, is_covered};
+
+use std::str;
+
+/// Why a request was answered as it was.
+#[derive(Clone, Copy, Debug, PartialEq, Eq)]
+pub enum Reason {
+    Hit,
+    UriMiss,
+    VaryMiss,
+    Stale,
+    Request,
+    Method,
+    Bypass,
+    Denied,
+    OnlyIfCached,
+    OriginFailed,
+    Refused,
+}
+
+/// What a reason says besides.
+#[derive(Clone, Copy, Debug, PartialEq, Eq)]
+pub enum Detail {
+    Nothing,
+    Operator,
+    Content,
+    Range,
+    Precondition,
+    ResponseNoCache,
+    MustRevalidate,
+    NoLifetime,
+    NoCache,
+    MaxStale,
+    MaxAge,
+    MinFresh,
+    StaleIfError,
+    ReuseAfterError,
+    ReuseAfter304,
+    /// Any other word.
+    Other,
+}
+
+/// Why the proxy answered by itself.
+#[derive(Clone, Copy, Debug, PartialEq, Eq)]
+pub enum Cause {
+    Denied,
+    NoLine,
+    OnlyIfCached,
+    OriginRefused,
+    OriginTimedOut,
+    OriginClosed,
+    OriginBadAnswer,
+    OriginTooLarge,
+    Head,
+    Version,
+    BothLengths,
+    Length,
+    Coding,
+    Chunk,
+    TooLarge,
+    Expect,
+    Form,
+    Scheme,
+    Host,
+    Port,
+    Userinfo,
+    Escape,
+    DotSegment,
+    TooLong,
+}
+
+/// How many details there are.
+pub(crate) const DETAIL_COUNT: usize = 16;
+
+pub(crate) const ALL_REASONS: [Reason; 11] = [
+    Reason::Hit,
+    Reason::UriMiss,
+    Reason::VaryMiss,
+    Reason::Stale,
+    Reason::Request,
+    Reason::Method,
+    Reason::Bypass,
+    Reason::Denied,
+    Reason::OnlyIfCached,
+    Reason::OriginFailed,
+    Reason::Refused,
+];
+
+pub(crate) const ALL_DETAILS: [Detail; 16] = [
+    Detail::Nothing,
+    Detail::Operator,
+    Detail::Content,
+    Detail::Range,
+    Detail::Precondition,
+    Detail::ResponseNoCache,
+    Detail::MustRevalidate,
+    Detail::NoLifetime,
+    Detail::NoCache,
+    Detail::MaxStale,
+    Detail::MaxAge,
+    Detail::MinFresh,
+    Detail::StaleIfError,
+    Detail::ReuseAfterError,
+    Detail::ReuseAfter304,
+    Detail::Other,
+];
+
+pub(crate) const ALL_CAUSES: [Cause; 24] = [
+    Cause::Denied,
+    Cause::NoLine,
+    Cause::OnlyIfCached,
+    Cause::OriginRefused,
+    Cause::OriginTimedOut,
+    Cause::OriginClosed,
+    Cause::OriginBadAnswer,
+    Cause::OriginTooLarge,
+    Cause::Head,
+    Cause::Version,
+    Cause::BothLengths,
+    Cause::Length,
+    Cause::Coding,
+    Cause::Chunk,
+    Cause::TooLarge,
+    Cause::Expect,
+    Cause::Form,
+    Cause::Scheme,
+    Cause::Host,
+    Cause::Port,
+    Cause::Userinfo,
+    Cause::Escape,
+    Cause::DotSegment,
+    Cause::TooLong,
+];
+
+impl Reason {
+    pub(crate) fn name(self) -> &'static str
+        ensures { result.now ≡ reason_name self }
+    {
+        match self {
+            Reason::Hit => "hit",
+            Reason::UriMiss => "uri-miss",
+            Reason::VaryMiss => "vary-miss",
+            Reason::Stale => "stale",
+            Reason::Request => "request",
+            Reason::Method => "method",
+            Reason::Bypass => "bypass",
+            Reason::Denied => "denied",
+            Reason::OnlyIfCached => "only-if-cached",
+            Reason::OriginFailed => "origin-failed",
+            Reason::Refused => "refused",
+        }
+    }
+
+    /// Why a request went forward, by the word of Cache-Status.
+    fn of_forward(word: &[u8]) -> Option<Reason>
+        ensures { result ≡ find (λ reason. bytes_eq word.now (reason_name reason)) forward_reasons }
+    {
+        if word == b"uri-miss".as_slice() {
+            Some(Reason::UriMiss)
+        } else if word == b"vary-miss".as_slice() {
+            Some(Reason::VaryMiss)
+        } else if word == b"stale".as_slice() {
+            Some(Reason::Stale)
+        } else if word == b"request".as_slice() {
+            Some(Reason::Request)
+        } else if word == b"method".as_slice() {
+            Some(Reason::Method)
+        } else if word == b"bypass".as_slice() {
+            Some(Reason::Bypass)
+        } else {
+            None
+        }
+    }
+}
+
+impl Detail {
+    pub(crate) fn name(self) -> &'static str
+        ensures { result.now ≡ detail_name self }
+    {
+        match self {
+            Detail::Nothing => "",
+            Detail::Operator => "operator",
+            Detail::Content => "content",
+            Detail::Range => "range",
+            Detail::Precondition => "precondition",
+            Detail::ResponseNoCache => "response-no-cache",
+            Detail::MustRevalidate => "must-revalidate",
+            Detail::NoLifetime => "no-lifetime",
+            Detail::NoCache => "no-cache",
+            Detail::MaxStale => "max-stale",
+            Detail::MaxAge => "max-age",
+            Detail::MinFresh => "min-fresh",
+            Detail::StaleIfError => "stale-if-error",
+            Detail::ReuseAfterError => "reuse-after-error",
+            Detail::ReuseAfter304 => "reuse-after-304",
+            Detail::Other => "other",
+        }
+    }
+
+    /// The detail of this word; another word is `Other`.
+    fn of(word: &[u8]) -> Detail {
+        for detail in &ALL_DETAILS {
+            if detail.name().as_bytes() == word {
+                return *detail;
+            }
+        }
+        Detail::Other
+    }
+}
+
+impl Cause {
+    pub(crate) fn name(self) -> &'static str
+        ensures { result.now ≡ cause_name self }
+    {
+        match self {
+            Cause::Denied => "denied",
+            Cause::NoLine => "no-line",
+            Cause::OnlyIfCached => "only-if-cached",
+            Cause::OriginRefused => "origin-refused",
+            Cause::OriginTimedOut => "origin-timed-out",
+            Cause::OriginClosed => "origin-closed",
+            Cause::OriginBadAnswer => "origin-bad-answer",
+            Cause::OriginTooLarge => "origin-too-large",
+            Cause::Head => "head",
+            Cause::Version => "version",
+            Cause::BothLengths => "both-lengths",
+            Cause::Length => "length",
+            Cause::Coding => "coding",
+            Cause::Chunk => "chunk",
+            Cause::TooLarge => "too-large",
+            Cause::Expect => "expect",
+            Cause::Form => "form",
+            Cause::Scheme => "scheme",
+            Cause::Host => "host",
+            Cause::Port => "port",
+            Cause::Userinfo => "userinfo",
+            Cause::Escape => "escape",
+            Cause::DotSegment => "dot-segment",
+            Cause::TooLong => "too-long",
+        }
+    }
+
+    /// How an origin failed, by the word behind `origin `.
+    fn of_failure(word: &[u8]) -> Option<Cause>
+        ensures { result ≡ find (λ cause. bytes_eq word.now (failure_name cause)) origin_failures }
+    {
+        if word == b"refused".as_slice() {
+            Some(Cause::OriginRefused)
+        } else if word == b"timed-out".as_slice() {
+            Some(Cause::OriginTimedOut)
+        } else if word == b"closed".as_slice() {
+            Some(Cause::OriginClosed)
+        } else if word == b"bad-answer".as_slice() {
+            Some(Cause::OriginBadAnswer)
+        } else if word == b"too-large".as_slice() {
+            Some(Cause::OriginTooLarge)
+        } else {
+            None
+        }
+    }
+
+    /// What is wrong with a message, by the word behind `refused: `.
+    fn of_fault(word: &[u8]) -> Option<Cause> {
+        for cause in &ALL_CAUSES {
+            let is_fault = *cause as usize >= Cause::Head as usize;
+            if is_fault && cause.name().as_bytes() == word {
+                return Some(*cause);
+            }
+        }
+        None
+    }
+}
+
+/// What a reply counts as.
+#[derive(Clone, Copy, Debug, PartialEq, Eq)]
+pub struct ReplySort {
+    pub reason: Reason,
+    pub detail: Detail,
+    /// Why, where the proxy answered by itself.
+    pub cause: Option<Cause>,
+    /// The status of the origin's answer, where another was sent.
+    pub fwd_status: Option<u16>,
+    pub stored: bool,
+    pub collapsed: bool,
+}
+
+/// Who an answer comes from.
+#[derive(Clone, Copy, Debug, PartialEq, Eq)]
+pub enum Source {
+    /// A stored response, for which no origin was asked.
+    Store,
+    /// An origin was asked.
+    Origin,
+    /// The proxy refused or denied the request.
+    Proxy,
+}
+
+impl ReplySort {
+    /// A reply for this reason, of which nothing else is said.
+    fn plain(reason: Reason) -> ReplySort {
+        ReplySort {
+            reason,
+            detail: Detail::Nothing,
+            cause: None,
+            fwd_status: None,
+            stored: false,
+            collapsed: false,
+        }
+    }
+
+    /// An answer of the proxy's own.
+    fn of_own_answer(reason: Reason, cause: Cause) -> ReplySort {
+        let mut sort = ReplySort::plain(reason);
+        sort.cause = Some(cause);
+        sort
+    }
+
+    /// Takes one more word of Cache-Status.
+    fn take(&mut self, part: &[u8]) {
+        if part == b"stored".as_slice() {
+            self.stored = true;
+        } else if part == b"collapsed".as_slice() {
+            self.collapsed = true;
+        } else if let Some(word) = part.strip_prefix(b"detail=".as_slice()) {
+            self.detail = Detail::of(word);
+        } else if let Some(digits) = part.strip_prefix(b"fwd-status=".as_slice()) {
+            self.fwd_status = number_of(digits);
+        }
+    }
+
+    pub fn source(&self) -> Source
+        ensures { result ≡ source_of self.now }
+    {
+        match self.reason {
+            Reason::Hit => Source::Store,
+            Reason::Denied => Source::Proxy,
+            Reason::OnlyIfCached => Source::Proxy,
+            Reason::Refused => Source::Proxy,
+            _ => if self.collapsed {
+                Source::Store
+            } else {
+                Source::Origin
+            },
+        }
+    }
+
+    /// Whether an answer of the origin came, where it was asked; else it failed.
+    pub fn is_answered(&self) -> bool
+        ensures { result ≡ (not (is_some self.now.cause) && not (is_covered self.now)) }
+    {
+        self.cause.is_none() && !self.is_covered()
+    }
+
+    /// Whether a stored response was sent in place of a failure of the origin.
+    pub fn is_covered(&self) -> bool
+        ensures { result ≡ is_covered self.now }
+    {
+        let after_failure = match self.detail {
+            Detail::StaleIfError => true,
+            Detail::ReuseAfterError => true,
+            _ => false,
+        };
+        after_failure && self.fwd_status.is_none()
+    }
+}
+
+fn number_of(digits: &[u8]) -> Option<u16> {
+    match str::from_utf8(digits) {
+        Ok(digits) => digits.parse::<u16>().ok(),
+        Err(_) => None,
+    }
+}
+
+/// What stands in front of the first semicolon, and behind it.
+fn first_part(text: &[u8]) -> (&[u8], &[u8]) {
+    for i in 0..text.len() {
+        if text[i] == b';' {
+            return (&text[..i], &text[i + 1..]);
+        }
+    }
+    (text, b"")
+}
+
+/// What Cache-Status says of a request that went forward, behind `fwd=`.
+fn forwarded(text: &[u8]) -> Option<ReplySort> {
+    let (word, mut rest) = first_part(text);
+    let mut sort = ReplySort::plain(Reason::of_forward(word)?);
+    for _part in 0..text.len() {
+        if rest.is_empty() {
+            break;
+        }
+        let (part, behind) = first_part(rest);
+        sort.take(part);
+        rest = behind;
+    }
+    Some(sort)
+}
+
+/// What Refusal says.
+fn refused(text: &[u8]) -> Option<ReplySort> {
+    if text.starts_with(b"denied by line ") {
+        return Some(ReplySort::of_own_answer(Reason::Denied, Cause::Denied));
+    }
+    if text.starts_with(b"no line allows it") {
+        return Some(ReplySort::of_own_answer(Reason::Denied, Cause::NoLine));
+    }
+    if text.starts_with(b"only-if-cached") {
+        return Some(ReplySort::of_own_answer(Reason::OnlyIfCached, Cause::OnlyIfCached));
+    }
+    if let Some(rest) = text.strip_prefix(b"origin ".as_slice()) {
+        let cause = Cause::of_failure(first_part(rest).0)?;
+        return Some(ReplySort::of_own_answer(Reason::OriginFailed, cause));
+    }
+    let word = text.strip_prefix(b"refused: ".as_slice())?;
+    Some(ReplySort::of_own_answer(Reason::Refused, Cause::of_fault(word)?))
+}
+
+/// What a reply counts as, by what it says of itself.
+pub fn sort_of(text: &[u8]) -> Option<ReplySort> {
+    if let [b'h', b'i', b't', ..] = text {
+        return Some(ReplySort::plain(Reason::Hit));
+    }
+    match text.strip_prefix(b"fwd=".as_slice()) {
+        Some(rest) => forwarded(rest),
+        None => refused(text),
+    }
+}

@@ -1,0 +1,42 @@
+//! How many turns were served, and how many of them ended early.
+ghost use Rattle.std.specs.Prelude.{◌≡◌};
+
+use crate::counts::count_plus_one;
+use proxy_turn::{Report, TurnFault};
+
+/// Counts of turns.
+#[derive(Clone, Copy, Debug)]
+pub struct Turns {
+    pub served: u64,
+    /// They could accept nobody.
+    pub without_listener: u64,
+    pub without_memory: u64,
+}
+
+impl Turns {
+    ghost use Rattle.proxy_figures.specs.TurnCounts.{turns_with_one_more};
+
+    pub fn new() -> Turns
+        ensures { result ≡ record { served = 0; without_listener = 0; without_memory = 0 } }
+    {
+        Turns {
+            served: 0,
+            without_listener: 0,
+            without_memory: 0,
+        }
+    }
+
+    /// Counts a turn, by what it told.
+    pub fn count(&mut self, reported: Result<Report, TurnFault>)
+        ensures { self.new ≡ turns_with_one_more self.old reported }
+    {
+        self.served = count_plus_one(self.served);
+        match reported {
+            Err(TurnFault::Listener) => self.without_listener = count_plus_one(
+                self.without_listener,
+            ),
+            Err(TurnFault::NoMemory) => self.without_memory = count_plus_one(self.without_memory),
+            _ => {}
+        }
+    }
+}

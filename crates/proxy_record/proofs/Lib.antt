@@ -1,0 +1,3 @@
+mod Passing
+mod Scripts
+mod TurnRecords

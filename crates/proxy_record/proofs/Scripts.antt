@@ -1,0 +1,140 @@
+-- A record is a script: text for text, up to the happening that had no room.
+use Rattle.std.proofs.Common.{◌≡◌, ℕ, ◌+◌, ◌-◌, List, [], ◌∷◌, ◌++◌, length, Bool, true, false, refl, sym, ap, ◌∙◌, subst, inl, inr, Option, None, Some, append-nil, append_assoc, length-append, arith}
+use Rattle.std.specs.Prelude.{not, if◌then◌else◌, ◌&&◌, ◌==◌, nat_le}
+use Rattle.std.proofs.KnownBytes.{Appends-nil, Appends-trans}
+use Rattle.std.proofs.lemmas.Bool.{cases_Bool, false≢true, true≢false}
+use Rattle.std.specs.Io.KnownBytes.{Appends}
+use Rattle.std.specs.List.{flat_map, AllByRecursion}
+use Rattle.proxy_script.specs.Script.{PlainItem as Item, Table, Moment, Happens, item_spelling, ItemHasSpelling, ItemMayStandHere, IsScript}
+use Rattle.proxy_script.specs.Happenings.{PlainHappening as Happening}
+use Rattle.proxy_script.specs.Happenings as happening
+use Rattle.proxy_script.specs.declared.limits.TheConstants.{MOST_SCRIPT_BYTES}
+use Rattle.proxy_record.specs.Records.{Record, TextIsAdded, has_room, text_added, empty_record, items_of_happening, text_of_items, RecordBegins, HappeningIsNoted, NotedHappening, EachIsNoted, items_of_noted, script_of_noted, HasSpelling, IsRecordOfNoted}
+
+-- what a text that had room, or had none, made of a record
+abbrev HadRoom : Bool → Record → List ℕ → ℕ → Record → Type 0
+HadRoom room r text moment new = Appends r.held new.held (if room then text else []) × (new.len ≡ r.len + length (if room then text else [])) × (new.moment ≡ (if room then moment else r.moment)) × (new.over ≡ not room)
+
+had_room : (room : Bool) (r : Record) (text : List ℕ) (moment : ℕ) (new : Record) → has_room r text ≡ room → TextIsAdded r text moment new → HadRoom room r text moment new
+had_room room r text moment new is adds = subst (λ (b : Bool). HadRoom b r text moment new) is (adds.written, adds.len, adds.moment_is, adds.ends)
+
+none_where_over : (r : Record) (text : List ℕ) → r.over ≡ true → has_room r text ≡ false
+none_where_over r text over = ap (λ (b : Bool). not b && nat_le (length text) (MOST_SCRIPT_BYTES - r.len)) over
+
+record Kept (r new : Record) : Type 0 where
+  held : Appends r.held new.held []
+  len : new.len ≡ r.len
+  over : new.over ≡ true
+
+-- nothing is added to a record that has ended
+kept_over : (r : Record) (all_noted : List NotedHappening) (new : Record) → r.over ≡ true → EachIsNoted r all_noted new → Kept r new
+kept_over r [] new over same = subst (Kept r) (sym same) (record { held = Appends-nil r.held; len = refl; over = over })
+kept_over r (one ∷ more) new over noted =
+    let first = had_room false r (text_of_items (items_of_happening r.moment one.moment one.happening)) one.moment noted.0 (none_where_over r _ over) noted.1 in
+    let first_len : noted.0.len ≡ r.len + 0 = first.1 in
+    let rest = kept_over noted.0 more new first.3 noted.2 in
+    record {
+      held = Appends-trans _ _ _ [] [] first.0 rest.held;
+      len = omega (arith, rest.len, first_len);
+      over = rest.over;
+    }
+
+-- the texts of more happenings behind what a record has
+record Grew (r : Record) (all_noted : List NotedHappening) (new : Record) : Type 0 where
+  front : List NotedHappening
+  rest : List NotedHappening
+  split : all_noted ≡ front ++ rest
+  all : new.over ≡ false → rest ≡ []
+  held : Appends r.held new.held (text_of_items (items_of_noted r.moment front))
+  len : new.len ≡ r.len + length (text_of_items (items_of_noted r.moment front))
+
+texts : (xs ys : List Item) → text_of_items (xs ++ ys) ≡ text_of_items xs ++ text_of_items ys
+texts [] ys = refl
+texts (x ∷ xs) ys = ap (λ (t : List ℕ). item_spelling x ++ t) (texts xs ys) ∙ sym (append_assoc (item_spelling x) (text_of_items xs) (text_of_items ys))
+
+grew : (r : Record) (all_noted : List NotedHappening) (new : Record) → r.over ≡ false → EachIsNoted r all_noted new → Grew r all_noted new
+grew r [] new going same = subst (Grew r []) (sym same) (record { front = []; rest = []; split = refl; all = λ is. refl; held = Appends-nil r.held; len = omega arith })
+grew r (one ∷ more) new going noted = elim (cases_Bool (has_room r (text_of_items (items_of_happening r.moment one.moment one.happening)))) [
+  | inl room ↦
+      let text = text_of_items (items_of_happening r.moment one.moment one.happening) in
+      let first = had_room true r text one.moment noted.0 room noted.1 in
+      let first_len : noted.0.len ≡ r.len + length text = first.1 in
+      let rest = grew noted.0 more new first.3 noted.2 in
+      let behind : text_of_items (items_of_noted noted.0.moment rest.front) ≡ text_of_items (items_of_noted one.moment rest.front) = ap (λ (m : ℕ). text_of_items (items_of_noted m rest.front)) first.2 in
+      let whole : text_of_items (items_of_noted r.moment (one ∷ rest.front)) ≡ text ++ text_of_items (items_of_noted noted.0.moment rest.front) =
+      texts (items_of_happening r.moment one.moment one.happening) (items_of_noted one.moment rest.front) ∙ ap (λ (t : List ℕ). text ++ t) (sym behind) in
+      record {
+        front = one ∷ rest.front;
+        rest = rest.rest;
+        split = ap (λ (ts : List NotedHappening). one ∷ ts) rest.split;
+        all = rest.all;
+        held = subst (Appends r.held new.held) (sym whole) (Appends-trans _ _ _ text (text_of_items (items_of_noted noted.0.moment rest.front)) first.0 rest.held);
+        len = omega (arith, rest.len, first_len, ap length whole, length-append text (text_of_items (items_of_noted noted.0.moment rest.front)));
+      }
+  | inr full ↦
+      let first = had_room false r (text_of_items (items_of_happening r.moment one.moment one.happening)) one.moment noted.0 full noted.1 in
+      let first_len : noted.0.len ≡ r.len + 0 = first.1 in
+      let kept = kept_over noted.0 more new first.3 noted.2 in
+      record {
+        front = [];
+        rest = one ∷ more;
+        split = refl;
+        all = λ is. absurd (true≢false (sym kept.over ∙ is));
+        held = Appends-trans _ _ _ [] [] first.0 kept.held;
+        len = omega (arith, kept.len, first_len);
+      }
+]
+
+-- a record that has begun, and what was told since
+pub is_record_of : (before : Option (List ℕ)) (table : List ℕ) (all_noted : List NotedHappening) (begun new : Record) → RecordBegins before table begun → begun.over ≡ false → EachIsNoted begun all_noted new → IsRecordOfNoted before table all_noted new
+is_record_of before table all_noted begun new begins going noted = elim (cases_Bool (has_room (empty_record before) (item_spelling (Table table)))) [
+  | inl room ↦
+      let first = had_room true (empty_record before) (item_spelling (Table table)) 0 begun room begins in
+      let first_len : begun.len ≡ 0 + length (item_spelling (Table table)) = first.1 in
+      let rest = grew begun all_noted new going noted in
+      let text = text_of_items (items_of_noted begun.moment rest.front) in
+      let whole : item_spelling (Table table) ++ text ≡ script_of_noted table rest.front = ap (λ (m : ℕ). item_spelling (Table table) ++ text_of_items (items_of_noted m rest.front)) first.2 in
+      record {
+        front = rest.front;
+        rest = rest.rest;
+        split = rest.split;
+        all = rest.all;
+        held = subst (Appends before new.held) whole (Appends-trans _ _ _ (item_spelling (Table table)) text first.0 rest.held);
+        len = omega (arith, rest.len, first_len, ap length whole, length-append (item_spelling (Table table)) text);
+      }
+  | inr full ↦
+      let first = had_room false (empty_record before) (item_spelling (Table table)) 0 begun full begins in
+      absurd (false≢true (sym going ∙ first.3))
+]
+
+all_both : (P : Item → Type 0) (xs ys : List Item) → AllByRecursion P xs → AllByRecursion P ys → AllByRecursion P (xs ++ ys)
+all_both P [] ys one two = two
+all_both P (x ∷ xs) ys one two = (one.0, all_both P xs ys one.1 two)
+
+fits_one : (same : Bool) (one : NotedHappening) → HasSpelling one → AllByRecursion ItemHasSpelling (if same then Happens one.happening ∷ [] else Moment one.moment ∷ Happens one.happening ∷ [])
+fits_one true one fits = (fits.1, tt)
+fits_one false one fits = (fits.0, (fits.1, tt))
+
+placed_happening : (h : Happening) → ItemMayStandHere false (Happens h)
+placed_happening (happening.Accepts n) = refl
+placed_happening (happening.Sends n bytes) = refl
+placed_happening (happening.Hears l bytes) = refl
+placed_happening (happening.Ends n) = refl
+placed_happening (happening.Leaves n) = refl
+placed_happening (happening.Shuts l) = refl
+placed_happening (happening.Fails l kind) = refl
+
+placed_one : (same : Bool) (one : NotedHappening) → AllByRecursion (ItemMayStandHere false) (if same then Happens one.happening ∷ [] else Moment one.moment ∷ Happens one.happening ∷ [])
+placed_one true one = (placed_happening one.happening, tt)
+placed_one false one = (refl, (placed_happening one.happening, tt))
+
+fit : (last : ℕ) (all_noted : List NotedHappening) → AllByRecursion HasSpelling all_noted → AllByRecursion ItemHasSpelling (items_of_noted last all_noted)
+fit last [] all = tt
+fit last (one ∷ more) all = all_both ItemHasSpelling (items_of_happening last one.moment one.happening) (items_of_noted one.moment more) (fits_one (one.moment == last) one all.0) (fit one.moment more all.1)
+
+placed : (last : ℕ) (all_noted : List NotedHappening) → AllByRecursion (ItemMayStandHere false) (items_of_noted last all_noted)
+placed last [] = tt
+placed last (one ∷ more) = all_both (ItemMayStandHere false) (items_of_happening last one.moment one.happening) (items_of_noted one.moment more) (placed_one (one.moment == last) one) (placed one.moment more)
+
+pub is_spelled : (table : List ℕ) (all_noted : List NotedHappening) → ItemHasSpelling (Table table) → AllByRecursion HasSpelling all_noted → IsScript (script_of_noted table all_noted) table (items_of_noted 0 all_noted)
+is_spelled table all_noted fits all = record { script = refl; table_fits = fits; items_fit = fit 0 all_noted all; one_table = placed 0 all_noted }

@@ -1,0 +1,195 @@
+//! Whose time is over, and when each is looked at next.
+ghost use Rattle.std.specs.Prelude.{◌≡◌, ◌<◌, ◌-◌, ◌⊎◌, true, false, [], Some, None, length};
+ghost use Rattle.proxy_server.specs.Patience.{closed_time_is_over, has_lasted_longer, incomplete_since};
+ghost use Rattle.proxy_server.specs.Patience.{client_is_silent, client_has_left_or_gone};
+ghost use Rattle.proxy_server.specs.OtherEntries.{OtherSlabKeysStay, ChangesOnlyAtNumber};
+ghost use Rattle.proxy_server.specs.Streams.{stream_at_number};
+
+use crate::clients::Clients;
+use crate::clients::client::{Client, Place};
+use crate::clients::stream_queues::StreamQueue;
+use crate::limits::{
+    FIRST_REQUEST_MILLISECONDS, Limits, PATIENCE_MILLISECONDS, QUIET_MILLISECONDS, SECOND,
+};
+use proxy_figures::{CutReason, Lateness};
+
+/// Whether a client that was closed has had its time.
+fn closed_time_is_over(client: &Client, queue: StreamQueue, limits: &Limits, now: u64) -> bool
+    ensures { result ≡ closed_time_is_over queue limits.now now client.now.peer.heard client.now.closed }
+{
+    let quiet = now.saturating_sub(client.peer.heard);
+    match queue {
+        StreamQueue::Leaving => quiet > limits.client_timeout.min(PATIENCE_MILLISECONDS),
+        StreamQueue::Lingering => quiet > QUIET_MILLISECONDS
+            || now.saturating_sub(client.closed) > PATIENCE_MILLISECONDS,
+    }
+}
+
+/// Whether the request of a client, which is incomplete, has taken too long, or the client is silent.
+fn is_late(client: &mut Client, limits: &Limits, now: u64) -> bool
+    ensures asked { client.old.peer.unsent.bytes ≡ [] → client.new.asked ≡ incomplete_since now client.old.asked }
+    ensures unread { 0 < length client.old.peer.unsent.bytes → client.new.asked ≡ Some now }
+    ensures over { has_lasted_longer now client.new.asked limits.now.request_timeout ≡ true → result ≡ true }
+    ensures slow { 0 < length client.old.peer.unsent.bytes → limits.now.client_timeout < now - client.old.peer.heard
+        → result ≡ true }
+    ensures silent { client.old.peer.readable ≡ false → limits.now.client_timeout < now - client.old.peer.heard
+        → result ≡ true }
+    ensures only { result ≡ true → (has_lasted_longer now client.new.asked limits.now.request_timeout ≡ true)
+        ⊎ (limits.now.client_timeout < now - client.old.peer.heard) }
+{
+    if client.peer.has_unsent() {
+        // It isn't read meanwhile.
+        client.asked = Some(now);
+    } else if client.asked.is_none() {
+        client.asked = Some(now);
+    }
+    client.is_late(now, limits.request_timeout) || client.peer.is_silent(now, limits.client_timeout)
+}
+
+/// The first moment at which a time of a client may be over.
+fn next_time(client: &Client, limits: &Limits) -> u64 {
+    let heard = client.peer.heard;
+    let mut next = match client.place {
+        Place::In(StreamQueue::Lingering, _) => heard
+            .saturating_add(QUIET_MILLISECONDS)
+            .min(client.closed.saturating_add(PATIENCE_MILLISECONDS)),
+        Place::In(StreamQueue::Leaving, _) => heard.saturating_add(
+            limits.client_timeout.min(PATIENCE_MILLISECONDS),
+        ),
+        Place::Open(_) => heard.saturating_add(limits.client_timeout),
+    };
+    if let Some(asked) = client.asked {
+        next = next.min(asked.saturating_add(limits.request_timeout));
+    }
+    if let Some(left) = client.left {
+        next = next.min(left.max(heard).saturating_add(limits.abandon_timeout));
+    }
+    next.saturating_add(1)
+}
+
+impl Clients {
+    /// When a client is looked at next: once a time of it may be over, and no later than a time that begins now may be.
+    fn next_look(&self, key: usize, now: u64) -> u64 {
+        let soon = now.saturating_add(SECOND);
+        match self.stream(key) {
+            Some(client) => next_time(client, &self.limits)
+                .max(soon)
+                .min(now.saturating_add(self.limits.client_look())),
+            None => soon,
+        }
+    }
+
+    /// A client was looked at, and its time isn't over. Without memory for the next look, it is cut off.
+    pub(crate) fn look_again(&mut self, key: usize, now: u64)
+        ensures { OtherSlabKeysStay key self.old.streams self.new.streams }
+    {
+        let look = self.next_look(key, now);
+        if !self.look_at(key, look) {
+            self.cut_stream(key, CutReason::Memory);
+        }
+    }
+
+    /// Looks at a client that was closed, and drops it where its time is over.
+    fn look_at_closed(&mut self, key: usize, queue: StreamQueue, now: u64) {
+        let limits = self.limits;
+        let is_over = match self.stream(key) {
+            Some(client) => closed_time_is_over(client, queue, &limits, now),
+            None => false,
+        };
+        if !is_over {
+            self.look_again(key, now);
+            return;
+        }
+        if queue == StreamQueue::Leaving {
+            self.endings.count_lateness(Lateness::Client);
+        }
+        self.drop_stream(key);
+    }
+
+    /// The number of a client that is to be looked at now, if the engine knows it. Others are looked at here.
+    pub(crate) fn next_to_look_at(&mut self, now: u64) -> Option<u64> {
+        for _ in 0..self.len() {
+            let key = self.looks.take_due(now)? as usize;
+            let Some(client) = self.stream(key) else {
+                continue;
+            };
+            match client.place {
+                Place::Open(n) => return Some(n),
+                Place::In(queue, _) => self.look_at_closed(key, queue, now),
+            }
+        }
+        None
+    }
+
+    /// The number of a client that is let go since no more connections are taken: it is between two requests, and has
+    /// sent one, or had its time for that.
+    pub(crate) fn next_to_let_go(&mut self, now: u64) -> Option<u64> {
+        let (key, since) = self.longest_idle()?;
+        let client = self.stream(key)?;
+        if client.has_asked || now.saturating_sub(since) > FIRST_REQUEST_MILLISECONDS {
+            return client.number();
+        }
+        None
+    }
+
+    /// Counts why the engine is told that a client is gone.
+    pub(crate) fn count_forgotten(&mut self, n: u64, now: u64)
+        ensures open { self.new.open ≡ self.old.open }
+        ensures streams { self.new.streams ≡ self.old.streams }
+    {
+        let limits = self.limits;
+        let Some(client) = self.get(n) else {
+            return;
+        };
+        if client.left.is_some() {
+            self.endings.count_lateness(Lateness::Abandon);
+        } else if client.is_late(now, limits.request_timeout) {
+            self.endings.count_lateness(Lateness::Request);
+        } else {
+            self.endings.count_lateness(Lateness::Client);
+        }
+    }
+
+    /// Whether a client that is between two requests has been silent for too long, and nothing of it waits to be read.
+    /// One that isn't there has.
+    pub(crate) fn is_silent(&self, n: u64, now: u64) -> bool
+        ensures { result ≡ client_is_silent self.now.limits.client_timeout now
+            (stream_at_number self.now.open self.now.streams n) }
+    {
+        match self.get(n) {
+            Some(client) => {
+                let quiet = now.saturating_sub(client.peer.heard);
+                !client.may_give() && quiet > self.limits.client_timeout
+            }
+            None => true,
+        }
+    }
+
+    /// Whether the request of a client, which is incomplete, has taken too long, or the client is silent. One that
+    /// isn't there is.
+    pub(crate) fn is_late(&mut self, n: u64, now: u64) -> bool
+        ensures gone { stream_at_number self.old.open self.old.streams n ≡ None → result ≡ true }
+        ensures open { self.new.open ≡ self.old.open }
+        ensures others { ChangesOnlyAtNumber self.old.open n self.old.streams self.new.streams }
+    {
+        let limits = self.limits;
+        let Some(key) = self.key_of(n) else {
+            return true;
+        };
+        match self.streams.get_mut(key) {
+            Some(client) => is_late(client, &limits, now),
+            None => true,
+        }
+    }
+
+    /// Whether a client has sent its end, and waits for its answer for too long. One that isn't there has.
+    pub(crate) fn has_left(&self, n: u64, now: u64) -> bool
+        ensures { result ≡ client_has_left_or_gone self.now.limits.abandon_timeout now
+            (stream_at_number self.now.open self.now.streams n) }
+    {
+        match self.get(n) {
+            Some(client) => client.has_left(now, self.limits.abandon_timeout),
+            None => true,
+        }
+    }
+}

@@ -1,0 +1,124 @@
+//! A link to an origin, and its times.
+ghost use Rattle.std.specs.Prelude.{◌≡◌, false};
+ghost use Rattle.proxy_server.specs.Patience.{link_overtime, link_time_may_be_over_at};
+ghost use Rattle.proxy_server.specs.Streams.{bytes_held_of_peer};
+
+use crate::limits::Limits;
+use crate::sockets::peer::Peer;
+use crate::sockets::stream::Stream;
+use mio::event::Event;
+use mio::net::TcpStream;
+use proxy_figures::{Admission, Overtime};
+use std::io;
+
+/// A link.
+#[derive(Drop)]
+pub(crate) struct Link<S: Stream + Drop = TcpStream> {
+    /// Its stream, until that has failed.
+    pub(crate) peer: Option<Peer<S>>,
+    /// When it began, in milliseconds of the clock that never goes back.
+    pub(crate) began: u64,
+    /// The place of its origin.
+    pub(crate) origin: usize,
+    /// Whether its origin was to be asked.
+    pub(crate) admission: Admission,
+    /// It stands among the ends that are read next.
+    pub(crate) is_listed: bool,
+    /// When it is looked at next.
+    pub(crate) look: u64,
+}
+
+impl<S: Stream + Drop> Link<S> {
+    /// A link that begins; without a stream where that couldn't be had.
+    pub(crate) fn new(
+        peer: Option<Peer<S>>,
+        now: u64,
+        origin: usize,
+        admission: Admission,
+    ) -> Link<S>
+        ensures { result ≡ record {
+          peer = peer;
+          began = now;
+          origin = origin;
+          admission = admission;
+          is_listed = false;
+          look = 0;
+        } }
+    {
+        Link {
+            peer,
+            began: now,
+            origin,
+            admission,
+            is_listed: false,
+            look: 0,
+        }
+    }
+
+    /// Bytes that came on it, and those that its origin hasn't taken yet.
+    pub(crate) fn held(&self) -> usize
+        ensures { result ≡ bytes_held_of_peer self.now.peer }
+    {
+        match &self.peer {
+            Some(peer) => peer.unsent().saturating_add(peer.received as usize),
+            None => 0,
+        }
+    }
+
+    /// The first moment at which a time of it may be over.
+    pub(crate) fn next_time(&self, limits: &Limits) -> u64
+        ensures { result ≡ link_time_may_be_over_at limits.now self.now }
+    {
+        let last = self.began.saturating_add(limits.exchange_timeout);
+        let next = match &self.peer {
+            Some(peer) if peer.connecting => self.began.saturating_add(limits.connect_timeout),
+            Some(peer) => peer.heard.saturating_add(limits.origin_timeout),
+            None => last,
+        };
+        last.min(next).saturating_add(1)
+    }
+
+    /// Whether its connection, its silence or all of it has taken too long.
+    pub(crate) fn overtime(&self, now: u64, limits: &Limits) -> Option<Overtime>
+        ensures { result ≡ link_overtime self.now limits.now now }
+    {
+        let Some(peer) = &self.peer else {
+            return None;
+        };
+        let lasts = now.saturating_sub(self.began);
+        if lasts > limits.exchange_timeout {
+            return Some(Overtime::Exchange);
+        }
+        if peer.connecting {
+            return if lasts > limits.connect_timeout {
+                Some(Overtime::Connect)
+            } else {
+                None
+            };
+        }
+        if peer.is_silent(now, limits.origin_timeout) {
+            return Some(Overtime::Silence);
+        }
+        None
+    }
+}
+
+/// Takes what an event told of the stream of a link; the answer is an error where its connection couldn't be made.
+pub(crate) fn mark_peer_ready(
+    peer: &mut Peer<TcpStream>,
+    event: &Event,
+    now: u64,
+) -> io::Result<()> {
+    if peer.connecting {
+        if !peer.has_connected(event)? {
+            return Ok(());
+        }
+        peer.heard = now;
+    }
+    peer.mark_ready(event);
+    if event.is_writable() {
+        // What the origin had said before it broke off can still be read.
+        let _ = peer.flush(now);
+    }
+    Ok(())
+}

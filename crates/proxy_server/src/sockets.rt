@@ -1,0 +1,11 @@
+//! The sockets of the system: streams that never wait, what is written to them and read, and the listener.
+
+mod accepting;
+mod holding;
+pub(crate) mod live_sockets;
+pub(crate) mod peer;
+pub(crate) mod reply_log;
+mod send_buffer;
+pub(crate) mod socket_tokens;
+pub(crate) mod stream;
+mod unsent;

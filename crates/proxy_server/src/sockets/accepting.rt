@@ -1,0 +1,132 @@
+//! How connections of clients are taken.
+ghost use Rattle.std.specs.Prelude.{◌≡◌, ◌&&◌, is_some};
+
+use crate::sockets::live_sockets::LiveSockets;
+use crate::sockets::peer::Peer;
+use crate::sockets::socket_tokens::Holder;
+use mio::net::TcpStream;
+use proxy_figures::is_out_of_descriptors;
+use std::io;
+use std::io::ErrorKind;
+use std::net::{Net, SocketAddr};
+
+impl<'a, R: Net> LiveSockets<'a, R> {
+    /// Whether a connection may wait to be taken.
+    pub(crate) fn may_accept(&self) -> bool
+        ensures { result ≡ (self.entry.now.acceptable && is_some self.entry.now.listener) }
+    {
+        self.acceptable && self.listener.is_some()
+    }
+
+    /// Takes a connection that waits, under this number. Whether one came; where one may have gone again, or gives way
+    /// to it, the next turn asks once more.
+    pub(crate) fn take_connection(&mut self, n: u64) -> bool
+        ensures calls { self.new.calls ≡ self.old.calls }
+    {
+        match self.in_hand.take() {
+            Some((stream, address)) => self.take_stream(n, stream, address),
+            None => self.take_waiting(n),
+        }
+    }
+
+    /// Takes a connection that waits in the listener's queue.
+    fn take_waiting(&mut self, n: u64) -> bool
+        ensures calls { self.new.calls ≡ self.old.calls }
+    {
+        match self.accept_stream() {
+            Ok((stream, address)) => self.take_new_stream(n, stream, address),
+            Err(e) => {
+                self.note_no_connection(&e);
+                false
+            }
+        }
+    }
+
+    /// No connection could be taken.
+    fn note_no_connection(&mut self, e: &io::Error)
+        ensures calls { self.new.calls ≡ self.old.calls }
+    {
+        self.acceptable = self.may_try_again(e);
+    }
+
+    /// Takes a stream that came now as a client; that there is no room for it is counted.
+    fn take_new_stream(&mut self, n: u64, stream: TcpStream, address: SocketAddr) -> bool
+        ensures calls { self.new.calls ≡ self.old.calls }
+    {
+        let is_taken = self.take_stream(n, stream, address);
+        if self.in_hand.is_some() {
+            self.accept_counts.count_full();
+        }
+        is_taken
+    }
+
+    /// Takes a stream as a client, under this number, where there is room for it; else it is kept in hand. Whether it
+    /// was taken.
+    fn take_stream(&mut self, n: u64, stream: TcpStream, address: SocketAddr) -> bool
+        ensures calls { self.new.calls ≡ self.old.calls }
+    {
+        self.may_have_room = false;
+        if !self.clients.make_room(self.now) {
+            self.in_hand = Some((stream, address));
+            return false;
+        }
+        match self.add_client(n, stream, address) {
+            Ok(()) => {
+                self.accept_counts.count_taken();
+                true
+            }
+            Err(e) => {
+                self.accept_counts.count_refused(&e);
+                false
+            }
+        }
+    }
+
+    /// A stream of a connection that waits.
+    fn accept_stream(&self) -> io::Result<(TcpStream, SocketAddr)> {
+        match &self.listener {
+            Some(listener) if self.acceptable => listener.accept(),
+            _ => Err(io::Error::from(ErrorKind::WouldBlock)),
+        }
+    }
+
+    /// Whether a connection is asked for again, behind a call that failed.
+    fn may_try_again(&mut self, e: &io::Error) -> bool
+        ensures calls { self.new.calls ≡ self.old.calls }
+    {
+        match e.kind() {
+            ErrorKind::ConnectionAborted => return true,
+            ErrorKind::Interrupted => return true,
+            ErrorKind::WouldBlock if self.is_draining => self.listener = None,
+            _ => {}
+        }
+        // Where descriptors have run out an idle client gives way, else it is tried again after a pause. The system
+        // says so too where no connection waits: who has just come stays.
+        let again = is_out_of_descriptors(e) && self.clients.drop_idle(self.now);
+        if !again {
+            self.accept_counts.count_refused(e);
+        }
+        again
+    }
+
+    /// Adds a stream as a client, under this number.
+    fn add_client(&mut self, n: u64, stream: TcpStream, address: SocketAddr) -> io::Result<()>
+        ensures calls { self.new.calls ≡ self.old.calls }
+    {
+        let peer = Peer::new(self.alloc, stream, self.now);
+        let Some(key) = self.clients.add(peer, n, self.now) else {
+            return Err(io::Error::from(ErrorKind::OutOfMemory));
+        };
+        let max_body = self.limits.max_body;
+        if let Some(client) = self.clients.stream_mut(key) {
+            if self.log.is_some() {
+                client.keep_log(address, max_body);
+            }
+            if let Err(e) = client.peer.register(&self.poll, Holder::Client(key)) {
+                self.clients.forget(n);
+                return Err(e);
+            }
+        }
+        Ok(())
+    }
+}

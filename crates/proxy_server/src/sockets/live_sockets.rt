@@ -1,0 +1,800 @@
+//! TCP sockets of the system, under the numbers of the engine.
+ghost use Rattle.std.specs.Prelude.{◌≡◌, ◌≤◌, ◌+◌, ◌-◌, ◌/◌, ◌^◌, ◌==◌, if◌then◌else◌, min, length, vec_len};
+ghost use Rattle.std.specs.Prelude.{true, false, option_copied, is_some, IfOk, IsOk, None};
+ghost use Rattle.proxy_turn.specs.Counts.{CountRisesBy, failed};
+ghost use Rattle.proxy_turn.specs.Received.{FitsTheBuffer};
+ghost use Rattle.std.specs.Ordering.{nat_cmp};
+ghost use Rattle.std.specs.BTreeMap.{get};
+ghost use Rattle.proxy_server.specs.Connecting.{link_is_connecting};
+ghost use Rattle.proxy_server.specs.OtherEntries.{OtherEntriesStay, ChangesOnlyAtNumber};
+ghost use Rattle.proxy_server.specs.Forgetting.{ClientIsForgotten, LinkIsForgotten};
+ghost use Rattle.proxy_server.specs.Closing.{StreamIsClosedByNumber};
+ghost use Rattle.proxy_server.specs.Paces.{milliseconds_of_moment};
+ghost use Rattle.proxy_server.specs.Patience.{link_time_is_over, client_is_silent, client_has_left_or_gone};
+ghost use Rattle.proxy_server.specs.Streams.{stream_at_number};
+
+use crate::clients::Clients;
+use crate::limits::{LONGEST_WAIT, Limits, MOST_EVENTS, MOST_READ, SECOND};
+use crate::links::Links;
+use crate::links::link::Link;
+use crate::sockets::peer::Peer;
+use crate::sockets::send_buffer::bound_send_buffers;
+use crate::sockets::socket_tokens::Holder;
+use hx_allow::Config;
+use hx_status::FailKind;
+use mio::net::{TcpListener, TcpStream};
+use mio::{Events, Interest, Poll};
+use proxy_figures::{
+    AcceptCounts, Admission, Asked, CutReason, ReplyCounts, Troubles, Turns, is_out_of_descriptors,
+};
+use proxy_log::Lines;
+use proxy_turn::{End, MOST_WORKS, Received, Report, SocketFailed, Sockets, TurnFault};
+use std::alloc::{AllocError, Global};
+use std::collections::VecDeque;
+use std::io;
+use std::net::{Net, SocketAddr, SocketAddrV4};
+use std::time::Duration;
+
+/// A listener, its clients and the links to origins. No call waits but `wait`.
+#[derive(Drop)]
+pub struct LiveSockets<'a, R: Net> {
+    net: &'a R,
+    pub(crate) alloc: Global,
+    pub(crate) poll: Poll,
+    events: Events,
+    /// No more connections are taken where it is gone.
+    pub(crate) listener: Option<TcpListener>,
+    address: SocketAddr,
+    /// A connection may wait to be taken.
+    pub(crate) acceptable: bool,
+    /// One that was taken, and for which there is no room yet.
+    pub(crate) in_hand: Option<(TcpStream, SocketAddr)>,
+    /// A client has come between two requests since room was looked for.
+    pub(crate) may_have_room: bool,
+    /// Who waits now is taken, and nobody else.
+    pub(crate) is_draining: bool,
+    pub(crate) clients: Clients,
+    pub(crate) links: Links,
+    /// Ends that may give something, and are read next; each stands there once.
+    ready: VecDeque<End>,
+    /// Links that failed since the last turn, and how.
+    pub(crate) lost: Vec<(u64, FailKind)>,
+    pub(crate) limits: Limits,
+    /// Lines about replies, where a log is kept.
+    pub(crate) log: Option<Lines>,
+    /// Counts of replies, where they are kept.
+    pub(crate) replies: Option<ReplyCounts>,
+    pub(crate) accept_counts: AcceptCounts,
+    pub(crate) turns: Turns,
+    /// Who was asked for what goes out next.
+    pub(crate) asked: Asked,
+    /// The moment of the turn in milliseconds since 1970, for the log.
+    pub(crate) moment: u64,
+    /// Milliseconds of the clock that never goes back, at the last wait.
+    pub(crate) now: u64,
+    pub(crate) calls: CallCounts,
+}
+
+/// How many accepts and reads were asked for, and how many calls failed.
+#[derive(Clone, Copy, Debug)]
+pub(crate) struct CallCounts {
+    accepts: u64,
+    reads: u64,
+    failures: u64,
+}
+
+/// Begins a connection to an origin. A refusal near by is known at once.
+fn begin_link<R: Net>(
+    net: &R,
+    alloc: Global,
+    poll: &Poll,
+    l: u64,
+    address: SocketAddrV4,
+    now: u64,
+) -> io::Result<Peer<TcpStream>> {
+    let stream = TcpStream::connect(net, SocketAddr::V4(address))?;
+    let mut peer = Peer::connecting(alloc, stream, now);
+    if let Some(e) = peer.take_error()? {
+        return Err(e);
+    }
+    peer.register(poll, Holder::Link(l))?;
+    Ok(peer)
+}
+
+/// Reads from the link of a number. After a failure its stream is dropped; of one without a stream nothing comes.
+fn read_link(links: &mut Links, l: u64, buf: &mut [u8], now: u64) -> Result<Received, SocketFailed>
+    ensures within { IfOk result (FitsTheBuffer (length buf.old)) }
+    ensures length { length buf.new ≡ length buf.old }
+    ensures others { OtherEntriesStay l links.old.items links.new.items }
+{
+    if let Ok(received) = links.read(l, buf, now) {
+        return Ok(received);
+    }
+    links.drop_stream(l);
+    Err(SocketFailed)
+}
+
+/// Reads from the client of a number. After a failure its stream is dropped; of one that isn't there nothing comes.
+fn read_client(
+    clients: &mut Clients,
+    n: u64,
+    buf: &mut [u8],
+    now: u64,
+) -> Result<Received, SocketFailed>
+    ensures within { IfOk result (FitsTheBuffer (length buf.old)) }
+    ensures length { length buf.new ≡ length buf.old }
+    ensures open { OtherEntriesStay n clients.old.open clients.new.open }
+    ensures others { ChangesOnlyAtNumber clients.old.open n clients.old.streams clients.new.streams }
+{
+    if let Ok(received) = clients.read(n, buf, now) {
+        return Ok(received);
+    }
+    clients.forget(n);
+    Err(SocketFailed)
+}
+
+/// Adds an end to those that are read next. A client is cut off where there is no memory for that; a link is silent
+/// then.
+fn list(ready: &mut VecDeque<End>, clients: &mut Clients, end: End) {
+    if ready.push_back(end).is_ok() {
+        return;
+    }
+    if let End::Client(n) = end {
+        if let Some(key) = clients.key_of(n) {
+            clients.cut_stream(key, CutReason::Memory);
+        }
+    }
+}
+
+/// Whether these bytes are an interim response: the request isn't answered yet.
+fn is_interim(bytes: &[u8]) -> bool {
+    bytes.starts_with(b"HTTP/1.1 1")
+}
+
+/// Hands what a client sent to who reads for the log.
+fn read_piece(
+    clients: &mut Clients,
+    end: End,
+    received: &Result<Received, SocketFailed>,
+    buf: &[u8],
+) {
+    if let (End::Client(n), Ok(Received::Bytes(count))) = (end, received) {
+        if let (Some(client), Some(piece)) = (clients.get_mut(n), buf.get(..*count)) {
+            client.read_piece(piece);
+        }
+    }
+}
+
+impl<'a, R: Net> LiveSockets<'a, R> {
+    /// Listens on an address. Its port may be 0, for one that the system chooses.
+    pub fn bind(
+        net: &'a R,
+        alloc: Global,
+        address: SocketAddr,
+        limits: Limits,
+    ) -> io::Result<LiveSockets<'a, R>>
+        ensures limits { IfOk result (λ sockets. sockets.limits ≡ limits) }
+        ensures begins { IfOk result (λ sockets. sockets.is_draining ≡ false) }
+    {
+        let poll = Poll::new(net)?;
+        let mut listener = TcpListener::bind(net, address)?;
+        bound_send_buffers(&listener);
+        poll.registry().register(&mut listener, Holder::Listener.token()?, Interest::READABLE)?;
+        let address = listener.local_addr()?;
+        Ok(LiveSockets {
+            net,
+            alloc,
+            poll,
+            events: Events::with_capacity(alloc, MOST_EVENTS)?,
+            listener: Some(listener),
+            address,
+            acceptable: true,
+            in_hand: None,
+            may_have_room: false,
+            is_draining: false,
+            clients: Clients::new(alloc, limits),
+            links: Links::new(alloc, &limits),
+            ready: VecDeque::new(alloc),
+            lost: Vec::new(alloc),
+            limits,
+            log: None,
+            replies: None,
+            accept_counts: AcceptCounts::new(),
+            turns: Turns::new(),
+            asked: Asked::new(alloc),
+            moment: 0,
+            now: 0,
+            calls: CallCounts {
+                accepts: 0,
+                reads: 0,
+                failures: 0,
+            },
+        })
+    }
+
+    /// The address that is listened on, or was.
+    pub fn address(&self) -> SocketAddr
+        ensures { result ≡ self.entry.now.address }
+    {
+        self.address
+    }
+
+    /// Keeps a line about each reply from now on.
+    pub fn keep_log(&mut self)
+        ensures kept { is_some self.new.log ≡ true }
+        ensures rest { self.new ≡ record self.old { log = self.new.log } }
+    {
+        self.log = Some(Lines::new(self.alloc));
+    }
+
+    /// Counts replies from now on, and what the origins of a table do.
+    pub fn keep_counts(&mut self, table: &Config) -> Result<(), AllocError> {
+        // A table has 256 lines at most.
+        let last = table.lines().min(256) as u16;
+        for line in 1..=last {
+            if let Some(address) = table.origin_address(line) {
+                let _ = self.links.origins.place(address)?;
+            }
+        }
+        self.replies = Some(ReplyCounts::new());
+        Ok(())
+    }
+
+    /// The lines about replies since they were last cleared.
+    pub fn log(&self) -> Option<&Lines>
+        ensures { option_copied result ≡ self.entry.now.log }
+    {
+        self.log.as_ref()
+    }
+
+    /// Drops the lines, which were written or can't be.
+    pub fn clear_log(&mut self)
+        ensures { self.new ≡ record self.old { log = self.new.log } }
+    {
+        if let Some(lines) = &mut self.log {
+            lines.clear();
+        }
+    }
+
+    /// The moment of the next turn, in Unix seconds; and what the clock tells, with its milliseconds. The moment may be
+    /// that of the turn before, which had its own.
+    pub fn set_moment(&mut self, moment: u64, now: u64, milliseconds: u64)
+        ensures { self.new ≡ record self.old {
+          moment = if moment == now then milliseconds_of_moment now milliseconds else self.old.moment;
+        } }
+    {
+        if moment == now {
+            self.moment = now.saturating_mul(SECOND).saturating_add(milliseconds);
+        }
+    }
+
+    /// Takes no more connections but those that wait now. Who is idle is let go.
+    pub fn drain(&mut self)
+        ensures { self.new ≡ record self.old { is_draining = true; acceptable = true } }
+    {
+        self.is_draining = true;
+        self.acceptable = true;
+    }
+
+    /// Whether no more connections are taken but those that wait.
+    pub fn is_draining(&self) -> bool
+        ensures { result ≡ self.entry.now.is_draining }
+    {
+        self.is_draining
+    }
+
+    /// Whether no connection waits, no client waits for anything, and no link is open.
+    pub fn is_drained(&self) -> bool {
+        self.listener.is_none()
+            && self.in_hand.is_none()
+            && self.clients.is_done()
+            && self.links.is_empty()
+    }
+
+    /// Seconds of the clock that never goes back, at the last wait.
+    pub fn second(&self) -> u64
+        ensures { result ≡ self.entry.now.now / 1000 }
+    {
+        self.now / SECOND
+    }
+
+    /// Waits until something is ready, for a second at most, or not at all where something is left to be done. After a
+    /// turn without memory it waits in any case: there may be some a little later.
+    pub fn wait(&mut self, busy: bool, starved: bool) -> io::Result<()> {
+        let none = busy || self.clients.more || self.lost_count() > 0 || self.has_more();
+        let limit = if none && !starved { 0 } else { LONGEST_WAIT };
+        self.poll
+            .poll(&mut self.events, Some(Duration::from_millis(limit)))
+    }
+
+    /// Takes what has come since the wait, without waiting: a signal may have ended the wait before it told of
+    /// anything.
+    pub fn look_again(&mut self) -> io::Result<()> {
+        self.poll
+            .poll(&mut self.events, Some(Duration::from_millis(0)))?;
+        self.take_events();
+        // After a pause an accept is tried again.
+        self.acceptable = true;
+        Ok(())
+    }
+
+    /// Takes what the wait told, at so many milliseconds of a clock that never goes back. Whether a new second has
+    /// begun.
+    pub fn refresh(&mut self, now: u64) -> bool {
+        let ticked = now / SECOND != self.now / SECOND;
+        self.now = now;
+        self.take_events();
+        self.clients.drop_inputs(now);
+        ticked
+    }
+
+    fn take_events(&mut self) {
+        for event in self.events.iter() {
+            match Holder::of(event.token()) {
+                Holder::Listener => self.acceptable = true,
+                Holder::Link(l) => {
+                    if self.links.mark_ready(l, event, self.now).is_err() {
+                        self.links.count_failed_connect(l);
+                        self.links.drop_stream(l);
+                        // Where there is no memory for it, it counts as silent.
+                        let _ = self.lost.push((l, FailKind::Refused));
+                    } else if self.links.begin_listing(l) {
+                        list(&mut self.ready, &mut self.clients, End::Link(l));
+                    }
+                }
+                Holder::Client(key) => {
+                    self.clients.mark_ready(key, event, self.now);
+                    if let Some(n) = self.clients.begin_listing(key) {
+                        list(&mut self.ready, &mut self.clients, End::Client(n));
+                    }
+                }
+            }
+        }
+    }
+
+    /// Puts an end among those that are read next, where it may give something.
+    fn list_again(&mut self, end: End)
+        ensures calls { self.new.calls ≡ self.old.calls }
+    {
+        let is_new = match end {
+            End::Listener => false,
+            End::Link(l) => self.links.begin_listing(l),
+            End::Client(n) => match self.clients.key_of(n) {
+                Some(key) => self.clients.begin_listing(key).is_some(),
+                None => false,
+            },
+        };
+        if is_new {
+            list(&mut self.ready, &mut self.clients, end);
+        }
+    }
+
+    /// Whether an end is read next, or a connection may be taken, of which no event will tell.
+    pub fn has_more(&self) -> bool {
+        if !self.ready.is_empty() {
+            return true;
+        }
+        match &self.in_hand {
+            Some(_) => self.may_have_room || self.clients.len() < self.limits.connections,
+            None => self.may_accept(),
+        }
+    }
+
+    /// Hands out the ends that are read next, so many of them at most.
+    pub fn take_ready(&mut self, most: usize, ends: &mut Vec<End>) {
+        ends.clear();
+        for _ in 0..most {
+            let Some(end) = self.ready.pop_front() else {
+                return;
+            };
+            let is_there = match end {
+                End::Listener => false,
+                End::Link(l) => self.links.end_listing(l),
+                End::Client(n) => self.clients.end_listing(n),
+            };
+            if is_there && ends.push(end).is_err() {
+                self.list_again(end);
+                return;
+            }
+        }
+    }
+
+    /// How many ends failed since they were last asked for.
+    pub fn lost_count(&self) -> usize
+        ensures { result ≡ min (vec_len self.entry.now.lost + vec_len self.entry.now.clients.lost) (2 ^ 64 - 1) }
+    {
+        self.lost.len().saturating_add(self.clients.lost_count())
+    }
+
+    /// How many of them are handed in before a turn.
+    pub fn lost_of_a_turn(&self) -> usize
+        ensures { result ≡ min (min (vec_len self.entry.now.lost + vec_len self.entry.now.clients.lost) (2 ^ 64 - 1))
+            256 }
+    {
+        self.lost_count().min(MOST_READ)
+    }
+
+    /// An end that failed since it was last asked, and how. Its stream is gone.
+    pub fn next_lost(&mut self) -> Option<(End, FailKind)>
+        ensures { self.new ≡ record self.old {
+          lost = self.new.lost;
+          clients = self.new.clients;
+          asked = self.new.asked;
+        } }
+    {
+        if let Some((l, kind)) = self.lost.pop() {
+            return Some((End::Link(l), kind));
+        }
+        let n = self.clients.next_lost()?;
+        self.asked.disconnect_client();
+        Some((End::Client(n), FailKind::Closed))
+    }
+
+    /// The engine was told that an end is lost: no call on it follows.
+    pub fn note_lost(&mut self, end: End)
+        ensures { self.new ≡ record self.old { links = self.new.links; asked = self.new.asked } }
+    {
+        if let End::Link(l) = end {
+            self.end_failed(l);
+        }
+    }
+
+    /// Whether replies are counted, or a line of each is kept.
+    fn notes_replies(&self) -> bool {
+        self.log.is_some() || self.replies.is_some()
+    }
+
+    /// Takes a link out that has failed.
+    fn end_failed(&mut self, l: u64)
+        ensures { self.new ≡ record self.old { links = self.new.links; asked = self.new.asked } }
+    {
+        let place = self.links.remove(l, self.now);
+        if self.notes_replies() {
+            if let Some(place) = place {
+                self.asked.disconnect_link(l, place);
+            }
+        }
+    }
+
+    /// A turn was served that read these ends. Those that may give more are read again.
+    pub fn note_turn(&mut self, ends: &[End], reported: Result<Report, TurnFault>) {
+        for end in ends {
+            self.list_again(*end);
+        }
+        self.turns.count(reported);
+        if let Ok(report) = reported {
+            // All that was due was done.
+            if report.works < MOST_WORKS {
+                self.asked.clear();
+            }
+        }
+    }
+
+    /// An end that is to be looked at: whether a time of it is over.
+    pub fn next_to_look_at(&mut self) -> Option<End>
+        ensures { self.new ≡ record self.old { clients = self.new.clients; links = self.new.links } }
+    {
+        if let Some(l) = self.links.next_to_look_at(self.now) {
+            return Some(End::Link(l));
+        }
+        let n = self.clients.next_to_look_at(self.now)?;
+        Some(End::Client(n))
+    }
+
+    /// An end was looked at, and none of its times is over.
+    pub fn look_again_at(&mut self, end: End) {
+        match end {
+            End::Listener => {}
+            End::Link(l) => self.links.look_again(l, self.now, &self.limits),
+            End::Client(n) => {
+                if let Some(key) = self.clients.key_of(n) {
+                    self.clients.look_again(key, self.now);
+                }
+            }
+        }
+    }
+
+    /// While no more connections are taken: a client that is let go since it is between two requests.
+    pub fn next_to_let_go(&mut self) -> Option<u64>
+        ensures draining { self.old.is_draining ≡ false → result ≡ None }
+        ensures rest { self.new ≡ record self.old { clients = self.new.clients } }
+    {
+        if !self.is_draining {
+            return None;
+        }
+        self.clients.next_to_let_go(self.now)
+    }
+
+    /// A client that has sent its end, where nearly as many links to an origin are open as may be: if it waits for an
+    /// answer, that is given up for those who still listen.
+    pub fn next_departed(&mut self) -> Option<u64>
+        ensures crowded { self.old.links.origins.crowded ≡ 0 → result ≡ None }
+        ensures rest { self.new ≡ record self.old { clients = self.new.clients } }
+    {
+        if !self.links.origins.some_is_crowded() {
+            return None;
+        }
+        self.clients.next_departed()
+    }
+
+    /// A client that has sent its end doesn't wait for an answer yet.
+    pub fn look_later_at_departed(&mut self, n: u64)
+        ensures { self.new ≡ record self.old { clients = self.new.clients } }
+    {
+        if let Some(key) = self.clients.key_of(n) {
+            self.clients.mark_departed(key, self.now);
+        }
+    }
+
+    /// Whether the time of a link is over.
+    pub fn is_over(&self, l: u64) -> bool
+        ensures { result ≡ link_time_is_over (get nat_cmp self.entry.now.links.items l) self.entry.now.limits
+            self.entry.now.now }
+    {
+        self.links.is_over(l, self.now, &self.limits)
+    }
+
+    /// Whether a client that is between two requests has been silent for too long.
+    pub fn is_silent(&self, n: u64) -> bool
+        ensures { result ≡ client_is_silent self.entry.now.clients.limits.client_timeout self.entry.now.now
+            (stream_at_number self.entry.now.clients.open self.entry.now.clients.streams n) }
+    {
+        self.clients.is_silent(n, self.now)
+    }
+
+    /// Whether the request of a client has taken too long to come, or the client is silent.
+    pub fn is_late(&mut self, n: u64) -> bool
+        ensures { self.new ≡ record self.old { clients = self.new.clients } }
+    {
+        self.clients.is_late(n, self.now)
+    }
+
+    /// Whether a client has sent its end, and waits for its answer for too long.
+    pub fn has_left(&self, n: u64) -> bool
+        ensures { result ≡ client_has_left_or_gone self.entry.now.clients.limits.abandon_timeout self.entry.now.now
+            (stream_at_number self.entry.now.clients.open self.entry.now.clients.streams n) }
+    {
+        self.clients.has_left(n, self.now)
+    }
+
+    /// What couldn't be done that was asked, since the start.
+    pub fn troubles(&self) -> Troubles {
+        let origins = &self.links.origins;
+        Troubles {
+            full: self.accept_counts.full,
+            no_descriptor: self.accept_counts.no_descriptor,
+            no_link: self.accept_counts.no_link,
+            beyond_bound: origins.beyond_bound(),
+            silent: if self.limits.origin_probe {
+                origins.fallen_silent
+            } else {
+                0
+            },
+        }
+    }
+
+    /// Closes a client that is let go between two requests, once it has taken what waits for it.
+    pub fn close_idle(&mut self, n: u64)
+        ensures closed { StreamIsClosedByNumber (get nat_cmp self.old.clients.open n) self.old.clients.streams
+            self.new.clients.streams }
+        ensures rest { self.new ≡ record self.old { clients = self.new.clients } }
+    {
+        self.clients.close(n, self.now);
+    }
+
+    /// Drops the stream of an end whose time is over.
+    pub fn forget(&mut self, end: End)
+        ensures client { ClientIsForgotten end self.old.clients self.new.clients }
+        ensures link { LinkIsForgotten end self.old.links self.new.links }
+    {
+        match end {
+            End::Listener => {}
+            End::Client(n) => {
+                self.clients.count_forgotten(n, self.now);
+                self.clients.forget(n);
+                self.asked.disconnect_client();
+            }
+            End::Link(l) => {
+                self.links.count_overtime(l, self.now, &self.limits);
+                self.links.drop_stream(l);
+            }
+        }
+    }
+
+    fn write_client(&mut self, n: u64, bytes: &[u8])
+        ensures calls { self.new.calls ≡ self.old.calls }
+    {
+        if !self.clients.write_to(n, bytes, self.now) {
+            self.asked.disconnect_client();
+            return;
+        }
+        if !is_interim(bytes) {
+            self.note_answered(n, bytes);
+        }
+        self.keep_within();
+    }
+
+    /// The request of a client was answered by these bytes: it may be read again.
+    fn note_answered(&mut self, n: u64, bytes: &[u8])
+        ensures calls { self.new.calls ≡ self.old.calls }
+    {
+        let Some(key) = self.clients.key_of(n) else {
+            return;
+        };
+        let took = self.clients.answered(key, self.now);
+        self.may_have_room = true;
+        if self.notes_replies() {
+            self.note_reply(n, bytes, took);
+        }
+        self.list_again(End::Client(n));
+    }
+
+    fn write_link(&mut self, l: u64, bytes: &[u8]) -> Result<(), SocketFailed>
+        ensures connected { link_is_connecting (get nat_cmp self.old.links.items l) ≡ false → IsOk result
+            × (self.new.lost ≡ self.old.lost) }
+        ensures calls { self.new.calls ≡ self.old.calls }
+    {
+        // What an origin had said before it broke off can still be read; its end is told then.
+        if self.links.write(l, bytes, self.now) {
+            return Ok(());
+        }
+        self.links.drop_stream(l);
+        self.disconnect_link(l, FailKind::Refused)
+    }
+
+    /// Keeps until the next turn begins that a link has failed.
+    fn disconnect_link(&mut self, l: u64, kind: FailKind) -> Result<(), SocketFailed>
+        ensures calls { self.new.calls ≡ self.old.calls }
+    {
+        if self.lost.push((l, kind)).is_ok() {
+            return Ok(());
+        }
+        self.end_failed(l);
+        Err(SocketFailed)
+    }
+
+    /// Begins a link. Where no descriptor is left an idle client gives way to it.
+    fn begin(&mut self, l: u64, address: SocketAddrV4) -> io::Result<Peer<TcpStream>>
+        ensures calls { self.new.calls ≡ self.old.calls }
+    {
+        match begin_link(self.net, self.alloc, &self.poll, l, address, self.now) {
+            Err(e) if is_out_of_descriptors(&e) && self.clients.drop_idle(self.now) => {
+                begin_link(self.net, self.alloc, &self.poll, l, address, self.now)
+            }
+            begun => begun,
+        }
+    }
+
+    fn connect_link(&mut self, l: u64, address: SocketAddrV4) -> Result<(), SocketFailed>
+        ensures calls { self.new.calls ≡ self.old.calls }
+    {
+        // What was shut last has no reply: its request goes forward once more.
+        self.asked.shut(None);
+        let Ok(origin) = self.links.origins.place(address) else {
+            self.asked.disconnect_any();
+            return Err(SocketFailed);
+        };
+        let admission = self.links.origins.admit(origin, self.limits.origin_probe);
+        let peer = self.begin_admitted(l, address, origin, admission);
+        let is_lost = peer.is_none();
+        let link = Link::new(peer, self.now, origin, admission);
+        if !self.links.put(l, link, self.now.saturating_add(SECOND)) {
+            self.asked.disconnect_link(l, origin);
+            return Err(SocketFailed);
+        }
+        if is_lost {
+            return self.disconnect_link(l, FailKind::Refused);
+        }
+        Ok(())
+    }
+
+    /// Begins a link, where it may be begun and can be.
+    fn begin_admitted(
+        &mut self,
+        l: u64,
+        address: SocketAddrV4,
+        origin: usize,
+        admission: Admission,
+    ) -> Option<Peer<TcpStream>>
+        ensures calls { self.new.calls ≡ self.old.calls }
+    {
+        if admission == Admission::No {
+            return None;
+        }
+        match self.begin(l, address) {
+            Ok(peer) => Some(peer),
+            Err(e) => {
+                if is_out_of_descriptors(&e) {
+                    self.accept_counts.count_no_link();
+                } else {
+                    self.links.origins.note_silence(origin);
+                }
+                None
+            }
+        }
+    }
+
+    /// Reads from a link. That it has failed is kept until the next turn begins.
+    fn read_from_link(&mut self, l: u64, buf: &mut [u8]) -> Result<Received, SocketFailed>
+        ensures within { IfOk result (FitsTheBuffer (length buf.old)) }
+        ensures length { length buf.new ≡ length buf.old }
+        ensures calls { self.new.calls ≡ self.old.calls }
+    {
+        match read_link(&mut self.links, l, buf, self.now) {
+            Ok(received) => Ok(received),
+            Err(_) => match self.disconnect_link(l, FailKind::Closed) {
+                Ok(()) => Ok(Received::Nothing),
+                Err(failed) => Err(failed),
+            },
+        }
+    }
+}
+
+impl<'a, R: Net> Sockets for LiveSockets<'a, R> {
+    // No contract can say what the system's sockets give or take, and no log of it is kept.
+    ghost Did = { λ s made t. Unit {0} };
+
+    ghost accepts = { λ s. s.calls.accepts };
+
+    ghost reads = { λ s. s.calls.reads };
+
+    ghost failures = { λ s. s.calls.failures };
+
+    ghost none = { λ s. tt };
+
+    ghost joined = { λ s t u a b first second. tt };
+
+    fn accept(&mut self, n: u64) -> Result<bool, SocketFailed> {
+        self.calls.accepts = self.calls.accepts.saturating_add(1);
+        Ok(self.take_connection(n))
+    }
+
+    fn read(&mut self, end: End, buf: &mut [u8]) -> Result<Received, SocketFailed> {
+        self.calls.reads = self.calls.reads.saturating_add(1);
+        let received = match end {
+            End::Listener => Ok(Received::Nothing),
+            End::Client(n) => read_client(&mut self.clients, n, buf, self.now),
+            End::Link(l) => self.read_from_link(l, buf),
+        };
+        if self.log.is_some() {
+            read_piece(&mut self.clients, end, &received, buf);
+        }
+        self.keep_within();
+        if received.is_err() {
+            self.calls.failures = self.calls.failures.saturating_add(1);
+        }
+        received
+    }
+
+    fn write(&mut self, end: End, bytes: &[u8]) -> Result<(), SocketFailed> {
+        let written = match end {
+            End::Listener => Ok(()),
+            End::Client(n) => {
+                self.write_client(n, bytes);
+                Ok(())
+            }
+            End::Link(l) => self.write_link(l, bytes),
+        };
+        if written.is_err() {
+            self.calls.failures = self.calls.failures.saturating_add(1);
+        }
+        written
+    }
+
+    fn connect(&mut self, link: u64, address: SocketAddrV4) -> Result<(), SocketFailed> {
+        let connected = self.connect_link(link, address);
+        if connected.is_err() {
+            self.calls.failures = self.calls.failures.saturating_add(1);
+        }
+        connected
+    }
+
+    fn shut(&mut self, end: End) -> Result<(), SocketFailed> {
+        match end {
+            End::Client(n) => self.clients.close(n, self.now),
+            End::Link(l) => self.asked.shut(self.links.remove(l, self.now)),
+            End::Listener => {}
+        }
+        Ok(())
+    }
+}

@@ -1,0 +1,105 @@
+//! What is told of each reply: its line in the log, and what it counts as.
+ghost use Rattle.std.specs.Prelude.{◌≡◌};
+ghost use Rattle.proxy_server.specs.Logging.{LineAboutReplyIsAdded};
+
+use crate::clients::Clients;
+use crate::clients::client::Client;
+use crate::sockets::live_sockets::LiveSockets;
+use proxy_figures::{ReplySort, Source, sort_of};
+use proxy_log::{Lines, ReplyFacts, read_reply};
+use std::net::Net;
+
+/// A reply that was written.
+#[derive(Clone, Copy, Debug)]
+pub(crate) struct Reply<'a> {
+    /// When, in milliseconds since 1970.
+    pub(crate) moment: u64,
+    pub(crate) facts: ReplyFacts<'a>,
+    /// Milliseconds since the first byte of its request came.
+    pub(crate) took: u64,
+    /// The address of the origin that was asked; empty where none was, or none is known.
+    pub(crate) origin: &'a [u8],
+}
+
+/// Adds the line about a reply to a client. Where there is no memory for it, it is lost, and counted.
+fn log_line(lines: &mut Lines, client: &mut Client, reply: &Reply<'_>)
+    ensures { LineAboutReplyIsAdded client.old.logged reply.now lines.old lines.new }
+{
+    match client.line_about(reply) {
+        Ok(Some(line)) => lines.add(&line),
+        Ok(None) => {}
+        Err(_) => lines.lose_line(),
+    }
+}
+
+/// Adds the line about a reply to the client of a number, where a log is kept.
+fn log_reply(log: &mut Option<Lines>, clients: &mut Clients, n: u64, reply: &Reply<'_>) {
+    let Some(lines) = log else {
+        return;
+    };
+    let Some(key) = clients.key_of(n) else {
+        return;
+    };
+    if let Some(client) = clients.streams.get_mut(key) {
+        log_line(lines, client, reply);
+    }
+}
+
+impl<'a, R: Net> LiveSockets<'a, R> {
+    /// Counts a reply that took so many milliseconds, and adds the line about it.
+    pub(crate) fn note_reply(&mut self, n: u64, bytes: &[u8], took: u64)
+        ensures calls { self.new.calls ≡ self.old.calls }
+    {
+        let Some(facts) = read_reply(bytes) else {
+            return;
+        };
+        let sort = sort_of(facts.reason);
+        let origin = self.origin_of(sort);
+        self.count_reply(facts.status, sort, took, origin);
+        let reply = Reply {
+            moment: self.moment,
+            facts,
+            took,
+            origin: self.links.origins.name(origin).as_bytes(),
+        };
+        log_reply(&mut self.log, &mut self.clients, n, &reply);
+    }
+
+    /// The place of the origin that was asked for a reply: what an engine makes of an answer goes out right behind the
+    /// end of its link.
+    fn origin_of(&mut self, sort: Option<ReplySort>) -> Option<usize>
+        ensures log { self.new.log ≡ self.old.log }
+        ensures clients { self.new.clients ≡ self.old.clients }
+        ensures moment { self.new.moment ≡ self.old.moment }
+        ensures calls { self.new.calls ≡ self.old.calls }
+    {
+        match sort {
+            Some(sort) if sort.source() == Source::Origin => self.asked.next(sort.is_answered()),
+            _ => {
+                self.asked.shut(None);
+                None
+            }
+        }
+    }
+
+    fn count_reply(
+        &mut self,
+        status: u16,
+        sort: Option<ReplySort>,
+        took: u64,
+        origin: Option<usize>,
+    )
+        ensures log { self.new.log ≡ self.old.log }
+        ensures clients { self.new.clients ≡ self.old.clients }
+        ensures moment { self.new.moment ≡ self.old.moment }
+        ensures calls { self.new.calls ≡ self.old.calls }
+    {
+        let (Some(replies), Some(sort)) = (&mut self.replies, sort) else {
+            return;
+        };
+        replies.add(status, &sort, took);
+        if let Some(place) = origin {
+            self.links.origins.answered(place, status, &sort);
+        }
+    }
+}

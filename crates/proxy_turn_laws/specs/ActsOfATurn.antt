@@ -1,0 +1,94 @@
+-- A turn amid which no call fails: its acts are done one after another, as the play of a script does them, and each
+-- effect to a client and each forward is written whole, once, in order.
+--
+-- EffectIsntLost, NothingIsLostAmid: acts whose calls all went well     done_acts_of: acts with their effects
+-- writes_of_effect, writes_of_effects: the calls of effects              without_link_shuts: all but a link's shutting
+-- RoundsAreActsInOrder, ATurnDoesActsInOrder, ATurnWritesItsEffects: the statements
+use Rattle.std.specs.Prelude.{◌≡◌, ℕ, true, List, [], ◌∷◌, ◌++◌}
+use Rattle.std.specs.List.{AllByRecursion}
+use Rattle.proxy_script.specs.declared.effect_list.Effect.{Effect}
+use Rattle.proxy_script.specs.declared.effect_list.Effect.TheVariants as effects
+use Rattle.proxy_engine.specs.EngineModel.{EngineModel}
+use Rattle.proxy_engine.specs.Executions.{ExecutionStep}
+use Rattle.proxy_engine.specs.State.{State}
+use Rattle.proxy_engine.specs.declared.work.End.{End}
+use Rattle.proxy_engine.specs.declared.work.End.TheVariants as ends
+use Rattle.proxy_replay.specs.Played.{DoneAct, ActsAreDoneInOrder}
+use Rattle.proxy_turn.specs.Calls as call
+use Rattle.proxy_turn.specs.Calls.{Call, AcceptOutcome}
+use Rattle.proxy_turn.specs.Turn.{EndRead, EffectFate, Carried, Passed, Lost, ActRound, ActsAreCarriedOut}
+use Rattle.proxy_turn.specs.Turn.{calls_of_rounds}
+use Rattle.proxy_turn.specs.TurnSteps.{effects_of_rounds}
+use Rattle.proxy_turn.specs.Over.{TurnOverAsFarAsItCame}
+use Rattle.proxy_turn.specs.Served.{EngineExecuted}
+use Rattle.proxy_turn.specs.declared.bounds.TurnBounds.{TurnBounds}
+
+-- ---- nothing is lost
+
+abbrev pub EffectIsntLost : EffectFate → Type 0
+EffectIsntLost Carried = Unit {0}
+EffectIsntLost Passed = Unit {0}
+EffectIsntLost (Lost kind) = ⊥
+
+-- no call that an act of these made failed
+abbrev pub NothingIsLostAmid : List ActRound → Type 0
+NothingIsLostAmid rounds = AllByRecursion (λ (r : ActRound). AllByRecursion EffectIsntLost r.fates) rounds
+
+abbrev pub done_acts_of : List ActRound → List DoneAct
+done_acts_of [] = []
+done_acts_of (r ∷ rounds) = record { act = r.act; effects = r.emitted } ∷ done_acts_of rounds
+
+-- ---- what is written
+
+-- to a client its bytes, on a new link the request, whole and once; a client is closed. Of a link that is dropped
+-- nothing is written.
+abbrev pub writes_of_effect : Effect → List Call
+writes_of_effect (effects.Client n bytes) = call.Write (ends.Client n) bytes true ∷ []
+writes_of_effect (effects.Close n) = call.Shut (ends.Client n) true ∷ []
+writes_of_effect (effects.Forward l address bytes) =
+    call.Connect l address true ∷ call.Write (ends.Link l) bytes true ∷ []
+writes_of_effect (effects.Drop l) = []
+
+abbrev pub writes_of_effects : List Effect → List Call
+writes_of_effects [] = []
+writes_of_effects (e ∷ more) = writes_of_effect e ++ writes_of_effects more
+
+-- all calls but those that shut a link, which are left out where it has failed
+abbrev pub without_link_shuts : List Call → List Call
+without_link_shuts [] = []
+without_link_shuts (call.Accept n answer ∷ more) = call.Accept n answer ∷ without_link_shuts more
+without_link_shuts (call.Read end given ∷ more) = call.Read end given ∷ without_link_shuts more
+without_link_shuts (call.Write end bytes done ∷ more) = call.Write end bytes done ∷ without_link_shuts more
+without_link_shuts (call.Connect l address done ∷ more) = call.Connect l address done ∷ without_link_shuts more
+without_link_shuts (call.Shut ends.Listener done ∷ more) = call.Shut ends.Listener done ∷ without_link_shuts more
+without_link_shuts (call.Shut (ends.Client n) done ∷ more) = call.Shut (ends.Client n) done ∷ without_link_shuts more
+without_link_shuts (call.Shut (ends.Link l) done ∷ more) = without_link_shuts more
+
+-- ---- the statements
+
+-- acts that lose nothing are acts one after another, each the first that was due; and no end was lost
+abbrev pub RoundsAreActsInOrder : Type 0
+RoundsAreActsInOrder =
+    (now : ℕ) (s t : EngineModel) (gone more : List End) (rounds : List ActRound) → NothingIsLostAmid rounds
+    → ActsAreCarriedOut now s gone rounds t more
+    → ActsAreDoneInOrder s now (done_acts_of rounds) t × (more ≡ gone)
+
+-- so are those of a turn, behind all that it took
+abbrev pub ATurnDoesActsInOrder : Type 0
+ATurnDoesActsInOrder =
+    (now : ℕ) (bounds : TurnBounds) (s : EngineModel) (given : List End) (accepts : List AcceptOutcome)
+    (reads : List EndRead)
+    (rest : List End) (rounds : List ActRound) (t : EngineModel) → NothingIsLostAmid rounds
+    → (turn : TurnOverAsFarAsItCame now bounds s given accepts reads rest rounds t)
+    → ActsAreDoneInOrder turn.read now (done_acts_of rounds) t
+
+-- And then the turn of an engine that has lived by some steps writes each effect to a client and each forward whole,
+-- once, in order.
+abbrev pub ATurnWritesItsEffects : Type 0
+ATurnWritesItsEffects =
+    (e : State) (first link : ℕ) (steps : List ExecutionStep) (now : ℕ) (bounds : TurnBounds) (s : EngineModel)
+    (given : List End)
+    (accepts : List AcceptOutcome) (reads : List EndRead) (rest : List End) (rounds : List ActRound)
+    (t : EngineModel) → EngineExecuted e first link steps s → NothingIsLostAmid rounds
+    → TurnOverAsFarAsItCame now bounds s given accepts reads rest rounds t
+    → without_link_shuts (calls_of_rounds rounds) ≡ writes_of_effects (effects_of_rounds rounds)

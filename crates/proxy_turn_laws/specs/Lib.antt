@@ -1,0 +1,3 @@
+pub mod ActsOfATurn
+pub mod Dialogue
+pub mod WritesOfATurn

@@ -1,0 +1,94 @@
+-- What a turn writes: each write is one message (RFC 9112, sections 11.1 and 11.2).
+--
+-- BytesAreOneMessageFor: bytes that are one message for an end
+-- CallWritesOneMessage: a call that writes one, or nothing
+-- EachWriteOfATurnIsOneMessage, EachWriteOfAWholeTurnIsOneMessage: the statements
+-- ATurnWritesNothingElse and those behind it: what a turn doesn't write
+use Rattle.std.specs.Prelude.{◌≡◌, ◌⊎◌, ℕ, ◌<◌, ◌^◌, ◌++◌, Bool, List, [], Contains}
+use Rattle.std.specs.List.{All}
+use Rattle.hx_fields.specs.declared.limits.TheConstants.{END_OF_TIME}
+use Rattle.hx_framing.specs.Text.{continue_text}
+use Rattle.hx_hop.specs.Forwarding.{forwarded_of}
+use Rattle.hx_hop_laws.specs.OneMessage.{RequestIsWithinLimits}
+use Rattle.proxy_core_laws.specs.SentMessages.{BytesAreOneRequest, BytesAreOneResponse, TableWasRead}
+use Rattle.proxy_engine.specs.EngineModel.{EngineModel}
+use Rattle.proxy_engine.specs.Executions.{ExecutionStep}
+use Rattle.proxy_engine.specs.State.{State}
+use Rattle.proxy_engine.specs.declared.work.End.{End}
+use Rattle.proxy_engine.specs.declared.work.End.TheVariants as ends
+use Rattle.proxy_turn.specs.Calls as call
+use Rattle.proxy_turn.specs.Calls.{Call, AcceptOutcome}
+use Rattle.proxy_turn.specs.Turn.{EndRead, ActRound, AcceptCall, TurnAsFarAsItCame, calls_of_turn}
+use Rattle.proxy_turn.specs.Over.{TurnOverAsFarAsItCame, calls_of_turn_over}
+use Rattle.proxy_turn.specs.Served.{EngineExecuted}
+use Rattle.proxy_turn.specs.declared.bounds.TurnBounds.{TurnBounds}
+
+-- ---- each write is one message
+
+-- What is written on a link is one request, by a proxy of this name (RFC 9112, section 11.2); what is written to a
+-- client is the 25 bytes of a continue (RFC 9110, section 15.2.1), or one response (RFC 9112, section 11.1).
+abbrev pub BytesAreOneMessageFor : List ℕ → End → List ℕ → Type 0
+BytesAreOneMessageFor name ends.Listener bytes = ⊥
+BytesAreOneMessageFor name (ends.Link l) bytes = BytesAreOneRequest name bytes
+BytesAreOneMessageFor name (ends.Client n) bytes =
+    (bytes ≡ continue_text) ⊎ ((to_head : Bool) × BytesAreOneResponse to_head bytes)
+
+-- a call that writes writes one message, whether it failed or not
+abbrev pub CallWritesOneMessage : List ℕ → Call → Type 0
+CallWritesOneMessage name (call.Accept n answer) = Unit {0}
+CallWritesOneMessage name (call.Read end given) = Unit {0}
+CallWritesOneMessage name (call.Write end bytes done) = BytesAreOneMessageFor name end bytes
+CallWritesOneMessage name (call.Connect link address done) = Unit {0}
+CallWritesOneMessage name (call.Shut end done) = Unit {0}
+
+-- Where an engine whose table was read has lived by some steps, each write of its next turn is one message: no byte of
+-- a client's or of an origin's that comes into it ends it early or stands behind it.
+abbrev pub EachWriteOfATurnIsOneMessage : Type 0
+EachWriteOfATurnIsOneMessage =
+    (e : State) (first link : ℕ) (steps : List ExecutionStep) (now : ℕ) (bounds : TurnBounds) (s : EngineModel)
+    (given : List End) (accepts : List AcceptOutcome) (reads : List EndRead) (rest : List End)
+    (rounds : List ActRound) (t : EngineModel)
+    → TableWasRead e.core.table → EngineExecuted e first link steps s → now < END_OF_TIME
+    → TurnOverAsFarAsItCame now bounds s given accepts reads rest rounds t
+    → All (CallWritesOneMessage e.core.table.name) (calls_of_turn_over s accepts reads rounds)
+
+-- So is each write of a turn over all ends that may send.
+abbrev pub EachWriteOfAWholeTurnIsOneMessage : Type 0
+EachWriteOfAWholeTurnIsOneMessage =
+    (e : State) (first link : ℕ) (steps : List ExecutionStep) (now : ℕ) (s : EngineModel) (asked : AcceptCall)
+    (reads : List EndRead) (rest : List End) (rounds : List ActRound) (t : EngineModel)
+    → TableWasRead e.core.table → EngineExecuted e first link steps s → now < END_OF_TIME
+    → TurnAsFarAsItCame now s asked reads rest rounds t
+    → All (CallWritesOneMessage e.core.table.name) (calls_of_turn s asked reads rounds)
+
+-- ---- what a turn doesn't write
+
+-- So it is no turn among whose calls stands one that writes no message, or more than one.
+abbrev pub ATurnWritesNothingElse : Type 0
+ATurnWritesNothingElse =
+    (e : State) (first link : ℕ) (steps : List ExecutionStep) (now : ℕ) (bounds : TurnBounds) (s : EngineModel)
+    (given : List End) (accepts : List AcceptOutcome) (reads : List EndRead) (rest : List End)
+    (rounds : List ActRound) (t : EngineModel) (other : Call)
+    → TableWasRead e.core.table → EngineExecuted e first link steps s → now < END_OF_TIME
+    → (CallWritesOneMessage e.core.table.name other → ⊥)
+    → Contains (calls_of_turn_over s accepts reads rounds) other
+    → TurnOverAsFarAsItCame now bounds s given accepts reads rest rounds t → ⊥
+
+-- no bytes are no request
+abbrev pub NoRequestIsEmpty : Type 0
+NoRequestIsEmpty =
+    (name : List ℕ) (l : ℕ) (done : Bool) → CallWritesOneMessage name (call.Write (ends.Link l) [] done) → ⊥
+
+-- Two requests in one write are no write of a turn, within the limits of a reader: who reads them finds the first, and
+-- the second behind it.
+abbrev pub TwoRequestsAreNotOne : Type 0
+TwoRequestsAreNotOne =
+    (name one other : List ℕ) (l most : ℕ) (done : Bool) (first : BytesAreOneRequest name one)
+    → BytesAreOneRequest name other → most < 2 ^ 64
+    → RequestIsWithinLimits most (forwarded_of first.asked name first.conditions)
+    → (both : CallWritesOneMessage name (call.Write (ends.Link l) (one ++ other) done))
+    → RequestIsWithinLimits most (forwarded_of both.asked name both.conditions) → ⊥
+
+abbrev pub NothingIsWrittenToTheListener : Type 0
+NothingIsWrittenToTheListener =
+    (name bytes : List ℕ) (done : Bool) → CallWritesOneMessage name (call.Write ends.Listener bytes done) → ⊥

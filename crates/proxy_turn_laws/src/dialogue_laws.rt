@@ -1,0 +1,30 @@
+//! Laws on what is said on a connection: which reply answers which request.
+ghost use Rattle.proxy_turn_laws.specs.Dialogue.{RepliesFollowRequests, EachRequestHasOneReply};
+ghost use Rattle.proxy_turn_laws.specs.Dialogue.{NoRequestIsAnsweredTwice, NoReplyComesUnasked};
+ghost use Rattle.proxy_turn_laws.specs.Dialogue.{NoRequestIsPassedOver, NothingIsSaidBehindALeave, NoActAnswersTwice};
+
+use proxy_engine::{effects_name_open_ends, what_ends_stays_ended};
+
+/// Whatever an engine lives through, on each connection each reply follows its own request (RFC 9112, section 9.3.2):
+/// a request is served only where each before it was answered, the nth reply answers the nth request, none is answered
+/// twice, and behind a client that went away nothing is said. So no client is handed the answer to another request.
+pub fn replies_follow_requests()
+    ensures { RepliesFollowRequests }
+{
+    effects_name_open_ends();
+    what_ends_stays_ended();
+}
+
+/// So a client has as many replies as it sent requests, or one fewer. A trace in which two replies come for one request
+/// is refused, and so are a reply that nobody asked for, a request that a later one passes over, and anything that is
+/// said behind a client that went away. No engine lives by an act that tells its client two replies.
+pub fn a_dialogue_refuses_what_is_no_answer()
+    ensures counts { EachRequestHasOneReply }
+    ensures twice { NoRequestIsAnsweredTwice }
+    ensures unasked { NoReplyComesUnasked }
+    ensures passed_over { NoRequestIsPassedOver }
+    ensures behind { NothingIsSaidBehindALeave }
+    ensures life { NoActAnswersTwice }
+{
+    replies_follow_requests();
+}

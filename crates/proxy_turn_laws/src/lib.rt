@@ -1,0 +1,12 @@
+//! Laws on turns over sockets, and on what an engine's clients are told, above what `proxy_engine_laws` says of an
+//! engine. Each function's contract is a law, and its body calls the laws that it follows from. Nothing here runs.
+#![tactic(auto)]
+
+mod dialogue_laws;
+mod turn_laws;
+
+pub use crate::dialogue_laws::{a_dialogue_refuses_what_is_no_answer, replies_follow_requests};
+pub use crate::turn_laws::{
+    a_turn_does_its_acts_in_order, a_turn_writes_its_effects, a_turn_writes_nothing_else,
+    each_write_of_a_turn_is_one_message,
+};

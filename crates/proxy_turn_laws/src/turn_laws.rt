@@ -1,0 +1,51 @@
+//! Laws on what a turn writes, and on the order in which it acts.
+ghost use Rattle.proxy_turn_laws.specs.ActsOfATurn.{RoundsAreActsInOrder, ATurnDoesActsInOrder, ATurnWritesItsEffects};
+ghost use Rattle.proxy_turn_laws.specs.WritesOfATurn.{EachWriteOfATurnIsOneMessage, EachWriteOfAWholeTurnIsOneMessage};
+ghost use Rattle.proxy_turn_laws.specs.WritesOfATurn.{ATurnWritesNothingElse, NoRequestIsEmpty, TwoRequestsAreNotOne};
+ghost use Rattle.proxy_turn_laws.specs.WritesOfATurn.{NothingIsWrittenToTheListener};
+
+use proxy_core_laws::a_core_sends_one_message_each_time;
+use proxy_engine::{effects_name_open_ends, what_ends_stays_ended};
+use proxy_engine_laws::{what_a_client_gets_is_one_response, what_goes_forward_is_one_request};
+use proxy_turn::turns_are_executed;
+
+/// Where an engine whose table was read has lived by some steps, each write of its next turn is one message: on a link
+/// one request, to a client a continue or one response (RFC 9112, sections 11.1 and 11.2).
+pub fn each_write_of_a_turn_is_one_message()
+    ensures over { EachWriteOfATurnIsOneMessage }
+    ensures whole { EachWriteOfAWholeTurnIsOneMessage }
+{
+    what_goes_forward_is_one_request();
+    what_a_client_gets_is_one_response();
+    turns_are_executed();
+}
+
+/// So a turn among whose calls stands one that writes no message, or more than one, is none: a write of no bytes on a
+/// link, a write of two requests, and any to the listener.
+pub fn a_turn_writes_nothing_else()
+    ensures turn { ATurnWritesNothingElse }
+    ensures empty { NoRequestIsEmpty }
+    ensures two { TwoRequestsAreNotOne }
+    ensures listener { NothingIsWrittenToTheListener }
+{
+    each_write_of_a_turn_is_one_message();
+    a_core_sends_one_message_each_time();
+}
+
+/// A turn amid which no call fails does its acts one after another, each the first that was due, as the play of a
+/// script does them (`ActsAreDoneInOrder` of proxy_replay). No end is lost in it.
+pub fn a_turn_does_its_acts_in_order()
+    ensures rounds { RoundsAreActsInOrder }
+    ensures turn { ATurnDoesActsInOrder }
+{}
+
+/// And then the turn of an engine that has lived by some steps writes the effects of its acts: each reply to its client
+/// and each request on its new link whole, once, in order, and nothing else. It leaves out no more than the shutting of
+/// a link that had failed before.
+pub fn a_turn_writes_its_effects()
+    ensures { ATurnWritesItsEffects }
+{
+    effects_name_open_ends();
+    what_ends_stays_ended();
+    turns_are_executed();
+}
