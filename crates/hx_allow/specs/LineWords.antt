@@ -37,7 +37,7 @@ says_second_of _ key ms = false
 abbrev pub says_second : Row → Members → Bool
 says_second row ms = says_second_of row.kind row.key ms
 
--- what a line says of caching; each key that doesn't stand is as in the versions before
+-- own: what a line says of caching, by the operator's words; each key that doesn't stand is as in the versions before
 abbrev pub policy_of_line_table : Members → Policy
 policy_of_line_table ms = record {
   caches = not (says_second (line_row Cache) ms);

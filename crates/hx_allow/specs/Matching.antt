@@ -22,7 +22,7 @@ abbrev pub matches_host : Option (List ℕ) → List ℕ → Bool
 matches_host None asked = true
 matches_host (Some host) asked = bytes_eq host asked
 
--- methods that no line allows: a tunnel, and two that need Max-Forwards (RFC 9110, sections 7.6.2 and 9.3.6)
+-- own: methods that no line allows: a tunnel, and two that need Max-Forwards (RFC 9110, sections 7.6.2 and 9.3.6)
 abbrev pub is_never_allowed : List ℕ → Bool
 is_never_allowed method = bytes_eq method (codes "CONNECT") || bytes_eq method (codes "TRACE") || bytes_eq method (codes "OPTIONS")
 

@@ -110,6 +110,7 @@ target_fault_applies Host q = is_none (host_value q.hosts) || not (has_valid_hos
 target_fault_applies Port q = is_none (host_port q.hosts) || is_none (port_part (host_and_port_text q))
 target_fault_applies Userinfo q = has_userinfo q.authority
 target_fault_applies Escape q = has_bad_escape (path_of q.kept)
+-- own: escaped dots count too, and a dot segment is refused where RFC 3986, section 5.2.4 would resolve it
 target_fault_applies DotSegment q = has_dot_segment (table_path_of_target q)
 target_fault_applies TooLong q = nat_lt 8192 (length q.target)
 target_fault_applies OutOfMemory q = false
