@@ -4,9 +4,10 @@
 -- admission_of, admission_where_known: whether a further link may be begun
 -- origin_with_admission, origin_with_answer, origin_with_written, origin_heard: an origin, with one thing more counted
 -- origin_with_link, origin_without_link, origin_silent_once_more: where a link is begun, has ended, or had no answer
+-- origin_changed_at: the origins, where the one at a place is changed
 -- name_of_origin: its name, empty where there is none
 use Rattle.std.specs.Prelude.{ℕ, ◌-◌, ◌/◌, nat_le, Bool, true, false, not, ◌||◌, if◌then◌else◌, List, [], Option, None}
-use Rattle.std.specs.Prelude.{Some, string_bytes}
+use Rattle.std.specs.Prelude.{Some, string_bytes, option_map, slice_get, slice_set}
 use Rattle.proxy_figures.specs.Counts.{count_plus_one, count_plus, counts_with_one_more}
 use Rattle.proxy_figures.specs.declared.limits.TheConstants.{SILENT_EXCHANGES}
 use Rattle.proxy_figures.specs.declared.origins.Admission.{Admission}
@@ -69,6 +70,15 @@ origin_without_link AsProbe lasted origin =
 -- an exchange was timed out, or couldn't connect
 abbrev pub origin_silent_once_more : Origin → Origin
 origin_silent_once_more origin = record origin { silences = count_plus_one origin.silences }
+
+-- this one stands at the place, if there is one
+abbrev pub changed_to : ℕ → Option Origin → List Origin → List Origin
+changed_to place None origins = origins
+changed_to place (Some origin) origins = slice_set origins place origin
+
+-- the origins, where the one at this place is changed, if there is one; no other is
+abbrev pub origin_changed_at : ℕ → (Origin → Origin) → List Origin → List Origin
+origin_changed_at place change origins = changed_to place (option_map change (slice_get origins place)) origins
 
 abbrev pub name_of_origin : Option Origin → List ℕ
 name_of_origin None = []

@@ -1,10 +1,10 @@
 //! What was counted of each origin. Those of the operator's table are the only ones.
-ghost use Rattle.std.specs.Prelude.{◌≡◌, [], nat_lt, slice_get, option_map, string_bytes};
+ghost use Rattle.std.specs.Prelude.{◌≡◌, ◌≢◌, [], nat_lt, slice_get, string_bytes};
 ghost use Rattle.std.specs.Option.{option_and_then};
 ghost use Rattle.proxy_figures.specs.Origins.{is_silent, is_crowded, admission_of, origin_with_admission};
 ghost use Rattle.proxy_figures.specs.Origins.{origin_with_answer, name_of_origin, admission_where_known};
 ghost use Rattle.proxy_figures.specs.Origins.{origin_with_written, origin_heard, origin_with_link};
-ghost use Rattle.proxy_figures.specs.Origins.{origin_without_link, origin_silent_once_more};
+ghost use Rattle.proxy_figures.specs.Origins.{origin_without_link, origin_silent_once_more, origin_changed_at};
 
 use crate::counts::{count, count_plus, count_plus_one};
 use crate::limits::SILENT_EXCHANGES;
@@ -122,6 +122,32 @@ impl Origin {
         Admission::AsProbe
     }
 
+    /// A link to it is begun, as it was admitted.
+    fn begin(&mut self, admission: Admission)
+        ensures { self.new ≡ origin_with_link admission self.old }
+    {
+        match admission {
+            Admission::No => return,
+            Admission::Yes => {}
+            Admission::AsProbe => self.is_probed = true,
+        }
+        self.begun = count_plus_one(self.begun);
+        self.open = count_plus_one(self.open);
+    }
+
+    /// A link to it has ended, which had been admitted so, so many milliseconds after it began.
+    fn end(&mut self, admission: Admission, milliseconds: u64)
+        ensures { self.new ≡ origin_without_link admission milliseconds self.old }
+    {
+        match admission {
+            Admission::No => return,
+            Admission::Yes => {}
+            Admission::AsProbe => self.is_probed = false,
+        }
+        self.open = self.open.saturating_sub(1);
+        self.lasted = count_plus(self.lasted, milliseconds);
+    }
+
     fn count_answer(&mut self, status: u16)
         ensures { self.new ≡ origin_with_answer status self.old }
     {
@@ -210,9 +236,14 @@ impl Origins {
         self.crowded > 0
     }
 
-    /// Whether a further link to an origin may be begun.
+    /// Whether a further link to an origin may be begun; where not, that is counted.
     pub fn admit(&mut self, place: usize, probes: bool) -> Admission
-        ensures { result ≡ admission_where_known self.old.most probes (slice_get self.old.items.items place) }
+        ensures admission { result ≡ admission_where_known self.old.most probes
+            (slice_get self.old.items.items place) }
+        ensures counted { self.new.items.items ≡ origin_changed_at place
+            (λ origin. origin_with_admission (admission_of self.old.most probes origin) self.old.most origin)
+            self.old.items.items }
+        ensures rest { self.new ≡ record self.old { items = self.new.items } }
     {
         let most = self.most;
         match self.items.get_mut(place) {
@@ -223,8 +254,8 @@ impl Origins {
 
     /// A link is begun; one that isn't admitted is none.
     pub fn begin(&mut self, place: usize, admission: Admission)
-        ensures at { slice_get self.new.items.items place
-            ≡ option_map (origin_with_link admission) (slice_get self.old.items.items place) }
+        ensures at { admission ≢ Admission.No → self.new.items.items
+            ≡ origin_changed_at place (origin_with_link admission) self.old.items.items }
         ensures refused { admission ≡ Admission.No → self.new ≡ self.old }
     {
         if admission == Admission::No {
@@ -233,9 +264,7 @@ impl Origins {
         let most = self.most;
         if let Some(origin) = self.items.get_mut(place) {
             let was_crowded = origin.is_crowded(most);
-            origin.begun = count_plus_one(origin.begun);
-            origin.open = count_plus_one(origin.open);
-            origin.is_probed = origin.is_probed || admission == Admission::AsProbe;
+            origin.begin(admission);
             if origin.is_crowded(most) && !was_crowded {
                 self.crowded = self.crowded.saturating_add(1);
             }
@@ -244,8 +273,8 @@ impl Origins {
 
     /// A link has ended, so many milliseconds after it began.
     pub fn end(&mut self, place: usize, admission: Admission, milliseconds: u64)
-        ensures at { slice_get self.new.items.items place
-            ≡ option_map (origin_without_link admission milliseconds) (slice_get self.old.items.items place) }
+        ensures at { admission ≢ Admission.No → self.new.items.items
+            ≡ origin_changed_at place (origin_without_link admission milliseconds) self.old.items.items }
         ensures refused { admission ≡ Admission.No → self.new ≡ self.old }
     {
         if admission == Admission::No {
@@ -254,9 +283,7 @@ impl Origins {
         let most = self.most;
         if let Some(origin) = self.items.get_mut(place) {
             let was_crowded = origin.is_crowded(most);
-            origin.open = origin.open.saturating_sub(1);
-            origin.lasted = count_plus(origin.lasted, milliseconds);
-            origin.is_probed = origin.is_probed && admission != Admission::AsProbe;
+            origin.end(admission, milliseconds);
             if was_crowded && !origin.is_crowded(most) {
                 self.crowded = self.crowded.saturating_sub(1);
             }
@@ -265,8 +292,7 @@ impl Origins {
 
     /// So many bytes came from an origin.
     pub fn note_answer(&mut self, place: usize, count: usize)
-        ensures at { slice_get self.new.items.items place
-            ≡ option_map (origin_heard count) (slice_get self.old.items.items place) }
+        ensures at { self.new.items.items ≡ origin_changed_at place (origin_heard count) self.old.items.items }
         ensures rest { self.new ≡ record self.old { items = self.new.items } }
     {
         if let Some(origin) = self.items.get_mut(place) {
@@ -277,8 +303,7 @@ impl Origins {
 
     /// An exchange with an origin was timed out, or couldn't connect.
     pub fn note_silence(&mut self, place: usize)
-        ensures at { slice_get self.new.items.items place
-            ≡ option_map origin_silent_once_more (slice_get self.old.items.items place) }
+        ensures at { self.new.items.items ≡ origin_changed_at place origin_silent_once_more self.old.items.items }
         ensures crowded { self.new.crowded ≡ self.old.crowded }
     {
         if let Some(origin) = self.items.get_mut(place) {
@@ -300,8 +325,8 @@ impl Origins {
 
     /// The system has taken so many bytes for an origin.
     pub fn add_written(&mut self, place: usize, written: u64)
-        ensures at { slice_get self.new.items.items place
-            ≡ option_map (origin_with_written written) (slice_get self.old.items.items place) }
+        ensures at { self.new.items.items
+            ≡ origin_changed_at place (origin_with_written written) self.old.items.items }
         ensures rest { self.new ≡ record self.old { items = self.new.items } }
     {
         if let Some(origin) = self.items.get_mut(place) {

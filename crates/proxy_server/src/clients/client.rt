@@ -3,7 +3,7 @@ ghost use Rattle.std.specs.Prelude.{◌≡◌, ◌<◌, ◌≤◌, ◌++◌, len
 ghost use Rattle.std.specs.Prelude.{OnErr};
 ghost use Rattle.proxy_server.specs.Patience.{client_has_left, has_lasted_longer, milliseconds_since};
 ghost use Rattle.proxy_turn.specs.Received.{FitsTheBuffer};
-ghost use Rattle.proxy_server.specs.Logging.{IsLineAboutReply, client_has_log, logged_address};
+ghost use Rattle.proxy_server.specs.Logging.{IsLineAboutReply, logged_address};
 ghost use Rattle.proxy_server.specs.Streams.{client_has_rest, client_may_give, rest_bytes, ClientIsRead};
 ghost use Rattle.proxy_server.specs.Streams.{number_of_place, client_is_idle, new_client};
 
@@ -33,8 +33,8 @@ pub(crate) enum Place {
 #[derive(Drop)]
 struct Logged {
     address: SocketAddr,
-    /// What it asks for, where it has a place.
-    asked: Option<UnansweredRequests>,
+    /// What it asks for.
+    asked: UnansweredRequests,
 }
 
 /// A client's stream. Moments are milliseconds of the clock that never goes back.
@@ -67,7 +67,8 @@ pub(crate) struct Client<S: Stream + Drop = TcpStream> {
     pub(crate) look: u64,
     /// When it was closed.
     pub(crate) closed: u64,
-    logged: Option<Logged>,
+    /// In memory of its own: where no log is kept, a client is smaller by it.
+    logged: Option<Box<Logged>>,
 }
 
 impl<S: Stream + Drop> Client<S> {
@@ -105,14 +106,15 @@ impl<S: Stream + Drop> Client<S> {
         }
     }
 
-    /// Keeps what a log needs: who it is, and what it asks for from now on.
-    pub(crate) fn keep_log(&mut self, address: SocketAddr, max_body: u64)
-        ensures { logged_address self.new.logged ≡ Some address }
+    /// Keeps what a log needs: who it is, and what it asks for from now on. An `Err` changes nothing.
+    pub(crate) fn keep_log(&mut self, address: SocketAddr, max_body: u64) -> Result<(), AllocError>
+        ensures ok { OnOk result (logged_address self.new.logged ≡ Some address) }
+        ensures err { OnErr result (self.new ≡ self.old) }
     {
-        self.logged = Some(Logged {
-            address,
-            asked: Some(UnansweredRequests::new(self.alloc, max_body)),
-        });
+        let asked = UnansweredRequests::new(self.alloc, max_body);
+        let logged = Box::new(self.alloc, Logged { address, asked })?;
+        self.logged = Some(logged);
+        Ok(())
     }
 
     /// Takes what came, for a log.
@@ -121,10 +123,8 @@ impl<S: Stream + Drop> Client<S> {
     {
         let alloc = self.alloc;
         if let Some(logged) = &mut self.logged {
-            if let Some(asked) = &mut logged.asked {
-                // Without memory for it, lines about what follows on this connection don't name what was asked.
-                let _ = asked.read_piece(alloc, piece);
-            }
+            // Without memory for it, lines about what follows on this connection don't name what was asked.
+            let _ = logged.asked.read_piece(alloc, piece);
         }
     }
 
@@ -144,16 +144,13 @@ impl<S: Stream + Drop> Client<S> {
         reply: &Reply<'_>,
     ) -> Result<Option<proxy_log::Line>, AllocError>
         ensures about { IfOk result (IsLineAboutReply self.old.logged reply.now) }
-        ensures without { client_has_log self.old.logged ≡ false → result ≡ Ok None }
+        ensures without { self.old.logged ≡ None → result ≡ Ok None }
     {
         let alloc = self.alloc;
         let Some(logged) = &mut self.logged else {
             return Ok(None);
         };
-        let Some(asked) = &mut logged.asked else {
-            return Ok(None);
-        };
-        let question = asked.next_question(alloc);
+        let question = logged.asked.next_question(alloc);
         let address = logged.address.to_string(alloc)?;
         let seen = SeenOfReply {
             moment: reply.moment,

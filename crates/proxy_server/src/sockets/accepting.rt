@@ -119,8 +119,9 @@ impl<'a, R: Net> LiveSockets<'a, R> {
         };
         let max_body = self.limits.max_body;
         if let Some(client) = self.clients.stream_mut(key) {
-            if self.log.is_some() {
-                client.keep_log(address, max_body);
+            if self.log.is_some() && client.keep_log(address, max_body).is_err() {
+                self.clients.forget(n);
+                return Err(io::Error::from(ErrorKind::OutOfMemory));
             }
             if let Err(e) = client.peer.register(&self.poll, Holder::Client(key)) {
                 self.clients.forget(n);
