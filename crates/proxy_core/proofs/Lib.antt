@@ -25,6 +25,8 @@ pub mod SendLaws
 pub mod SentResponses
 pub mod Uncached
 pub mod StoringWords
+pub mod Freshened
+pub mod SinceItWent
 pub mod StoredAnswers
 pub mod Headlines
 pub mod OneOutcome

@@ -52,13 +52,14 @@ use Rattle.proxy_core.specs.Histories.{held_entries, open_exchanges, next_serial
 use Rattle.proxy_core.specs.Sending.{StoredResponseIsReusable, StoredResponseMayBeSentAt, RequestGoesForward, NoLeaderIsOpen, RequestWaitsForTheFirst, RequestReachesCacheOrOrigin, RequestIsTurnedAway, DetailWordAfterError, DetailWordAtAnswer, CacheStatusShowsHow, IsAbout, ReplyIsThatStoredResponse}
 use Rattle.proxy_core.specs.GoingOn.{EventMayCome, IsClientReply, ExchangeGoesOnBy}
 use Rattle.proxy_core.specs.Naming.{AnswerNamesErrorRule, AnswerAfterFailureNames, AnswerNamesByEvent, AnswerNamesFirstRule}
-use Rattle.proxy_core.specs.StoredAnswers.{serials_held_for_key, serial_not_kept_after_304, serials_removed_at}
+use Rattle.proxy_core.specs.StoredAnswers.{ThoseAreRemoved}
 use Rattle.proxy_core.specs.Headline.{HoldsAtEachItem, ExchangeGoesOnToItsAnswer, RequestReachesExactlyWhereAllowed, StoredResponseIsSentExactlyWhereItMayBe, SentResponseIsTheStoredOne, OtherAnswerNamesTheFirstRule, AnswerIsStoredExactlyWhereItMayBe, StoredResponsesAreRemovedExactlyWhereTheyMustBe, ConnectionClosesAsAsked, Headline, AnswerHasFinalStatus, NoOtherTraceHasTheHeadline}
 use Rattle.proxy_core.specs.Promises.{key_invalidated_by_answer}
 use Rattle.proxy_core.proofs.FirstRules.{held_distinct}
 use Rattle.proxy_core.proofs.Leads.{leads_for_none, leads_for}
 use Rattle.proxy_core.proofs.SendLaws.{reusable_hit}
 use Rattle.proxy_core.proofs.Headlines.{headline}
+use Rattle.proxy_core.proofs.StoredAnswers.{removed_by_answer, removed_by_words, serials_removed_at}
 
 no_true : {P : Type 0} → false ≡ true → P
 no_true {P} h = absurd (false≢true h)
@@ -238,7 +239,7 @@ removed_same : (table : Table) (es : List Stored) (x : Option Exchange) (event :
     serials_removed_at table es x event (Replied a) ≡ serials_removed_at table es x event (Replied b)
 removed_same table es x (Arrive now id asked) a b stored used = refl
 removed_same table es (Some x) (Answer now id r) a b stored used =
-    ap (λ (z : Option ℕ). cond (is_some z) (replaced_by es x.asked) (serials_held_for_key es (key_invalidated_by_answer x.asked r) (serial_not_kept_after_304 table x now r (stored_response_validated es x r now)))) stored
+    ap (removed_by_answer table es x now r) stored
 removed_same table es None (Answer now id r) a b stored used = refl
 removed_same table es x (Fail now id kind) a b stored used = refl
 removed_same table es x (Wake now id) a b stored used = refl
@@ -250,7 +251,7 @@ record Fits (table : Table) (limit first : ℕ) (past : List Item) (x : Option E
   sends : (s : ℕ) → (StoredResponseMayBeSentAt table (held_entries table limit past) x event s → serial_used_by_outcome o ≡ Some s) × (serial_used_by_outcome o ≡ Some s → StoredResponseMayBeSentAt table (held_entries table limit past) x event s)
   that : (s : ℕ) → serial_used_by_outcome o ≡ Some s → ReplyIsThatStoredResponse table (held_entries table limit past) x event o s
   names : AnswerNamesFirstRule table limit past (next_serial first past) x event o
-  removes : serials_removed_by_outcome o ≡ serials_removed_at table (held_entries table limit past) x event o
+  removes : ThoseAreRemoved table (held_entries table limit past) x event o
   reaches : RequestReachesExactlyWhereAllowed table limit (record { event = event; outcome = o }) past
   stores : AnswerIsStoredExactlyWhereItMayBe table limit first (record { event = event; outcome = o }) past
   closes : ConnectionClosesAsAsked (record { event = event; outcome = o }) past
@@ -292,7 +293,7 @@ module _ (table : Table) (limit first : ℕ) (past : List Item) (distinct : Dist
         let other = b.closes n k in
         let close : m.close ≡ n.close = one.2 ∙ ap (λ (q : Asked). q.close) (same_Some one.0 other.0 (sym one.1 ∙ other.1)) ∙ sym other.2 in
         let removed : m.removed ≡ n.removed =
-        sym (ap serials_removed_by_outcome h) ∙ a.removes ∙ ap (serials_removed_at table es x event) h ∙ removed_same table es x event m n stored used ∙ sym (ap (serials_removed_at table es x event) k) ∙ sym b.removes ∙ ap serials_removed_by_outcome k
+        sym (ap serials_removed_by_outcome h) ∙ removed_by_words table es x event o a.removes ∙ ap (serials_removed_at table es x event) h ∙ removed_same table es x event m n stored used ∙ sym (ap (serials_removed_at table es x event) k) ∙ sym (removed_by_words table es x event p b.removes) ∙ ap serials_removed_by_outcome k
         in
         h ∙ ap (λ (r : Reply). Replied r) (reply_same m n bytes close stored used removed) ∙ sym k
 

@@ -33,7 +33,7 @@ use Rattle.proxy_core.specs.declared.event.Event.TheVariants.{Arrive, Answer, Fa
 use Rattle.proxy_core.specs.declared.steps.fallback.Fallback.{Fallback}
 use Rattle.proxy_core.specs.declared.steps.fallback.Fallback.TheVariants.{Sends, Refuses}
 use Rattle.proxy_core.specs.Leading.{leader_of_request}
-use Rattle.proxy_core.specs.Outcomes.{outcome_of_allowed_request, outcome_of_answer, outcome_of_arrival, outcome_of_failure, fallback_for, find_exchange, forward_text, forwarded_status_info, exchange_id_of_event, is_error_status, is_only_if_cached, outcome_of, outcome_of_passing_on, outcome_of_passing_on_or_stale, outcome_of_refusal, serials_removed_by_answer, outcome_of_304, outcome_of_sending_stored, outcome_of_waiting_or_forwarding, outcome_of_sending_freshened, serial_of_stored_answer, outcome_without_stored_response, outcome_of_wake}
+use Rattle.proxy_core.specs.Outcomes.{outcome_of_allowed_request, outcome_of_answer, outcome_of_arrival, outcome_of_failure, fallback_for, find_exchange, forward_text, forwarded_status_info, exchange_id_of_event, is_error_status, is_only_if_cached, outcome_of, outcome_of_passing_on, outcome_of_passing_on_or_stale, outcome_of_refusal, serials_removed_by_answer, outcome_of_304, outcome_of_sending_stored, outcome_of_waiting_or_forwarding, outcome_of_sending_freshened, serial_of_stored_answer, outcome_without_stored_response, outcome_of_wake, step_fault, fault_at_exchange}
 use Rattle.proxy_core.specs.State.{serial_stored_by_outcome, serial_used_by_outcome, serials_removed_by_outcome}
 use Rattle.proxy_core.specs.Storing.{replaced_by, storing_rule_to_explain, storing_facts_of_answer, is_storable, is_304_without_condition}
 use Rattle.proxy_core.specs.Validating.{stored_response_asked_about, condition_about_serial, stored_response_if_answered, freshened_may_be_kept, is_validation, freshened_by_304, stored_response_validated}
@@ -45,7 +45,9 @@ use Rattle.proxy_core.proofs.Leaving.{serial_stays, unanswered as never_answered
 use Rattle.proxy_core.proofs.Unsent.{storing_of}
 use Rattle.proxy_core.proofs.Carries.{carries_its_arrival}
 use Rattle.proxy_core.proofs.UnsafeAnswers.{status_is_shown}
-use Rattle.proxy_core.specs.StoredAnswers.{AnswerMayBeStored, IsAnswerThatMayBeStored, serial_not_kept_after_304, serials_held_for_key, removed_by_answer, serials_removed_at, NothingElseIsStored, AnswerIsStoredWhereItMayBe, ItemRemovesExactlyThese}
+use Rattle.proxy_core.specs.StoredAnswers.{AnswerMayBeStored, IsAnswerThatMayBeStored, KeyStaysValidSinceItWent, RemovedAfter304, RemovedByStatus, RemovedByAnswer, ThoseAreRemoved, NothingElseIsStored, AnswerIsStoredWhereItMayBe, ItemRemovesExactlyThese}
+use Rattle.proxy_core.proofs.Freshened.{is_kept, may_be_kept}
+use Rattle.proxy_core.proofs.SinceItWent.{at_the_origin, unmarked, stays_valid}
 use Rattle.proxy_core.proofs.StoringWords.{can_be_reused, fields_named, fits_in, may_be_released, keeps_all, lasts_or_validates, lists_none, none_is_not, some_left, star_absent}
 
 none_of : {A : Type 0} (o : Option A) → is_none o ≡ true → o ≡ None
@@ -58,8 +60,8 @@ module _ (table : Table) (x : Exchange) (r : Response) (now : ℕ) (next : Optio
 
   -- ---- the rules and the words
 
-  may_by_rules : AnswerMayBeStored table next x r now → ResponseMayBeStored x.asked (answered_of r now) (storing_facts_of_answer table x r now next)
-  may_by_rules may = record {
+  may_by_rules : (past : List Item) → (KeyStaysValidSinceItWent past x → x.overtaken ≡ false) → AnswerMayBeStored table next past x r now → ResponseMayBeStored x.asked (answered_of r now) (storing_facts_of_answer table x r now next)
+  may_by_rules past unmarked may = record {
     operator_allows = may.operator_allows;
     is_storable = may.is_storable;
     is_for_the_store = may.is_for_the_store;
@@ -68,7 +70,7 @@ module _ (table : Table) (x : Exchange) (r : Response) (now : ℕ) (next : Optio
       names_its_fields = star_absent (answered_of r now).fields may.names_fields;
       keeps_its_fields = lists_none r.fields may.keeps_its_fields;
       lasts_or_is_validated = lasts_or_validates (answered_of r now).fields (policy_of table.lines x.line) r.status may.can_be_reused;
-      not_overtaken = may.not_overtaken;
+      not_overtaken = unmarked may.key_stays_valid;
     };
     has_room = record {
       not_too_large = fits_in table.max_stored (length r.content) may.fits;
@@ -76,8 +78,8 @@ module _ (table : Table) (x : Exchange) (r : Response) (now : ℕ) (next : Optio
     };
   }
 
-  may_by_words : ResponseMayBeStored x.asked (answered_of r now) (storing_facts_of_answer table x r now next) → AnswerMayBeStored table next x r now
-  may_by_words may = record {
+  may_by_words : (past : List Item) → (x.overtaken ≡ false → KeyStaysValidSinceItWent past x) → ResponseMayBeStored x.asked (answered_of r now) (storing_facts_of_answer table x r now next) → AnswerMayBeStored table next past x r now
+  may_by_words past stays_valid may = record {
     operator_allows = may.operator_allows;
     is_storable = may.is_storable;
     is_for_the_store = may.is_for_the_store;
@@ -85,21 +87,21 @@ module _ (table : Table) (x : Exchange) (r : Response) (now : ℕ) (next : Optio
     names_fields = fields_named (answered_of r now).fields may.is_of_use.names_its_fields;
     keeps_its_fields = keeps_all r.fields may.is_of_use.keeps_its_fields;
     can_be_reused = can_be_reused (answered_of r now).fields (policy_of table.lines x.line) r.status may.is_of_use.lasts_or_is_validated;
-    not_overtaken = may.is_of_use.not_overtaken;
+    key_stays_valid = stays_valid may.is_of_use.not_overtaken;
     fits = may_be_released table.max_stored (length r.content) may.has_room.not_too_large;
     serial_is_left = some_left next may.has_room.has_serial;
   }
 
-  storable : AnswerMayBeStored table next x r now → is_storable table x r now next ≡ true
-  storable may = ap is_none (is_stored x.asked (answered_of r now) (storing_facts_of_answer table x r now next) (may_by_rules may))
+  storable : (past : List Item) → (KeyStaysValidSinceItWent past x → x.overtaken ≡ false) → AnswerMayBeStored table next past x r now → is_storable table x r now next ≡ true
+  storable past unmarked may = ap is_none (is_stored x.asked (answered_of r now) (storing_facts_of_answer table x r now next) (may_by_rules past unmarked may))
 
-  may_be : is_storable table x r now next ≡ true → StatusIsFinal (answered_of r now) → AnswerMayBeStored table next x r now
-  may_be applies final =
-      may_by_words (stored_may_be x.asked (answered_of r now) (storing_facts_of_answer table x r now next) final (none_of (storage_rule_of x.asked (answered_of r now) (storing_facts_of_answer table x r now next)) applies))
+  may_be : (past : List Item) → (x.overtaken ≡ false → KeyStaysValidSinceItWent past x) → is_storable table x r now next ≡ true → StatusIsFinal (answered_of r now) → AnswerMayBeStored table next past x r now
+  may_be past stays_valid applies final =
+      may_by_words past stays_valid (stored_may_be x.asked (answered_of r now) (storing_facts_of_answer table x r now next) final (none_of (storage_rule_of x.asked (answered_of r now) (storing_facts_of_answer table x r now next)) applies))
 
   -- a 304 is never stored
-  no_304 : AnswerMayBeStored table next x r now → (r.status == 304) ≡ false
-  no_304 may = false_from_ne_true (r.status == 304) λ is.
+  no_304 : (past : List Item) → AnswerMayBeStored table next past x r now → (r.status == 304) ≡ false
+  no_304 past may = false_from_ne_true (r.status == 304) λ is.
       let status : r.status ≡ 304 = eqb-true r.status 304 is in
       let understood : is_understood_status 304 ≡ true = sym (ap is_understood_status status) ∙ may.is_storable.status_is_understood (inr (inl status)) in
       cc
@@ -113,11 +115,11 @@ module _ (table : Table) (x : Exchange) (r : Response) (now : ℕ) (next : Optio
     passed_on true (Refuses rule error) applies unused = rw applies refl
     passed_on false fallback applies unused = rw applies refl
 
-    stored_answer : AnswerMayBeStored table next x r now → serial_used_by_outcome (outcome_of_answer table es now x r next d) ≡ None → serial_stored_by_outcome (outcome_of_answer table es now x r next d) ≡ next
-    stored_answer may unused =
-        let other = no_304 may in
+    stored_answer : (past : List Item) → (KeyStaysValidSinceItWent past x → x.overtaken ≡ false) → AnswerMayBeStored table next past x r now → serial_used_by_outcome (outcome_of_answer table es now x r next d) ≡ None → serial_stored_by_outcome (outcome_of_answer table es now x r next d) ≡ next
+    stored_answer past unmarked may unused =
+        let other = no_304 past may in
         let is : outcome_of_answer table es now x r next d ≡ outcome_of_passing_on_or_stale table es now x r next (is_error_status r.status) (fallback_for (policy_of table.lines x.line) es x.asked now d) = rw other refl in
-        ap serial_stored_by_outcome is ∙ passed_on (is_error_status r.status) (fallback_for (policy_of table.lines x.line) es x.asked now d) (storable may) (sym (ap serial_used_by_outcome is) ∙ unused)
+        ap serial_stored_by_outcome is ∙ passed_on (is_error_status r.status) (fallback_for (policy_of table.lines x.line) es x.asked now d) (storable past unmarked may) (sym (ap serial_used_by_outcome is) ∙ unused)
 
     -- ---- and nowhere else
 
@@ -162,6 +164,13 @@ module _ (table : Table) (x : Exchange) (r : Response) (now : ℕ) (next : Optio
 
 -- ---- the laws
 
+-- no fault stands where an answer was accepted
+no_fault_at : (table : Table) (limit : ℕ) (past : List Item) (item : Item) (now id : ℕ) (x : Exchange) (r : Response) → step_fault (open_exchanges table limit past) item.event ≡ None →
+    item.event ≡ Answer now id r → find_exchange id (open_exchanges table limit past) ≡ Some x → fault_at_exchange (Some x) (Answer now id r) ≡ None
+no_fault_at table limit past item now id x r allowed event is_open =
+    let here : step_fault (open_exchanges table limit past) (Answer now id r) ≡ None = sym (ap (step_fault (open_exchanges table limit past)) event) ∙ allowed in
+    sym (ap (λ (o : Option Exchange). fault_at_exchange o (Answer now id r)) is_open) ∙ here
+
 pub stores_where_it_may : AnswerIsStoredWhereItMayBe
 stores_where_it_may table limit first now id x r item past good event is_open unused may =
     let es = held_entries table limit past in
@@ -171,7 +180,10 @@ stores_where_it_may table limit first now id x r item past good event is_open un
     let here : item.outcome ≡ outcome_of table es xs (find_exchange id xs) next (Answer now id r) =
     good.0.outcome_is ∙ ap (λ (e : Event). outcome_of table es xs (find_exchange (exchange_id_of_event e) xs) next e) event in
     let is : item.outcome ≡ outcome_of_answer table es now x r next d = here ∙ ap (λ (o : Option Exchange). outcome_of table es xs o next (Answer now id r)) is_open in
-    ap serial_stored_by_outcome is ∙ stored_answer table x r now next es d may (sym (ap serial_used_by_outcome is) ∙ unused)
+    let out = at_the_origin x now id r (no_fault_at table limit past item now id x r good.0.allowed event is_open) in
+    let same : x.id ≡ id = (carries_its_arrival table limit first id past x good.1 is_open).1 in
+    ap serial_stored_by_outcome is
+    ∙ stored_answer table x r now next es d past (unmarked table limit first past good.1 x (ap (λ n. find_exchange n xs) same ∙ is_open) out) may (sym (ap serial_used_by_outcome is) ∙ unused)
 
 -- what is stored, at the answer to an exchange, under the next serial
 record IsStored (table : Table) (limit first s : ℕ) (item : Item) (past : List Item) : Type 0 where
@@ -190,6 +202,8 @@ stored_at table limit first s item past good stored =
     let is : item.outcome ≡ outcome_of_answer table es t.now t.z t.r next d =
     good.0.outcome_is ∙ ap (λ (o : Option Exchange). outcome_of table es xs o next item.event) t.w_is ∙ ap (λ (e : Event). outcome_of table es xs (Some t.z) next e) t.event_is in
     let parts = stored_only table t.z t.r t.now next es d s (sym (ap serial_stored_by_outcome is) ∙ stored) in
+    let out = at_the_origin t.z t.now t.i t.r (no_fault_at table limit past item t.now t.i t.z t.r good.0.allowed t.event_is found) in
+    let carried = carries_its_arrival table limit first t.i past t.z good.1 found in
     record {
       next_is = parts.2;
       answer = record {
@@ -200,7 +214,7 @@ stored_at table limit first s item past good stored =
         event_is = t.event_is;
         is_open = found;
         nothing_is_sent_instead = ap serial_used_by_outcome is ∙ parts.1;
-        may_be_stored = may_be table t.z t.r t.now next parts.0;
+        may_be_stored = may_be table t.z t.r t.now next past (stays_valid table limit first past good.1 t.z (ap (λ n. find_exchange n xs) carried.1 ∙ found) out carried.0) parts.0;
       };
     }
 
@@ -224,6 +238,82 @@ and_true false = refl
 and_false : (b : Bool) → b && false ≡ false
 and_false true = refl
 and_false false = refl
+
+-- By an answer, by the rules that a step computes by: what a 304 freshens goes unless the storing rules let it be kept,
+abbrev pub serial_not_kept_after_304 : Table → Exchange → ℕ → Response → Option Stored → List ℕ
+serial_not_kept_after_304 table x now r None = []
+serial_not_kept_after_304 table x now r (Some e) = cond (freshened_may_be_kept table x r (freshened_by_304 x r now e)) [] (e.serial ∷ [])
+
+-- all that is held for an invalidated key,
+abbrev pub serials_held_for_key : List Stored → Option Key → List ℕ → List ℕ
+serials_held_for_key held None others = others
+serials_held_for_key held (Some key) others = serials_of key held
+
+-- and what a stored answer takes the place of.
+abbrev pub removed_by_answer : Table → List Stored → Exchange → ℕ → Response → Option ℕ → List ℕ
+removed_by_answer table held x now r stored =
+    cond (is_some stored) (replaced_by held x.asked)
+    (serials_held_for_key held (key_invalidated_by_answer x.asked r) (serial_not_kept_after_304 table x now r (stored_response_validated held x r now)))
+
+abbrev pub serials_removed_at : Table → List Stored → Option Exchange → Event → Outcome → List ℕ
+serials_removed_at table held (Some x) (Answer now id r) outcome = removed_by_answer table held x now r (serial_stored_by_outcome outcome)
+serials_removed_at table held None (Answer now id r) outcome = []
+serials_removed_at table held x (Arrive now id asked) outcome = []
+serials_removed_at table held x (Fail now id kind) outcome = []
+serials_removed_at table held x (Wake now id) outcome = []
+serials_removed_at table held x (Abandon id) outcome = []
+
+-- ---- in words, and back
+
+module _ (table : Table) (held : List Stored) where
+  module _ (x : Exchange) (now : ℕ) (r : Response) (gone : List ℕ) where
+    after_304 : (o : Option Stored) → RemovedAfter304 table x now r o gone → gone ≡ serial_not_kept_after_304 table x now r o
+    after_304 None h = h
+    after_304 (Some e) h = by_test (freshened_may_be_kept table x r (freshened_by_304 x r now e)) refl
+      where
+        by_test : (b : Bool) → freshened_may_be_kept table x r (freshened_by_304 x r now e) ≡ b → gone ≡ cond b [] (e.serial ∷ [])
+        by_test true kept = h.0 (may_be_kept table x r (freshened_by_304 x r now e) kept)
+        by_test false goes = h.1 (λ may. let no : false ≡ true = sym goes ∙ is_kept table x r (freshened_by_304 x r now e) may in cc)
+
+    after_304_in_words : (o : Option Stored) → gone ≡ serial_not_kept_after_304 table x now r o → RemovedAfter304 table x now r o gone
+    after_304_in_words None h = h
+    after_304_in_words (Some e) h = by_test (freshened_may_be_kept table x r (freshened_by_304 x r now e)) refl h
+      where
+        by_test : (b : Bool) → freshened_may_be_kept table x r (freshened_by_304 x r now e) ≡ b → gone ≡ cond b [] (e.serial ∷ []) → RemovedAfter304 table x now r (Some e) gone
+        by_test true kept is = (λ may. is, λ never. absurd (never (may_be_kept table x r (freshened_by_304 x r now e) kept)))
+        by_test false goes is = (λ may. let no : false ≡ true = sym goes ∙ is_kept table x r (freshened_by_304 x r now e) may in absurd (cc), λ never. is)
+
+    by_key : (key : Option Key) → RemovedByStatus table held x now r key gone → gone ≡ serials_held_for_key held key (serial_not_kept_after_304 table x now r (stored_response_validated held x r now))
+    by_key None h = after_304 (stored_response_validated held x r now) h
+    by_key (Some key) h = h
+
+    by_key_in_words : (key : Option Key) → gone ≡ serials_held_for_key held key (serial_not_kept_after_304 table x now r (stored_response_validated held x r now)) → RemovedByStatus table held x now r key gone
+    by_key_in_words None h = after_304_in_words (stored_response_validated held x r now) h
+    by_key_in_words (Some key) h = h
+
+    by_stored : (stored : Option ℕ) → RemovedByAnswer table held x now r stored gone → gone ≡ removed_by_answer table held x now r stored
+    by_stored None h = by_key (key_invalidated_by_answer x.asked r) h
+    by_stored (Some s) h = h
+
+    by_stored_in_words : (stored : Option ℕ) → gone ≡ removed_by_answer table held x now r stored → RemovedByAnswer table held x now r stored gone
+    by_stored_in_words None h = by_key_in_words (key_invalidated_by_answer x.asked r) h
+    by_stored_in_words (Some s) h = h
+
+  pub removed_by_words : (x : Option Exchange) (event : Event) (o : Outcome) → ThoseAreRemoved table held x event o → serials_removed_by_outcome o ≡ serials_removed_at table held x event o
+  removed_by_words (Some x) (Answer now id r) o h = by_stored x now r (serials_removed_by_outcome o) (serial_stored_by_outcome o) h
+  removed_by_words None (Answer now id r) o h = h
+  removed_by_words x (Arrive now id asked) o h = h
+  removed_by_words x (Fail now id kind) o h = h
+  removed_by_words x (Wake now id) o h = h
+  removed_by_words x (Abandon id) o h = h
+
+  removed_in_words : (x : Option Exchange) (event : Event) (o : Outcome) → serials_removed_by_outcome o ≡ serials_removed_at table held x event o → ThoseAreRemoved table held x event o
+  removed_in_words (Some x) (Answer now id r) o h = by_stored_in_words x now r (serials_removed_by_outcome o) (serial_stored_by_outcome o) h
+  removed_in_words None (Answer now id r) o h = h
+  removed_in_words x (Arrive now id asked) o h = h
+  removed_in_words x (Fail now id kind) o h = h
+  removed_in_words x (Wake now id) o h = h
+  removed_in_words x (Abandon id) o h = h
 
 -- an answer in whose place a stored response is sent takes nothing away
 none_by : (x : Exchange) (r : Response) (o : Outcome) → reply_uses_no_stored_response o ≡ false → key_taken_by_answer x.asked r o ≡ None
@@ -349,6 +439,7 @@ removes_just_that table limit first item past good =
     let es = held_entries table limit past in
     let xs = open_exchanges table limit past in
     let x = find_exchange (exchange_id_of_event item.event) xs in
-    subst (λ (o : Outcome). serials_removed_by_outcome o ≡ serials_removed_at table es x item.event o) (sym good.0.outcome_is)
+    removed_in_words table es x item.event item.outcome
+    (subst (λ (o : Outcome). serials_removed_by_outcome o ≡ serials_removed_at table es x item.event o) (sym good.0.outcome_is)
     (goes_by_event table es xs (next_serial first past) x item.event
-    (λ z is now r. status_is_shown table limit z past (carries_its_arrival table limit first (exchange_id_of_event item.event) past z good.1 is).0 es now r (next_serial first past)))
+    (λ z is now r. status_is_shown table limit z past (carries_its_arrival table limit first (exchange_id_of_event item.event) past z good.1 is).0 es now r (next_serial first past))))

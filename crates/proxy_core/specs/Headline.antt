@@ -24,14 +24,14 @@ use Rattle.proxy_core.specs.declared.outcome.Reply.{Reply}
 use Rattle.proxy_core.specs.declared.outcome.Outcome.TheVariants.{Reply as Replied, Forward}
 use Rattle.proxy_core.specs.declared.event.Event.TheVariants.{Arrive, Answer}
 use Rattle.proxy_core.specs.Outcomes.{find_exchange, exchange_id_of_event, forward_text}
-use Rattle.proxy_core.specs.State.{serial_stored_by_outcome, serial_used_by_outcome, serials_removed_by_outcome}
+use Rattle.proxy_core.specs.State.{serial_stored_by_outcome, serial_used_by_outcome}
 use Rattle.proxy_core.specs.Traces.{Item, DeniedRequestsLeaveNoTrace}
 use Rattle.proxy_core.specs.Histories.{held_entries, open_exchanges, next_serial, IsGoodHistory}
 use Rattle.proxy_core.specs.Promises.{latest_request_of, NothingInvalidatedIsSent, TwiceForwardOneReply}
 use Rattle.proxy_core.specs.Sending.{RequestReachesCacheOrOrigin, RequestIsTurnedAway, StoredResponseMayBeSentAt}
 use Rattle.proxy_core.specs.Sending.{ReplyIsThatStoredResponse}
 use Rattle.proxy_core.specs.GoingOn.{EventMayCome, ExchangeGoesOnBy, IsConditionOfEvent}
-use Rattle.proxy_core.specs.StoredAnswers.{AnswerMayBeStored, IsAnswerThatMayBeStored, serials_removed_at}
+use Rattle.proxy_core.specs.StoredAnswers.{AnswerMayBeStored, IsAnswerThatMayBeStored, ThoseAreRemoved}
 use Rattle.proxy_core.specs.Naming.{AnswerNamesFirstRule}
 
 -- each item of a trace, with those before it
@@ -101,7 +101,7 @@ abbrev pub AnswerIsStoredExactlyWhereItMayBe : Table → ℕ → ℕ → Item �
 AnswerIsStoredExactlyWhereItMayBe table limit first item past =
     ((now id : ℕ) (x : Exchange) (r : Response) → item.event ≡ Answer now id r
     → find_exchange id (open_exchanges table limit past) ≡ Some x →
-    serial_used_by_outcome item.outcome ≡ None → AnswerMayBeStored table (next_serial first past) x r now
+    serial_used_by_outcome item.outcome ≡ None → AnswerMayBeStored table (next_serial first past) past x r now
     → serial_stored_by_outcome item.outcome ≡ next_serial first past)
     × ((s : ℕ) → serial_stored_by_outcome item.outcome ≡ Some s
     → (next_serial first past ≡ Some s) × IsAnswerThatMayBeStored table limit first item past)
@@ -110,7 +110,7 @@ AnswerIsStoredExactlyWhereItMayBe table limit first item past =
 -- invalidates, and what a 304 freshens and may not be kept (RFC 9111, sections 4.1, 4.4, 4.3.4).
 abbrev pub StoredResponsesAreRemovedExactlyWhereTheyMustBe : Table → ℕ → Item → List Item → Type 0
 StoredResponsesAreRemovedExactlyWhereTheyMustBe table limit item past =
-    serials_removed_by_outcome item.outcome ≡ serials_removed_at table (held_entries table limit past)
+    ThoseAreRemoved table (held_entries table limit past)
     (find_exchange (exchange_id_of_event item.event) (open_exchanges table limit past)) item.event item.outcome
 
 -- a client's connection closes behind its reply where its request says so

@@ -145,8 +145,8 @@ abbrev pub fallback_with_error_rule : ReuseRule → ℕ → Option ErrorRule →
 fallback_with_error_rule rule serial None = Sends serial StaleIfError
 fallback_with_error_rule rule serial (Some error) = Refuses rule (Some error)
 
--- what is held instead of an answer: the response that no reuse rule keeps back, or the one that a rule names and no
--- error rule keeps back (RFC 5861, section 4)
+-- what is held instead of an answer: the one that a rule names and no error rule keeps back (RFC 5861, section 4)
+-- own: or the response that no reuse rule keeps back now ("A failed origin after the store was filled")
 abbrev pub fallback_for : Policy → List Stored → Asked → ℕ → Decision → Fallback
 fallback_for policy es asked now (decision.Hit serial) = Sends serial ReuseAfterError
 fallback_for policy es asked now (decision.Forward rule None) = Refuses rule None
@@ -224,8 +224,10 @@ outcome_of_sending_freshened table x r now e =
       removed = cond (freshened_may_be_kept table x r e) [] (e.serial ∷ []);
     })
 
--- a 304 to the proxy's conditions sends the response that it answers, and keeps it where it may be kept. Where it
--- answers none, a response that no rule keeps back is sent, else the client's own request goes forward.
+-- a 304 to the proxy's conditions sends the response that it answers, and keeps it where it may be kept (RFC 9111,
+-- section 4.3.3).
+-- own: where it answers none, a response that no rule keeps back is sent, else the client's own request goes forward
+-- ("A request goes forward at most twice")
 abbrev pub outcome_of_304 : Table → List Stored → ℕ → Exchange → Response → Option Stored → Decision → Outcome
 outcome_of_304 table es now x r (Some e) d = outcome_of_sending_freshened table x r now (freshened_by_304 x r now e)
 outcome_of_304 table es now x r None (decision.Hit serial) = outcome_of_sending_stored table es serial now
@@ -251,7 +253,8 @@ exchange_id_of_event (Wake now id) = id
 exchange_id_of_event (Abandon id) = id
 
 -- A request that waited is judged anew: the stored response that no rule keeps back now is sent, else the request goes
--- forward. It doesn't wait again.
+-- forward.
+-- own: it doesn't wait again ("A woken request waits no second time")
 abbrev pub outcome_of_wake : Table → List Stored → ℕ → Exchange → Decision → Outcome
 outcome_of_wake table es now x (decision.Hit serial) =
     outcome_of_sending_stored table es serial now (collapsed_status_info (policy_of table.lines x.line) x) x.asked

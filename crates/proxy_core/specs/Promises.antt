@@ -90,6 +90,7 @@ reply_uses_no_stored_response Ended = false
 
 -- A status that isn't an error, 2xx or 3xx, came in response to an unsafe request: what is held for
 -- its key is invalidated (RFC 9111, section 4.4), whatever the client is told.
+-- own: no other key is, as that of Location, which the section leaves open ("An overtaken answer is not stored")
 abbrev pub key_invalidated_by_answer : Asked → Response → Option Key
 key_invalidated_by_answer asked r = cond (status_invalidates asked r.status) (Some asked.target.key) None
 

@@ -111,7 +111,9 @@ released_exchange id x = cond (waits_for id x.stage) (record x { stage = Release
 abbrev pub exchanges_after_close : ℕ → List Exchange → List Exchange
 exchanges_after_close id xs = map (released_exchange id) (filter (λ x. not (x.id == id)) xs)
 
--- what an exchange of this key will be answered may be what an invalidation was to drop (RFC 9111, section 4.4)
+-- what an exchange of this key will be answered may be what an invalidation was to drop
+-- own: so it isn't stored. RFC 9111, section 4.4 drops what is held, and says nothing of answers that
+-- are still on their way ("An overtaken answer is not stored")
 abbrev pub overtaken_exchange : Key → Exchange → Exchange
 overtaken_exchange key x = cond (same_key x.asked.target.key key) (record x { overtaken = true }) x
 
@@ -221,6 +223,7 @@ open_exchanges_after table es xs (Wake now id) Ended = exchanges_after_close id 
 open_exchanges_after table es xs (Abandon id) outcome = exchanges_after_close id xs
 
 -- the serial after this one, if one is left
+-- own: of so many, each is given once ("Each stored response has a serial")
 abbrev pub serial_after_this : ℕ → Option ℕ
 serial_after_this serial = cond (nat_lt (serial + 1) (2 ^ 64)) (Some (serial + 1)) None
 

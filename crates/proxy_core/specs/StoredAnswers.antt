@@ -3,20 +3,23 @@
 -- said here in the field's terms. And what is then held no longer.
 --
 -- VaryNamesFields, ConnectionTookNoCacheField, ResponseCanBeReused: what the answer's fields have to say
--- AnswerMayBeStored: all that is asked
--- IsAnswerThatMayBeStored: an item that stores it      serials_removed_at: what an item takes away
-use Rattle.std.specs.Prelude.{◌≡◌, ◌⊎◌, ℕ, ◌≤◌, true, false, bytes_eq, List, [], ◌∷◌, length, codes, is_some, All}
-use Rattle.std.specs.Prelude.{Option, Some, None, cond}
+-- KeyStaysValidSinceItWent: nothing of its key was invalidated meanwhile
+-- AnswerMayBeStored: all that is asked             IsAnswerThatMayBeStored: an item that stores it
+-- FreshenedMayBeKept: what is asked of a response that a 304 freshens
+-- ThoseAreRemoved: what an item takes away
+use Rattle.std.specs.Prelude.{◌≡◌, ◌⊎◌, ℕ, ◌≤◌, true, false, bytes_eq, List, [], ◌∷◌, ◌++◌, length, codes, is_some}
+use Rattle.std.specs.Prelude.{All, Option, Some, None}
 use Rattle.hx_fields.specs.declared.field_line.Field.{Field}
 use Rattle.hx_fields.specs.FieldLines.{has_field as has_line}
 use Rattle.hx_fields.specs.Tokens.{is_token}
 use Rattle.hx_framing.specs.declared.messages.Response.{Response}
 use Rattle.hx_directives.specs.Occurrences.{occurrences_of}
 use Rattle.hx_directives.specs.Answers.{directive_occurs}
-use Rattle.hx_directives.specs.declared.names.Directive.TheVariants.{MaxAge, SMaxage}
+use Rattle.hx_directives.specs.declared.names.Directive.TheVariants.{MaxAge, SMaxage, Private, NoStore}
 use Rattle.hx_target.specs.declared.keys.Key.{Key}
 use Rattle.hx_vary.specs.Vary.{vary_names}
 use Rattle.hx_hop.specs.Answering.{answered_of}
+use Rattle.hx_hop.specs.Bypass.{request_has_content, asks_for_range, has_precondition}
 use Rattle.hx_hop.specs.Stripping.{cache_names, connection_names}
 use Rattle.hx_policy.specs.Policies.{given_lifetime}
 use Rattle.hx_policy.specs.declared.words.Policy.{Policy}
@@ -25,31 +28,39 @@ use Rattle.hx_allow.specs.Matching.{policy_of}
 use Rattle.hx_store.specs.Stored.{Stored}
 use Rattle.hx_store.specs.Shelf.{serials_of}
 use Rattle.hx_storable.specs.Storable.{StatusIsFinal, RequestIsForTheStore, ResponseIsWithinTheWords}
-use Rattle.hx_storable.specs.Storable.{ResponseIsStorable}
+use Rattle.hx_storable.specs.Storable.{ResponseIsStorable, NeedsUnderstanding, NoStoreIsAbsentOrLifted}
+use Rattle.hx_storable.specs.Storable.{ResponseAllowsShared, ResponseAllowsStoring}
+use Rattle.hx_storable.specs.Rules.{is_understood_status, request_has, response_has}
 use Rattle.hx_validate.specs.Validators.{modified_value, tag_value}
+use Rattle.hx_validate.specs.Room.{head_leaves_room}
 use Rattle.proxy_core.specs.declared.open.exchange.Exchange.{Exchange}
 use Rattle.proxy_core.specs.declared.outcome.Outcome.{Outcome}
 use Rattle.proxy_core.specs.declared.event.Event.{Event}
 use Rattle.proxy_core.specs.declared.event.Event.TheVariants.{Arrive, Answer, Fail, Wake, Abandon}
 use Rattle.proxy_core.specs.Storing.{replaced_by}
 use Rattle.proxy_core.specs.Validating.{stored_response_validated, freshened_by_304, freshened_may_be_kept}
+use Rattle.proxy_core.specs.Validating.{head_of_stored}
 use Rattle.proxy_core.specs.Outcomes.{find_exchange, exchange_id_of_event}
 use Rattle.proxy_core.specs.State.{serial_stored_by_outcome, serial_used_by_outcome, serials_removed_by_outcome}
 use Rattle.proxy_core.specs.Traces.{Item}
 use Rattle.proxy_core.specs.Histories.{IsGoodHistory, held_entries, next_serial, open_exchanges}
-use Rattle.proxy_core.specs.Promises.{key_invalidated_by_answer}
+use Rattle.proxy_core.specs.Promises.{key_invalidated_by_answer, outcome_goes_forward, count_of_outcomes}
+use Rattle.proxy_core.specs.Promises.{NoItemInvalidates}
 
 -- each member of Vary is a field name: none is a star, by which no later request would ever match
 -- (RFC 9111, section 4.1)
+-- own: what no request would match isn't stored, and a member that is no name counts as a star
 abbrev pub VaryNamesFields : List Field → Type 0
 VaryNamesFields fields = All (λ name. (bytes_eq name (codes "*") ≡ false) × (is_token name ≡ true)) (vary_names fields)
 
 -- Connection took away no field by which a cache decides (RFC 9110, section 7.6.1)
+-- own: without it the response says less than its origin said ("Less is stored than the standard allows")
 abbrev pub ConnectionTookNoCacheField : List Field → Type 0
 ConnectionTookNoCacheField received = All (λ name. connection_names received name ≡ false) cache_names
 
 -- it says how long it is fresh (RFC 9111, section 4.2.1), or has a validator, by which it can be
 -- asked about (section 4.3.1), or the operator gives it a lifetime (section 4.2.2)
+-- own: any other would never be sent, since no lifetime is guessed ("No lifetime is guessed")
 abbrev pub ResponseCanBeReused : Policy → ℕ → List Field → Type 0
 ResponseCanBeReused policy status fields =
     (directive_occurs (occurrences_of fields) SMaxage ≡ true)
@@ -59,11 +70,26 @@ ResponseCanBeReused policy status fields =
     ⊎ ((is_some (modified_value fields) ≡ true)
     ⊎ (is_some (given_lifetime policy status) ≡ true)))))
 
--- The answer to an exchange may be stored: by the standard's list, and by what this cache asks
--- besides (own): the operator's line lets it, a GET of the whole asked for it, it could be reused,
--- nothing of its key was invalidated meanwhile, it isn't longer than the operator's limit, and a
--- serial is left.
-pub record AnswerMayBeStored (table : Table) (next : Option ℕ) (x : Exchange) (r : Response) (now : ℕ) : Type 0 where
+-- Of the items before, let this be the last by which the request of an exchange went forward: no
+-- item since then invalidates its key.
+-- own: RFC 9111, section 4.4 drops what is held, and says nothing of an answer that is still on its
+-- way; one that was asked for before may be what was to be dropped ("An overtaken answer is not stored")
+pub record KeyStaysValidSinceItWent (past : List Item) (x : Exchange) : Type 0 where
+  pub since : List Item
+  pub before : List Item
+  pub went : Item
+  pub past_is : past ≡ since ++ went ∷ before
+  pub is_of_exchange : exchange_id_of_event went.event ≡ x.id
+  pub goes_forward : outcome_goes_forward went.outcome ≡ true
+  pub is_the_last : count_of_outcomes outcome_goes_forward x.id since ≡ 0
+  pub nothing_invalidates : NoItemInvalidates x.asked.target.key since (went ∷ before)
+
+-- The answer to an exchange may be stored: by the standard's list.
+-- own: and by what this cache asks besides. The operator's line lets it, a GET of the whole asked for
+-- it, it could be reused, nothing of its key was invalidated meanwhile, it isn't longer than the
+-- operator's limit, and a serial is left.
+pub record AnswerMayBeStored (table : Table) (next : Option ℕ) (past : List Item) (x : Exchange) (r : Response)
+    (now : ℕ) : Type 0 where
   pub operator_allows : (policy_of table.lines x.line).caches ≡ true
   pub is_storable : ResponseIsStorable x.asked (answered_of r now)
   pub is_for_the_store : RequestIsForTheStore x.asked
@@ -71,7 +97,7 @@ pub record AnswerMayBeStored (table : Table) (next : Option ℕ) (x : Exchange) 
   pub names_fields : VaryNamesFields (answered_of r now).fields
   pub keeps_its_fields : ConnectionTookNoCacheField r.fields
   pub can_be_reused : ResponseCanBeReused (policy_of table.lines x.line) r.status (answered_of r now).fields
-  pub not_overtaken : x.overtaken ≡ false
+  pub key_stays_valid : KeyStaysValidSinceItWent past x
   pub fits : length r.content ≤ table.max_stored
   pub serial_is_left : is_some next ≡ true
 
@@ -85,38 +111,67 @@ pub record IsAnswerThatMayBeStored (table : Table) (limit first : ℕ) (item : I
   pub is_open : find_exchange id (open_exchanges table limit past) ≡ Some exchange
   pub nothing_is_sent_instead : serial_used_by_outcome item.outcome ≡ None
   pub may_be_stored : StatusIsFinal (answered_of response now)
-      → AnswerMayBeStored table (next_serial first past) exchange response now
+      → AnswerMayBeStored table (next_serial first past) past exchange response now
+
+-- ---- what a 304 freshens
+
+-- What a 304 makes of a held response may be kept: the same as is asked of an answer that is to be
+-- stored, of the lines that the response has then and of the request that had it validated (RFC
+-- 9111, sections 3 and 4.3.4).
+-- own: whether GET or HEAD had it validated isn't asked, so a HEAD's 304 keeps what a GET's would.
+-- Nor is what was asked when it was stored and can't have changed: that its status is final, and that
+-- it got a serial; and what an invalidation drops is held no longer.
+-- own: what Connection took away of the 304 counts, and room has to be left for what is added to the
+-- head where it is sent ("What a 304 brings has a bound")
+pub record FreshenedMayBeKept (table : Table) (x : Exchange) (r : Response) (e : Stored) : Type 0 where
+  pub line_has_cache : (policy_of table.lines x.line).caches ≡ true
+  pub status_is_understood : NeedsUnderstanding (head_of_stored e) → is_understood_status e.status ≡ true
+  pub no_no_store : NoStoreIsAbsentOrLifted (head_of_stored e)
+  pub not_private : response_has (head_of_stored e) Private ≡ false
+  pub not_authorized : (has_line x.asked.fields (codes "Authorization") ≡ false)
+      ⊎ ResponseAllowsShared (head_of_stored e)
+  pub allowed : ResponseAllowsStoring (head_of_stored e)
+  pub not_asked_not_to : request_has x.asked NoStore ≡ false
+  pub no_content : request_has_content x.asked ≡ false
+  pub no_range : asks_for_range x.asked ≡ false
+  pub no_precondition : has_precondition x.asked ≡ false
+  pub is_within_the_words : ResponseIsWithinTheWords (head_of_stored e) (policy_of table.lines x.line)
+  pub names_fields : VaryNamesFields e.fields
+  pub the_304_keeps_its_fields : ConnectionTookNoCacheField r.fields
+  pub can_be_reused : ResponseCanBeReused (policy_of table.lines x.line) e.status e.fields
+  pub fits : length e.content ≤ table.max_stored
+  pub leaves_room : head_leaves_room e.fields ≡ true
 
 -- ---- what is taken away
 
--- a response that a 304 answers and freshens goes, where a storing rule stands against what it
--- becomes (RFC 9111, sections 3 and 4.3.4), or its head has become too long to be sent with what is
--- added (own)
-abbrev pub serial_not_kept_after_304 : Table → Exchange → ℕ → Response → Option Stored → List ℕ
-serial_not_kept_after_304 table x now r None = []
-serial_not_kept_after_304 table x now r (Some e) = cond
-    (freshened_may_be_kept table x r (freshened_by_304 x r now e)) [] (e.serial ∷ [])
+-- a response that a 304 answers and freshens goes, unless it may be kept (RFC 9111, sections 3 and 4.3.4)
+abbrev pub RemovedAfter304 : Table → Exchange → ℕ → Response → Option Stored → List ℕ → Type 0
+RemovedAfter304 table x now r None gone = gone ≡ []
+RemovedAfter304 table x now r (Some e) gone =
+    (FreshenedMayBeKept table x r (freshened_by_304 x r now e) → gone ≡ [])
+    × ((FreshenedMayBeKept table x r (freshened_by_304 x r now e) → ⊥) → gone ≡ e.serial ∷ [])
 
 -- all that is held for a key goes, where one is invalidated (section 4.4)
-abbrev pub serials_held_for_key : List Stored → Option Key → List ℕ → List ℕ
-serials_held_for_key held None others = others
-serials_held_for_key held (Some key) others = serials_of key held
+abbrev pub RemovedByStatus : Table → List Stored → Exchange → ℕ → Response → Option Key → List ℕ → Type 0
+RemovedByStatus table held x now r (Some key) gone = gone ≡ serials_of key held
+RemovedByStatus table held x now r None gone = RemovedAfter304 table x now r
+    (stored_response_validated held x r now) gone
 
 -- By an answer: where it is stored, those go that would answer the same request (section 4.1).
-abbrev pub removed_by_answer : Table → List Stored → Exchange → ℕ → Response → Outcome → List ℕ
-removed_by_answer table held x now r outcome =
-    cond (is_some (serial_stored_by_outcome outcome)) (replaced_by held x.asked)
-    (serials_held_for_key held (key_invalidated_by_answer x.asked r) (serial_not_kept_after_304 table x now r
-    (stored_response_validated held x r now)))
+abbrev pub RemovedByAnswer : Table → List Stored → Exchange → ℕ → Response → Option ℕ → List ℕ → Type 0
+RemovedByAnswer table held x now r (Some stored) gone = gone ≡ replaced_by held x.asked
+RemovedByAnswer table held x now r None gone = RemovedByStatus table held x now r
+    (key_invalidated_by_answer x.asked r) gone
 
 -- no other event takes anything away
-abbrev pub serials_removed_at : Table → List Stored → Option Exchange → Event → Outcome → List ℕ
-serials_removed_at table held (Some x) (Answer now id r) outcome = removed_by_answer table held x now r outcome
-serials_removed_at table held None (Answer now id r) outcome = []
-serials_removed_at table held x (Arrive now id asked) outcome = []
-serials_removed_at table held x (Fail now id kind) outcome = []
-serials_removed_at table held x (Wake now id) outcome = []
-serials_removed_at table held x (Abandon id) outcome = []
+abbrev pub ThoseAreRemoved : Table → List Stored → Option Exchange → Event → Outcome → Type 0
+ThoseAreRemoved table held (Some x) (Answer now id r) outcome = RemovedByAnswer table held x now r
+    (serial_stored_by_outcome outcome) (serials_removed_by_outcome outcome)
+ThoseAreRemoved table held None (Answer now id r) outcome = serials_removed_by_outcome outcome ≡ []
+ThoseAreRemoved table held x (Arrive now id asked) outcome = serials_removed_by_outcome outcome ≡ []
+ThoseAreRemoved table held x (Fail now id kind) outcome = serials_removed_by_outcome outcome ≡ []
+ThoseAreRemoved table held x (Wake now id) outcome = serials_removed_by_outcome outcome ≡ []
+ThoseAreRemoved table held x (Abandon id) outcome = serials_removed_by_outcome outcome ≡ []
 
 -- ---- the statements
 
@@ -126,7 +181,7 @@ AnswerIsStoredWhereItMayBe =
     (table : Table) (limit first now id : ℕ) (x : Exchange) (r : Response) (item : Item) (past : List Item) →
     IsGoodHistory table limit first (item ∷ past) → item.event ≡ Answer now id r
     → find_exchange id (open_exchanges table limit past) ≡ Some x →
-    serial_used_by_outcome item.outcome ≡ None → AnswerMayBeStored table (next_serial first past) x r now →
+    serial_used_by_outcome item.outcome ≡ None → AnswerMayBeStored table (next_serial first past) past x r now →
     serial_stored_by_outcome item.outcome ≡ next_serial first past
 
 -- Nothing else is stored. That its status is final is known of each response that was read (law
@@ -140,5 +195,14 @@ NothingElseIsStored = (table : Table) (limit first s : ℕ) (item : Item) (past 
 abbrev pub ItemRemovesExactlyThese : Type 0
 ItemRemovesExactlyThese =
     (table : Table) (limit first : ℕ) (item : Item) (past : List Item) → IsGoodHistory table limit first (item ∷ past) →
-    serials_removed_by_outcome item.outcome ≡ serials_removed_at table (held_entries table limit past)
+    ThoseAreRemoved table (held_entries table limit past)
     (find_exchange (exchange_id_of_event item.event) (open_exchanges table limit past)) item.event item.outcome
+
+-- what the storing rules and the room of a head let be kept is what may be
+abbrev pub FreshenedIsKeptWhereItMayBe : Type 0
+FreshenedIsKeptWhereItMayBe = (table : Table) (x : Exchange) (r : Response) (e : Stored) →
+    FreshenedMayBeKept table x r e → freshened_may_be_kept table x r e ≡ true
+
+abbrev pub NothingElseIsKept : Type 0
+NothingElseIsKept = (table : Table) (x : Exchange) (r : Response) (e : Stored) →
+    freshened_may_be_kept table x r e ≡ true → FreshenedMayBeKept table x r e

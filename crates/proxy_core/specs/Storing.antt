@@ -78,6 +78,7 @@ abbrev pub replaced_by : List Stored → Asked → List ℕ
 replaced_by es asked = matching_serials asked.target.key asked.fields es
 
 -- a 304 to a client that set no condition (RFC 9110, section 15.4.5)
+-- own: it counts as a failure of its origin ("An unasked 304 is a failure")
 abbrev pub is_304_without_condition : Asked → Response → Bool
 is_304_without_condition asked r =
     (r.status == 304) && not (has_field asked.fields (codes "If-None-Match") || has_field asked.fields (codes "If-Modified-Since"))

@@ -4,7 +4,7 @@
 -- is_validation: a 304 to what it carried
 -- stored_response_is_answered: the 304 answers a held response
 -- freshened_by_304: what that becomes
--- freshened_may_be_kept: and whether it is kept
+-- freshened_may_be_kept: and whether it is kept, by the storing rules
 use Rattle.std.specs.Prelude.{ℕ, ◌==◌, nat_lt, ◌&&◌, Bool, false, List, length, codes, Option, Some, None, option_map}
 use Rattle.std.specs.Prelude.{is_some, is_none, cond}
 use Rattle.std.specs.Option.{option_and_then}
@@ -78,14 +78,16 @@ abbrev pub freshened_by_304 : Exchange → Response → ℕ → Stored → Store
 freshened_by_304 x r now e =
     freshened_of e (answered_of r now) x.asked (times_of (answered_of r now).fields x.request_time now)
 
--- the same request, of method GET: what answers a HEAD may be kept for a GET
+-- the same request, of method GET
+-- own: what a HEAD had validated is judged as if a GET had asked, and may be kept for one
 abbrev pub as_get_request : Asked → Asked
 as_get_request asked = record asked { method = codes "GET" }
 
 abbrev pub head_of_stored : Stored → Answered
 head_of_stored e = record { status = e.status; fields = e.fields }
 
--- what the storing rules ask of a freshened response: it is held already, under its serial
+-- what the storing rules ask of a freshened response
+-- own: it is held already, under its serial, so neither a serial is asked for nor whether it is overtaken
 abbrev pub storing_facts_of_freshened : Table → Exchange → Response → Stored → StoringFacts
 storing_facts_of_freshened table x r e = record {
   policy = policy_of table.lines x.line;
@@ -98,7 +100,8 @@ storing_facts_of_freshened table x r e = record {
   no_serial = false;
 }
 
--- No storing rule stands against a freshened response.
+-- No storing rule stands against a freshened response: `FreshenedMayBeKept` of `StoredAnswers.antt` says
+-- what that comes to.
 -- own: and its head leaves room for what is added to it where it is sent ("What a 304 brings has a bound")
 abbrev pub freshened_may_be_kept : Table → Exchange → Response → Stored → Bool
 freshened_may_be_kept table x r e =

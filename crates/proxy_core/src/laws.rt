@@ -23,7 +23,8 @@ ghost use Rattle.proxy_core.specs.Waiting.{ReleasedAreInOrderOfArrival};
 ghost use Rattle.proxy_core.specs.Waiting.{WakeIsAcceptedExactlyWhereReady, WokenRequestIsJudgedAnew};
 ghost use Rattle.proxy_core.specs.Waiting.{PlainLinesWaitForMisses};
 ghost use Rattle.proxy_core.specs.StoredAnswers.{ItemRemovesExactlyThese, NothingElseIsStored};
-ghost use Rattle.proxy_core.specs.StoredAnswers.{AnswerIsStoredWhereItMayBe};
+ghost use Rattle.proxy_core.specs.StoredAnswers.{AnswerIsStoredWhereItMayBe, FreshenedIsKeptWhereItMayBe};
+ghost use Rattle.proxy_core.specs.StoredAnswers.{NothingElseIsKept};
 ghost use Rattle.proxy_core.specs.Uncached.{NothingIsStoredOverUncachedLine, NothingStoredIsSentOverUncachedLine};
 ghost use Rattle.proxy_core.specs.Uncached.{RequestGoesForwardOverUncachedLine};
 
@@ -149,6 +150,13 @@ pub fn an_answer_is_stored_where_it_may_be()
     ensures every { AnswerIsStoredWhereItMayBe }
     ensures only { NothingElseIsStored }
     ensures removed { ItemRemovesExactlyThese }
+{}
+
+/// What a 304 makes of a held response is kept exactly where a response with its lines could be
+/// stored (RFC 9111, sections 3 and 4.3.4), with the choices that the definition marks *own*.
+pub fn what_a_304_freshens_is_kept_where_it_may_be()
+    ensures every { FreshenedIsKeptWhereItMayBe }
+    ensures only { NothingElseIsKept }
 {}
 
 /// No trace but a good one has the headline, where each answer of an origin has a final status: the

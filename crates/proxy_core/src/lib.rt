@@ -57,6 +57,7 @@ pub use crate::laws::{
     each_answer_names_its_first_rule, every_good_trace_has_the_headline,
     no_other_trace_has_the_headline, open_from_arrival_to_end, overtaken_where_invalidated,
     requests_for_one_target_wait_for_the_first, serials_are_counted,
+    what_a_304_freshens_is_kept_where_it_may_be,
 };
 pub use crate::open::exchange::Exchange;
 pub use crate::open::ids::Ids;

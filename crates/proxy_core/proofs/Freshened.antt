@@ -1,0 +1,234 @@
+-- What a 304 freshens is kept where the storing rules let it be, and its head leaves room: in words, and back.
+use Rattle.std.proofs.Common.{◌≡◌, ◌⊎◌, inl, inr, ℕ, Bool, true, false, not, ◌&&◌, ◌||◌, List, length, refl, sym, ◌∙◌, ap, subst}
+use Rattle.std.specs.Prelude.{codes, Option, Some, None, is_none, ◌==◌}
+use Rattle.std.proofs.lemmas.Bool.{and_parts}
+use Rattle.hx_fields.specs.FieldLines.{has_field as has_line}
+use Rattle.hx_directives.specs.Occurrences.{occurrences_of}
+use Rattle.hx_directives.specs.declared.names.Directive.TheVariants as directive
+use Rattle.hx_framing.specs.declared.messages.Response.{Response}
+use Rattle.hx_hop.specs.declared.request_view.Asked.{Asked}
+use Rattle.hx_hop.specs.declared.response_view.Answered.{Answered}
+use Rattle.hx_hop.specs.Bypass.{request_has_content, asks_for_range, has_precondition}
+use Rattle.hx_policy.specs.Policies.{is_heuristic}
+use Rattle.hx_allow.specs.TableLines.{Table}
+use Rattle.hx_allow.specs.Matching.{policy_of}
+use Rattle.hx_store.specs.Stored.{Stored}
+use Rattle.hx_storable.specs.Rules.{allows_shared, allows_storing, is_understood_status, request_has, response_has, storing_rule_applies, storage_rule_of}
+use Rattle.hx_storable.specs.Storable.{NeedsUnderstanding, NoStoreIsAbsentOrLifted, ResponseAllowsShared, ResponseAllowsStoring}
+use Rattle.hx_storable.specs.declared.known_facts.StoringFacts.{StoringFacts}
+use Rattle.hx_storable.specs.declared.rule.StoreRule.{StoreRule}
+use Rattle.hx_storable.specs.declared.rule.StoreRule.TheVariants.{Operator, Method, Bypass, Status, MustUnderstand, ResponseNoStore, RequestNoStore, Private, Authorization, NothingAllows, VaryStar, ConnectionField, NothingToReuse, TooLarge, Overtaken, Serials, SetCookie, ErrorStatus}
+use Rattle.hx_validate.specs.Room.{head_leaves_room}
+use Rattle.hx_fields.proofs.JoinedTests.{never, not_false, not_true, left_false, right_false, neither, one_of, or_left, or_right, second_false, either_false, first_absent, last_absent, is_equal, not_equal, implied}
+use Rattle.hx_storable.proofs.LeastRule.{no_rule_applies, no_rule_found}
+use Rattle.hx_storable.proofs.LineLemmas.{within_the_words, cookie_applies, error_applies}
+use Rattle.proxy_core.specs.declared.open.exchange.Exchange.{Exchange}
+use Rattle.proxy_core.specs.Validating.{as_get_request, head_of_stored, storing_facts_of_freshened, freshened_may_be_kept}
+use Rattle.proxy_core.specs.StoredAnswers.{FreshenedMayBeKept, FreshenedIsKeptWhereItMayBe, NothingElseIsKept}
+use Rattle.proxy_core.proofs.StoringWords.{can_be_reused, fields_named, fits_in, may_be_released, keeps_all, lasts_or_validates, lists_none, star_absent}
+
+none_of : {A : Type 0} (o : Option A) → is_none o ≡ true → o ≡ None
+none_of None h = refl
+none_of (Some a) h = absurd cc
+
+both_true : (a b : Bool) → a ≡ true → b ≡ true → a && b ≡ true
+both_true true b h k = k
+both_true false b h k = absurd cc
+
+never_understood : (status n : ℕ) → status ≡ n → is_understood_status n ≡ false → is_understood_status status ≡ true → ⊥
+never_understood status n e unknown h = never (sym h ∙ ap is_understood_status e ∙ unknown)
+
+module _ (table : Table) (x : Exchange) (r : Response) (e : Stored) where
+  -- ---- in words
+
+  module _ (none : (any : StoreRule) → storing_rule_applies any (as_get_request x.asked) (head_of_stored e) (storing_facts_of_freshened table x r e) ≡ false) where
+    must_be_understood : response_has (head_of_stored e) directive.MustUnderstand ≡ true → is_understood_status e.status ≡ true
+    must_be_understood must =
+        not_false (is_understood_status e.status) (second_false (response_has (head_of_stored e) directive.MustUnderstand) (not (is_understood_status e.status)) must (none MustUnderstand))
+
+    understood : NeedsUnderstanding (head_of_stored e) → is_understood_status e.status ≡ true
+    understood (inl part) = absurd (never (sym (is_equal e.status 206 part) ∙ left_false (e.status == 206) (e.status == 304) (none Status)))
+    understood (inr (inl unchanged)) = absurd (never (sym (is_equal e.status 304 unchanged) ∙ right_false (e.status == 206) (e.status == 304) (none Status)))
+    understood (inr (inr must)) = must_be_understood must
+
+    not_forbidden : NoStoreIsAbsentOrLifted (head_of_stored e)
+    not_forbidden = at (either_false (response_has (head_of_stored e) directive.NoStore) (not (response_has (head_of_stored e) directive.MustUnderstand)) (none ResponseNoStore))
+      where
+        at : (response_has (head_of_stored e) directive.NoStore ≡ false) ⊎ (not (response_has (head_of_stored e) directive.MustUnderstand) ≡ false) → NoStoreIsAbsentOrLifted (head_of_stored e)
+        at (inl absent) = inl absent
+        at (inr lifted) = let must = not_false (response_has (head_of_stored e) directive.MustUnderstand) lifted in inr (must, must_be_understood must)
+
+    shared_or_unauthorized : (has_line x.asked.fields (codes "Authorization") ≡ false) ⊎ ResponseAllowsShared (head_of_stored e)
+    shared_or_unauthorized = at (either_false (has_line x.asked.fields (codes "Authorization")) (not (allows_shared (occurrences_of e.fields))) (none Authorization))
+      where
+        must : Bool
+        must = response_has (head_of_stored e) directive.MustRevalidate
+
+        public : Bool
+        public = response_has (head_of_stored e) directive.Public
+
+        shared : Bool
+        shared = response_has (head_of_stored e) directive.SMaxage
+
+        last : (must || public ≡ true) ⊎ (shared ≡ true) → ResponseAllowsShared (head_of_stored e)
+        last (inl h) = elim (one_of must public h) [ inl k ↦ inl k | inr k ↦ inr (inl k) ]
+        last (inr h) = inr (inr h)
+
+        at : (has_line x.asked.fields (codes "Authorization") ≡ false) ⊎ (not (allows_shared (occurrences_of e.fields)) ≡ false) → (has_line x.asked.fields (codes "Authorization") ≡ false) ⊎ ResponseAllowsShared (head_of_stored e)
+        at (inl absent) = inl absent
+        at (inr h) = inr (last (one_of (must || public) shared (not_false (allows_shared (occurrences_of e.fields)) h)))
+
+    allowed : ResponseAllowsStoring (head_of_stored e)
+    allowed = first (one_of (((public || expires) || max_age) || shared) (is_heuristic e.status) (not_false (allows_storing (head_of_stored e)) (none NothingAllows)))
+      where
+        public : Bool
+        public = response_has (head_of_stored e) directive.Public
+
+        expires : Bool
+        expires = has_line e.fields (codes "Expires")
+
+        max_age : Bool
+        max_age = response_has (head_of_stored e) directive.MaxAge
+
+        shared : Bool
+        shared = response_has (head_of_stored e) directive.SMaxage
+
+        third : (public || expires ≡ true) ⊎ (max_age ≡ true) → ResponseAllowsStoring (head_of_stored e)
+        third (inl h) = elim (one_of public expires h) [ inl k ↦ inl k | inr k ↦ inr (inl k) ]
+        third (inr h) = inr (inr (inl h))
+
+        second : ((public || expires) || max_age ≡ true) ⊎ (shared ≡ true) → ResponseAllowsStoring (head_of_stored e)
+        second (inl h) = third (one_of (public || expires) max_age h)
+        second (inr h) = inr (inr (inr (inl h)))
+
+        first : (((public || expires) || max_age) || shared ≡ true) ⊎ (is_heuristic e.status ≡ true) → ResponseAllowsStoring (head_of_stored e)
+        first (inl h) = second (one_of ((public || expires) || max_age) shared h)
+        first (inr h) = inr (inr (inr (inr h)))
+
+    lasts_or_is_validated : ((storing_facts_of_freshened table x r e).explicit ≡ true) ⊎ ((storing_facts_of_freshened table x r e).validator ≡ true)
+    lasts_or_is_validated =
+        at (either_false (not (storing_facts_of_freshened table x r e).explicit) (not (storing_facts_of_freshened table x r e).validator) (none NothingToReuse))
+      where
+        at : (not (storing_facts_of_freshened table x r e).explicit ≡ false) ⊎ (not (storing_facts_of_freshened table x r e).validator ≡ false) → ((storing_facts_of_freshened table x r e).explicit ≡ true) ⊎ ((storing_facts_of_freshened table x r e).validator ≡ true)
+        at (inl h) = inl (not_false (storing_facts_of_freshened table x r e).explicit h)
+        at (inr h) = inr (not_false (storing_facts_of_freshened table x r e).validator h)
+
+    in_words : head_leaves_room e.fields ≡ true → FreshenedMayBeKept table x r e
+    in_words room =
+        let both = left_false (request_has_content x.asked || asks_for_range x.asked) (has_precondition x.asked) (none Bypass) in
+        record {
+          line_has_cache = not_false (policy_of table.lines x.line).caches (none Operator);
+          status_is_understood = understood;
+          no_no_store = not_forbidden;
+          not_private = none Private;
+          not_authorized = shared_or_unauthorized;
+          allowed = allowed;
+          not_asked_not_to = none RequestNoStore;
+          no_content = left_false (request_has_content x.asked) (asks_for_range x.asked) both;
+          no_range = right_false (request_has_content x.asked) (asks_for_range x.asked) both;
+          no_precondition = right_false (request_has_content x.asked || asks_for_range x.asked) (has_precondition x.asked) (none Bypass);
+          is_within_the_words = within_the_words (as_get_request x.asked) (head_of_stored e) (storing_facts_of_freshened table x r e) none;
+          names_fields = fields_named e.fields (none VaryStar);
+          the_304_keeps_its_fields = keeps_all r.fields (none ConnectionField);
+          can_be_reused = can_be_reused e.fields (policy_of table.lines x.line) e.status lasts_or_is_validated;
+          fits = may_be_released table.max_stored (length e.content) (none TooLarge);
+          leaves_room = room;
+        }
+
+  -- ---- and back
+
+  shared_is_allowed : ResponseAllowsShared (head_of_stored e) → allows_shared (occurrences_of e.fields) ≡ true
+  shared_is_allowed says_so = at says_so
+    where
+      must : Bool
+      must = response_has (head_of_stored e) directive.MustRevalidate
+
+      public : Bool
+      public = response_has (head_of_stored e) directive.Public
+
+      shared : Bool
+      shared = response_has (head_of_stored e) directive.SMaxage
+
+      at : ResponseAllowsShared (head_of_stored e) → allows_shared (occurrences_of e.fields) ≡ true
+      at (inl h) = or_left (must || public) shared (or_left must public h)
+      at (inr (inl h)) = or_left (must || public) shared (or_right must public h)
+      at (inr (inr h)) = or_right (must || public) shared h
+
+  storing_is_allowed : ResponseAllowsStoring (head_of_stored e) → allows_storing (head_of_stored e) ≡ true
+  storing_is_allowed says_so = at says_so
+    where
+      public : Bool
+      public = response_has (head_of_stored e) directive.Public
+
+      expires : Bool
+      expires = has_line e.fields (codes "Expires")
+
+      max_age : Bool
+      max_age = response_has (head_of_stored e) directive.MaxAge
+
+      shared : Bool
+      shared = response_has (head_of_stored e) directive.SMaxage
+
+      heuristic : Bool
+      heuristic = is_heuristic e.status
+
+      by_two : public || expires ≡ true → allows_storing (head_of_stored e) ≡ true
+      by_two h = or_left (((public || expires) || max_age) || shared) heuristic (or_left ((public || expires) || max_age) shared (or_left (public || expires) max_age h))
+
+      at : ResponseAllowsStoring (head_of_stored e) → allows_storing (head_of_stored e) ≡ true
+      at (inl h) = by_two (or_left public expires h)
+      at (inr (inl h)) = by_two (or_right public expires h)
+      at (inr (inr (inl h))) = or_left (((public || expires) || max_age) || shared) heuristic (or_left ((public || expires) || max_age) shared (or_right (public || expires) max_age h))
+      at (inr (inr (inr (inl h)))) = or_left (((public || expires) || max_age) || shared) heuristic (or_right ((public || expires) || max_age) shared h)
+      at (inr (inr (inr (inr h)))) = or_right (((public || expires) || max_age) || shared) heuristic h
+
+  no_store_applies : NoStoreIsAbsentOrLifted (head_of_stored e) → response_has (head_of_stored e) directive.NoStore && not (response_has (head_of_stored e) directive.MustUnderstand) ≡ false
+  no_store_applies (inl absent) = first_absent (response_has (head_of_stored e) directive.NoStore) (not (response_has (head_of_stored e) directive.MustUnderstand)) absent
+  no_store_applies (inr lifted) = last_absent (response_has (head_of_stored e) directive.NoStore) (not (response_has (head_of_stored e) directive.MustUnderstand)) (not_true (response_has (head_of_stored e) directive.MustUnderstand) lifted.0)
+
+  authorization_applies : (has_line x.asked.fields (codes "Authorization") ≡ false) ⊎ ResponseAllowsShared (head_of_stored e) → has_line x.asked.fields (codes "Authorization") && not (allows_shared (occurrences_of e.fields)) ≡ false
+  authorization_applies (inl absent) = first_absent (has_line x.asked.fields (codes "Authorization")) (not (allows_shared (occurrences_of e.fields))) absent
+  authorization_applies (inr shared) = last_absent (has_line x.asked.fields (codes "Authorization")) (not (allows_shared (occurrences_of e.fields))) (not_true (allows_shared (occurrences_of e.fields)) (shared_is_allowed shared))
+
+  reuse_applies : ((storing_facts_of_freshened table x r e).explicit ≡ true) ⊎ ((storing_facts_of_freshened table x r e).validator ≡ true) → not (storing_facts_of_freshened table x r e).explicit && not (storing_facts_of_freshened table x r e).validator ≡ false
+  reuse_applies (inl h) = first_absent (not (storing_facts_of_freshened table x r e).explicit) (not (storing_facts_of_freshened table x r e).validator) (not_true (storing_facts_of_freshened table x r e).explicit h)
+  reuse_applies (inr h) = last_absent (not (storing_facts_of_freshened table x r e).explicit) (not (storing_facts_of_freshened table x r e).validator) (not_true (storing_facts_of_freshened table x r e).validator h)
+
+  none_applies : FreshenedMayBeKept table x r e → (any : StoreRule) → storing_rule_applies any (as_get_request x.asked) (head_of_stored e) (storing_facts_of_freshened table x r e) ≡ false
+  none_applies may Operator = not_true (policy_of table.lines x.line).caches may.line_has_cache
+  none_applies may Method = refl
+  none_applies may Bypass =
+      neither (request_has_content x.asked || asks_for_range x.asked) (has_precondition x.asked)
+      (neither (request_has_content x.asked) (asks_for_range x.asked) may.no_content may.no_range) may.no_precondition
+  none_applies may Status =
+      neither (e.status == 206) (e.status == 304)
+      (not_equal e.status 206 (λ is. never_understood e.status 206 is refl (may.status_is_understood (inl is))))
+      (not_equal e.status 304 (λ is. never_understood e.status 304 is refl (may.status_is_understood (inr (inl is)))))
+  none_applies may MustUnderstand = implied (response_has (head_of_stored e) directive.MustUnderstand) (is_understood_status e.status) (λ must. may.status_is_understood (inr (inr must)))
+  none_applies may ResponseNoStore = no_store_applies may.no_no_store
+  none_applies may RequestNoStore = may.not_asked_not_to
+  none_applies may Private = may.not_private
+  none_applies may Authorization = authorization_applies may.not_authorized
+  none_applies may NothingAllows = not_true (allows_storing (head_of_stored e)) (storing_is_allowed may.allowed)
+  none_applies may VaryStar = star_absent e.fields may.names_fields
+  none_applies may ConnectionField = lists_none r.fields may.the_304_keeps_its_fields
+  none_applies may NothingToReuse = reuse_applies (lasts_or_validates e.fields (policy_of table.lines x.line) e.status may.can_be_reused)
+  none_applies may TooLarge = fits_in table.max_stored (length e.content) may.fits
+  none_applies may Overtaken = refl
+  none_applies may Serials = refl
+  none_applies may SetCookie = cookie_applies (as_get_request x.asked) (head_of_stored e) (storing_facts_of_freshened table x r e) may.is_within_the_words.cookies
+  none_applies may ErrorStatus = error_applies (as_get_request x.asked) (head_of_stored e) (storing_facts_of_freshened table x r e) may.is_within_the_words.errors
+
+-- ---- the laws
+
+pub is_kept : FreshenedIsKeptWhereItMayBe
+is_kept table x r e may =
+    both_true (is_none (storage_rule_of (as_get_request x.asked) (head_of_stored e) (storing_facts_of_freshened table x r e))) (head_leaves_room e.fields)
+    (ap is_none (no_rule_found (as_get_request x.asked) (head_of_stored e) (storing_facts_of_freshened table x r e) (none_applies table x r e may))) may.leaves_room
+
+pub may_be_kept : NothingElseIsKept
+may_be_kept table x r e kept =
+    let parts = and_parts (is_none (storage_rule_of (as_get_request x.asked) (head_of_stored e) (storing_facts_of_freshened table x r e))) (head_leaves_room e.fields) kept in
+    in_words table x r e
+    (λ any. no_rule_applies (as_get_request x.asked) (head_of_stored e) (storing_facts_of_freshened table x r e) any
+    (none_of (storage_rule_of (as_get_request x.asked) (head_of_stored e) (storing_facts_of_freshened table x r e)) parts.0)) parts.1
