@@ -81,7 +81,8 @@ replaced_by es asked = matching_serials asked.target.key asked.fields es
 -- own: it counts as a failure of its origin ("An unasked 304 is a failure")
 abbrev pub is_304_without_condition : Asked → Response → Bool
 is_304_without_condition asked r =
-    (r.status == 304) && not (has_field asked.fields (codes "If-None-Match") || has_field asked.fields (codes "If-Modified-Since"))
+    (r.status == 304)
+    && not (has_field asked.fields (codes "If-None-Match") || has_field asked.fields (codes "If-Modified-Since"))
 
 -- A status that isn't an error, 2xx or 3xx, came in response to an unsafe request (RFC 9111, section 4.4). What the
 -- client is then told doesn't count.

@@ -208,6 +208,12 @@ pub fn the_headline_refuses_wrong_storing()
     ensures overtaken { HeadlineRefuses (trace_with_wrong_item (Answer 102 2 (response_with 200 [])
         ∷ Arrive 101 2 post_a ∷ Arrive 100 1 get_a ∷ [])
         (Answer 103 1 fresh_for_a_minute) (reply_that_stores [] (Some 1) [])) }
+    ensures overtaken_before_another_went { HeadlineRefuses (trace_with_wrong_item (Arrive 103 3 get_b
+        ∷ Answer 102 2 (response_with 200 []) ∷ Arrive 101 2 post_a ∷ Arrive 100 1 get_a ∷ [])
+        (Answer 104 1 fresh_for_a_minute) (reply_that_stores [] (Some 1) [])) }
+    ensures not_stored_though_it_went_later { HeadlineRefuses (trace_with_wrong_item (Arrive 103 1 get_a
+        ∷ Answer 102 2 (response_with 200 []) ∷ Arrive 101 2 post_a ∷ [])
+        (Answer 104 1 fresh_for_a_minute) (reply_that_stores [] None [])) }
     ensures too_large { HeadlineRefuses (trace_with_wrong_item (Arrive 100 1 get_a ∷ [])
         (Answer 101 1 (record fresh_for_a_minute { content = codes "eleven byte" })) (reply_that_stores [] (Some 1) [])) }
     ensures another_serial { HeadlineRefuses (trace_with_wrong_item (Arrive 100 1 get_a ∷ [])

@@ -41,6 +41,14 @@ pub returns-clause-overtaken : goal.returns-clause-overtaken
 unfolding digits httpdate_on_literals matches_line verdict_of policy_of decision_of reuse_rule_of storage_rule_of forwarded_of part_holding_day freshened_of error_rule_on
 returns-clause-overtaken c = refuse (Answer 102 2 (response_with 200 []) ∷ Arrive 101 2 post_a ∷ Arrive 100 1 get_a ∷ []) (Answer 103 1 fresh_for_a_minute) (reply_that_stores [] (Some 1) []) stores refl refl refl
 
+pub returns-clause-overtaken_before_another_went : goal.returns-clause-overtaken_before_another_went
+unfolding digits httpdate_on_literals matches_line verdict_of policy_of decision_of reuse_rule_of storage_rule_of forwarded_of part_holding_day freshened_of error_rule_on
+returns-clause-overtaken_before_another_went c = refuse (Arrive 103 3 get_b ∷ Answer 102 2 (response_with 200 []) ∷ Arrive 101 2 post_a ∷ Arrive 100 1 get_a ∷ []) (Answer 104 1 fresh_for_a_minute) (reply_that_stores [] (Some 1) []) stores refl refl refl
+
+pub returns-clause-not_stored_though_it_went_later : goal.returns-clause-not_stored_though_it_went_later
+unfolding digits httpdate_on_literals matches_line verdict_of policy_of decision_of reuse_rule_of storage_rule_of forwarded_of part_holding_day freshened_of error_rule_on
+returns-clause-not_stored_though_it_went_later c = refuse (Arrive 103 1 get_a ∷ Answer 102 2 (response_with 200 []) ∷ Arrive 101 2 post_a ∷ []) (Answer 104 1 fresh_for_a_minute) (reply_that_stores [] None []) (λ o. not (stores o)) refl refl refl
+
 pub returns-clause-too_large : goal.returns-clause-too_large
 unfolding digits httpdate_on_literals matches_line verdict_of policy_of decision_of reuse_rule_of storage_rule_of forwarded_of part_holding_day freshened_of error_rule_on
 returns-clause-too_large c = refuse (Arrive 100 1 get_a ∷ []) (Answer 101 1 (record fresh_for_a_minute { content = codes "eleven byte" })) (reply_that_stores [] (Some 1) []) stores refl refl refl
