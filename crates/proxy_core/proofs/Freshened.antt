@@ -1,21 +1,18 @@
 -- What a 304 freshens is kept where the storing rules let it be, and its head leaves room: in words, and back.
-use Rattle.std.proofs.Common.{◌≡◌, ◌⊎◌, inl, inr, ℕ, Bool, true, false, not, ◌&&◌, ◌||◌, List, length, refl, sym, ◌∙◌, ap, subst}
+use Rattle.std.proofs.Common.{◌≡◌, ◌⊎◌, inl, inr, ℕ, Bool, true, false, not, ◌&&◌, ◌||◌, length, refl, sym, ◌∙◌, ap}
 use Rattle.std.specs.Prelude.{codes, Option, Some, None, is_none, ◌==◌}
 use Rattle.std.proofs.lemmas.Bool.{and_parts}
 use Rattle.hx_fields.specs.FieldLines.{has_field as has_line}
 use Rattle.hx_directives.specs.Occurrences.{occurrences_of}
 use Rattle.hx_directives.specs.declared.names.Directive.TheVariants as directive
 use Rattle.hx_framing.specs.declared.messages.Response.{Response}
-use Rattle.hx_hop.specs.declared.request_view.Asked.{Asked}
-use Rattle.hx_hop.specs.declared.response_view.Answered.{Answered}
 use Rattle.hx_hop.specs.Bypass.{request_has_content, asks_for_range, has_precondition}
 use Rattle.hx_policy.specs.Policies.{is_heuristic}
 use Rattle.hx_allow.specs.TableLines.{Table}
 use Rattle.hx_allow.specs.Matching.{policy_of}
 use Rattle.hx_store.specs.Stored.{Stored}
-use Rattle.hx_storable.specs.Rules.{allows_shared, allows_storing, is_understood_status, request_has, response_has, storing_rule_applies, storage_rule_of}
+use Rattle.hx_storable.specs.Rules.{allows_shared, allows_storing, is_understood_status, response_has, storing_rule_applies, storage_rule_of}
 use Rattle.hx_storable.specs.Storable.{NeedsUnderstanding, NoStoreIsAbsentOrLifted, ResponseAllowsShared, ResponseAllowsStoring}
-use Rattle.hx_storable.specs.declared.known_facts.StoringFacts.{StoringFacts}
 use Rattle.hx_storable.specs.declared.rule.StoreRule.{StoreRule}
 use Rattle.hx_storable.specs.declared.rule.StoreRule.TheVariants.{Operator, Method, Bypass, Status, MustUnderstand, ResponseNoStore, RequestNoStore, Private, Authorization, NothingAllows, VaryStar, ConnectionField, NothingToReuse, TooLarge, Overtaken, Serials, SetCookie, ErrorStatus}
 use Rattle.hx_validate.specs.Room.{head_leaves_room}
@@ -23,7 +20,7 @@ use Rattle.hx_fields.proofs.JoinedTests.{never, not_false, not_true, left_false,
 use Rattle.hx_storable.proofs.LeastRule.{no_rule_applies, no_rule_found}
 use Rattle.hx_storable.proofs.LineLemmas.{within_the_words, cookie_applies, error_applies}
 use Rattle.proxy_core.specs.declared.open.exchange.Exchange.{Exchange}
-use Rattle.proxy_core.specs.Validating.{as_get_request, head_of_stored, storing_facts_of_freshened, freshened_may_be_kept}
+use Rattle.proxy_core.specs.Validating.{as_get_request, head_of_stored, storing_facts_of_freshened}
 use Rattle.proxy_core.specs.StoredAnswers.{FreshenedMayBeKept, FreshenedIsKeptWhereItMayBe, NothingElseIsKept}
 use Rattle.proxy_core.proofs.StoringWords.{can_be_reused, fields_named, fits_in, may_be_released, keeps_all, lasts_or_validates, lists_none, star_absent}
 

@@ -42,7 +42,7 @@ use Rattle.proxy_core.specs.declared.event.Event.{Event}
 use Rattle.proxy_core.specs.declared.event.Event.TheVariants.{Arrive, Answer, Fail, Wake, Abandon}
 use Rattle.proxy_core.specs.Moments.{moment_too_late_fault}
 use Rattle.proxy_core.specs.Leading.{leader_of_request}
-use Rattle.proxy_core.specs.Storing.{storing_rule_to_explain, is_304_without_condition, replaced_by}
+use Rattle.proxy_core.specs.Storing.{storing_rule_to_explain, is_304_without_condition}
 use Rattle.proxy_core.specs.Validating.{condition_about_serial, is_validation, stored_response_validated}
 use Rattle.proxy_core.specs.Replies.{stored_text, passed_answer_text, refusal_reply_text, is_head}
 use Rattle.proxy_core.specs.Outcomes.{hit_status_info, find_exchange, exchange_id_of_event, outcome_of_event, outcome_of_refusal, forwarded_status_info, forward_text, or_fault, fault_if_not_forwarded, fault_if_not_released, fault_at_exchange, step_fault}
@@ -54,7 +54,6 @@ use Rattle.proxy_core.specs.GoingOn.{EventMayCome, IsClientReply, ExchangeGoesOn
 use Rattle.proxy_core.specs.Naming.{AnswerNamesErrorRule, AnswerAfterFailureNames, AnswerNamesByEvent, AnswerNamesFirstRule}
 use Rattle.proxy_core.specs.StoredAnswers.{ThoseAreRemoved}
 use Rattle.proxy_core.specs.Headline.{HoldsAtEachItem, ExchangeGoesOnToItsAnswer, RequestReachesExactlyWhereAllowed, StoredResponseIsSentExactlyWhereItMayBe, SentResponseIsTheStoredOne, OtherAnswerNamesTheFirstRule, AnswerIsStoredExactlyWhereItMayBe, StoredResponsesAreRemovedExactlyWhereTheyMustBe, ConnectionClosesAsAsked, Headline, AnswerHasFinalStatus, NoOtherTraceHasTheHeadline}
-use Rattle.proxy_core.specs.Promises.{key_invalidated_by_answer}
 use Rattle.proxy_core.proofs.FirstRules.{held_distinct}
 use Rattle.proxy_core.proofs.Leads.{leads_for_none, leads_for}
 use Rattle.proxy_core.proofs.SendLaws.{reusable_hit}

@@ -1,20 +1,19 @@
 -- An exchange whose answer comes is overtaken exactly where an item since its request last went forward invalidates its key.
-use Rattle.std.proofs.Common.{◌≡◌, ◌⊎◌, inl, inr, ℕ, Bool, true, false, ◌||◌, Option, None, Some, List, [], ◌∷◌, ◌++◌, refl, sym, ◌∙◌, ap, subst}
+use Rattle.std.proofs.Common.{◌≡◌, ◌⊎◌, inl, inr, ℕ, true, false, ◌||◌, Option, None, Some, List, [], ◌∷◌, ◌++◌, refl, sym, ◌∙◌, ap, subst}
 use Rattle.hx_target.specs.declared.keys.Key.{Key}
 use Rattle.hx_framing.specs.declared.messages.Response.{Response}
 use Rattle.hx_allow.specs.TableLines.{Table}
 use Rattle.proxy_core.specs.declared.open.stage.Stage.{Stage}
 use Rattle.proxy_core.specs.declared.open.stage.Stage.TheVariants.{Forwarded, Waiting, Released}
 use Rattle.proxy_core.specs.declared.open.exchange.Exchange.{Exchange}
-use Rattle.proxy_core.specs.declared.outcome.Outcome.TheVariants.{Forward}
 use Rattle.proxy_core.specs.declared.event.Event.{Event}
 use Rattle.proxy_core.specs.declared.event.Event.TheVariants.{Answer}
 use Rattle.proxy_core.specs.declared.core_fault.CoreFault.{CoreFault}
 use Rattle.proxy_core.specs.Moments.{moment_too_late_fault}
-use Rattle.proxy_core.specs.Outcomes.{find_exchange, exchange_id_of_event, fault_at_exchange, fault_if_not_forwarded, or_fault, forward_text}
+use Rattle.proxy_core.specs.Outcomes.{find_exchange, exchange_id_of_event, fault_at_exchange, fault_if_not_forwarded, or_fault}
 use Rattle.proxy_core.specs.Traces.{Item}
 use Rattle.proxy_core.specs.Histories.{open_exchanges, IsGoodHistory}
-use Rattle.proxy_core.specs.Promises.{outcome_goes_forward, count_of_outcomes, invalidates_key, some_item_invalidates, NoItemInvalidates}
+use Rattle.proxy_core.specs.Promises.{outcome_goes_forward, count_of_outcomes, some_item_invalidates, NoItemInvalidates}
 use Rattle.proxy_core.specs.Carrying.{ExchangeWasJudged, IsEventThatJudges, WentForwardOnce, WentForwardASecondTime, HasWaitedSinceItsArrival, second_forward_item}
 use Rattle.proxy_core.specs.StoredAnswers.{KeyStaysValidSinceItWent}
 use Rattle.proxy_core.proofs.Marks.{none_of_some}

@@ -70,8 +70,8 @@ ResponseCanBeReused policy status fields =
     ⊎ ((is_some (modified_value fields) ≡ true)
     ⊎ (is_some (given_lifetime policy status) ≡ true)))))
 
--- Of the items before, let this be the last by which the request of an exchange went forward: no
--- item since then invalidates its key.
+-- No item since the request of an exchange last went forward invalidates its key; went is the item
+-- by which it did, and since are those that came after.
 -- own: RFC 9111, section 4.4 drops what is held, and says nothing of an answer that is still on its
 -- way; one that was asked for before may be what was to be dropped ("An overtaken answer is not stored")
 pub record KeyStaysValidSinceItWent (past : List Item) (x : Exchange) : Type 0 where
@@ -115,14 +115,13 @@ pub record IsAnswerThatMayBeStored (table : Table) (limit first : ℕ) (item : I
 
 -- ---- what a 304 freshens
 
--- What a 304 makes of a held response may be kept: the same as is asked of an answer that is to be
--- stored, of the lines that the response has then and of the request that had it validated (RFC
--- 9111, sections 3 and 4.3.4).
--- own: whether GET or HEAD had it validated isn't asked, so a HEAD's 304 keeps what a GET's would.
--- Nor is what was asked when it was stored and can't have changed: that its status is final, and that
--- it got a serial; and what an invalidation drops is held no longer.
--- own: what Connection took away of the 304 counts, and room has to be left for what is added to the
--- head where it is sent ("What a 304 brings has a bound")
+-- What a 304 makes of a held response may be kept where a response with these lines could be stored
+-- in answer to the request that had it validated (RFC 9111, sections 3 and 4.3.4).
+-- own: whether a GET or a HEAD had it validated isn't asked: what a HEAD's 304 freshens is kept as
+-- what a GET's does. Nor is anything that was asked when it was stored and stays: that its status is
+-- final, and that it has a serial; or whether its key was invalidated, for then it would be held no more.
+-- own: the Connection of the 304 counts, and room has to be left for what is added to the head where
+-- the response is sent ("What a 304 brings has a bound")
 pub record FreshenedMayBeKept (table : Table) (x : Exchange) (r : Response) (e : Stored) : Type 0 where
   pub line_has_cache : (policy_of table.lines x.line).caches ≡ true
   pub status_is_understood : NeedsUnderstanding (head_of_stored e) → is_understood_status e.status ≡ true
