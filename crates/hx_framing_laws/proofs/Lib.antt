@@ -1,0 +1,9 @@
+pub mod CharacterLemmas
+pub mod FieldValues
+pub mod Written
+pub mod Taken
+pub mod Judged
+pub mod Front
+pub mod ReadRequests
+pub mod ReadResponses
+pub mod WorkedLines
