@@ -278,27 +278,27 @@ module _ (id : ℕ) (f : Exchange → Exchange) (others : (x : Exchange) → eqb
   ]
 
 pub gone_out-others : (id now : ℕ) (x : Exchange) → eqb x.id id ≡ false → exchange_forwarded_again id now x ≡ x
-gone_out-others id now x h = ap (λ b. cond b (exchange_gone_forward now x.rule None x) x) h
+gone_out-others id now x h = ap (λ b. cond b (exchange_gone_forward now x.rule x.named None x) x) h
 
-pub sent_out-others : (id now : ℕ) (rule : ReuseRule) (condition : Option Condition) (x : Exchange) → eqb x.id id ≡ false → exchange_sent_forward id now rule condition x ≡ x
-sent_out-others id now rule condition x h = ap (λ b. cond b (exchange_gone_forward now rule condition x) x) h
+pub sent_out-others : (id now : ℕ) (rule : ReuseRule) (named : Option ℕ) (condition : Option Condition) (x : Exchange) → eqb x.id id ≡ false → exchange_sent_forward id now rule named condition x ≡ x
+sent_out-others id now rule named condition x h = ap (λ b. cond b (exchange_gone_forward now rule named condition x) x) h
 
 -- one goes forward at the arrival of its id
-pub sent_written : (id now : ℕ) (rule : ReuseRule) (condition : Option Condition) (n : ℕ) (x y : Exchange) (es : Numbered) (arrivals : ℕ → Option ℕ) → IsIdIndexOf es arrivals →
-    Some n ≡ arrivals id → Some x ≡ lookup (at n) es → y ≡ exchange_gone_forward now rule condition x → set_value (at n) es y ≡ map_exchanges (exchange_sent_forward id now rule condition) es
-sent_written id now rule condition n x y es arrivals s h there e =
+pub sent_written : (id now : ℕ) (rule : ReuseRule) (named : Option ℕ) (condition : Option Condition) (n : ℕ) (x y : Exchange) (es : Numbered) (arrivals : ℕ → Option ℕ) → IsIdIndexOf es arrivals →
+    Some n ≡ arrivals id → Some x ≡ lookup (at n) es → y ≡ exchange_gone_forward now rule named condition x → set_value (at n) es y ≡ map_exchanges (exchange_sent_forward id now rule named condition) es
+sent_written id now rule named condition n x y es arrivals s h there e =
     let here : arrival_of id es ≡ Some n = sym (s.indexed id) ∙ sym h in
     let is : find_exchange id (values_of es) ≡ Some x = sym (found id n es s.apart here) ∙ sym there in
-    let same : y ≡ exchange_sent_forward id now rule condition x = e ∙ sym (ap (λ b. cond b (exchange_gone_forward now rule condition x) x) (found-id id (values_of es) x is)) in
+    let same : y ≡ exchange_sent_forward id now rule named condition x = e ∙ sym (ap (λ b. cond b (exchange_gone_forward now rule named condition x) x) (found-id id (values_of es) x is)) in
     ap (λ (z : Exchange). set_value (at n) es z) same
-    ∙ written id (exchange_sent_forward id now rule condition) (sent_out-others id now rule condition) n es x s.apart here (sym there)
+    ∙ written id (exchange_sent_forward id now rule named condition) (sent_out-others id now rule named condition) n es x s.apart here (sym there)
 
 pub gone_written : (id now n : ℕ) (x y : Exchange) (es : Numbered) (arrivals : ℕ → Option ℕ) → IsIdIndexOf es arrivals →
-    Some n ≡ arrivals id → Some x ≡ lookup (at n) es → y ≡ exchange_gone_forward now x.rule None x → set_value (at n) es y ≡ map_exchanges (exchange_forwarded_again id now) es
+    Some n ≡ arrivals id → Some x ≡ lookup (at n) es → y ≡ exchange_gone_forward now x.rule x.named None x → set_value (at n) es y ≡ map_exchanges (exchange_forwarded_again id now) es
 gone_written id now n x y es arrivals s h there e =
     let here : arrival_of id es ≡ Some n = sym (s.indexed id) ∙ sym h in
     let is : find_exchange id (values_of es) ≡ Some x = sym (found id n es s.apart here) ∙ sym there in
-    let same : y ≡ exchange_forwarded_again id now x = e ∙ sym (ap (λ b. cond b (exchange_gone_forward now x.rule None x) x) (found-id id (values_of es) x is)) in
+    let same : y ≡ exchange_forwarded_again id now x = e ∙ sym (ap (λ b. cond b (exchange_gone_forward now x.rule x.named None x) x) (found-id id (values_of es) x is)) in
     ap (λ (z : Exchange). set_value (at n) es z) same
     ∙ written id (exchange_forwarded_again id now) (gone_out-others id now) n es x s.apart here (sym there)
 

@@ -1,5 +1,5 @@
 -- Who asks for a key, among exchanges that were changed: the indexes still tell just them. And the first that leads.
-use Rattle.std.proofs.Common.{◌≡◌, ◌<◌, ℕ, Bool, true, false, cond, ◌&&◌, ◌||◌, eqb, None, Some, Option, List, [], ◌∷◌, ◌++◌, refl, sym, ◌∙◌, ap, arith, inl, inr}
+use Rattle.std.proofs.Common.{◌≡◌, ◌<◌, ℕ, Bool, true, false, cond, ◌&&◌, ◌||◌, eqb, None, Some, Option, List, [], ◌∷◌, ◌++◌, refl, sym, ◌∙◌, ap, arith, inl, inr, not}
 use Rattle.std.specs.Ordering.{nat_cmp}
 use Rattle.std.specs.BTreeMap.{is_at}
 use Rattle.std.specs.List.{All, AllByRecursion, list_any}
@@ -20,7 +20,8 @@ use Rattle.proxy_core.specs.declared.open.arrivals_by_key.ArrivalsByKey.{Arrival
 use Rattle.proxy_core.specs.declared.open.key_index.KeyIndex.{KeyIndex}
 use Rattle.hx_hop.specs.declared.request_view.Asked.{Asked}
 use Rattle.proxy_core.specs.declared.open.stage.Stage.TheVariants.{Released}
-use Rattle.proxy_core.specs.Leading.{is_get, goes_forward_for_same_reason, may_lead_waiters, is_forwarded, waits_for, leads_waiters, leader}
+use Rattle.proxy_core.specs.Leading.{is_get, is_forwarded, waits_for, asks_for, may_serve, leads_waiters, leader}
+use Rattle.proxy_core.specs.declared.open.awaited.Awaited.{Awaited}
 use Rattle.proxy_core.specs.State.{released_exchange, overtaken_exchange, exchange_gone_forward, exchange_forwarded_again, exchange_sent_forward}
 use Rattle.proxy_core.specs.Arrivals.{HaveDistinctArrivalsAndIds, SelectedArrivalsPass, IsExactIndexOfSelected, map_exchanges}
 use Rattle.proxy_core.specs.ByKey.{is_get_for_key, is_other_for_key, is_in_key_index, GetArrivalsPass, ArrivalIsPutWhere, ArrivalIsTakenOutWhere, AreSameKeyIndex, IsNotInKeyIndex, ArrivalIsEntered, ArrivalHasLeft, AreSameArrivals, IsInNeitherIndex, TellsAllByKey}
@@ -76,11 +77,11 @@ asked-closed n x es old new a there k h =
 pub asked-on_all : (f : Exchange → Exchange) → ((x : Exchange) → (f x).asked ≡ x.asked) → (es : Numbered) (by_key : ArrivalsByKey) → TellsAllByKey by_key es → TellsAllByKey by_key (map_exchanges f es)
 asked-on_all f k es by_key h = (told-on_all is_get_for_key f k es by_key.gets h.0, told-on_all is_other_for_key f k es by_key.others h.1)
 
-pub sent_out-asked : (id now : ℕ) (rule : ReuseRule) (condition : Option Condition) (x : Exchange) → (exchange_sent_forward id now rule condition x).asked ≡ x.asked
-sent_out-asked id now rule condition x = elim (eqb x.id id) as (λ b. (cond b (exchange_gone_forward now rule condition x) x).asked ≡ x.asked) [ true ↦ refl | false ↦ refl ]
+pub sent_out-asked : (id now : ℕ) (rule : ReuseRule) (named : Option ℕ) (condition : Option Condition) (x : Exchange) → (exchange_sent_forward id now rule named condition x).asked ≡ x.asked
+sent_out-asked id now rule named condition x = elim (eqb x.id id) as (λ b. (cond b (exchange_gone_forward now rule named condition x) x).asked ≡ x.asked) [ true ↦ refl | false ↦ refl ]
 
 pub gone_out-asked : (id now : ℕ) (x : Exchange) → (exchange_forwarded_again id now x).asked ≡ x.asked
-gone_out-asked id now x = elim (eqb x.id id) as (λ b. (cond b (exchange_gone_forward now x.rule None x) x).asked ≡ x.asked) [ true ↦ refl | false ↦ refl ]
+gone_out-asked id now x = elim (eqb x.id id) as (λ b. (cond b (exchange_gone_forward now x.rule x.named None x) x).asked ≡ x.asked) [ true ↦ refl | false ↦ refl ]
 
 pub release-asked : (q : ℕ) (x : Exchange) → (released_exchange q x).asked ≡ x.asked
 release-asked q x = elim (waits_for q x.stage) as (λ b. (cond b (record x { stage = Released }) x).asked ≡ x.asked) [ true ↦ refl | false ↦ refl ]
@@ -91,59 +92,59 @@ overtake-asked key x = elim (same_key x.asked.target.key key) as (λ b. (cond b 
 -- ---- the first that leads
 
 -- those that lead have numbers that are still to come, and these ascend
-abbrev pub LeadersLeft : Policy → ReuseRule → Key → List ℕ → Numbered → Type 0
-LeadersLeft policy why key ns es = SelectedArrivalsPass (leads_waiters policy why key) (λ k. list_any (λ n. at k n) ns) es × IsStrictlySortedBy nat_cmp ns
+abbrev pub LeadersLeft : Policy → Awaited → Asked → List ℕ → Numbered → Type 0
+LeadersLeft policy awaited asked ns es = SelectedArrivalsPass (leads_waiters policy awaited asked) (λ k. list_any (λ n. at k n) ns) es × IsStrictlySortedBy nat_cmp ns
 
 parts : (a b c : Bool) → (a && (b && c)) ≡ true → (a && b) ≡ true
 parts true true c h = refl
 parts true false c h = absurd (false≢true h)
 parts false b c h = absurd (false≢true h)
 
-gets_lead : (policy : Policy) (why : ReuseRule) (key : Key) (p : ℕ → Bool) (es : Numbered) → GetArrivalsPass key p es → SelectedArrivalsPass (leads_waiters policy why key) p es
-gets_lead policy why key p [] h = tt
-gets_lead policy why key p (e ∷ es) h =
-    (λ w. h.0 (parts (same_key e.1.asked.target.key key) (is_get e.1.asked) (goes_forward_for_same_reason e.1.rule why && (is_forwarded e.1.stage && may_lead_waiters policy e.1.for_others)) w), gets_lead policy why key p es h.1)
+gets_lead : (policy : Policy) (awaited : Awaited) (asked : Asked) (p : ℕ → Bool) (es : Numbered) → GetArrivalsPass asked.target.key p es → SelectedArrivalsPass (leads_waiters policy awaited asked) p es
+gets_lead policy awaited asked p [] h = tt
+gets_lead policy awaited asked p (e ∷ es) h =
+    (λ w. h.0 (parts (same_key e.1.asked.target.key asked.target.key) (is_get e.1.asked) (is_forwarded e.1.stage && (asks_for awaited e.1 && (not policy.waits_for_stale || may_serve asked e.1))) w), gets_lead policy awaited asked p es h.1)
 
-pub leaders : (policy : Policy) (why : ReuseRule) (key : Key) (ns : List ℕ) (es : Numbered) → IsStrictlySortedBy nat_cmp ns → GetArrivalsPass key (λ k. list_any (λ n. at k n) ns) es → LeadersLeft policy why key ns es
-leaders policy why key ns es s h = (gets_lead policy why key (λ k. list_any (λ n. at k n) ns) es h, s)
+pub leaders : (policy : Policy) (awaited : Awaited) (asked : Asked) (ns : List ℕ) (es : Numbered) → IsStrictlySortedBy nat_cmp ns → GetArrivalsPass asked.target.key (λ k. list_any (λ n. at k n) ns) es → LeadersLeft policy awaited asked ns es
+leaders policy awaited asked ns es s h = (gets_lead policy awaited asked (λ k. list_any (λ n. at k n) ns) es h, s)
 
-nobody : (policy : Policy) (why : ReuseRule) (key : Key) (es : Numbered) → SelectedArrivalsPass (leads_waiters policy why key) (λ k. false) es → leader policy why key (values_of es) ≡ None
-nobody policy why key [] h = refl
-nobody policy why key (e ∷ es) h = elim (cases_Bool (leads_waiters policy why key e.1)) [
+nobody : (policy : Policy) (awaited : Awaited) (asked : Asked) (es : Numbered) → SelectedArrivalsPass (leads_waiters policy awaited asked) (λ k. false) es → leader policy awaited asked (values_of es) ≡ None
+nobody policy awaited asked [] h = refl
+nobody policy awaited asked (e ∷ es) h = elim (cases_Bool (leads_waiters policy awaited asked e.1)) [
   | inl t ↦ absurd (false≢true (h.0 t))
-  | inr f ↦ ap (λ b. cond b (Some e.1.id) (leader policy why key (values_of es))) f ∙ nobody policy why key es h.1
+  | inr f ↦ ap (λ b. cond b (Some e.1.id) (leader policy awaited asked (values_of es))) f ∙ nobody policy awaited asked es h.1
 ]
 
-pub none_leads : (policy : Policy) (why : ReuseRule) (key : Key) (es : Numbered) → LeadersLeft policy why key [] es → leader policy why key (values_of es) ≡ None
-none_leads policy why key es h = nobody policy why key es h.0
+pub none_leads : (policy : Policy) (awaited : Awaited) (asked : Asked) (es : Numbered) → LeadersLeft policy awaited asked [] es → leader policy awaited asked (values_of es) ≡ None
+none_leads policy awaited asked es h = nobody policy awaited asked es h.0
 
-pub none_asks : (policy : Policy) (why : ReuseRule) (key : Key) (es : Numbered) → GetArrivalsPass key (λ k. false) es → leader policy why key (values_of es) ≡ None
-none_asks policy why key es h = nobody policy why key es (gets_lead policy why key (λ k. false) es h)
+pub none_asks : (policy : Policy) (awaited : Awaited) (asked : Asked) (es : Numbered) → GetArrivalsPass asked.target.key (λ k. false) es → leader policy awaited asked (values_of es) ≡ None
+none_asks policy awaited asked es h = nobody policy awaited asked es (gets_lead policy awaited asked (λ k. false) es h)
 
 rest_of : (n m : ℕ) (ns : List ℕ) → eqb n m ≡ false → list_any (λ k. at m k) (n ∷ ns) ≡ true → list_any (λ k. at m k) ns ≡ true
 rest_of n m ns o t = sym (ap (λ b. b || list_any (λ k. at m k) ns) (not_at n m o)) ∙ t
 
 -- one that isn't open
-pub not_open : (policy : Policy) (why : ReuseRule) (key : Key) (n : ℕ) (ns : List ℕ) (es : Numbered) → None ≡ lookup (at n) es → LeadersLeft policy why key (n ∷ ns) es → LeadersLeft policy why key ns es
-not_open policy why key n ns es none h = (
-  pass-but (leads_waiters policy why key) n (λ k. list_any (λ m. at k m) (n ∷ ns)) (λ k. list_any (λ m. at k m) ns) es (sym none) (λ m o t. rest_of n m ns o t) h.0,
+pub not_open : (policy : Policy) (awaited : Awaited) (asked : Asked) (n : ℕ) (ns : List ℕ) (es : Numbered) → None ≡ lookup (at n) es → LeadersLeft policy awaited asked (n ∷ ns) es → LeadersLeft policy awaited asked ns es
+not_open policy awaited asked n ns es none h = (
+  pass-but (leads_waiters policy awaited asked) n (λ k. list_any (λ m. at k m) (n ∷ ns)) (λ k. list_any (λ m. at k m) ns) es (sym none) (λ m o t. rest_of n m ns o t) h.0,
   sorted_tail nat_cmp n ns h.1,
 )
 
 -- one that doesn't lead
-pub not_leading : (policy : Policy) (why : ReuseRule) (key : Key) (n : ℕ) (x : Exchange) (ns : List ℕ) (es : Numbered) → IsStrictlySortedBy nat_cmp (keys_of es) → Some x ≡ lookup (at n) es → leads_waiters policy why key x ≡ false →
-    LeadersLeft policy why key (n ∷ ns) es → LeadersLeft policy why key ns es
-not_leading policy why key n x ns es s there idle h = (go es s there h.0, sorted_tail nat_cmp n ns h.1)
+pub not_leading : (policy : Policy) (awaited : Awaited) (asked : Asked) (n : ℕ) (x : Exchange) (ns : List ℕ) (es : Numbered) → IsStrictlySortedBy nat_cmp (keys_of es) → Some x ≡ lookup (at n) es → leads_waiters policy awaited asked x ≡ false →
+    LeadersLeft policy awaited asked (n ∷ ns) es → LeadersLeft policy awaited asked ns es
+not_leading policy awaited asked n x ns es s there idle h = (go es s there h.0, sorted_tail nat_cmp n ns h.1)
   where
-    go : (es : Numbered) → IsStrictlySortedBy nat_cmp (keys_of es) → Some x ≡ lookup (at n) es → SelectedArrivalsPass (leads_waiters policy why key) (λ k. list_any (λ m. at k m) (n ∷ ns)) es → SelectedArrivalsPass (leads_waiters policy why key) (λ k. list_any (λ m. at k m) ns) es
+    go : (es : Numbered) → IsStrictlySortedBy nat_cmp (keys_of es) → Some x ≡ lookup (at n) es → SelectedArrivalsPass (leads_waiters policy awaited asked) (λ k. list_any (λ m. at k m) (n ∷ ns)) es → SelectedArrivalsPass (leads_waiters policy awaited asked) (λ k. list_any (λ m. at k m) ns) es
     go [] s there h = tt
     go (e ∷ es) s there h = elim (cases_Bool (at n e.0)) [
       | inl t ↦ (
           let is : x ≡ e.1 = same_Some x e.1 (there ∙ ap (λ b. cond b (Some e.1) (lookup (at n) es)) t) in
           let k : n ≡ e.0 = eqb-true n e.0 (sym (at_is n e.0) ∙ t) in
           let none : lookup (at n) es ≡ None = ap (λ i. lookup (at i) es) k ∙ none_behind e.0 es (sorted_head nat_cmp e.0 (keys_of es) s) in (
-            λ w. absurd (false≢true (sym idle ∙ ap (leads_waiters policy why key) is ∙ w)),
-            pass-but (leads_waiters policy why key) n (λ k. list_any (λ m. at k m) (n ∷ ns)) (λ k. list_any (λ m. at k m) ns) es none (λ m o t. rest_of n m ns o t) h.1,
+            λ w. absurd (false≢true (sym idle ∙ ap (leads_waiters policy awaited asked) is ∙ w)),
+            pass-but (leads_waiters policy awaited asked) n (λ k. list_any (λ m. at k m) (n ∷ ns)) (λ k. list_any (λ m. at k m) ns) es none (λ m o t. rest_of n m ns o t) h.1,
           )
           )
       | inr f ↦ ((
@@ -154,9 +155,9 @@ not_leading policy why key n x ns es s there idle h = (go es s there h.0, sorted
     ]
 
 -- one that does
-pub it_leads : (policy : Policy) (why : ReuseRule) (key : Key) (n : ℕ) (x : Exchange) (ns : List ℕ) (es : Numbered) → IsStrictlySortedBy nat_cmp (keys_of es) → Some x ≡ lookup (at n) es → leads_waiters policy why key x ≡ true →
-    LeadersLeft policy why key (n ∷ ns) es → Some x.id ≡ leader policy why key (values_of es)
-it_leads policy why key n x ns es s there active h = go (sorted_head nat_cmp n ns h.1) es s there h.0
+pub it_leads : (policy : Policy) (awaited : Awaited) (asked : Asked) (n : ℕ) (x : Exchange) (ns : List ℕ) (es : Numbered) → IsStrictlySortedBy nat_cmp (keys_of es) → Some x ≡ lookup (at n) es → leads_waiters policy awaited asked x ≡ true →
+    LeadersLeft policy awaited asked (n ∷ ns) es → Some x.id ≡ leader policy awaited asked (values_of es)
+it_leads policy awaited asked n x ns es s there active h = go (sorted_head nat_cmp n ns h.1) es s there h.0
   where
     later : (m : ℕ) (ms : List ℕ) → AllByRecursion (λ k. nat_cmp n k ≡ Less) ms → list_any (λ k. at m k) ms ≡ true → nat_cmp n m ≡ Less
     later m [] a t = absurd (false≢true t)
@@ -172,23 +173,23 @@ it_leads policy why key n x ns es s there active h = go (sorted_head nat_cmp n n
         through : (m k : ℕ) → nat_cmp n m ≡ Less → nat_cmp m k ≡ Less → nat_cmp n k ≡ Less
         through m k a b = grind (arith, nat_tests, a, b)
 
-    go : AllByRecursion (λ k. nat_cmp n k ≡ Less) ns → (es : Numbered) → IsStrictlySortedBy nat_cmp (keys_of es) → Some x ≡ lookup (at n) es → SelectedArrivalsPass (leads_waiters policy why key) (λ k. list_any (λ m. at k m) (n ∷ ns)) es → Some x.id ≡ leader policy why key (values_of es)
+    go : AllByRecursion (λ k. nat_cmp n k ≡ Less) ns → (es : Numbered) → IsStrictlySortedBy nat_cmp (keys_of es) → Some x ≡ lookup (at n) es → SelectedArrivalsPass (leads_waiters policy awaited asked) (λ k. list_any (λ m. at k m) (n ∷ ns)) es → Some x.id ≡ leader policy awaited asked (values_of es)
     go a [] s there h = absurd (cc)
     go a (e ∷ es) s there h = elim (cases_Bool (at n e.0)) [
       | inl t ↦ (
           let is : x ≡ e.1 = same_Some x e.1 (there ∙ ap (λ b. cond b (Some e.1) (lookup (at n) es)) t) in
-          ap (λ (y : Exchange). Some y.id) is ∙ sym (ap (λ b. cond b (Some e.1.id) (leader policy why key (values_of es))) (sym (ap (leads_waiters policy why key) is) ∙ active))
+          ap (λ (y : Exchange). Some y.id) is ∙ sym (ap (λ b. cond b (Some e.1.id) (leader policy awaited asked (values_of es))) (sym (ap (leads_waiters policy awaited asked) is) ∙ active))
           )
       | inr f ↦ (
           let rest : Some x ≡ lookup (at n) es = there ∙ ap (λ b. cond b (Some e.1) (lookup (at n) es)) f in
-          elim (cases_Bool (leads_waiters policy why key e.1)) [
+          elim (cases_Bool (leads_waiters policy awaited asked e.1)) [
             | inl t ↦ (
                 let l : nat_cmp n e.0 ≡ Less = later e.0 ns a (rest_of n e.0 ns (sym (at_is n e.0) ∙ f) (h.0 t)) in
                 let none : lookup (at n) es ≡ None = none_behind n es (before e.0 es l (sorted_head nat_cmp e.0 (keys_of es) s)) in
                 let wrong : Some x ≡ None = rest ∙ none in
                 absurd (cc)
                 )
-            | inr o ↦ go a es (sorted_tail nat_cmp e.0 (keys_of es) s) rest h.1 ∙ sym (ap (λ b. cond b (Some e.1.id) (leader policy why key (values_of es))) o)
+            | inr o ↦ go a es (sorted_tail nat_cmp e.0 (keys_of es) s) rest h.1 ∙ sym (ap (λ b. cond b (Some e.1.id) (leader policy awaited asked (values_of es))) o)
           ]
           )
     ]

@@ -30,7 +30,8 @@ use Rattle.proxy_core.specs.Validating.{condition_about_serial, is_validation, s
 use Rattle.proxy_core.specs.Storing.{is_304_without_condition}
 use Rattle.proxy_core.specs.declared.open.stage.Stage.TheVariants.{Forwarded, Released}
 use Rattle.proxy_core.specs.declared.steps.condition.Condition.{Condition}
-use Rattle.proxy_core.specs.Leading.{leader_of_request, waits_for}
+use Rattle.proxy_core.specs.Leading.{waits_for}
+use Rattle.proxy_core.specs.Awaiting.{leader_of_request}
 use Rattle.proxy_core.specs.Outcomes.{find_exchange, exchange_id_of_event, outcome_of_arrival, outcome_of_allowed_request, outcome_of_waiting_or_forwarding, outcome_without_stored_response, outcome_of_wake, is_only_if_cached, forward_text, fallback_for, outcome_of_failure, is_error_status, outcome_of_passing_on_or_stale, outcome_of_304, outcome_of_answer, outcome_of}
 use Rattle.proxy_core.specs.State.{State, overtaken_exchange, released_exchange, forwarded_exchange, waiting_exchange, line_of_verdict, rule_of_decision, serial_named_by_decision, exchange_gone_forward, exchange_forwarded_again, exchange_sent_forward, exchanges_after_wake, open_exchanges_after}
 use Rattle.proxy_core.specs.Traces.{Item, initial_state, state_after_trace, IsGood}
@@ -80,9 +81,9 @@ module _ (table : Table) (es : List Stored) (xs : List Exchange) (now : ℕ) (as
       led rule against (Some leader) d = subst IsSentOn (sym (ap line_of_verdict v)) (on rule against d)
 
       unless : (rule : ReuseRule) (against : Option ℕ) (b : Bool) → decision_of (policy_of table.lines n) es asked now ≡ decision.Forward rule against →
-          Goes (outcome_without_stored_response table xs n now asked rule (condition_about_serial es against) b)
+          Goes (outcome_without_stored_response table es xs n now asked rule (condition_about_serial es against) b)
       unless rule against true d = tt
-      unless rule against false d = led rule against (leader_of_request (policy_of table.lines n) xs asked rule) d
+      unless rule against false d = led rule against (leader_of_request (policy_of table.lines n) es xs asked rule) d
 
       by_decision : (d : Decision) → decision_of (policy_of table.lines n) es asked now ≡ d → Goes (outcome_of_allowed_request table es xs n now asked d)
       by_decision (decision.Hit t) k = tt
@@ -406,12 +407,13 @@ module _ (table : Table) (limit first : ℕ) where
       let xs = s.exchanges in
       let bytes = forward_text table z.asked (condition_about_serial es against) in
       let q = rule_of_decision (decision_of (policy_of table.lines z.line) es z.asked now) in
-      let k = condition_about_serial es (serial_named_by_decision (decision_of (policy_of table.lines z.line) es z.asked now)) in
+      let m = serial_named_by_decision (decision_of (policy_of table.lines z.line) es z.asked now) in
+      let k = condition_about_serial es m in
       let y = woken_form table es now z in
       let at : find_exchange id (exchanges_after_wake table es id now (find_exchange id xs) xs) ≡ Some y =
       ap (λ (w : Option Exchange). find_exchange id (exchanges_after_wake table es id now w xs)) z_is
-      ∙ (find-map (exchange_sent_forward id now q k) (sent_out-id id now q k) id xs
-      ∙ (ap (option_map (exchange_sent_forward id now q k)) z_is ∙ ap (λ b. Some (cond b (exchange_gone_forward now q k z) z)) (found-id id xs z z_is))) in
+      ∙ (find-map (exchange_sent_forward id now q m k) (sent_out-id id now q m k) id xs
+      ∙ (ap (option_map (exchange_sent_forward id now q m k)) z_is ∙ ap (λ b. Some (cond b (exchange_gone_forward now q m k z) z)) (found-id id xs z z_is))) in
       let here : y ≡ x = same_Some y x (sym at ∙ (ap (λ (o : Outcome). find_exchange id (open_exchanges_after table es xs (Wake now id) o)) (sym h) ∙ found)) in
       let held = entries_are_held table limit first past g in
       let named = names_the_least (policy_of table.lines z.line) es z.asked now rule against d in

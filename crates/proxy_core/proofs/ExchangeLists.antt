@@ -24,13 +24,13 @@ find-map f k id (x ∷ xs) =
     ]
 
 pub gone_out-id : (i now : ℕ) (x : Exchange) → (exchange_forwarded_again i now x).id ≡ x.id
-gone_out-id i now x = elim (eqb x.id i) as (λ b. (cond b (exchange_gone_forward now x.rule None x) x).id ≡ x.id) [
+gone_out-id i now x = elim (eqb x.id i) as (λ b. (cond b (exchange_gone_forward now x.rule x.named None x) x).id ≡ x.id) [
   | true ↦ refl
   | false ↦ refl
 ]
 
-pub sent_out-id : (i now : ℕ) (rule : ReuseRule) (condition : Option Condition) (x : Exchange) → (exchange_sent_forward i now rule condition x).id ≡ x.id
-sent_out-id i now rule condition x = elim (eqb x.id i) as (λ b. (cond b (exchange_gone_forward now rule condition x) x).id ≡ x.id) [
+pub sent_out-id : (i now : ℕ) (rule : ReuseRule) (named : Option ℕ) (condition : Option Condition) (x : Exchange) → (exchange_sent_forward i now rule named condition x).id ≡ x.id
+sent_out-id i now rule named condition x = elim (eqb x.id i) as (λ b. (cond b (exchange_gone_forward now rule named condition x) x).id ≡ x.id) [
   | true ↦ refl
   | false ↦ refl
 ]

@@ -35,7 +35,7 @@ use Rattle.proxy_core.specs.declared.event.Event.{Event}
 use Rattle.proxy_core.specs.declared.event.Event.TheVariants.{Arrive, Answer, Fail, Wake, Abandon}
 use Rattle.proxy_core.specs.Validating.{condition_about_serial, is_validation, stored_response_validated}
 use Rattle.proxy_core.specs.Storing.{is_304_without_condition}
-use Rattle.proxy_core.specs.Leading.{leader_of_request}
+use Rattle.proxy_core.specs.Awaiting.{leader_of_request}
 use Rattle.proxy_core.specs.Outcomes.{find_exchange, exchange_id_of_event, outcome_of_arrival, outcome_of_allowed_request, outcome_of_waiting_or_forwarding, outcome_without_stored_response, outcome_of_wake, is_only_if_cached, error_rule_at, fallback_with_error_rule, fallback_for, outcome_of_failure, is_error_status, outcome_of_passing_on_or_stale, outcome_of_304, outcome_of_answer, outcome_of}
 use Rattle.proxy_core.specs.Traces.{Item}
 use Rattle.proxy_core.specs.Histories.{IsGoodHistory, store_change_of, held_entries, open_exchanges, next_serial}
@@ -109,9 +109,9 @@ module _ (table : Table) (limit : ℕ) (past : List Item) (distinct : Distinct (
 
       unless : (line : ℕ) (rule : ReuseRule) (against : Option ℕ) (b : Bool) → verdict_of table.lines asked.method asked.target ≡ verdict.Allowed line →
           decision_of (policy_of table.lines line) es asked now ≡ decision.Forward rule against → is_only_if_cached asked ≡ b →
-          AnswerNamesFirstRule table limit past next x (Arrive now id asked) (outcome_without_stored_response table xs line now asked rule (condition_about_serial es against) b)
+          AnswerNamesFirstRule table limit past next x (Arrive now id asked) (outcome_without_stored_response table es xs line now asked rule (condition_about_serial es against) b)
       unless line rule against true v d k = λ h. inr (inr (line, rule, v, k, (names_the_least (policy_of table.lines line) es asked now rule against d).0, refl))
-      unless line rule against false v d k = on line (condition_about_serial es against) (leader_of_request (policy_of table.lines line) xs asked rule)
+      unless line rule against false v d k = on line (condition_about_serial es against) (leader_of_request (policy_of table.lines line) es xs asked rule)
 
       by_decision : (line : ℕ) (d : Decision) → verdict_of table.lines asked.method asked.target ≡ verdict.Allowed line → decision_of (policy_of table.lines line) es asked now ≡ d →
           AnswerNamesFirstRule table limit past next x (Arrive now id asked) (outcome_of_allowed_request table es xs line now asked d)

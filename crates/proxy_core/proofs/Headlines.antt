@@ -35,7 +35,8 @@ use Rattle.proxy_core.specs.declared.outcome.Outcome.TheVariants.{Reply as Repli
 use Rattle.proxy_core.specs.declared.event.Event.{Event}
 use Rattle.proxy_core.specs.declared.event.Event.TheVariants.{Arrive, Answer, Fail, Wake, Abandon}
 use Rattle.proxy_core.specs.Moments.{moment_too_late_fault}
-use Rattle.proxy_core.specs.Leading.{is_forwarded, is_released, leader_of_request}
+use Rattle.proxy_core.specs.Leading.{is_forwarded, is_released}
+use Rattle.proxy_core.specs.Awaiting.{leader_of_request}
 use Rattle.proxy_core.specs.Storing.{is_304_without_condition}
 use Rattle.proxy_core.specs.Validating.{condition_about_serial, is_validation, stored_response_validated}
 use Rattle.proxy_core.specs.Outcomes.{find_exchange, exchange_id_of_event, outcome_of_event, outcome_of, fallback_for, outcome_of_wake, outcome_of_arrival, outcome_of_allowed_request, outcome_without_stored_response, outcome_of_waiting_or_forwarding, outcome_of_failure, outcome_of_passing_on_or_stale, outcome_of_304, outcome_of_answer, is_error_status, is_only_if_cached, forward_text, or_fault, fault_if_not_forwarded, fault_if_not_released, fault_at_exchange}
@@ -195,9 +196,9 @@ module _ (table : Table) (es : List Stored) where
       on condition None = refl
       on condition (Some leader) = refl
 
-      unless : (rule : ReuseRule) (condition : Option Condition) (b : Bool) → close_in asked.close (outcome_without_stored_response table xs line now asked rule condition b) ≡ asked.close
+      unless : (rule : ReuseRule) (condition : Option Condition) (b : Bool) → close_in asked.close (outcome_without_stored_response table es xs line now asked rule condition b) ≡ asked.close
       unless rule condition true = refl
-      unless rule condition false = on condition (leader_of_request (policy_of table.lines line) xs asked rule)
+      unless rule condition false = on condition (leader_of_request (policy_of table.lines line) es xs asked rule)
 
       by_decision : (d : Decision) → close_in asked.close (outcome_of_allowed_request table es xs line now asked d) ≡ asked.close
       by_decision (decision.Hit s) = refl

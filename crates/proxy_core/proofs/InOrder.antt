@@ -54,7 +54,7 @@ ids-left_open (Some key) id xs = ids-map (overtaken_exchange key) (overtake-id k
 ids-woken : (table : Table) (es : List Stored) (id now : ℕ) (w : Option Exchange) (xs : List Exchange) → exchange_ids (exchanges_after_wake table es id now w xs) ≡ exchange_ids xs
 ids-woken table es id now None xs = refl
 ids-woken table es id now (Some x) xs =
-    ids-map _ (sent_out-id id now (rule_of_decision (decision_of (policy_of table.lines x.line) es x.asked now)) (condition_about_serial es (serial_named_by_decision (decision_of (policy_of table.lines x.line) es x.asked now)))) xs
+    ids-map _ (sent_out-id id now (rule_of_decision (decision_of (policy_of table.lines x.line) es x.asked now)) (serial_named_by_decision (decision_of (policy_of table.lines x.line) es x.asked now)) (condition_about_serial es (serial_named_by_decision (decision_of (policy_of table.lines x.line) es x.asked now)))) xs
 
 ids-push : (xs : List Exchange) (x : Exchange) → exchange_ids (xs ++ x ∷ []) ≡ exchange_ids xs ++ x.id ∷ []
 ids-push [] x = refl

@@ -20,6 +20,8 @@ pub mod Carries
 pub mod InOrder
 pub mod FirstRules
 pub mod Leads
+pub mod Awaits
+pub mod InVain
 pub mod Openings
 pub mod SendLaws
 pub mod SentResponses

@@ -45,12 +45,12 @@ asked_of (Some x) = Some x.asked
 
 -- the exchange that went forward once more
 abbrev pub out_again : ℕ → Exchange → Exchange
-out_again now z = exchange_gone_forward now z.rule None z
+out_again now z = exchange_gone_forward now z.rule z.named None z
 
 -- the exchange that was woken and went forward
 abbrev pub woken_form : Table → List Stored → ℕ → Exchange → Exchange
 woken_form table es now z =
-    exchange_gone_forward now (rule_of_decision (decision_of (policy_of table.lines z.line) es z.asked now)) (condition_about_serial es (serial_named_by_decision (decision_of (policy_of table.lines z.line) es z.asked now))) z
+    exchange_gone_forward now (rule_of_decision (decision_of (policy_of table.lines z.line) es z.asked now)) (serial_named_by_decision (decision_of (policy_of table.lines z.line) es z.asked now)) (condition_about_serial es (serial_named_by_decision (decision_of (policy_of table.lines z.line) es z.asked now))) z
 
 -- the exchange that ends by a step
 abbrev pub ended_by : Event → Outcome → Option ℕ
@@ -199,13 +199,13 @@ other_out i now id (Some z) n h =
     let off : eqb z.id i ≡ false = grind (arith, nat_tests) in
     ap (λ b. Some (cond b (out_again now z) z)) off
 
-other_sent : (i now : ℕ) (q : ReuseRule) (c : Option Condition) (id : ℕ) (o : Option Exchange) → eqb i id ≡ false → ((z : Exchange) → o ≡ Some z → eqb z.id id ≡ true) →
-    option_map (exchange_sent_forward i now q c) o ≡ o
-other_sent i now q c id None n h = refl
-other_sent i now q c id (Some z) n h =
+other_sent : (i now : ℕ) (q : ReuseRule) (n : Option ℕ) (c : Option Condition) (id : ℕ) (o : Option Exchange) → eqb i id ≡ false → ((z : Exchange) → o ≡ Some z → eqb z.id id ≡ true) →
+    option_map (exchange_sent_forward i now q n c) o ≡ o
+other_sent i now q n c id None off_id h = refl
+other_sent i now q n c id (Some z) off_id h =
     let e = eqb-true z.id id (h z refl) in
     let off : eqb z.id i ≡ false = grind (arith, nat_tests) in
-    ap (λ b. Some (cond b (exchange_gone_forward now q c z) z)) off
+    ap (λ b. Some (cond b (exchange_gone_forward now q n c z) z)) off
 
 -- no fault stands of an answer or a failure
 pub forwarded_by : (a : Option CoreFault) (s : Stage) → or_fault a (fault_if_not_forwarded s) ≡ None → is_forwarded s ≡ true
@@ -340,30 +340,33 @@ module _ (table : Table) (es : List Stored) (xs : List Exchange) (next : Option 
       (gone z (Wake now i) (outcome_of_wake table es now z (decision.Hit serial)) f refl refl _ (find-closed i id xs))
   wakes_up now i z o (decision.Forward rule against) d_is f s h =
       subst (λ (o : Outcome). Move id (Some z) (Wake now i) o (find_exchange id xs) (find_exchange id (open_exchanges_after table es xs (Wake now i) o))) (sym h)
-      (by_id (ap (λ (w : Option Exchange). find_exchange id (exchanges_after_wake table es i now w xs)) f ∙ find-map out (sent_out-id i now q c) id xs))
+      (by_id (ap (λ (w : Option Exchange). find_exchange id (exchanges_after_wake table es i now w xs)) f ∙ find-map out (sent_out-id i now q n c) id xs))
     where
       q : ReuseRule
       q = rule_of_decision (decision_of (policy_of table.lines z.line) es z.asked now)
+
+      n : Option ℕ
+      n = serial_named_by_decision (decision_of (policy_of table.lines z.line) es z.asked now)
 
       c : Option Condition
       c = condition_about_serial es (serial_named_by_decision (decision_of (policy_of table.lines z.line) es z.asked now))
 
       out : Exchange → Exchange
-      out x = exchange_sent_forward i now q c x
+      out x = exchange_sent_forward i now q n c x
 
       o' : Outcome
       o' = outcome_of_wake table es now z (decision.Forward rule against)
 
-      by_id : find_exchange id (exchanges_after_wake table es i now (find_exchange i xs) xs) ≡ option_map (exchange_sent_forward i now q c) (find_exchange id xs) →
+      by_id : find_exchange id (exchanges_after_wake table es i now (find_exchange i xs) xs) ≡ option_map (exchange_sent_forward i now q n c) (find_exchange id xs) →
           Move id (Some z) (Wake now i) (outcome_of_wake table es now z (decision.Forward rule against)) (find_exchange id xs) (find_exchange id (exchanges_after_wake table es i now (find_exchange i xs) xs))
       by_id p = elim (cases_Bool (eqb i id)) [
         | inl t ↦ (
             let same = eqb-true i id t in
-            let x_is : find_exchange id xs ≡ Some z = ap (λ n. find_exchange n xs) (sym same) ∙ f in
-            wakes table es z now (ap (λ n. Wake now n) same) x_is s refl
-            (p ∙ ap (option_map (exchange_sent_forward i now q c)) x_is ∙ ap (λ b. Some (cond b (exchange_gone_forward now q c z) z)) (found-id i xs z f))
+            let x_is : find_exchange id xs ≡ Some z = ap (λ k. find_exchange k xs) (sym same) ∙ f in
+            wakes table es z now (ap (λ k. Wake now k) same) x_is s refl
+            (p ∙ ap (option_map (exchange_sent_forward i now q n c)) x_is ∙ ap (λ b. Some (cond b (exchange_gone_forward now q n c z) z)) (found-id i xs z f))
             )
-        | inr n ↦ apart n (p ∙ other_sent i now q c id (find_exchange id xs) n (λ y g. found-id id xs y g))
+        | inr off ↦ apart off (p ∙ other_sent i now q n c id (find_exchange id xs) off (λ y g. found-id id xs y g))
       ]
 
   step : (event : Event) (o : Outcome) (w : Option Exchange) → find_exchange (exchange_id_of_event event) xs ≡ w → fault_at_exchange w event ≡ None → o ≡ outcome_of table es xs w next event →

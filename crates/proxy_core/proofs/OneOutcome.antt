@@ -41,7 +41,7 @@ use Rattle.proxy_core.specs.declared.outcome.Outcome.TheVariants.{Reply as Repli
 use Rattle.proxy_core.specs.declared.event.Event.{Event}
 use Rattle.proxy_core.specs.declared.event.Event.TheVariants.{Arrive, Answer, Fail, Wake, Abandon}
 use Rattle.proxy_core.specs.Moments.{moment_too_late_fault}
-use Rattle.proxy_core.specs.Leading.{leader_of_request}
+use Rattle.proxy_core.specs.Awaiting.{leader_of_request}
 use Rattle.proxy_core.specs.Storing.{storing_rule_to_explain, is_304_without_condition}
 use Rattle.proxy_core.specs.Validating.{condition_about_serial, is_validation, stored_response_validated}
 use Rattle.proxy_core.specs.Replies.{stored_text, passed_answer_text, refusal_reply_text, is_head}
@@ -56,6 +56,7 @@ use Rattle.proxy_core.specs.StoredAnswers.{ThoseAreRemoved}
 use Rattle.proxy_core.specs.Headline.{HoldsAtEachItem, ExchangeGoesOnToItsAnswer, RequestReachesExactlyWhereAllowed, StoredResponseIsSentExactlyWhereItMayBe, SentResponseIsTheStoredOne, OtherAnswerNamesTheFirstRule, AnswerIsStoredExactlyWhereItMayBe, StoredResponsesAreRemovedExactlyWhereTheyMustBe, ConnectionClosesAsAsked, Headline, AnswerHasFinalStatus, NoOtherTraceHasTheHeadline}
 use Rattle.proxy_core.proofs.FirstRules.{held_distinct}
 use Rattle.proxy_core.proofs.Leads.{leads_for_none, leads_for}
+use Rattle.proxy_core.proofs.Awaits.{one_rule, one_named}
 use Rattle.proxy_core.proofs.SendLaws.{reusable_hit}
 use Rattle.proxy_core.proofs.Headlines.{headline}
 use Rattle.proxy_core.proofs.StoredAnswers.{removed_by_answer, removed_by_words, serials_removed_at}
@@ -71,25 +72,7 @@ not_entry {P} e h = absurd (cc)
 
 -- ---- rules
 
-rule_named : Decision → ReuseRule → ReuseRule
-rule_named (decision.Forward rule against) other = rule
-rule_named (decision.Hit s) other = other
-
 module _ (policy : Policy) (es : List Stored) (asked : Asked) (now : ℕ) where
-  pub one_rule : (a b : ReuseRule) → IsLeastReuseRule policy es asked now a → IsLeastReuseRule policy es asked now b → a ≡ b
-  one_rule a b least more =
-      let one = forwards policy es asked now a least in
-      let other = forwards policy es asked now b more in
-      let same : decision.Forward a one.0 ≡ decision.Forward b other.0 = sym one.1 ∙ other.1 in
-      cc
-
-  pub one_named : (rule : ReuseRule) (a b : Option ℕ) → RuleNamesTheResponse es asked rule a → RuleNamesTheResponse es asked rule b → a ≡ b
-  one_named rule a b (inl m) (inl n) = m.1 ∙ sym n.1
-  one_named rule a b (inl m) (inr n) = no_true (sym m.0 ∙ n.0)
-  one_named rule a b (inr m) (inl n) = no_true (sym n.0 ∙ m.0)
-  one_named rule a b (inr m) (inr n) =
-      m.1.2 ∙ ap (λ (e : Stored). Some e.serial) (same_Some m.1.0 n.1.0 (sym m.1.1 ∙ n.1.1)) ∙ sym n.1.2
-
   one_error : (rule : ReuseRule) (a b : Option ErrorRule) → AnswerNamesErrorRule policy es now asked rule a → AnswerNamesErrorRule policy es now asked rule b → a ≡ b
   one_error rule a b (inl m) (inl n) = m.1 ∙ sym n.1
   one_error rule a b (inl m) (inr n) = no_true (sym m.0 ∙ n.0)
@@ -132,7 +115,7 @@ forward_same table es asked now line a b o p m n =
     let against : m.against ≡ n.against = one_named (policy_of table.lines line) es asked now b m.against n.against (subst (λ r. RuleNamesTheResponse es asked r m.against) rule m.names) n.names in
     m.outcome_is ∙ ap (λ c. Forward line (forward_text table asked (condition_about_serial es c))) against ∙ sym n.outcome_is
 
-module _ (table : Table) (es : List Stored) (xs : List Exchange) (now : ℕ) (asked : Asked) where
+module _ (table : Table) (es : List Stored) (distinct : Distinct (serials es)) (xs : List Exchange) (now : ℕ) (asked : Asked) where
   turned_same : (o p : Outcome) → RequestIsTurnedAway table now asked o → RequestIsTurnedAway table now asked p → o ≡ p
   turned_same o p (inl (line, v, m)) (inl (other, w, n)) =
       let same : verdict.DeniedBy line ≡ verdict.DeniedBy other = sym v ∙ w in
@@ -143,12 +126,11 @@ module _ (table : Table) (es : List Stored) (xs : List Exchange) (now : ℕ) (as
   turned_same o p (inr (v, m)) (inr (w, n)) = m ∙ sym n
 
   module _ (line : ℕ) (o p : Outcome) (unused : serial_used_by_outcome o ≡ None) (other_unused : serial_used_by_outcome p ≡ None) where
-    meets : (rule : ReuseRule) → IsLeastReuseRule (policy_of table.lines line) es asked now rule → NoLeaderIsOpen (policy_of table.lines line) xs asked rule → RequestWaitsForTheFirst table es xs now asked line p → {P : Type 0} → P
+    meets : (rule : ReuseRule) → IsLeastReuseRule (policy_of table.lines line) es asked now rule → NoLeaderIsOpen (policy_of table.lines line) es xs asked now → RequestWaitsForTheFirst table es xs now asked line p → {P : Type 0} → P
     meets rule least nobody w =
-        let same : rule ≡ w.rule = one_rule (policy_of table.lines line) es asked now rule w.rule least w.rule_is_least in
         never_one w.leader
-        (sym (sym (ap (leader_of_request (policy_of table.lines line) xs asked) same) ∙ leads_for_none (policy_of table.lines line) xs asked rule nobody)
-        ∙ leads_for (policy_of table.lines line) xs asked w.rule w.leader w.gets w.may_wait w.first_leads)
+        (sym (leads_for_none (policy_of table.lines line) es distinct xs asked now rule least nobody)
+        ∙ leads_for (policy_of table.lines line) es distinct xs asked now rule least w.awaited w.leader w.awaits w.first_leads)
 
   reached_same : (line : ℕ) (o p : Outcome) → serial_used_by_outcome o ≡ None → serial_used_by_outcome p ≡ None → RequestReachesCacheOrOrigin table es xs now asked line o → RequestReachesCacheOrOrigin table es xs now asked line p → o ≡ p
   reached_same line o p u v (inl (s, used)) h = never_one s (sym u ∙ used)
@@ -158,10 +140,9 @@ module _ (table : Table) (es : List Stored) (xs : List Exchange) (now : ℕ) (as
   reached_same line o p u v (inr (inl (a, m, others, nobody))) (inr (inr (inr (b, only, least, is)))) = no_true (sym others ∙ only)
   reached_same line o p u v (inr (inr (inl w))) (inr (inl (b, n, others, nobody))) = meets line p o v u b n.is_least nobody w
   reached_same line o p u v (inr (inr (inl w))) (inr (inr (inl z))) =
-      let rule : w.rule ≡ z.rule = one_rule (policy_of table.lines line) es asked now w.rule z.rule w.rule_is_least z.rule_is_least in
       let same : Some w.leader ≡ Some z.leader =
-      sym (leads_for (policy_of table.lines line) xs asked w.rule w.leader w.gets w.may_wait w.first_leads)
-      ∙ ap (leader_of_request (policy_of table.lines line) xs asked) rule ∙ leads_for (policy_of table.lines line) xs asked z.rule z.leader z.gets z.may_wait z.first_leads
+      sym (leads_for (policy_of table.lines line) es distinct xs asked now w.awaits.rule w.awaits.is_least w.awaited w.leader w.awaits w.first_leads)
+      ∙ leads_for (policy_of table.lines line) es distinct xs asked now w.awaits.rule w.awaits.is_least z.awaited z.leader z.awaits z.first_leads
       in
       w.outcome_is ∙ ap (λ l. Waits l) (same_Some w.leader z.leader same) ∙ sym z.outcome_is
   reached_same line o p u v (inr (inr (inl w))) (inr (inr (inr (b, only, least, is)))) = no_true (sym w.takes_others ∙ only)
@@ -319,11 +300,11 @@ module _ (table : Table) (limit first : ℕ) (past : List Item) (distinct : Dist
     arrival_same x now id asked a b = by_verdict (verdict_of table.lines asked.method asked.target) refl
       where
         turned : ((line : ℕ) → verdict_of table.lines asked.method asked.target ≢ verdict.Allowed line) → o ≡ p
-        turned none = turned_same table es (open_exchanges table limit past) now asked o p ((a.reaches now id asked refl).1 none) ((b.reaches now id asked refl).1 none)
+        turned none = turned_same table es distinct (open_exchanges table limit past) now asked o p ((a.reaches now id asked refl).1 none) ((b.reaches now id asked refl).1 none)
 
         by_verdict : (v : Verdict) → verdict_of table.lines asked.method asked.target ≡ v → o ≡ p
         by_verdict (verdict.Allowed line) v =
-            reached_same table es (open_exchanges table limit past) now asked line o p unused other_unused ((a.reaches now id asked refl).0 line v) ((b.reaches now id asked refl).0 line v)
+            reached_same table es distinct (open_exchanges table limit past) now asked line o p unused other_unused ((a.reaches now id asked refl).0 line v) ((b.reaches now id asked refl).0 line v)
         by_verdict (verdict.DeniedBy n) v = turned (λ line h. let no : verdict.DeniedBy n ≡ verdict.Allowed line = sym v ∙ h in absurd (cc))
         by_verdict verdict.NoLine v = turned (λ line h. let no : verdict.NoLine ≡ verdict.Allowed line = sym v ∙ h in absurd (cc))
 

@@ -15,7 +15,7 @@ use Rattle.proxy_core.specs.declared.open.exchange.Exchange.{Exchange}
 use Rattle.proxy_core.specs.declared.outcome.Outcome.{Outcome}
 use Rattle.proxy_core.specs.declared.event.Event.{Event}
 use Rattle.proxy_core.specs.declared.event.Event.TheVariants.{Arrive}
-use Rattle.proxy_core.specs.Leading.{may_be_answered_for_others}
+use Rattle.proxy_core.specs.Leading.{has_no_store}
 use Rattle.proxy_core.specs.Validating.{condition_about_serial}
 use Rattle.proxy_core.specs.Outcomes.{outcome_of_waiting_or_forwarding}
 use Rattle.proxy_core.specs.State.{State, rule_of_decision, serial_named_by_decision, line_of_verdict, exchange_with_leader, state_after}
@@ -26,10 +26,11 @@ form s now id asked line stage d = record {
   asked = asked;
   line = line;
   rule = rule_of_decision d;
+  named = serial_named_by_decision d;
   request_time = now;
   condition = condition_about_serial s.entries (serial_named_by_decision d);
   overtaken = false;
-  for_others = may_be_answered_for_others asked;
+  no_store = has_no_store asked;
   stage = stage;
 }
 
@@ -51,10 +52,10 @@ both s event t u a (Ok o) is leaves m = leaves ∙ (m ∙ ap (state_after s even
 both s event t u a (Err e) is leaves m = tt
 
 -- the same of what the parts of the exchange are known to be
-pub opens_by : (s : State) (now id line : ℕ) (asked other : Asked) (rule : ReuseRule) (against o : Option ℕ) (condition : Option Condition) (for_others : Bool) →
+pub opens_by : (s : State) (now id line : ℕ) (asked other : Asked) (rule : ReuseRule) (against o : Option ℕ) (condition : Option Condition) (no_store : Bool) →
     verdict_of s.table.lines asked.method asked.target ≡ verdict.Allowed line → decision_of (policy_of s.table.lines line) s.entries asked now ≡ decision.Forward rule against →
-    other ≡ asked → condition ≡ condition_about_serial s.entries against → for_others ≡ may_be_answered_for_others asked →
+    other ≡ asked → condition ≡ condition_about_serial s.entries against → no_store ≡ has_no_store asked →
     record s {
-      exchanges = s.exchanges ++ exchange_with_leader o (record { id = id; asked = other; line = line; rule = rule; request_time = now; condition = condition; overtaken = false; for_others = for_others; stage = Forwarded }) ∷ [];
+      exchanges = s.exchanges ++ exchange_with_leader o (record { id = id; asked = other; line = line; rule = rule; named = against; request_time = now; condition = condition; overtaken = false; no_store = no_store; stage = Forwarded }) ∷ [];
     } ≡ state_after s (Arrive now id asked) (outcome_of_waiting_or_forwarding s.table line other condition o)
-opens_by s now id line asked other rule against o condition for_others v d same asks is = rw same (rw asks (rw is (opens_of s now id line asked rule against o v d)))
+opens_by s now id line asked other rule against o condition no_store v d same asks is = rw same (rw asks (rw is (opens_of s now id line asked rule against o v d)))

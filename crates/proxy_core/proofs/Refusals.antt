@@ -29,7 +29,8 @@ use Rattle.proxy_core.specs.GoingOn.{IsConditionOfEvent}
 use Rattle.proxy_core.specs.Headline.{HoldsAtEachItem, AnswerHasFinalStatus}
 use Rattle.proxy_core.specs.Cases.{reply_bytes}
 use Rattle.proxy_core.specs.WrongTraces.{HeadlineRefuses, edge_table, trace_of_good_events, item_of, GoingForwardIsWrong, trace_with_wrong_item}
-use Rattle.proxy_core.proofs.OneOutcome.{no_other_trace_has_it, one_named, one_rule}
+use Rattle.proxy_core.proofs.Awaits.{one_rule, one_named}
+use Rattle.proxy_core.proofs.OneOutcome.{no_other_trace_has_it}
 
 -- each answer has a final status
 abbrev pub is_final : Event → Bool

@@ -180,16 +180,16 @@ none_is (e ∷ es) h = elim (cases_Bool (is_released e.1.stage)) [
 
 -- ---- changing
 
-pub released-sent : (id now : ℕ) (rule : ReuseRule) (condition : Option Condition) (x : Exchange) → is_released (exchange_sent_forward id now rule condition x).stage ≡ true → is_released x.stage ≡ true
-released-sent id now rule condition x h = elim (cases_Bool (eqb x.id id)) [
-  | inl t ↦ absurd (false≢true (sym (ap (λ b. is_released (cond b (exchange_gone_forward now rule condition x) x).stage) t) ∙ h))
-  | inr f ↦ sym (ap (λ b. is_released (cond b (exchange_gone_forward now rule condition x) x).stage) f) ∙ h
+pub released-sent : (id now : ℕ) (rule : ReuseRule) (named : Option ℕ) (condition : Option Condition) (x : Exchange) → is_released (exchange_sent_forward id now rule named condition x).stage ≡ true → is_released x.stage ≡ true
+released-sent id now rule named condition x h = elim (cases_Bool (eqb x.id id)) [
+  | inl t ↦ absurd (false≢true (sym (ap (λ b. is_released (cond b (exchange_gone_forward now rule named condition x) x).stage) t) ∙ h))
+  | inr f ↦ sym (ap (λ b. is_released (cond b (exchange_gone_forward now rule named condition x) x).stage) f) ∙ h
 ]
 
 pub released-gone : (id now : ℕ) (x : Exchange) → is_released (exchange_forwarded_again id now x).stage ≡ true → is_released x.stage ≡ true
 released-gone id now x h = elim (cases_Bool (eqb x.id id)) [
-  | inl t ↦ absurd (false≢true (sym (ap (λ b. is_released (cond b (exchange_gone_forward now x.rule None x) x).stage) t) ∙ h))
-  | inr f ↦ sym (ap (λ b. is_released (cond b (exchange_gone_forward now x.rule None x) x).stage) f) ∙ h
+  | inl t ↦ absurd (false≢true (sym (ap (λ b. is_released (cond b (exchange_gone_forward now x.rule x.named None x) x).stage) t) ∙ h))
+  | inr f ↦ sym (ap (λ b. is_released (cond b (exchange_gone_forward now x.rule x.named None x) x).stage) f) ∙ h
 ]
 
 pub released-overtaken : (key : Key) (x : Exchange) → is_released (overtaken_exchange key x).stage ≡ true → is_released x.stage ≡ true

@@ -42,14 +42,14 @@ use Rattle.proxy_core.specs.declared.event.Event.{Event}
 use Rattle.proxy_core.specs.declared.event.Event.TheVariants.{Arrive, Answer, Fail, Wake, Abandon}
 use Rattle.proxy_core.specs.Validating.{condition_about_serial, is_validation, stored_response_validated, freshened_by_304}
 use Rattle.proxy_core.specs.Storing.{is_304_without_condition}
-use Rattle.proxy_core.specs.Leading.{leader_of_request}
+use Rattle.proxy_core.specs.Awaiting.{leader_of_request}
 use Rattle.proxy_core.specs.Outcomes.{find_exchange, exchange_id_of_event, outcome_of_arrival, outcome_of_allowed_request, outcome_of_waiting_or_forwarding, outcome_without_stored_response, outcome_of_wake, is_only_if_cached, error_rule_at, fallback_with_error_rule, fallback_for, outcome_of_failure, is_error_status, outcome_of_passing_on_or_stale, outcome_of_304, outcome_of_answer, outcome_of, outcome_of_event, forward_text}
 use Rattle.proxy_core.specs.State.{serial_used_by_outcome}
 use Rattle.proxy_core.specs.Traces.{Item}
 use Rattle.proxy_core.specs.Histories.{IsGoodHistory, held_entries, open_exchanges, next_serial}
-use Rattle.proxy_core.specs.Sending.{StoredResponseIsReusable, MayBeSentInsteadOfError, IsStoredFallback, StoredResponseMayBeSentAt, RequestReachesCacheOrOrigin, RequestIsTurnedAway, StoredResponseIsSentWhereItMayBe, StoredResponseIsSentNowhereElse, RequestIsForwardedWhereAllowed, RequestIsForwardedNowhereElse, AllowedRequestReachesCacheOrOrigin, OtherRequestIsRefused}
+use Rattle.proxy_core.specs.Sending.{StoredResponseIsReusable, MayBeSentInsteadOfError, IsStoredFallback, StoredResponseMayBeSentAt, RequestReachesCacheOrOrigin, RequestIsTurnedAway, NoLeaderIsOpen, StoredResponseIsSentWhereItMayBe, StoredResponseIsSentNowhereElse, RequestIsForwardedWhereAllowed, RequestIsForwardedNowhereElse, AllowedRequestReachesCacheOrOrigin, OtherRequestIsRefused}
 use Rattle.proxy_core.proofs.Leaving.{serial_stays}
-use Rattle.proxy_core.proofs.Leads.{nobody_leads, is_led, led_by}
+use Rattle.proxy_core.proofs.Leads.{nobody_leads, leads_for_none, is_led, led_by}
 use Rattle.proxy_core.proofs.FirstRules.{held_distinct}
 
 never_one : (s : ℕ) → ◌≡◌ {A = Option ℕ} None (Some s) → ⊥
@@ -230,9 +230,9 @@ module _ (table : Table) (es : List Stored) (distinct : Distinct (serials es)) (
       on condition None h = never_one s h
       on condition (Some leader) h = never_one s h
 
-      unless : (rule : ReuseRule) (condition : Option Condition) (b : Bool) → serial_used_by_outcome (outcome_without_stored_response table xs line now asked rule condition b) ≡ Some s → ⊥
+      unless : (rule : ReuseRule) (condition : Option Condition) (b : Bool) → serial_used_by_outcome (outcome_without_stored_response table es xs line now asked rule condition b) ≡ Some s → ⊥
       unless rule condition true h = never_one s h
-      unless rule condition false h = on condition (leader_of_request (policy_of table.lines line) xs asked rule) h
+      unless rule condition false h = on condition (leader_of_request (policy_of table.lines line) es xs asked rule) h
 
       by_decision : (d : Decision) → decision_of (policy_of table.lines line) es asked now ≡ d → serial_used_by_outcome (outcome_of_allowed_request table es xs line now asked d) ≡ Some s → StoredResponseIsReusable (policy_of table.lines line) es asked now s
       by_decision (decision.Hit t) k h = subst (λ n. StoredResponseIsReusable (policy_of table.lines line) es asked now n) (same_Some t s h) (reused_is_allowed (policy_of table.lines line) es asked now t k)
@@ -370,21 +370,21 @@ forwards_where_allowed table limit first now id line asked rule item past g e v 
       arrival_is table limit first now id asked item past g e
           ∙ ap (λ (v : Verdict). outcome_of_arrival table es xs now asked v) v
           ∙ ap (λ (d : Decision). outcome_of_allowed_request table es xs line now asked d) d.1
-          ∙ ap (λ b. outcome_without_stored_response table xs line now asked rule (condition_about_serial es d.0) b) other
-          ∙ ap (λ (leader : Option ℕ). outcome_of_waiting_or_forwarding table line asked (condition_about_serial es d.0) leader) none,
+          ∙ ap (λ b. outcome_without_stored_response table es xs line now asked rule (condition_about_serial es d.0) b) other
+          ∙ ap (λ (leader : Option ℕ). outcome_of_waiting_or_forwarding table line asked (condition_about_serial es d.0) leader) (leads_for_none (policy_of table.lines line) es (held_distinct table limit first past g.1) xs asked now rule least none),
     )
 
 -- what is known of a request that goes forward at its arrival
 abbrev GoesOn : Table → List Stored → List Exchange → ℕ → ℕ → Asked → Type 0
 GoesOn table es xs now line asked =
     (verdict_of table.lines asked.method asked.target ≡ verdict.Allowed line)
-    × ((rule : ReuseRule) × IsLeastReuseRule (policy_of table.lines line) es asked now rule × (leader_of_request (policy_of table.lines line) xs asked rule ≡ None)) × (is_only_if_cached asked ≡ false)
+    × ((rule : ReuseRule) × IsLeastReuseRule (policy_of table.lines line) es asked now rule × NoLeaderIsOpen (policy_of table.lines line) es xs asked now) × (is_only_if_cached asked ≡ false)
 
-forward_parts : (table : Table) (es : List Stored) (xs : List Exchange) (now line : ℕ) (asked : Asked) (bytes : List ℕ) (v : Verdict) → verdict_of table.lines asked.method asked.target ≡ v →
+forward_parts : (table : Table) (es : List Stored) (distinct : Distinct (serials es)) (xs : List Exchange) (now line : ℕ) (asked : Asked) (bytes : List ℕ) (v : Verdict) → verdict_of table.lines asked.method asked.target ≡ v →
     outcome_of_arrival table es xs now asked v ≡ Forward line bytes → GoesOn table es xs now line asked
-forward_parts table es xs now line asked bytes (verdict.Allowed n) v h = by_decision (decision_of (policy_of table.lines n) es asked now) refl h
+forward_parts table es distinct xs now line asked bytes (verdict.Allowed n) v h = by_decision (decision_of (policy_of table.lines n) es asked now) refl h
   where
-    on : (rule : ReuseRule) (against leader : Option ℕ) → leader_of_request (policy_of table.lines n) xs asked rule ≡ leader → is_only_if_cached asked ≡ false →
+    on : (rule : ReuseRule) (against leader : Option ℕ) → leader_of_request (policy_of table.lines n) es xs asked rule ≡ leader → is_only_if_cached asked ≡ false →
         decision_of (policy_of table.lines n) es asked now ≡ decision.Forward rule against → outcome_of_waiting_or_forwarding table n asked (condition_about_serial es against) leader ≡ Forward line bytes → GoesOn table es xs now line asked
     on rule against (Some leader) l k d h = absurd (cc)
     on rule against None l k d h =
@@ -393,53 +393,52 @@ forward_parts table es xs now line asked bytes (verdict.Allowed n) v h = by_deci
           (
             rule,
             subst (λ m. IsLeastReuseRule (policy_of table.lines m) es asked now rule) same (names_the_least (policy_of table.lines n) es asked now rule against d).0,
-            subst (λ m. leader_of_request (policy_of table.lines m) xs asked rule ≡ None) same l,
+            subst (λ m. NoLeaderIsOpen (policy_of table.lines m) es xs asked now) same
+                (nobody_leads (policy_of table.lines n) es distinct xs asked now rule (names_the_least (policy_of table.lines n) es asked now rule against d).0 l),
           ),
           k,
         )
 
     unless : (rule : ReuseRule) (against : Option ℕ) (b : Bool) → is_only_if_cached asked ≡ b → decision_of (policy_of table.lines n) es asked now ≡ decision.Forward rule against →
-        outcome_without_stored_response table xs n now asked rule (condition_about_serial es against) b ≡ Forward line bytes → GoesOn table es xs now line asked
+        outcome_without_stored_response table es xs n now asked rule (condition_about_serial es against) b ≡ Forward line bytes → GoesOn table es xs now line asked
     unless rule against true k d h = absurd (cc)
-    unless rule against false k d h = on rule against (leader_of_request (policy_of table.lines n) xs asked rule) refl k d h
+    unless rule against false k d h = on rule against (leader_of_request (policy_of table.lines n) es xs asked rule) refl k d h
 
     by_decision : (d : Decision) → decision_of (policy_of table.lines n) es asked now ≡ d → outcome_of_allowed_request table es xs n now asked d ≡ Forward line bytes → GoesOn table es xs now line asked
     by_decision (decision.Hit t) k h = absurd (cc)
     by_decision (decision.Forward rule against) k h = unless rule against (is_only_if_cached asked) refl k h
-forward_parts table es xs now line asked bytes (verdict.DeniedBy n) v h = absurd (cc)
-forward_parts table es xs now line asked bytes verdict.NoLine v h = absurd (cc)
+forward_parts table es distinct xs now line asked bytes (verdict.DeniedBy n) v h = absurd (cc)
+forward_parts table es distinct xs now line asked bytes verdict.NoLine v h = absurd (cc)
 
 pub forwards_nothing_else : RequestIsForwardedNowhereElse
 forwards_nothing_else table limit first now id line asked bytes item past g e h =
-    forward_parts table (held_entries table limit past) (open_exchanges table limit past) now line asked bytes (verdict_of table.lines asked.method asked.target) refl
+    forward_parts table (held_entries table limit past) (held_distinct table limit first past g.1) (open_exchanges table limit past) now line asked bytes (verdict_of table.lines asked.method asked.target) refl
     (sym (arrival_is table limit first now id asked item past g e) ∙ h)
 
 -- ---- reaching cache or origin
 
-module _ (table : Table) (es : List Stored) (xs : List Exchange) (now : ℕ) (asked : Asked) where
-  reach_on : (line : ℕ) (rule : ReuseRule) (against leader : Option ℕ) → is_only_if_cached asked ≡ false → leader_of_request (policy_of table.lines line) xs asked rule ≡ leader →
+module _ (table : Table) (es : List Stored) (distinct : Distinct (serials es)) (xs : List Exchange) (now : ℕ) (asked : Asked) where
+  reach_on : (line : ℕ) (rule : ReuseRule) (against leader : Option ℕ) → is_only_if_cached asked ≡ false → leader_of_request (policy_of table.lines line) es xs asked rule ≡ leader →
       decision_of (policy_of table.lines line) es asked now ≡ decision.Forward rule against → RequestReachesCacheOrOrigin table es xs now asked line (outcome_of_waiting_or_forwarding table line asked (condition_about_serial es against) leader)
   reach_on line rule against None k l d =
       let named = names_the_least (policy_of table.lines line) es asked now rule against d in
-      inr (inl (rule, record { is_least = named.0; against = against; names = named.1; outcome_is = refl }, k, nobody_leads (policy_of table.lines line) xs asked rule l))
+      inr (inl (rule, record { is_least = named.0; against = against; names = named.1; outcome_is = refl }, k, nobody_leads (policy_of table.lines line) es distinct xs asked now rule named.0 l))
   reach_on line rule against (Some leader) k l d =
       let named = names_the_least (policy_of table.lines line) es asked now rule against d in
-      let led = is_led (policy_of table.lines line) xs asked rule leader l in
+      let led = is_led (policy_of table.lines line) es distinct xs asked now rule named.0 leader l in
       inr (inr (inl (record {
         leader = leader;
         takes_others = k;
-        gets = led.0;
-        rule = rule;
-        rule_is_least = named.0;
-        may_wait = led.1;
-        first_leads = led_by (policy_of table.lines line) rule asked.target.key xs leader led.2;
+        awaited = led.0;
+        awaits = led.1;
+        first_leads = led_by (policy_of table.lines line) led.0 asked xs leader led.2;
         outcome_is = refl;
       })))
 
   reach_unless : (line : ℕ) (rule : ReuseRule) (against : Option ℕ) (b : Bool) → is_only_if_cached asked ≡ b → decision_of (policy_of table.lines line) es asked now ≡ decision.Forward rule against →
-      RequestReachesCacheOrOrigin table es xs now asked line (outcome_without_stored_response table xs line now asked rule (condition_about_serial es against) b)
+      RequestReachesCacheOrOrigin table es xs now asked line (outcome_without_stored_response table es xs line now asked rule (condition_about_serial es against) b)
   reach_unless line rule against true k d = inr (inr (inr (rule, k, (names_the_least (policy_of table.lines line) es asked now rule against d).0, refl)))
-  reach_unless line rule against false k d = reach_on line rule against (leader_of_request (policy_of table.lines line) xs asked rule) k refl d
+  reach_unless line rule against false k d = reach_on line rule against (leader_of_request (policy_of table.lines line) es xs asked rule) k refl d
 
   reach : (line : ℕ) (d : Decision) → decision_of (policy_of table.lines line) es asked now ≡ d → RequestReachesCacheOrOrigin table es xs now asked line (outcome_of_allowed_request table es xs line now asked d)
   reach line (decision.Hit s) d = inl (s, refl)
@@ -457,11 +456,11 @@ reaches_where_allowed table limit first now id line asked item past g e v =
     let xs = open_exchanges table limit past in
     subst (RequestReachesCacheOrOrigin table es xs now asked line)
     (sym (arrival_is table limit first now id asked item past g e ∙ ap (λ (v : Verdict). outcome_of_arrival table es xs now asked v) v))
-    (reach table es xs now asked line (decision_of (policy_of table.lines line) es asked now) refl)
+    (reach table es (held_distinct table limit first past g.1) xs now asked line (decision_of (policy_of table.lines line) es asked now) refl)
 
 pub refuses_where_not_allowed : OtherRequestIsRefused
 refuses_where_not_allowed table limit first now id asked item past g e n =
     let es = held_entries table limit past in
     let xs = open_exchanges table limit past in
     subst (RequestIsTurnedAway table now asked) (sym (arrival_is table limit first now id asked item past g e))
-    (refuse table es xs now asked (verdict_of table.lines asked.method asked.target) refl n)
+    (refuse table es (held_distinct table limit first past g.1) xs now asked (verdict_of table.lines asked.method asked.target) refl n)

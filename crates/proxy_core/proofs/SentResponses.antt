@@ -36,7 +36,7 @@ use Rattle.proxy_core.specs.declared.event.Event.TheVariants.{Arrive, Answer, Fa
 use Rattle.proxy_core.specs.Replies.{stored_text}
 use Rattle.proxy_core.specs.Validating.{stored_response_asked_about, condition_about_serial, stored_response_if_answered, is_validation, stored_response_validated, freshened_by_304}
 use Rattle.proxy_core.specs.Storing.{is_304_without_condition}
-use Rattle.proxy_core.specs.Leading.{leader_of_request}
+use Rattle.proxy_core.specs.Awaiting.{leader_of_request}
 use Rattle.proxy_core.specs.Outcomes.{find_exchange, exchange_id_of_event, outcome_of_sending_stored, sent_stored_text, hit_status_info, forwarded_status_info, collapsed_status_info, outcome_of_arrival, outcome_of_allowed_request, outcome_of_waiting_or_forwarding, outcome_without_stored_response, outcome_of_wake, is_only_if_cached, error_rule_at, fallback_with_error_rule, fallback_for, outcome_of_failure, is_error_status, outcome_of_passing_on_or_stale, outcome_of_304, outcome_of_answer, outcome_of}
 use Rattle.proxy_core.specs.State.{serial_used_by_outcome, stored_response_as_used}
 use Rattle.proxy_core.specs.Histories.{held_entries, open_exchanges, next_serial}
@@ -130,10 +130,10 @@ module _ (table : Table) (es : List Stored) (distinct : Distinct (serials es)) w
       on condition None h = absurd (never_one s h)
       on condition (Some leader) h = absurd (never_one s h)
 
-      unless : (rule : ReuseRule) (condition : Option Condition) (b : Bool) → serial_used_by_outcome (outcome_without_stored_response table xs line now asked rule condition b) ≡ Some s →
-          ReplyIsThatStoredResponse table es x (Arrive now id asked) (outcome_without_stored_response table xs line now asked rule condition b) s
+      unless : (rule : ReuseRule) (condition : Option Condition) (b : Bool) → serial_used_by_outcome (outcome_without_stored_response table es xs line now asked rule condition b) ≡ Some s →
+          ReplyIsThatStoredResponse table es x (Arrive now id asked) (outcome_without_stored_response table es xs line now asked rule condition b) s
       unless rule condition true h = absurd (never_one s h)
-      unless rule condition false h = on condition (leader_of_request (policy_of table.lines line) xs asked rule) h
+      unless rule condition false h = on condition (leader_of_request (policy_of table.lines line) es xs asked rule) h
 
       by_decision : (d : Decision) → decision_of (policy_of table.lines line) es asked now ≡ d → serial_used_by_outcome (outcome_of_allowed_request table es xs line now asked d) ≡ Some s →
           ReplyIsThatStoredResponse table es x (Arrive now id asked) (outcome_of_allowed_request table es xs line now asked d) s

@@ -37,7 +37,7 @@ use Rattle.proxy_core.specs.declared.event.Event.{Event}
 use Rattle.proxy_core.specs.declared.event.Event.TheVariants.{Arrive, Answer, Fail, Wake, Abandon}
 use Rattle.proxy_core.specs.Validating.{condition_about_serial, is_validation, stored_response_validated, freshened_by_304}
 use Rattle.proxy_core.specs.Storing.{storing_rule_to_explain, is_304_without_condition, is_storable, replaced_by, stored_response_made}
-use Rattle.proxy_core.specs.Leading.{leader_of_request}
+use Rattle.proxy_core.specs.Awaiting.{leader_of_request}
 use Rattle.proxy_core.specs.Outcomes.{find_exchange, exchange_id_of_event, outcome_of_sending_stored, outcome_of_allowed_request, outcome_of_arrival, outcome_of_waiting_or_forwarding, outcome_without_stored_response, outcome_of_wake, is_only_if_cached, error_rule_at, fallback_with_error_rule, fallback_for, outcome_of_failure, is_error_status, outcome_of_passing_on, outcome_of_passing_on_or_stale, outcome_of_304, outcome_of_answer, outcome_of}
 use Rattle.proxy_core.specs.State.{State, NoSerialIsHeldFrom, serial_stored_by_outcome, serial_used_by_outcome, serials_removed_by_outcome, stored_response_by_answer}
 use Rattle.proxy_core.specs.Traces.{Item, ItemIsAccepted}
@@ -105,10 +105,10 @@ module _ (table : Table) (es : List Stored) (x : Option Exchange) (event : Event
   kind_sent_on line asked condition None = idle refl refl
   kind_sent_on line asked condition (Some leader) = idle refl refl
 
-  kind_unanswered : (xs : List Exchange) (line now : ℕ) (asked : Asked) (rule : ReuseRule) (condition : Option Condition) (b : Bool) → KindOf es x event next (outcome_without_stored_response table xs line now asked rule condition b)
+  kind_unanswered : (xs : List Exchange) (line now : ℕ) (asked : Asked) (rule : ReuseRule) (condition : Option Condition) (b : Bool) → KindOf es x event next (outcome_without_stored_response table es xs line now asked rule condition b)
   unfolding KindOf
   kind_unanswered xs line now asked rule condition true = idle refl refl
-  kind_unanswered xs line now asked rule condition false = kind_sent_on line asked condition (leader_of_request (policy_of table.lines line) xs asked rule)
+  kind_unanswered xs line now asked rule condition false = kind_sent_on line asked condition (leader_of_request (policy_of table.lines line) es xs asked rule)
 
   kind_allowed : (xs : List Exchange) (line now : ℕ) (asked : Asked) (d : Decision) → ((s : ℕ) → d ≡ decision.Hit s → IsFound es s) → KindOf es x event next (outcome_of_allowed_request table es xs line now asked d)
   unfolding KindOf

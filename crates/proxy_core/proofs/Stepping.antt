@@ -145,14 +145,14 @@ module _ (s : State) (now id : ℕ) (early : moment_too_late_fault now ≡ None)
   pub wake_out : (x : Exchange) (rule : ReuseRule) (against : Option ℕ) (o : Outcome) (t : State) → find_exchange id s.exchanges ≡ Some x → fault_if_not_released x.stage ≡ None
       → decision_of (policy_of s.table.lines x.line) s.entries x.asked now ≡ decision.Forward rule against
       → o ≡ Forward x.line (forward_text s.table x.asked (condition_about_serial s.entries against))
-      → t ≡ st s.table s.limit s.entries (map (exchange_sent_forward id now rule (condition_about_serial s.entries against)) s.exchanges) s.next → StepIsAccepted s (Wake now id) o t
+      → t ≡ st s.table s.limit s.entries (map (exchange_sent_forward id now rule against (condition_about_serial s.entries against)) s.exchanges) s.next → StepIsAccepted s (Wake now id) o t
   wake_out x rule against o t here stage d is t_is =
       let event : Event = Wake now id in
       record {
         allowed = ap (λ (x : Option Exchange). fault_at_exchange x event) here ∙ (ap (λ (a : Option CoreFault). or_fault a (fault_if_not_released x.stage)) early ∙ stage);
         outcome_is = is ∙ (ap (λ (d : Decision). outcome_of_wake s.table s.entries now x d) (sym d) ∙ ap (λ (x : Option Exchange). outcome_of s.table s.entries s.exchanges x s.next event) (sym here));
         leaves = t_is
-            ∙ (ap (λ (d : Decision). st s.table s.limit s.entries (map (exchange_sent_forward id now (rule_of_decision d) (condition_about_serial s.entries (serial_named_by_decision d))) s.exchanges) s.next) (sym d)
+            ∙ (ap (λ (d : Decision). st s.table s.limit s.entries (map (exchange_sent_forward id now (rule_of_decision d) (serial_named_by_decision d) (condition_about_serial s.entries (serial_named_by_decision d))) s.exchanges) s.next) (sym d)
             ∙ (ap (λ (w : Option Exchange). st s.table s.limit s.entries (exchanges_after_wake s.table s.entries id now w s.exchanges) s.next) (sym here)
             ∙ ap (λ (q : Outcome). state_after s event q) (sym is)));
       }

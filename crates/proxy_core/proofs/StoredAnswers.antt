@@ -31,7 +31,7 @@ use Rattle.proxy_core.specs.declared.event.Event.{Event}
 use Rattle.proxy_core.specs.declared.event.Event.TheVariants.{Arrive, Answer, Fail, Wake, Abandon}
 use Rattle.proxy_core.specs.declared.steps.fallback.Fallback.{Fallback}
 use Rattle.proxy_core.specs.declared.steps.fallback.Fallback.TheVariants.{Sends, Refuses}
-use Rattle.proxy_core.specs.Leading.{leader_of_request}
+use Rattle.proxy_core.specs.Awaiting.{leader_of_request}
 use Rattle.proxy_core.specs.Outcomes.{outcome_of_allowed_request, outcome_of_answer, outcome_of_arrival, outcome_of_failure, fallback_for, find_exchange, forward_text, forwarded_status_info, exchange_id_of_event, is_error_status, is_only_if_cached, outcome_of, outcome_of_passing_on, outcome_of_passing_on_or_stale, outcome_of_304, outcome_of_sending_stored, outcome_of_waiting_or_forwarding, outcome_of_sending_freshened, serial_of_stored_answer, outcome_without_stored_response, outcome_of_wake, step_fault, fault_at_exchange}
 use Rattle.proxy_core.specs.State.{serial_stored_by_outcome, serial_used_by_outcome, serials_removed_by_outcome}
 use Rattle.proxy_core.specs.Storing.{replaced_by, storing_rule_to_explain, storing_facts_of_answer, is_storable, is_304_without_condition}
@@ -403,9 +403,9 @@ module _ (table : Table) (es : List Stored) (xs : List Exchange) (next : Option 
       on line condition None = refl
       on line condition (Some leader) = refl
 
-      unless : (line : ℕ) (rule : ReuseRule) (condition : Option Condition) (b : Bool) → serials_removed_by_outcome (outcome_without_stored_response table xs line now asked rule condition b) ≡ []
+      unless : (line : ℕ) (rule : ReuseRule) (condition : Option Condition) (b : Bool) → serials_removed_by_outcome (outcome_without_stored_response table es xs line now asked rule condition b) ≡ []
       unless line rule condition true = refl
-      unless line rule condition false = on line condition (leader_of_request (policy_of table.lines line) xs asked rule)
+      unless line rule condition false = on line condition (leader_of_request (policy_of table.lines line) es xs asked rule)
 
       by_decision : (line : ℕ) (d : Decision) → serials_removed_by_outcome (outcome_of_allowed_request table es xs line now asked d) ≡ []
       by_decision line (decision.Hit s) = refl

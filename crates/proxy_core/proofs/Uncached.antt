@@ -20,7 +20,9 @@ use Rattle.proxy_core.specs.declared.open.exchange.Exchange.{Exchange}
 use Rattle.proxy_core.specs.declared.event.Event.{Event}
 use Rattle.proxy_core.specs.declared.event.Event.TheVariants.{Arrive, Answer, Fail, Wake, Abandon}
 use Rattle.proxy_core.specs.Validating.{condition_about_serial, is_validation}
-use Rattle.proxy_core.specs.Leading.{leader, is_get}
+use Rattle.proxy_core.specs.declared.open.awaited.Awaited.{Awaited}
+use Rattle.proxy_core.specs.Leading.{leader_if_awaited}
+use Rattle.proxy_core.proofs.Awaits.{operator_awaits_nothing}
 use Rattle.proxy_core.specs.Outcomes.{find_exchange, exchange_id_of_event, outcome_of_arrival, outcome_of_allowed_request, outcome_of_waiting_or_forwarding, outcome_without_stored_response, is_only_if_cached}
 use Rattle.proxy_core.specs.State.{serial_stored_by_outcome, serial_used_by_outcome}
 use Rattle.proxy_core.specs.Traces.{Item}
@@ -109,18 +111,18 @@ goes_forward_over_it table limit first now id line asked item past g e v off =
     let es = held_entries table limit past in
     let xs = open_exchanges table limit past in
     let d : decision_of (policy_of table.lines line) es asked now ≡ decision.Forward Operator None = sym (by_operator (policy_of table.lines line) es asked now off) in
-    let is : item.outcome ≡ outcome_without_stored_response table xs line now asked Operator None (is_only_if_cached asked) =
+    let is : item.outcome ≡ outcome_without_stored_response table es xs line now asked Operator None (is_only_if_cached asked) =
     arrival_is table limit first now id asked item past g e
     ∙ ap (λ (w : Verdict). outcome_of_arrival table es xs now asked w) v
     ∙ ap (λ (k : Decision). outcome_of_allowed_request table es xs line now asked k) d
     in
     by_word (is_only_if_cached asked) refl is
   where
-    by_word : (b : Bool) → is_only_if_cached asked ≡ b → item.outcome ≡ outcome_without_stored_response table (open_exchanges table limit past) line now asked Operator None b → RequestIsAnsweredByTheOperator table now asked line item.outcome
+    by_word : (b : Bool) → is_only_if_cached asked ≡ b → item.outcome ≡ outcome_without_stored_response table (held_entries table limit past) (open_exchanges table limit past) line now asked Operator None b → RequestIsAnsweredByTheOperator table now asked line item.outcome
     by_word true k is = inr (k, is)
     by_word false k is = inl (
       k,
       is
-          ∙ ap (λ (b : Bool). outcome_of_waiting_or_forwarding table line asked None (cond (is_get asked && b) (leader (policy_of table.lines line) Operator asked.target.key (open_exchanges table limit past)) None)) (and_none (policy_of table.lines line).waits_for_stale)
-          ∙ ap (λ (b : Bool). outcome_of_waiting_or_forwarding table line asked None (cond b (leader (policy_of table.lines line) Operator asked.target.key (open_exchanges table limit past)) None)) (and_none (is_get asked)),
+          ∙ ap (λ (o : Option Awaited). outcome_of_waiting_or_forwarding table line asked None (leader_if_awaited (policy_of table.lines line) asked (open_exchanges table limit past) o))
+          (operator_awaits_nothing (policy_of table.lines line) (held_entries table limit past) asked),
     )

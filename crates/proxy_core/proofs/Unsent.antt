@@ -38,7 +38,8 @@ use Rattle.proxy_core.specs.declared.event.Event.{Event}
 use Rattle.proxy_core.specs.declared.event.Event.TheVariants.{Arrive, Answer, Fail, Wake, Abandon}
 use Rattle.proxy_core.specs.Validating.{condition_about_serial, is_validation, stored_response_is_answered, stored_response_validated, freshened_by_304}
 use Rattle.proxy_core.specs.Storing.{storing_rule_to_explain, storing_facts_of_answer, is_storable, is_304_without_condition, answer_invalidates, key_invalidated}
-use Rattle.proxy_core.specs.Leading.{leader_of_request, is_forwarded}
+use Rattle.proxy_core.specs.Leading.{is_forwarded}
+use Rattle.proxy_core.specs.Awaiting.{leader_of_request}
 use Rattle.proxy_core.specs.Outcomes.{find_exchange, exchange_id_of_event, outcome_of_arrival, outcome_of_allowed_request, outcome_of_waiting_or_forwarding, outcome_without_stored_response, outcome_of_wake, fault_at_exchange, is_only_if_cached, fallback_for, outcome_of_failure, is_error_status, outcome_of_passing_on, outcome_of_passing_on_or_stale, serials_removed_by_answer, serial_of_stored_answer, outcome_of_304, outcome_of_answer, outcome_of}
 use Rattle.proxy_core.specs.State.{serial_stored_by_outcome, serial_used_by_outcome, serials_removed_by_outcome, next_serial_after, serial_after_this, stored_response_by_answer, stored_response_as_used}
 use Rattle.proxy_core.specs.Traces.{Item, initial_state, state_after_trace, IsGood}
@@ -112,9 +113,9 @@ stored_arrival table es xs now asked (verdict.Allowed line) s h = by_decision (d
     on condition None h = none_stored s h
     on condition (Some leader) h = none_stored s h
 
-    unless : (rule : ReuseRule) (condition : Option Condition) (b : Bool) → serial_stored_by_outcome (outcome_without_stored_response table xs line now asked rule condition b) ≡ Some s → ⊥
+    unless : (rule : ReuseRule) (condition : Option Condition) (b : Bool) → serial_stored_by_outcome (outcome_without_stored_response table es xs line now asked rule condition b) ≡ Some s → ⊥
     unless rule condition true h = none_stored s h
-    unless rule condition false h = on condition (leader_of_request (policy_of table.lines line) xs asked rule) h
+    unless rule condition false h = on condition (leader_of_request (policy_of table.lines line) es xs asked rule) h
 
     by_decision : (d : Decision) → serial_stored_by_outcome (outcome_of_allowed_request table es xs line now asked d) ≡ Some s → ⊥
     by_decision (decision.Hit t) h = none_stored s h

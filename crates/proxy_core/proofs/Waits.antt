@@ -1,6 +1,6 @@
 -- Who waits, for whom, until when, and what a woken request gets.
 use Rattle.std.proofs.Common.{◌≡◌, ◌⊎◌, inl, inr, ℕ, Bool, true, false, not, cond, ◌&&◌, ◌||◌, eqb, Option, None, Some, List, [], ◌∷◌, ◌++◌, refl, sym, ◌∙◌, ap, subst}
-use Rattle.std.specs.Prelude.{option_map}
+use Rattle.std.specs.Prelude.{option_map, IfSome}
 use Rattle.std.specs.List.{AllByRecursion}
 use Rattle.std.proofs.lemmas.Bool.{eqb-true, eq-eqb, false≢true, false_from_ne_true}
 use Rattle.std.proofs.lemmas.Option.{same_Some}
@@ -13,10 +13,14 @@ use Rattle.hx_allow.specs.Matching.{verdict_of, policy_of}
 use Rattle.hx_allow.specs.declared.verdicts.Verdict.{Verdict}
 use Rattle.hx_allow.specs.declared.verdicts.Verdict.TheVariants as verdict
 use Rattle.hx_store.specs.Stored.{Stored}
+use Rattle.hx_store.specs.Serials.{Distinct}
+use Rattle.hx_store.specs.Shelf.{serials}
+use Rattle.proxy_core.proofs.FirstRules.{held_distinct}
 use Rattle.hx_store.specs.Serials.{serial_is_in}
 use Rattle.hx_reuse.specs.Rules.{decision_of}
-use Rattle.hx_reuse.specs.ChosenAndNamed.{IsLeastReuseRule}
+use Rattle.hx_reuse.specs.ChosenAndNamed.{IsLeastReuseRule, RuleNamesTheResponse}
 use Rattle.hx_reuse.specs.declared.rule.ReuseRule.{ReuseRule}
+use Rattle.hx_reuse.specs.declared.rule.ReuseRule.TheVariants.{UriMiss}
 use Rattle.hx_reuse.specs.declared.decision.Decision.{Decision}
 use Rattle.hx_reuse.specs.declared.decision.Decision.TheVariants as decision
 use Rattle.hx_reuse.proofs.MeaningLemmas.{names_the_least, forwards}
@@ -32,16 +36,20 @@ use Rattle.proxy_core.specs.declared.event.Event.{Event}
 use Rattle.proxy_core.specs.declared.event.Event.TheVariants.{Arrive, Answer, Fail, Wake, Abandon}
 use Rattle.proxy_core.specs.declared.core_fault.CoreFault.{CoreFault}
 use Rattle.proxy_core.specs.Moments.{moment_too_late_fault}
-use Rattle.proxy_core.specs.Leading.{is_forwarded, is_released, waits_for, is_get, is_uri_miss, has_expired, can_wait, goes_forward_for_same_reason, may_be_answered_for_others, may_lead_waiters, leads_waiters, leader, leader_of_request, ready_ids}
+use Rattle.proxy_core.specs.Leading.{is_forwarded, is_released, waits_for, is_get, is_uri_miss, names_serial, asks_for, may_serve, leads_waiters, leader, ready_ids}
+use Rattle.proxy_core.specs.Awaiting.{asks_the_origin, RequestAwaits, leader_of_request}
+use Rattle.proxy_core.specs.declared.open.awaited.Awaited.{Awaited}
+use Rattle.proxy_core.specs.declared.open.awaited.Awaited.TheVariants.{Missing, Expired}
 use Rattle.proxy_core.specs.Validating.{condition_about_serial}
 use Rattle.proxy_core.specs.Outcomes.{find_exchange, exchange_id_of_event, outcome_of_arrival, outcome_of_allowed_request, outcome_of_waiting_or_forwarding, outcome_without_stored_response, is_only_if_cached, fallback_for, outcome_of_failure, outcome_of_wake, outcome_of, outcome_of_event, or_fault, fault_if_not_released, fault_at_exchange, step_fault, forward_text}
-use Rattle.proxy_core.specs.State.{State, overtaken_exchange, released_exchange, forwarded_exchange, waiting_exchange, rule_of_decision, open_exchanges_after, serial_used_by_outcome}
+use Rattle.proxy_core.specs.State.{State, overtaken_exchange, released_exchange, forwarded_exchange, waiting_exchange, rule_of_decision, serial_named_by_decision, open_exchanges_after, serial_used_by_outcome}
 use Rattle.proxy_core.specs.Traces.{Item, initial_state, state_after_trace, IsGood}
 use Rattle.proxy_core.specs.Histories.{held_entries, open_exchanges, next_serial, IsGoodHistory}
 use Rattle.proxy_core.specs.Promises.{outcome_goes_forward, outcome_ends_exchange, is_arrival_event, NoRequestArrives}
 use Rattle.proxy_core.specs.Carrying.{ArrivesBefore, IdsAreInOrderOfArrival, exchange_ids}
 use Rattle.proxy_core.specs.Sending.{StoredResponseIsReusable}
-use Rattle.proxy_core.specs.Waiting.{RequestCouldWait, RequestWaitsWhereOneLeads, RequestIsToWait, RequestWaitsNowhereElse, exchange_has_closed, OnlyOneGoesForwardForKey, PlainLinesWaitForMisses, is_wake_event, was_woken, NothingHappenedToExchange, stage_of_exchange, ExchangeMayBeWoken, RequestWaitsUntilItsLeaderEnds, RequestIsWokenOnceBehindItsLeader, ReleasedAreInOrderOfArrival, WakeIsAcceptedExactlyWhereReady, WokenRequestIsJudgedAnew}
+use Rattle.proxy_core.specs.Waiting.{RequestCouldWait, RequestWaitsWhereOneLeads, RequestIsToWait, RequestWaitsNowhereElse, exchange_has_closed, went_for, OnlyOneGoesForwardForKey, PlainLinesWaitForMisses, is_wake_event, was_woken, NothingHappenedToExchange, stage_of_exchange, ExchangeMayBeWoken, RequestWaitsUntilItsLeaderEnds, RequestIsWokenOnceBehindItsLeader, ReleasedAreInOrderOfArrival, WakeIsAcceptedExactlyWhereReady, WokenRequestIsJudgedAnew}
+use Rattle.proxy_core.proofs.Awaits.{one_named}
 use Rattle.proxy_core.proofs.Leads.{led_by, led_for, first_leads, is_led}
 use Rattle.proxy_core.proofs.ExchangeLists.{changed_by, find-push}
 use Rattle.proxy_core.proofs.Moves.{Move, apart, opens, queues, passes, again, wakes, closes, asked_of, ended_by, move_of, and_none, is_either, answer_either, released_from, key_taken_by_step}
@@ -55,66 +63,67 @@ use Rattle.proxy_core.proofs.OpenLaws.{id_was_free}
 -- ---- the first that leads
 
 -- where one leads there is a first
-some_leads : (policy : Policy) (why : ReuseRule) (key : Key) (id : ℕ) (xs : List Exchange) (z : Exchange) → find_exchange id xs ≡ Some z → leads_waiters policy why key z ≡ true → (l : ℕ) × (leader policy why key xs ≡ Some l)
-some_leads policy why key id [] z f h = absurd (cc)
-some_leads policy why key id (x ∷ xs) z f h = by_test (λ g. some_leads policy why key id xs z g h) (leads_waiters policy why key x) refl
+some_leads : (policy : Policy) (awaited : Awaited) (asked : Asked) (id : ℕ) (xs : List Exchange) (z : Exchange) → find_exchange id xs ≡ Some z → leads_waiters policy awaited asked z ≡ true → (l : ℕ) × (leader policy awaited asked xs ≡ Some l)
+some_leads policy awaited asked id [] z f h = absurd (cc)
+some_leads policy awaited asked id (x ∷ xs) z f h = by_test (λ g. some_leads policy awaited asked id xs z g h) (leads_waiters policy awaited asked x) refl
   where
-    by_id : (find_exchange id xs ≡ Some z → (l : ℕ) × (leader policy why key xs ≡ Some l)) → leads_waiters policy why key x ≡ false → (b : Bool) → cond b (Some x) (find_exchange id xs) ≡ Some z → (l : ℕ) × (leader policy why key xs ≡ Some l)
-    by_id rest k true f = absurd (false≢true (sym k ∙ (ap (leads_waiters policy why key) (same_Some x z f) ∙ h)))
+    by_id : (find_exchange id xs ≡ Some z → (l : ℕ) × (leader policy awaited asked xs ≡ Some l)) → leads_waiters policy awaited asked x ≡ false → (b : Bool) → cond b (Some x) (find_exchange id xs) ≡ Some z → (l : ℕ) × (leader policy awaited asked xs ≡ Some l)
+    by_id rest k true f = absurd (false≢true (sym k ∙ (ap (leads_waiters policy awaited asked) (same_Some x z f) ∙ h)))
     by_id rest k false f = rest f
 
-    by_test : (find_exchange id xs ≡ Some z → (l : ℕ) × (leader policy why key xs ≡ Some l)) → (b : Bool) → leads_waiters policy why key x ≡ b → (l : ℕ) × (cond b (Some x.id) (leader policy why key xs) ≡ Some l)
+    by_test : (find_exchange id xs ≡ Some z → (l : ℕ) × (leader policy awaited asked xs ≡ Some l)) → (b : Bool) → leads_waiters policy awaited asked x ≡ b → (l : ℕ) × (cond b (Some x.id) (leader policy awaited asked xs) ≡ Some l)
     by_test rest true k = (x.id, refl)
     by_test rest false k = by_id rest k (eqb x.id id) f
 
 -- ---- who waits
 
 -- what becomes of a GET that may wait, where one leads
-waits_for_it : (table : Table) (limit first now id line l : ℕ) (asked : Asked) (rule : ReuseRule) (item : Item) (past : List Item) → IsGoodHistory table limit first (item ∷ past) →
-    item.event ≡ Arrive now id asked → RequestCouldWait table limit past now line asked rule → leader (policy_of table.lines line) rule asked.target.key (open_exchanges table limit past) ≡ Some l → item.outcome ≡ Waits l
-waits_for_it table limit first now id line l asked rule item past g e could led =
+waits_for_it : (table : Table) (limit first now id line l : ℕ) (asked : Asked) (awaited : Awaited) (item : Item) (past : List Item) → IsGoodHistory table limit first (item ∷ past) →
+    item.event ≡ Arrive now id asked → RequestCouldWait table limit past now line asked awaited → leader (policy_of table.lines line) awaited asked (open_exchanges table limit past) ≡ Some l → item.outcome ≡ Waits l
+waits_for_it table limit first now id line l asked awaited item past g e could led =
     let es = held_entries table limit past in
     let xs = open_exchanges table limit past in
-    let d = forwards (policy_of table.lines line) es asked now rule could.is_least in
+    let rule = could.awaits.rule in
+    let least = could.awaits.is_least in
+    let d = forwards (policy_of table.lines line) es asked now rule least in
     arrival_is table limit first now id asked item past g e
     ∙ (ap (λ (v : Verdict). outcome_of_arrival table es xs now asked v) could.line_allows
     ∙ (ap (λ (d : Decision). outcome_of_allowed_request table es xs line now asked d) d.1
-    ∙ (ap (λ b. outcome_without_stored_response table xs line now asked rule (condition_about_serial es d.0) b) could.takes_others
-    ∙ ap (λ (o : Option ℕ). outcome_of_waiting_or_forwarding table line asked (condition_about_serial es d.0) o) (led_for (policy_of table.lines line) xs asked rule l could.gets could.may_wait led))))
+    ∙ (ap (λ b. outcome_without_stored_response table es xs line now asked rule (condition_about_serial es d.0) b) could.takes_others
+    ∙ ap (λ (o : Option ℕ). outcome_of_waiting_or_forwarding table line asked (condition_about_serial es d.0) o) (led_for (policy_of table.lines line) es (held_distinct table limit first past g.1) xs asked now rule least awaited l could.awaits led))))
 
 pub waits_where_one_leads : RequestWaitsWhereOneLeads
-waits_where_one_leads table limit first now id line l asked rule item past g e could f =
-    waits_for_it table limit first now id line l asked rule item past g e could
-    (first_leads (policy_of table.lines line) rule asked.target.key (open_exchanges table limit past) l f)
+waits_where_one_leads table limit first now id line l asked awaited item past g e could f =
+    waits_for_it table limit first now id line l asked awaited item past g e could
+    (first_leads (policy_of table.lines line) awaited asked (open_exchanges table limit past) l f)
 
 -- what is known of a request that waits
 abbrev WaitsBy : Table → List Stored → List Exchange → ℕ → ℕ → Asked → Type 0
 WaitsBy table es xs now l asked =
-    (line : ℕ) × (rule : ReuseRule) × (verdict_of table.lines asked.method asked.target ≡ verdict.Allowed line) × (is_only_if_cached asked ≡ false)
-    × IsLeastReuseRule (policy_of table.lines line) es asked now rule
-    × ((is_get asked ≡ true) × (can_wait (policy_of table.lines line) rule ≡ true) × (leader (policy_of table.lines line) rule asked.target.key xs ≡ Some l))
+    (line : ℕ) × (verdict_of table.lines asked.method asked.target ≡ verdict.Allowed line) × (is_only_if_cached asked ≡ false)
+    × ((awaited : Awaited) × RequestAwaits (policy_of table.lines line) es asked now awaited × (leader (policy_of table.lines line) awaited asked xs ≡ Some l))
 
-wait_parts : (table : Table) (es : List Stored) (xs : List Exchange) (now l : ℕ) (asked : Asked) (v : Verdict) → verdict_of table.lines asked.method asked.target ≡ v →
+wait_parts : (table : Table) (es : List Stored) (distinct : Distinct (serials es)) (xs : List Exchange) (now l : ℕ) (asked : Asked) (v : Verdict) → verdict_of table.lines asked.method asked.target ≡ v →
     outcome_of_arrival table es xs now asked v ≡ Waits l → WaitsBy table es xs now l asked
-wait_parts table es xs now l asked (verdict.Allowed line) v h = by_decision (decision_of (policy_of table.lines line) es asked now) refl h
+wait_parts table es distinct xs now l asked (verdict.Allowed line) v h = by_decision (decision_of (policy_of table.lines line) es asked now) refl h
   where
-    by_leader : (rule : ReuseRule) (against o : Option ℕ) → leader_of_request (policy_of table.lines line) xs asked rule ≡ o → is_only_if_cached asked ≡ false →
+    by_leader : (rule : ReuseRule) (against o : Option ℕ) → leader_of_request (policy_of table.lines line) es xs asked rule ≡ o → is_only_if_cached asked ≡ false →
         decision_of (policy_of table.lines line) es asked now ≡ decision.Forward rule against → outcome_of_waiting_or_forwarding table line asked (condition_about_serial es against) o ≡ Waits l → WaitsBy table es xs now l asked
     by_leader rule against None k c d h = absurd (cc)
     by_leader rule against (Some m) k c d h =
         let same : m ≡ l = cc in
-        (line, rule, v, c, (names_the_least (policy_of table.lines line) es asked now rule against d).0, is_led (policy_of table.lines line) xs asked rule l (k ∙ ap (λ n. Some n) same))
+        (line, v, c, is_led (policy_of table.lines line) es distinct xs asked now rule (names_the_least (policy_of table.lines line) es asked now rule against d).0 l (k ∙ ap (λ n. Some n) same))
 
     unless : (rule : ReuseRule) (against : Option ℕ) (b : Bool) → is_only_if_cached asked ≡ b → decision_of (policy_of table.lines line) es asked now ≡ decision.Forward rule against →
-        outcome_without_stored_response table xs line now asked rule (condition_about_serial es against) b ≡ Waits l → WaitsBy table es xs now l asked
+        outcome_without_stored_response table es xs line now asked rule (condition_about_serial es against) b ≡ Waits l → WaitsBy table es xs now l asked
     unless rule against true k d h = absurd (cc)
-    unless rule against false k d h = by_leader rule against (leader_of_request (policy_of table.lines line) xs asked rule) refl k d h
+    unless rule against false k d h = by_leader rule against (leader_of_request (policy_of table.lines line) es xs asked rule) refl k d h
 
     by_decision : (d : Decision) → decision_of (policy_of table.lines line) es asked now ≡ d → outcome_of_allowed_request table es xs line now asked d ≡ Waits l → WaitsBy table es xs now l asked
     by_decision (decision.Hit t) k h = absurd (cc)
     by_decision (decision.Forward rule against) k h = unless rule against (is_only_if_cached asked) refl k h
-wait_parts table es xs now l asked (verdict.DeniedBy line) v h = absurd (cc)
-wait_parts table es xs now l asked verdict.NoLine v h = absurd (cc)
+wait_parts table es distinct xs now l asked (verdict.DeniedBy line) v h = absurd (cc)
+wait_parts table es distinct xs now l asked verdict.NoLine v h = absurd (cc)
 
 -- none but a request that arrives waits
 abbrev pub is_wait : Outcome → Bool
@@ -167,16 +176,16 @@ waits_nowhere_else table limit first l item past g h = by_event item.event refl
 
     by_event : (event : Event) → item.event ≡ event → RequestIsToWait table limit l item past
     by_event (Arrive now id asked) e =
-        let p = wait_parts table (held_entries table limit past) (open_exchanges table limit past) now l asked (verdict_of table.lines asked.method asked.target) refl (sym (arrival_is table limit first now id asked item past g e) ∙ h) in
+        let p = wait_parts table (held_entries table limit past) (held_distinct table limit first past g.1) (open_exchanges table limit past) now l asked (verdict_of table.lines asked.method asked.target) refl (sym (arrival_is table limit first now id asked item past g e) ∙ h) in
         record {
           now = now;
           id = id;
           asked = asked;
           line = p.0;
           arrives = e;
-          rule = p.1;
-          could = record { line_allows = p.2; takes_others = p.3; gets = p.5.0; is_least = p.4; may_wait = p.5.1 };
-          first_leads = led_by (policy_of table.lines p.0) p.1 asked.target.key (open_exchanges table limit past) l p.5.2;
+          awaited = p.3.0;
+          could = record { line_allows = p.1; takes_others = p.2; awaits = p.3.1 };
+          first_leads = led_by (policy_of table.lines p.0) p.3.0 asked (open_exchanges table limit past) l p.3.2;
         }
     by_event (Answer now id r) e = late (ap is_arrival_event e)
     by_event (Fail now id kind) e = late (ap is_arrival_event e)
@@ -496,15 +505,15 @@ woken_is_judged_anew table limit first now id item past g e =
 -- ---- one goes forward
 
 -- the exchange of an id is at the origin, for this request, by this rule
-record AtTheOrigin (rule : ReuseRule) (asked : Asked) (y : Option Exchange) : Type 0 where
+record AtTheOrigin (rule : ReuseRule) (named : Option ℕ) (asked : Asked) (y : Option Exchange) : Type 0 where
   x : Exchange
   y_is : y ≡ Some x
   asked_is : x.asked ≡ asked
   rule_is : x.rule ≡ rule
-  for_others : x.for_others ≡ may_be_answered_for_others asked
+  named_is : x.named ≡ named
   stage : x.stage ≡ Forwarded
 
-module _ (table : Table) (limit first now id : ℕ) (rule : ReuseRule) (asked : Asked) (before : List Item) (o : Outcome) where
+module _ (table : Table) (limit first now id : ℕ) (rule : ReuseRule) (named : Option ℕ) (asked : Asked) (before : List Item) (o : Outcome) where
   abbrev began : State
   began = initial_state table limit first
 
@@ -514,29 +523,29 @@ module _ (table : Table) (limit first now id : ℕ) (rule : ReuseRule) (asked : 
   abbrev its : List Item → Option Exchange
   its items = find_exchange id (state_after_trace began (items ++ first_item ∷ before)).exchanges
 
-  overtaken_at : (key : Key) (x : Exchange) → AtTheOrigin rule asked (Some x) → AtTheOrigin rule asked (Some (overtaken_exchange key x))
+  overtaken_at : (key : Key) (x : Exchange) → AtTheOrigin rule named asked (Some x) → AtTheOrigin rule named asked (Some (overtaken_exchange key x))
   overtaken_at key x a = by_test (same_key x.asked.target.key key)
     where
       same : a.x ≡ x
       same = same_Some a.x x (sym a.y_is)
 
-      by_test : (b : Bool) → AtTheOrigin rule asked (Some (cond b (record x { overtaken = true }) x))
+      by_test : (b : Bool) → AtTheOrigin rule named asked (Some (cond b (record x { overtaken = true }) x))
       by_test true = record {
         x = record x { overtaken = true };
         y_is = refl;
         asked_is = ap (λ (z : Exchange). z.asked) (sym (same_Some a.x x (sym a.y_is))) ∙ a.asked_is;
         rule_is = ap (λ (z : Exchange). z.rule) (sym (same_Some a.x x (sym a.y_is))) ∙ a.rule_is;
-        for_others = ap (λ (z : Exchange). z.for_others) (sym (same_Some a.x x (sym a.y_is))) ∙ a.for_others;
+        named_is = ap (λ (z : Exchange). z.named) (sym (same_Some a.x x (sym a.y_is))) ∙ a.named_is;
         stage = ap (λ (z : Exchange). z.stage) (sym (same_Some a.x x (sym a.y_is))) ∙ a.stage;
       }
       by_test false = a
 
-  released_at : (i : ℕ) (x : Exchange) → AtTheOrigin rule asked (Some x) → AtTheOrigin rule asked (Some (released_exchange i x))
+  released_at : (i : ℕ) (x : Exchange) → AtTheOrigin rule named asked (Some x) → AtTheOrigin rule named asked (Some (released_exchange i x))
   released_at i x a =
       let stage : x.stage ≡ Forwarded = ap (λ (z : Exchange). z.stage) (same_Some x a.x a.y_is) ∙ a.stage in
-      subst (λ b. AtTheOrigin rule asked (Some (cond b (record x { stage = Released }) x))) (sym (ap (waits_for i) stage)) a
+      subst (λ b. AtTheOrigin rule named asked (Some (cond b (record x { stage = Released }) x))) (sym (ap (waits_for i) stage)) a
 
-  changed_at : (key : Option Key) (gone : Option ℕ) (y : Option Exchange) → AtTheOrigin rule asked y → AtTheOrigin rule asked (changed_by key gone y)
+  changed_at : (key : Option Key) (gone : Option ℕ) (y : Option Exchange) → AtTheOrigin rule named asked y → AtTheOrigin rule named asked (changed_by key gone y)
   changed_at key gone None a =
       let none : None ≡ Some a.x = a.y_is in
       absurd (cc)
@@ -545,8 +554,8 @@ module _ (table : Table) (limit first now id : ℕ) (rule : ReuseRule) (asked : 
   changed_at (Some key) None (Some x) a = overtaken_at key x a
   changed_at (Some key) (Some i) (Some x) a = overtaken_at key (released_exchange i x) (released_at i x a)
 
-  origin_more : (i : Item) (items : List Item) (w x y : Option Exchange) → Move id w i.event i.outcome x y → AtTheOrigin rule asked x → (exchange_has_closed id (i ∷ items) ≡ true) ⊎ AtTheOrigin rule asked y
-  origin_more i items w x y (apart n h) a = inr (subst (AtTheOrigin rule asked) (sym h) (changed_at (key_taken_by_step (asked_of w) i.event i.outcome) (ended_by i.event i.outcome) x a))
+  origin_more : (i : Item) (items : List Item) (w x y : Option Exchange) → Move id w i.event i.outcome x y → AtTheOrigin rule named asked x → (exchange_has_closed id (i ∷ items) ≡ true) ⊎ AtTheOrigin rule named asked y
+  origin_more i items w x y (apart n h) a = inr (subst (AtTheOrigin rule named asked) (sym h) (changed_at (key_taken_by_step (asked_of w) i.event i.outcome) (ended_by i.event i.outcome) x a))
   origin_more i items w x y (opens at es t r line e x_is f h) a =
       let none : None ≡ Some a.x = sym x_is ∙ a.y_is in
       absurd (cc)
@@ -558,30 +567,32 @@ module _ (table : Table) (limit first now id : ℕ) (rule : ReuseRule) (asked : 
       absurd (cc)
   origin_more i items w x y (again z t u e x_is c f h j s) a =
       let same : z ≡ a.x = same_Some z a.x (sym x_is ∙ a.y_is) in
-      inr (record { x = _; y_is = h; asked_is = ap (λ (v : Exchange). v.asked) same ∙ a.asked_is; rule_is = ap (λ (v : Exchange). v.rule) same ∙ a.rule_is; for_others = ap (λ (v : Exchange). v.for_others) same ∙ a.for_others; stage = refl })
+      inr (record { x = _; y_is = h; asked_is = ap (λ (v : Exchange). v.asked) same ∙ a.asked_is; rule_is = ap (λ (v : Exchange). v.rule) same ∙ a.rule_is; named_is = ap (λ (v : Exchange). v.named) same ∙ a.named_is; stage = refl })
   origin_more i items w x y (wakes at es z t e x_is s f h) a =
       let same : z.stage ≡ Forwarded = ap (λ (v : Exchange). v.stage) (same_Some z a.x (sym x_is ∙ a.y_is)) ∙ a.stage in
       absurd (false≢true (ap is_released (sym same) ∙ s))
   origin_more i items w x y (closes z t e x_is f h) a =
       inl (ap (λ b. (b && (not (is_arrival_event i.event) && outcome_ends_exchange i.outcome)) || exchange_has_closed id items) t ∙ (ap (λ b. (not b && outcome_ends_exchange i.outcome) || exchange_has_closed id items) e ∙ ap (λ b. b || exchange_has_closed id items) f))
 
-  origin : (items : List Item) → IsGood began (items ++ first_item ∷ before) → AtTheOrigin rule asked (its []) → (exchange_has_closed id items ≡ true) ⊎ AtTheOrigin rule asked (its items)
+  origin : (items : List Item) → IsGood began (items ++ first_item ∷ before) → AtTheOrigin rule named asked (its []) → (exchange_has_closed id items ≡ true) ⊎ AtTheOrigin rule named asked (its items)
   origin [] g a = inr a
   origin (i ∷ items) g a = by_rest (origin items g.1 a)
     where
-      by_rest : (exchange_has_closed id items ≡ true) ⊎ AtTheOrigin rule asked (its items) → (exchange_has_closed id (i ∷ items) ≡ true) ⊎ AtTheOrigin rule asked (its (i ∷ items))
+      by_rest : (exchange_has_closed id items ≡ true) ⊎ AtTheOrigin rule named asked (its items) → (exchange_has_closed id (i ∷ items) ≡ true) ⊎ AtTheOrigin rule named asked (its (i ∷ items))
       by_rest (inl c) = inl (ap (λ b. (eqb (exchange_id_of_event i.event) id && (not (is_arrival_event i.event) && outcome_ends_exchange i.outcome)) || b) c ∙ sym (or_true (eqb (exchange_id_of_event i.event) id && (not (is_arrival_event i.event) && outcome_ends_exchange i.outcome))))
       by_rest (inr a) = origin_more i items _ (its items) (its (i ∷ items)) (move_of table (state_after_trace began (items ++ first_item ∷ before)) i id (same_table began (items ++ first_item ∷ before)) g.0) a
 
 -- it is, right behind the arrival at which it goes there
-at_the_arrival : (table : Table) (limit first now id line : ℕ) (rule : ReuseRule) (asked : Asked) (bytes : List ℕ) (before : List Item) (o : Outcome) → o ≡ Forward line bytes →
+at_the_arrival : (table : Table) (limit first now id line : ℕ) (rule : ReuseRule) (named : Option ℕ) (asked : Asked) (bytes : List ℕ) (before : List Item) (o : Outcome) → o ≡ Forward line bytes →
     IsGood (initial_state table limit first) (record { event = Arrive now id asked; outcome = o } ∷ before) →
-    IsLeastReuseRule (policy_of table.lines line) (held_entries table limit before) asked now rule →
-    AtTheOrigin rule asked (find_exchange id (state_after_trace (initial_state table limit first) (record { event = Arrive now id asked; outcome = o } ∷ before)).exchanges)
-at_the_arrival table limit first now id line rule asked bytes before o went g least =
+    IsLeastReuseRule (policy_of table.lines line) (held_entries table limit before) asked now rule → RuleNamesTheResponse (held_entries table limit before) asked rule named →
+    AtTheOrigin rule named asked (find_exchange id (state_after_trace (initial_state table limit first) (record { event = Arrive now id asked; outcome = o } ∷ before)).exchanges)
+at_the_arrival table limit first now id line rule named asked bytes before o went g least names =
     let s = state_after_trace (initial_state table limit first) before in
+    let policy = policy_of table.lines line in
+    let es = held_entries table limit before in
     let y = forwarded_exchange s.table s.entries now id asked line in
-    let d = forwards (policy_of table.lines line) (held_entries table limit before) asked now rule least in
+    let d = forwards policy es asked now rule least in
     let decided : decision_of (policy_of s.table.lines line) s.entries asked now ≡ decision.Forward rule d.0 =
     ap (λ (t : Table). decision_of (policy_of t.lines line) s.entries asked now) (same_table (initial_state table limit first) before)
     ∙ (ap (λ (es : List Stored). decision_of (policy_of table.lines line) es asked now) (entries_are_held table limit first before g.1) ∙ d.1) in
@@ -592,15 +603,27 @@ at_the_arrival table limit first now id line rule asked bytes before o went g le
           ∙ (find-push id s.exchanges y free ∙ ap (λ b. cond b (Some y) (find_exchange id s.exchanges)) (eq-eqb id id refl));
       asked_is = refl;
       rule_is = ap rule_of_decision decided;
-      for_others = refl;
+      named_is = ap serial_named_by_decision decided ∙ one_named policy es asked now rule d.0 named (names_the_least policy es asked now rule d.0 d.1).1 names;
       stage = refl;
     }
 
+all_five : (a b c d e : Bool) → a ≡ true → b ≡ true → c ≡ true → d ≡ true → e ≡ true → (a && (b && (c && (d && e)))) ≡ true
+all_five a b c d e h k l m n = ap (λ v. v && (b && (c && (d && e)))) h ∙ (ap (λ v. v && (c && (d && e))) k ∙ (ap (λ v. v && (d && e)) l ∙ (ap (λ v. v && e) m ∙ n)))
+
+-- over a line with the word it has to be so, over one without it hasn't
+where_the_word_stands : (w b : Bool) → (w ≡ true → b ≡ true) → (not w || b) ≡ true
+where_the_word_stands true b h = h refl
+where_the_word_stands false b h = refl
+
+asks_for_it : (awaited : Awaited) (rule : ReuseRule) (named : Option ℕ) (x : Exchange) → x.rule ≡ rule → x.named ≡ named → went_for awaited rule named ≡ true → asks_for awaited x ≡ true
+asks_for_it Missing rule named x r n h = ap is_uri_miss r ∙ h
+asks_for_it (Expired serial) rule named x r n h = ap (λ m. names_serial m serial) n ∙ h
+
 pub one_goes_forward : OnlyOneGoesForwardForKey
-one_goes_forward table limit first key other rule why later earlier between before g same alike l may e others =
+one_goes_forward table limit first line awaited rule named bytes now id asked later earlier between before g arrives forward awaits e gets same went serves =
     ap (λ (v : Event). exchange_has_closed (exchange_id_of_event v) between) e.arrives
-    ∙ by_fate (origin table limit first e.now e.id rule e.asked before earlier.outcome between p
-    (at_the_arrival table limit first e.now e.id e.line rule e.asked e.bytes before earlier.outcome e.forward (part (initial_state table limit first) between (item ∷ before) p) e.is_least))
+    ∙ by_fate (origin table limit first e.now e.id rule named e.asked before earlier.outcome between p
+    (at_the_arrival table limit first e.now e.id e.line rule named e.asked e.bytes before earlier.outcome e.forward (part (initial_state table limit first) between (item ∷ before) p) e.is_least e.names))
   where
     item : Item
     item = record { event = Arrive e.now e.id e.asked; outcome = earlier.outcome }
@@ -615,55 +638,50 @@ one_goes_forward table limit first key other rule why later earlier between befo
     p = good_plain table limit first (between ++ record { event = Arrive e.now e.id e.asked; outcome = earlier.outcome } ∷ before) g'
 
     policy : Policy
-    policy = policy_of table.lines l.line
-
-    its_leads : (x : Exchange) → x.asked ≡ e.asked → x.rule ≡ rule → x.for_others ≡ may_be_answered_for_others e.asked → x.stage ≡ Forwarded → leads_waiters policy why l.asked.target.key x ≡ true
-    its_leads x a r f t =
-        ap (λ (q : Asked). same_key q.target.key l.asked.target.key && (is_get q && (goes_forward_for_same_reason x.rule why && (is_forwarded x.stage && may_lead_waiters policy x.for_others)))) a
-        ∙ (ap (λ (k : Key). same_key k l.asked.target.key && (is_get e.asked && (goes_forward_for_same_reason x.rule why && (is_forwarded x.stage && may_lead_waiters policy x.for_others)))) e.of_the_key
-        ∙ (ap (λ (k : Key). same_key key k && (is_get e.asked && (goes_forward_for_same_reason x.rule why && (is_forwarded x.stage && may_lead_waiters policy x.for_others)))) l.of_the_key
-        ∙ (ap (λ b. b && (is_get e.asked && (goes_forward_for_same_reason x.rule why && (is_forwarded x.stage && may_lead_waiters policy x.for_others)))) same
-        ∙ (ap (λ b. b && (goes_forward_for_same_reason x.rule why && (is_forwarded x.stage && may_lead_waiters policy x.for_others))) e.gets
-        ∙ (ap (λ (q : ReuseRule). goes_forward_for_same_reason q why && (is_forwarded x.stage && may_lead_waiters policy x.for_others)) r
-        ∙ (ap (λ b. b && (is_forwarded x.stage && may_lead_waiters policy x.for_others)) alike
-        ∙ (ap (λ (q : Stage). is_forwarded q && may_lead_waiters policy x.for_others) t
-        ∙ (ap (may_lead_waiters policy) f ∙ others))))))))
+    policy = policy_of table.lines line
 
     past : List Item
     past = between ++ earlier ∷ before
 
-    by_fate : (exchange_has_closed e.id between ≡ true) ⊎ AtTheOrigin rule e.asked (its table limit first e.now e.id rule e.asked before earlier.outcome between) → exchange_has_closed e.id between ≡ true
+    its_leads : (x : Exchange) → x.asked ≡ e.asked → x.rule ≡ rule → x.named ≡ named → x.stage ≡ Forwarded → (policy.waits_for_stale ≡ true → may_serve asked x ≡ true) → leads_waiters policy awaited asked x ≡ true
+    its_leads x a r n t may =
+        all_five (same_key x.asked.target.key asked.target.key) (is_get x.asked) (is_forwarded x.stage) (asks_for awaited x) (not policy.waits_for_stale || may_serve asked x)
+        (ap (λ (q : Asked). same_key q.target.key asked.target.key) a ∙ same) (ap is_get a ∙ gets) (ap is_forwarded t) (asks_for_it awaited rule named x r n went)
+        (where_the_word_stands policy.waits_for_stale (may_serve asked x) may)
+
+    by_fate : (exchange_has_closed e.id between ≡ true) ⊎ AtTheOrigin rule named e.asked (its table limit first e.now e.id rule named e.asked before earlier.outcome between) → exchange_has_closed e.id between ≡ true
     by_fate (inl c) = c
     by_fate (inr a) =
-        let at : find_exchange e.id (open_exchanges table limit (between ++ earlier ∷ before)) ≡ Some a.x =
+        let at : find_exchange e.id (open_exchanges table limit past) ≡ Some a.x =
         ap (λ (i : Item). find_exchange e.id (open_exchanges table limit (between ++ i ∷ before))) item_is
         ∙ (sym (ap (find_exchange e.id) (exchanges_are_open table limit first (between ++ record { event = Arrive e.now e.id e.asked; outcome = earlier.outcome } ∷ before) p)) ∙ a.y_is) in
-        let led = some_leads policy why l.asked.target.key e.id (open_exchanges table limit (between ++ earlier ∷ before)) a.x at (its_leads a.x a.asked_is a.rule_is a.for_others a.stage) in
-        let went = forwards_nothing_else table limit first l.now l.id l.line l.asked l.bytes later (between ++ earlier ∷ before) g l.arrives l.forward in
+        let may : policy.waits_for_stale ≡ true → may_serve asked a.x ≡ true =
+        (λ w. subst (λ (o : Option Exchange). IfSome o (λ (x : Exchange). may_serve asked x ≡ true)) at (serves w)) in
+        let led = some_leads policy awaited asked e.id (open_exchanges table limit past) a.x at (its_leads a.x a.asked_is a.rule_is a.named_is a.stage may) in
+        let went = forwards_nothing_else table limit first now id line asked bytes later past g arrives forward in
         let waits : later.outcome ≡ Waits led.0 =
-        waits_for_it table limit first l.now l.id l.line led.0 l.asked why later (between ++ earlier ∷ before) g l.arrives
-        (record { line_allows = went.0; takes_others = went.2; gets = l.gets; is_least = l.is_least; may_wait = may }) led.1 in
-        let no : Forward l.line l.bytes ≡ Waits led.0 = sym l.forward ∙ waits in
+        waits_for_it table limit first now id line led.0 asked awaited later past g arrives
+        (record { line_allows = went.0; takes_others = went.2; awaits = awaits }) led.1 in
+        let no : Forward line bytes ≡ Waits led.0 = sym forward ∙ waits in
         absurd (cc)
 
 -- ---- a line without the word
-
-alike_to_a_miss : (a b : Bool) → ((a && true) || (b && false)) ≡ a
-alike_to_a_miss true b = refl
-alike_to_a_miss false true = refl
-alike_to_a_miss false false = refl
-
-or_never : (a : Bool) → (a || false) ≡ a
-or_never true = refl
-or_never false = refl
 
 and_always : (a : Bool) → (a && true) ≡ a
 and_always true = refl
 and_always false = refl
 
 pub plain_lines_wait_for_misses : PlainLinesWaitForMisses
-plain_lines_wait_for_misses caches rule key x = (
-  or_never (is_uri_miss rule),
-  ap (λ b. same_key x.asked.target.key key && (is_get x.asked && (b && (is_forwarded x.stage && true)))) (alike_to_a_miss (is_uri_miss x.rule) (has_expired x.rule))
-      ∙ ap (λ b. same_key x.asked.target.key key && (is_get x.asked && (is_uri_miss x.rule && b))) (and_always (is_forwarded x.stage)),
-)
+plain_lines_wait_for_misses policy held asked now awaited x plain = (awaits_a_miss awaited, on_a_miss, it_leads)
+  where
+    awaits_a_miss : (awaited : Awaited) → RequestAwaits policy held asked now awaited → (awaited ≡ Missing) × IsLeastReuseRule policy held asked now UriMiss
+    awaits_a_miss Missing w = (refl, subst (IsLeastReuseRule policy held asked now) w.leaves w.is_least)
+    awaits_a_miss (Expired serial) w = absurd (false≢true (sym plain ∙ w.leaves.0))
+
+    on_a_miss : is_get asked ≡ true → IsLeastReuseRule policy held asked now UriMiss → RequestAwaits policy held asked now Missing
+    on_a_miss gets least = record { gets = gets; takes_what_is_fresh = ap (λ b. b && asks_the_origin policy asked) plain; rule = UriMiss; is_least = least; leaves = refl }
+
+    it_leads : leads_waiters policy Missing asked x ≡ (same_key x.asked.target.key asked.target.key && (is_get x.asked && (is_forwarded x.stage && is_uri_miss x.rule)))
+    it_leads =
+        ap (λ w. same_key x.asked.target.key asked.target.key && (is_get x.asked && (is_forwarded x.stage && (is_uri_miss x.rule && (not w || may_serve asked x))))) plain
+        ∙ ap (λ b. same_key x.asked.target.key asked.target.key && (is_get x.asked && (is_forwarded x.stage && b))) (and_always (is_uri_miss x.rule))

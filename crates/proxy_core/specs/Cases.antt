@@ -11,7 +11,7 @@ use Rattle.hx_hop.specs.declared.request_view.Asked.{Asked}
 use Rattle.hx_allow.specs.TableLines.{Line, Table}
 use Rattle.hx_store.specs.Stored.{Stored}
 use Rattle.hx_reuse.specs.declared.rule.ReuseRule.TheVariants.{UriMiss, NoLifetime, NoMaxStale}
-use Rattle.proxy_core.specs.Leading.{may_be_answered_for_others}
+use Rattle.proxy_core.specs.Leading.{has_no_store}
 use Rattle.proxy_core.specs.declared.open.stage.Stage.TheVariants.{Forwarded, Waiting}
 use Rattle.proxy_core.specs.declared.open.exchange.Exchange.{Exchange}
 use Rattle.proxy_core.specs.declared.outcome.Outcome.{Outcome}
@@ -80,16 +80,20 @@ forwarded_on_miss asked =
       asked = asked;
       line = 1;
       rule = UriMiss;
+      named = None;
       request_time = 100;
       condition = None;
       overtaken = false;
-      for_others = may_be_answered_for_others asked;
+      no_store = has_no_store asked;
       stage = Forwarded;
     }
 
--- one that went forward since what was held was stale
+-- one that went forward since the response of serial 1 was stale, which has no validator
+abbrev pub forwarded_on_stale_by : Asked → Exchange
+forwarded_on_stale_by asked = record (forwarded_on_miss asked) { rule = NoMaxStale; named = Some 1 }
+
 abbrev pub forwarded_on_stale : Exchange
-forwarded_on_stale = record (forwarded_on_miss (get_a_with [])) { rule = NoMaxStale }
+forwarded_on_stale = forwarded_on_stale_by (get_a_with [])
 
 -- a line that lets requests wait for that, and a request with Authorization
 abbrev pub wait_for_stale_policy : Policy
@@ -110,6 +114,7 @@ abbrev pub revalidates_e : Asked → Exchange
 revalidates_e asked =
     record (forwarded_on_miss asked) {
       rule = NoLifetime;
+      named = Some 1;
       condition = Some (record { serial = 1; sent = record { etag = Some (codes "\"e\""); modified = None } });
     }
 
@@ -181,6 +186,23 @@ abbrev pub three_held : List Stored
 three_held =
     stored_in_language 3 (codes "de") ∷ stored_in_language 2 (codes "en")
     ∷ record (stored_in_language 1 (codes "de")) { key = key_of_path (codes "/b") } ∷ []
+
+-- what was fresh for 10 seconds, has no validator, and is stale at 130
+abbrev pub stale_with : List ℕ → Stored
+stale_with directives = stored_with 1 (cache_control directives ∷ [])
+
+abbrev pub stale_held : List Stored
+stale_held = stale_with (codes "max-age=10") ∷ []
+
+-- a request with a condition of the client's own, and one that asks the origin
+abbrev pub get_a_if_changed : Asked
+get_a_if_changed = get_a_with (line (codes "If-None-Match") (codes "\"v\"") ∷ [])
+
+abbrev pub get_a_with_no_cache : Asked
+get_a_with_no_cache = get_a_with (cache_control (codes "no-cache") ∷ [])
+
+abbrev pub get_a_with_no_store : Asked
+get_a_with_no_store = get_a_with (cache_control (codes "no-store") ∷ [])
 
 -- the bytes of a reply
 abbrev pub reply_bytes : Outcome → List ℕ

@@ -1,26 +1,28 @@
 -- Which open exchange others wait for, and which may be woken.
 --
--- can_wait: by this rule a request may wait                 leads_waiters: others that go by it wait for this exchange
--- leader: the first of these to arrive                     leader_of_request: the one that a request waits for
+-- asks_for: an exchange went forward for what a request could be sent
+-- may_serve: nothing that is known keeps its answer from that request
+-- leads_waiters: the request waits for this exchange
+-- leader: the first of these to arrive
 -- waits_for: an exchange waits for another
 -- ready_ids: the exchanges that may be woken, in the order of arrival
 -- NoExchangeLeads, IsFirstLeader: the same in words
 use Rattle.std.specs.Prelude.{◌≡◌, ℕ, ◌==◌, ◌&&◌, ◌||◌, not, Bool, true, false, List, [], ◌∷◌, ◌++◌, Option, Some, None}
-use Rattle.std.specs.Prelude.{cond, bytes_eq, codes}
+use Rattle.std.specs.Prelude.{cond, bytes_eq, codes, is_none}
 use Rattle.std.specs.List.{AllByRecursion}
 use Rattle.hx_fields.specs.FieldLines.{has_field as has_line}
 use Rattle.hx_policy.specs.declared.words.Policy.{Policy}
 use Rattle.hx_directives.specs.Occurrences.{occurrences_of}
 use Rattle.hx_directives.specs.Answers.{directive_occurs as has_directive}
 use Rattle.hx_directives.specs.declared.names.Directive.TheVariants.{NoStore}
-use Rattle.hx_target.specs.declared.keys.Key.{Key}
 use Rattle.hx_target.specs.Keys.{same_key}
 use Rattle.hx_hop.specs.declared.request_view.Asked.{Asked}
 use Rattle.hx_reuse.specs.declared.rule.ReuseRule.{ReuseRule}
-use Rattle.hx_reuse.specs.declared.rule.ReuseRule.TheVariants.{UriMiss, MustRevalidate, NoMaxStale, PastMaxStale}
-use Rattle.hx_reuse.specs.declared.rule.ReuseRule.TheVariants.{StaleMaxAge, StaleMinFresh}
+use Rattle.hx_reuse.specs.declared.rule.ReuseRule.TheVariants.{UriMiss}
 use Rattle.proxy_core.specs.declared.open.stage.Stage.{Stage}
 use Rattle.proxy_core.specs.declared.open.stage.Stage.TheVariants.{Forwarded, Waiting, Released}
+use Rattle.proxy_core.specs.declared.open.awaited.Awaited.{Awaited}
+use Rattle.proxy_core.specs.declared.open.awaited.Awaited.TheVariants.{Missing, Expired}
 use Rattle.proxy_core.specs.declared.open.exchange.Exchange.{Exchange}
 
 -- its request is at the origin
@@ -49,55 +51,63 @@ abbrev pub is_uri_miss : ReuseRule → Bool
 is_uri_miss UriMiss = true
 is_uri_miss rule = false
 
--- The chosen response is past its lifetime, and the request or the response lets no such one be
--- sent: what the origin says of it now is for all. One that never had a lifetime, or that no-cache
--- keeps back, is asked about by each request anew.
-abbrev pub has_expired : ReuseRule → Bool
-has_expired MustRevalidate = true
-has_expired NoMaxStale = true
-has_expired PastMaxStale = true
-has_expired StaleMaxAge = true
-has_expired StaleMinFresh = true
-has_expired rule = false
+abbrev pub has_authorization : Asked → Bool
+has_authorization asked = has_line asked.fields (codes "Authorization")
 
--- By this rule a request may wait for another's answer: nothing is held for its key, or what is
--- held is stale and the line lets it wait for that. A response "that is stored or storable" may
--- "satisfy multiple requests", so a cache may "collapse requests" (RFC 9111, section 4).
-abbrev pub can_wait : Policy → ReuseRule → Bool
-can_wait policy rule = is_uri_miss rule || (policy.waits_for_stale && has_expired rule)
+-- its answer isn't stored (RFC 9111, section 5.2.1.5)
+abbrev pub has_no_store : Asked → Bool
+has_no_store asked = has_directive (occurrences_of asked.fields) NoStore
 
--- for the same reason: nothing was held for either, or what was held was stale for both
-abbrev pub goes_forward_for_same_reason : ReuseRule → ReuseRule → Bool
-goes_forward_for_same_reason rule other = (is_uri_miss rule && is_uri_miss other) ||
-    (has_expired rule && has_expired other)
+-- A condition of the client's own is at the origin (RFC 9110, sections 13.1.2 and 13.1.3): where the
+-- proxy sends one, it takes the client's out. A 304 to it is for that client, and brings nothing to store.
+abbrev pub sends_clients_condition : Exchange → Bool
+sends_clients_condition x = is_none x.condition
+    && (has_line x.asked.fields (codes "If-None-Match") || has_line x.asked.fields (codes "If-Modified-Since"))
 
--- Nothing in the request keeps what it is answered for itself: neither no-store nor Authorization
--- (RFC 9111, sections 5.2.1.5 and 3.5). Of Authorization that is more than the rule, since nobody
--- knows yet whether the answer will be public.
-abbrev pub may_be_answered_for_others : Asked → Bool
-may_be_answered_for_others asked =
-    not (has_directive (occurrences_of asked.fields) NoStore) && not (has_line asked.fields (codes "Authorization"))
+abbrev pub names_serial : Option ℕ → ℕ → Bool
+names_serial None serial = false
+names_serial (Some named) serial = named == serial
 
--- whom a line that lets requests wait for what is stale sends others behind: one whose answer may be for others
-abbrev pub may_lead_waiters : Policy → Bool → Bool
-may_lead_waiters policy for_others = not policy.waits_for_stale || for_others
+-- The exchange went forward for this: nothing was held for its key, or its rule names that held
+-- response, whichever rule that is. Whoever has a response validated freshens it for all (RFC 9111,
+-- section 4.3.4).
+abbrev pub asks_for : Awaited → Exchange → Bool
+asks_for Missing x = is_uri_miss x.rule
+asks_for (Expired serial) x = names_serial x.named serial
 
--- a GET for the key went forward for that reason, isn't answered yet, and those of this line wait for it
-abbrev pub leads_waiters : Policy → ReuseRule → Key → Exchange → Bool
-leads_waiters policy rule key x =
-    same_key x.asked.target.key key
-    && (is_get x.asked && (goes_forward_for_same_reason x.rule rule &&
-    (is_forwarded x.stage && may_lead_waiters policy x.for_others)))
+abbrev pub is_same_truth : Bool → Bool → Bool
+is_same_truth a b = cond a b (not b)
+
+-- Nothing that is known keeps the answer to the exchange from this request. It isn't stored where
+-- the exchange has no-store (RFC 9111, section 5.2.1.5), where its key was invalidated since (section
+-- 4.4), or where it may be a 304 to the client's own condition.
+-- own: a request waits for one with Authorization exactly where it has Authorization, since nobody
+-- knows yet whether the answer will be public (section 3.5)
+abbrev pub may_serve : Asked → Exchange → Bool
+may_serve asked x = not x.no_store
+    && (not x.overtaken
+    && (not (sends_clients_condition x) && is_same_truth (has_authorization x.asked) (has_authorization asked)))
+
+-- A GET for the key of this request went forward for what it could be sent, and isn't answered yet. A
+-- response "that is stored or storable" may "satisfy multiple requests", so a cache may "collapse
+-- requests" (RFC 9111, section 4).
+-- own: over a line without the word nothing more is asked
+abbrev pub leads_waiters : Policy → Awaited → Asked → Exchange → Bool
+leads_waiters policy awaited asked x =
+    same_key x.asked.target.key asked.target.key
+    && (is_get x.asked
+    && (is_forwarded x.stage && (asks_for awaited x && (not policy.waits_for_stale || may_serve asked x))))
 
 -- of those the first to arrive
-abbrev pub leader : Policy → ReuseRule → Key → List Exchange → Option ℕ
-leader policy rule key [] = None
-leader policy rule key (x ∷ xs) = cond (leads_waiters policy rule key x) (Some x.id) (leader policy rule key xs)
+abbrev pub leader : Policy → Awaited → Asked → List Exchange → Option ℕ
+leader policy awaited asked [] = None
+leader policy awaited asked (x ∷ xs) =
+    cond (leads_waiters policy awaited asked x) (Some x.id) (leader policy awaited asked xs)
 
--- a GET waits where its rule lets it, and one that is open leads. The policy is that of the line that allows it.
-abbrev pub leader_of_request : Policy → List Exchange → Asked → ReuseRule → Option ℕ
-leader_of_request policy xs asked rule =
-    cond (is_get asked && can_wait policy rule) (leader policy rule asked.target.key xs) None
+-- where there is something that the request could be sent
+abbrev pub leader_if_awaited : Policy → Asked → List Exchange → Option Awaited → Option ℕ
+leader_if_awaited policy asked xs None = None
+leader_if_awaited policy asked xs (Some awaited) = leader policy awaited asked xs
 
 -- the ids of the exchanges that may be woken, in the order of arrival
 abbrev pub ready_ids : List Exchange → List ℕ
@@ -105,17 +115,18 @@ ready_ids [] = []
 ready_ids (x ∷ xs) = cond (is_released x.stage) (x.id ∷ ready_ids xs) (ready_ids xs)
 
 -- none of these leads
-abbrev pub NoExchangeLeads : Policy → ReuseRule → Key → List Exchange → Type 0
-NoExchangeLeads policy rule key xs = AllByRecursion (λ (x : Exchange). leads_waiters policy rule key x ≡ false) xs
+abbrev pub NoExchangeLeads : Policy → Awaited → Asked → List Exchange → Type 0
+NoExchangeLeads policy awaited asked xs =
+    AllByRecursion (λ (x : Exchange). leads_waiters policy awaited asked x ≡ false) xs
 
--- of the open exchanges, which stand in the order of arrival, the first GET of this key that went
--- forward for this reason
-pub record IsFirstLeader (policy : Policy) (rule : ReuseRule) (key : Key) (xs : List Exchange)
+-- of the open exchanges, which stand in the order of arrival, the first GET of this request's key
+-- that went forward for what it could be sent
+pub record IsFirstLeader (policy : Policy) (awaited : Awaited) (asked : Asked) (xs : List Exchange)
     (leader : ℕ) : Type 0 where
   pub before : List Exchange
   pub x : Exchange
   pub behind : List Exchange
   pub open_are : xs ≡ before ++ x ∷ behind
   pub id : x.id ≡ leader
-  pub it_leads : leads_waiters policy rule key x ≡ true
-  pub none_before : NoExchangeLeads policy rule key before
+  pub it_leads : leads_waiters policy awaited asked x ≡ true
+  pub none_before : NoExchangeLeads policy awaited asked before

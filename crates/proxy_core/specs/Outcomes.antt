@@ -48,7 +48,8 @@ use Rattle.proxy_core.specs.declared.event.Event.TheVariants.{Arrive, Answer, Fa
 use Rattle.proxy_core.specs.declared.core_fault.CoreFault.{CoreFault}
 use Rattle.proxy_core.specs.declared.core_fault.CoreFault.TheVariants.{IdTaken, UnknownId, NotForwarded, NotReady}
 use Rattle.proxy_core.specs.Moments.{moment_too_late_fault}
-use Rattle.proxy_core.specs.Leading.{is_forwarded, is_released, leader_of_request}
+use Rattle.proxy_core.specs.Leading.{is_forwarded, is_released}
+use Rattle.proxy_core.specs.Awaiting.{leader_of_request}
 use Rattle.proxy_core.specs.Replies.{stored_text, passed_answer_text, refusal_reply_text, is_head}
 use Rattle.proxy_core.specs.Validating.{conditions_to_send, condition_about_serial, is_validation}
 use Rattle.proxy_core.specs.Validating.{stored_response_validated, freshened_by_304, freshened_may_be_kept}
@@ -100,13 +101,13 @@ outcome_of_waiting_or_forwarding table line asked condition (Some leader) = Wait
 outcome_of_waiting_or_forwarding table line asked condition None = Forward line (forward_text table asked condition)
 
 -- a rule keeps each stored response back
-abbrev pub outcome_without_stored_response : Table → List Exchange → ℕ → ℕ → Asked → ReuseRule → Option Condition
+abbrev pub outcome_without_stored_response : Table → List Stored → List Exchange → ℕ → ℕ → Asked → ReuseRule → Option Condition
     → Bool → Outcome
-outcome_without_stored_response table xs line now asked rule condition true = outcome_of_refusal now
+outcome_without_stored_response table es xs line now asked rule condition true = outcome_of_refusal now
     (OnlyIfCached rule) asked
-outcome_without_stored_response table xs line now asked rule condition false =
+outcome_without_stored_response table es xs line now asked rule condition false =
     outcome_of_waiting_or_forwarding table line asked
-    condition (leader_of_request (policy_of table.lines line) xs asked rule)
+    condition (leader_of_request (policy_of table.lines line) es xs asked rule)
 
 abbrev pub hit_status_info : Policy → CacheStatusInfo
 hit_status_info policy = record { policy = policy; how = Hit; came = None; detail = None; collapsed = false }
@@ -116,7 +117,7 @@ abbrev pub outcome_of_allowed_request : Table → List Stored → List Exchange 
 outcome_of_allowed_request table es xs line now asked (decision.Hit serial) =
     outcome_of_sending_stored table es serial now (hit_status_info (policy_of table.lines line)) asked
 outcome_of_allowed_request table es xs line now asked (decision.Forward rule against) =
-    outcome_without_stored_response table xs line now asked rule (condition_about_serial es against)
+    outcome_without_stored_response table es xs line now asked rule (condition_about_serial es against)
     (is_only_if_cached asked)
 
 abbrev pub outcome_of_arrival : Table → List Stored → List Exchange → ℕ → Asked → Verdict → Outcome

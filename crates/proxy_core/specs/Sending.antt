@@ -39,7 +39,9 @@ use Rattle.proxy_core.specs.Replies.{stored_text}
 use Rattle.proxy_core.specs.Outcomes.{find_exchange, exchange_id_of_event, is_only_if_cached, is_error_status}
 use Rattle.proxy_core.specs.Outcomes.{outcome_of_refusal, forward_text}
 use Rattle.proxy_core.specs.Outcomes.{hit_status_info, forwarded_status_info, collapsed_status_info}
-use Rattle.proxy_core.specs.Leading.{is_get, can_wait, leader_of_request, NoExchangeLeads, IsFirstLeader}
+use Rattle.proxy_core.specs.declared.open.awaited.Awaited.{Awaited}
+use Rattle.proxy_core.specs.Leading.{NoExchangeLeads, IsFirstLeader}
+use Rattle.proxy_core.specs.Awaiting.{RequestAwaits}
 use Rattle.proxy_core.specs.State.{serial_used_by_outcome, stored_response_as_used}
 use Rattle.proxy_core.specs.Traces.{Item}
 use Rattle.proxy_core.specs.Histories.{held_entries, open_exchanges, IsGoodHistory}
@@ -101,23 +103,22 @@ pub record RequestGoesForward (table : Table) (held : List Stored) (asked : Aske
   pub names : RuleNamesTheResponse held asked rule against
   pub outcome_is : outcome ≡ Forward line (forward_text table asked (condition_about_serial held against))
 
--- a GET that may wait goes forward only where no other is at the origin for its reason
-abbrev pub NoLeaderIsOpen : Policy → List Exchange → Asked → ReuseRule → Type 0
-NoLeaderIsOpen policy xs asked rule =
-    is_get asked ≡ true → can_wait policy rule ≡ true → NoExchangeLeads policy rule asked.target.key xs
+-- no exchange at the origin has asked for what the request could be sent of the answer to another
+abbrev pub NoLeaderIsOpen : Policy → List Stored → List Exchange → Asked → ℕ → Type 0
+NoLeaderIsOpen policy held xs asked now =
+    (awaited : Awaited) → RequestAwaits policy held asked now awaited → NoExchangeLeads policy awaited asked xs
 
--- A GET for whose key nothing is held, or by the word of its line one for which what is held is
--- stale, and that takes an answer of the origin, waits for the first to arrive of those that are at
--- the origin for that reason (RFC 9111, section 4: collapsed requests).
+-- A GET that could be sent the answer to another, since nothing is held for its key, or by the word
+-- of its line since the lifetime of what is held is over, and that takes an answer of the origin,
+-- waits for the first to arrive of those that are at the origin for that (RFC 9111, section 4:
+-- collapsed requests).
 pub record RequestWaitsForTheFirst (table : Table) (held : List Stored) (xs : List Exchange) (now : ℕ) (asked : Asked)
     (line : ℕ) (outcome : Outcome) : Type 0 where
   pub leader : ℕ
   pub takes_others : is_only_if_cached asked ≡ false
-  pub gets : is_get asked ≡ true
-  pub rule : ReuseRule
-  pub rule_is_least : IsLeastReuseRule (policy_of table.lines line) held asked now rule
-  pub may_wait : can_wait (policy_of table.lines line) rule ≡ true
-  pub first_leads : IsFirstLeader (policy_of table.lines line) rule asked.target.key xs leader
+  pub awaited : Awaited
+  pub awaits : RequestAwaits (policy_of table.lines line) held asked now awaited
+  pub first_leads : IsFirstLeader (policy_of table.lines line) awaited asked xs leader
   pub outcome_is : outcome ≡ Waits leader
 
 -- A request that is allowed reaches the cache, which sends a stored response, or the origin of that
@@ -128,7 +129,7 @@ RequestReachesCacheOrOrigin table held xs now asked line outcome =
     ((s : ℕ) × (serial_used_by_outcome outcome ≡ Some s))
     ⊎ (((rule : ReuseRule)
     × RequestGoesForward table held asked now line rule outcome × (is_only_if_cached asked ≡ false)
-    × NoLeaderIsOpen (policy_of table.lines line) xs asked rule)
+    × NoLeaderIsOpen (policy_of table.lines line) held xs asked now)
     ⊎ (RequestWaitsForTheFirst table held xs now asked line outcome
     ⊎ ((rule : ReuseRule) × (is_only_if_cached asked ≡ true) × IsLeastReuseRule
     (policy_of table.lines line) held asked now rule
@@ -226,7 +227,8 @@ RequestIsForwardedWhereAllowed =
     verdict_of table.lines asked.method asked.target ≡ Allowed line
     → IsLeastReuseRule (policy_of table.lines line) (held_entries table limit past) asked now rule
     → is_only_if_cached asked ≡ false →
-    leader_of_request (policy_of table.lines line) (open_exchanges table limit past) asked rule ≡ None →
+    NoLeaderIsOpen (policy_of table.lines line) (held_entries table limit past) (open_exchanges table limit past)
+    asked now →
     (bytes : List ℕ) × (item.outcome ≡ Forward line bytes)
 
 abbrev pub RequestIsForwardedNowhereElse : Type 0
@@ -236,7 +238,8 @@ RequestIsForwardedNowhereElse =
     → item.outcome ≡ Forward line bytes →
     (verdict_of table.lines asked.method asked.target ≡ Allowed line)
     × ((rule : ReuseRule) × IsLeastReuseRule (policy_of table.lines line) (held_entries table limit past) asked now rule
-    × (leader_of_request (policy_of table.lines line) (open_exchanges table limit past) asked rule ≡ None))
+    × NoLeaderIsOpen (policy_of table.lines line) (held_entries table limit past) (open_exchanges table limit past)
+    asked now)
     × (is_only_if_cached asked ≡ false)
 
 -- A request that the table allows reaches the cache, which sends a stored response, or the origin

@@ -30,7 +30,7 @@ use Rattle.proxy_core.specs.declared.event.Event.{Event}
 use Rattle.proxy_core.specs.declared.event.Event.TheVariants.{Arrive, Answer, Fail, Wake, Abandon}
 use Rattle.proxy_core.specs.declared.core_fault.CoreFault.{CoreFault}
 use Rattle.proxy_core.specs.declared.core_fault.CoreFault.TheVariants.{OutOfMemory}
-use Rattle.proxy_core.specs.Leading.{waits_for, may_be_answered_for_others}
+use Rattle.proxy_core.specs.Leading.{waits_for, has_no_store}
 use Rattle.proxy_core.specs.Outcomes.{find_exchange, exchange_id_of_event, outcome_of_event, step_fault}
 use Rattle.proxy_core.specs.Storing.{stored_response_made, key_invalidated}
 use Rattle.proxy_core.specs.Validating.{condition_about_serial, stored_response_is_answered, freshened_by_304}
@@ -143,11 +143,12 @@ forwarded_exchange table es now id asked line = record {
   asked = asked;
   line = line;
   rule = rule_of_decision (decision_of (policy_of table.lines line) es asked now);
+  named = serial_named_by_decision (decision_of (policy_of table.lines line) es asked now);
   request_time = now;
   condition = condition_about_serial es
       (serial_named_by_decision (decision_of (policy_of table.lines line) es asked now));
   overtaken = false;
-  for_others = may_be_answered_for_others asked;
+  no_store = has_no_store asked;
   stage = Forwarded;
 }
 
@@ -164,11 +165,12 @@ waiting_exchange table es now id asked line leader = record {
   asked = asked;
   line = line;
   rule = rule_of_decision (decision_of (policy_of table.lines line) es asked now);
+  named = serial_named_by_decision (decision_of (policy_of table.lines line) es asked now);
   request_time = now;
   condition = condition_about_serial es
       (serial_named_by_decision (decision_of (policy_of table.lines line) es asked now));
   overtaken = false;
-  for_others = may_be_answered_for_others asked;
+  no_store = has_no_store asked;
   stage = Waiting leader;
 }
 
@@ -177,24 +179,26 @@ abbrev pub exchange_with_leader : Option ℕ → Exchange → Exchange
 exchange_with_leader None x = x
 exchange_with_leader (Some leader) x = record x { stage = Waiting leader }
 
--- the request of an exchange goes forward at a moment, with this rule and these conditions of the proxy
-abbrev pub exchange_gone_forward : ℕ → ReuseRule → Option Condition → Exchange → Exchange
-exchange_gone_forward now rule condition x =
-    record x { rule = rule; request_time = now; condition = condition; overtaken = false; stage = Forwarded }
+-- the request of an exchange goes forward at a moment, with this rule, the held response that it names, and these
+-- conditions of the proxy
+abbrev pub exchange_gone_forward : ℕ → ReuseRule → Option ℕ → Option Condition → Exchange → Exchange
+exchange_gone_forward now rule named condition x =
+    record x { rule = rule; named = named; request_time = now; condition = condition; overtaken = false; stage = Forwarded }
 
 -- that of an id does
-abbrev pub exchange_sent_forward : ℕ → ℕ → ReuseRule → Option Condition → Exchange → Exchange
-exchange_sent_forward id now rule condition x = cond (x.id == id) (exchange_gone_forward now rule condition x) x
+abbrev pub exchange_sent_forward : ℕ → ℕ → ReuseRule → Option ℕ → Option Condition → Exchange → Exchange
+exchange_sent_forward id now rule named condition x = cond (x.id == id) (exchange_gone_forward now rule named condition x) x
 
 -- that of an id goes forward once more: the client's own request, with the rule that it has
 abbrev pub exchange_forwarded_again : ℕ → ℕ → Exchange → Exchange
-exchange_forwarded_again id now x = cond (x.id == id) (exchange_gone_forward now x.rule None x) x
+exchange_forwarded_again id now x = cond (x.id == id) (exchange_gone_forward now x.rule x.named None x) x
 
 -- a request that waited goes forward by the rule that stands now, in its place among the others
 abbrev pub exchanges_after_wake : Table → List Stored → ℕ → ℕ → Option Exchange → List Exchange → List Exchange
 exchanges_after_wake table es id now None xs = xs
 exchanges_after_wake table es id now (Some x) xs =
     map (exchange_sent_forward id now (rule_of_decision (decision_of (policy_of table.lines x.line) es x.asked now))
+    (serial_named_by_decision (decision_of (policy_of table.lines x.line) es x.asked now))
     (condition_about_serial es (serial_named_by_decision (decision_of (policy_of table.lines x.line) es x.asked now))))
     xs
 

@@ -1,6 +1,6 @@
--- Requests for one target that go forward for one reason wait for the first of them. A trace has its latest item first.
+-- Requests that could be sent the answer to another wait for it. A trace has its latest item first.
 --
--- RequestCouldWait: a request that may wait, for the first that leads (`Leading.antt`)
+-- RequestCouldWait: a request that could be sent one (`Awaiting.antt`), for the first that leads (`Leading.antt`)
 -- RequestWaitsWhereOneLeads, RequestWaitsNowhereElse, OnlyOneGoesForwardForKey: who waits, and what for
 -- ExchangeMayBeWoken: an exchange that may be woken
 -- RequestWaitsUntilItsLeaderEnds, RequestIsWokenOnceBehindItsLeader, ReleasedAreInOrderOfArrival,
@@ -8,30 +8,31 @@
 --
 -- The laws of `src/laws.rt` prove the statements.
 use Rattle.std.specs.Prelude.{◌≡◌, ◌⊎◌, ℕ, ◌==◌, ◌&&◌, ◌||◌, not, Bool, true, false, List, [], ◌∷◌, ◌++◌, Option, Some}
-use Rattle.std.specs.Prelude.{None, option_map, cond}
+use Rattle.std.specs.Prelude.{None, IfSome, option_map, cond}
 use Rattle.std.specs.List.{AllByRecursion}
-use Rattle.hx_target.specs.declared.keys.Key.{Key}
 use Rattle.hx_target.specs.Keys.{same_key}
 use Rattle.hx_hop.specs.declared.request_view.Asked.{Asked}
 use Rattle.hx_allow.specs.TableLines.{Table}
 use Rattle.hx_allow.specs.Matching.{verdict_of, policy_of}
 use Rattle.hx_allow.specs.declared.verdicts.Verdict.TheVariants.{Allowed}
 use Rattle.hx_store.specs.Serials.{serial_is_in}
-use Rattle.hx_reuse.specs.ChosenAndNamed.{IsLeastReuseRule}
+use Rattle.hx_store.specs.Stored.{Stored}
+use Rattle.hx_reuse.specs.ChosenAndNamed.{IsLeastReuseRule, RuleNamesTheResponse}
 use Rattle.hx_reuse.specs.declared.rule.ReuseRule.{ReuseRule}
 use Rattle.hx_reuse.specs.declared.rule.ReuseRule.TheVariants.{UriMiss}
 use Rattle.proxy_core.specs.declared.open.stage.Stage.{Stage}
 use Rattle.proxy_core.specs.declared.open.stage.Stage.TheVariants.{Waiting, Released}
+use Rattle.proxy_core.specs.declared.open.awaited.Awaited.{Awaited}
+use Rattle.proxy_core.specs.declared.open.awaited.Awaited.TheVariants.{Missing, Expired}
 use Rattle.proxy_core.specs.declared.open.exchange.Exchange.{Exchange}
 use Rattle.proxy_core.specs.declared.outcome.Outcome.TheVariants.{Forward, Waits}
 use Rattle.proxy_core.specs.declared.event.Event.{Event}
 use Rattle.proxy_core.specs.declared.event.Event.TheVariants.{Arrive, Answer, Fail, Wake, Abandon}
 use Rattle.proxy_core.specs.Moments.{moment_too_late_fault}
-use Rattle.hx_policy.specs.Policies.{plain}
-use Rattle.proxy_core.specs.Leading.{is_forwarded, is_released, is_get, is_uri_miss, may_be_answered_for_others}
-use Rattle.proxy_core.specs.Leading.{can_wait}
-use Rattle.proxy_core.specs.Leading.{goes_forward_for_same_reason, may_lead_waiters, leads_waiters, ready_ids}
-use Rattle.proxy_core.specs.Leading.{IsFirstLeader}
+use Rattle.hx_policy.specs.declared.words.Policy.{Policy}
+use Rattle.proxy_core.specs.Leading.{is_forwarded, is_released, is_get, is_uri_miss, names_serial, may_serve}
+use Rattle.proxy_core.specs.Leading.{leads_waiters, ready_ids, IsFirstLeader}
+use Rattle.proxy_core.specs.Awaiting.{RequestAwaits}
 use Rattle.proxy_core.specs.Outcomes.{find_exchange, exchange_id_of_event, step_fault, is_only_if_cached}
 use Rattle.proxy_core.specs.State.{serial_used_by_outcome}
 use Rattle.proxy_core.specs.Traces.{Item}
@@ -42,24 +43,21 @@ use Rattle.proxy_core.specs.Sending.{StoredResponseIsReusable}
 
 -- ---- who waits
 
--- A GET that the table allows and that takes an answer of the origin, where by the first rule
--- against what is held it may wait: nothing is held for its key, or its line lets it wait for what
--- is stale. No rule before that one stands.
+-- A GET that the table allows, that takes an answer of the origin, and that could be sent the answer
+-- to another.
 pub record RequestCouldWait (table : Table) (limit : ℕ) (past : List Item) (now line : ℕ) (asked : Asked)
-    (rule : ReuseRule) : Type 0 where
+    (awaited : Awaited) : Type 0 where
   pub line_allows : verdict_of table.lines asked.method asked.target ≡ Allowed line
   pub takes_others : is_only_if_cached asked ≡ false
-  pub gets : is_get asked ≡ true
-  pub is_least : IsLeastReuseRule (policy_of table.lines line) (held_entries table limit past) asked now rule
-  pub may_wait : can_wait (policy_of table.lines line) rule ≡ true
+  pub awaits : RequestAwaits (policy_of table.lines line) (held_entries table limit past) asked now awaited
 
 -- whoever could wait does, where one leads
 abbrev pub RequestWaitsWhereOneLeads : Type 0
-RequestWaitsWhereOneLeads = (table : Table) (limit first now id line leader : ℕ) (asked : Asked) (rule : ReuseRule)
+RequestWaitsWhereOneLeads = (table : Table) (limit first now id line leader : ℕ) (asked : Asked) (awaited : Awaited)
     (item : Item) (past : List Item) →
     IsGoodHistory table limit first (item ∷ past) → item.event ≡ Arrive now id asked
-    → RequestCouldWait table limit past now line asked rule →
-    IsFirstLeader (policy_of table.lines line) rule asked.target.key (open_exchanges table limit past) leader
+    → RequestCouldWait table limit past now line asked awaited →
+    IsFirstLeader (policy_of table.lines line) awaited asked (open_exchanges table limit past) leader
     → item.outcome ≡ Waits leader
 
 -- Whoever waits has just arrived, could wait, and waits for the first that leads.
@@ -69,10 +67,9 @@ pub record RequestIsToWait (table : Table) (limit leader : ℕ) (item : Item) (p
   pub asked : Asked
   pub line : ℕ
   pub arrives : item.event ≡ Arrive now id asked
-  pub rule : ReuseRule
-  pub could : RequestCouldWait table limit past now line asked rule
-  pub first_leads : IsFirstLeader (policy_of table.lines line) rule asked.target.key
-      (open_exchanges table limit past) leader
+  pub awaited : Awaited
+  pub could : RequestCouldWait table limit past now line asked awaited
+  pub first_leads : IsFirstLeader (policy_of table.lines line) awaited asked (open_exchanges table limit past) leader
 
 abbrev pub RequestWaitsNowhereElse : Type 0
 RequestWaitsNowhereElse = (table : Table) (limit first leader : ℕ) (item : Item) (past : List Item)
@@ -86,8 +83,8 @@ exchange_has_closed id (i ∷ items) =
     (exchange_id_of_event i.event == id && (not (is_arrival_event i.event) && outcome_ends_exchange i.outcome))
     || exchange_has_closed id items
 
--- a GET for this key arrives and goes forward by this rule
-pub record GetGoesForwardForKey (table : Table) (limit : ℕ) (key : Key) (rule : ReuseRule) (item : Item)
+-- a request arrives and goes forward by this rule, which names this held response or none
+pub record RequestGoesOutBy (table : Table) (limit : ℕ) (rule : ReuseRule) (named : Option ℕ) (item : Item)
     (past : List Item) : Type 0 where
   pub now : ℕ
   pub id : ℕ
@@ -96,32 +93,50 @@ pub record GetGoesForwardForKey (table : Table) (limit : ℕ) (key : Key) (rule 
   pub bytes : List ℕ
   pub arrives : item.event ≡ Arrive now id asked
   pub forward : item.outcome ≡ Forward line bytes
-  pub gets : is_get asked ≡ true
-  pub of_the_key : asked.target.key ≡ key
   pub is_least : IsLeastReuseRule (policy_of table.lines line) (held_entries table limit past) asked now rule
+  pub names : RuleNamesTheResponse (held_entries table limit past) asked rule named
 
--- Of the GETs that arrive for a key while one of them is at the origin none goes there too for the
--- same reason: before a later one does the earlier has ended. The later one's line lets it wait for
--- that reason, and for an answer to a request like the earlier.
+-- What it went forward for is what a request could be sent: nothing was held for its key, or the rule
+-- names that held response.
+abbrev pub went_for : Awaited → ReuseRule → Option ℕ → Bool
+went_for Missing rule named = is_uri_miss rule
+went_for (Expired serial) rule named = names_serial named serial
+
+-- The answer to the exchange of this id may be one for a request over a line of this policy: nothing
+-- that is known of it, should it be open still, says otherwise.
+abbrev pub AnswerMayServe : Policy → Asked → Option Exchange → Type 0
+AnswerMayServe policy asked x =
+    policy.waits_for_stale ≡ true → IfSome x (λ (x : Exchange). may_serve asked x ≡ true)
+
+-- Of the GETs that arrive for a key while one of them is at the origin none goes there too for what
+-- that one's answer could bring it: before a later one does the earlier has ended. Over a line with
+-- the word this is so while that answer may be for the later one.
 abbrev pub OnlyOneGoesForwardForKey : Type 0
-OnlyOneGoesForwardForKey = (table : Table) (limit first : ℕ) (key other : Key) (rule why : ReuseRule)
-    (later earlier : Item)
+OnlyOneGoesForwardForKey = (table : Table) (limit first line : ℕ) (awaited : Awaited) (rule : ReuseRule)
+    (named : Option ℕ) (bytes : List ℕ) (now id : ℕ) (asked : Asked) (later earlier : Item)
     (between before : List Item) →
-    IsGoodHistory table limit first (later ∷ (between ++ earlier ∷ before)) → same_key key other ≡ true
-    → goes_forward_for_same_reason rule why ≡ true →
-    (went : GetGoesForwardForKey table limit other why later (between ++ earlier ∷ before))
-    → can_wait (policy_of table.lines went.line) why ≡ true →
-    (first_went : GetGoesForwardForKey table limit key rule earlier before)
-    → may_lead_waiters (policy_of table.lines went.line) (may_be_answered_for_others first_went.asked) ≡ true →
+    IsGoodHistory table limit first (later ∷ (between ++ earlier ∷ before))
+    → later.event ≡ Arrive now id asked → later.outcome ≡ Forward line bytes
+    → RequestAwaits (policy_of table.lines line) (held_entries table limit (between ++ earlier ∷ before)) asked now awaited
+    → (went : RequestGoesOutBy table limit rule named earlier before)
+    → is_get went.asked ≡ true → same_key went.asked.target.key asked.target.key ≡ true
+    → went_for awaited rule named ≡ true
+    → AnswerMayServe (policy_of table.lines line) asked
+    (find_exchange went.id (open_exchanges table limit (between ++ earlier ∷ before))) →
     exchange_has_closed (exchange_id_of_event earlier.event) between ≡ true
 
 -- A line without the word lets a GET wait where nothing is held for its key, and nowhere else; and
 -- for any that went for that.
 abbrev pub PlainLinesWaitForMisses : Type 0
-PlainLinesWaitForMisses = (caches : Bool) (rule : ReuseRule) (key : Key) (x : Exchange) →
-    (can_wait (plain caches) rule ≡ is_uri_miss rule)
-    × (leads_waiters (plain caches) UriMiss key x
-    ≡ (same_key x.asked.target.key key && (is_get x.asked && (is_uri_miss x.rule && is_forwarded x.stage))))
+PlainLinesWaitForMisses = (policy : Policy) (held : List Stored) (asked : Asked) (now : ℕ) (awaited : Awaited)
+    (x : Exchange) → policy.waits_for_stale ≡ false →
+    (RequestAwaits policy held asked now awaited
+    → (awaited ≡ Missing) × IsLeastReuseRule policy held asked now UriMiss)
+    × (is_get asked ≡ true → IsLeastReuseRule policy held asked now UriMiss
+    → RequestAwaits policy held asked now Missing)
+    × (leads_waiters policy Missing asked x
+    ≡ (same_key x.asked.target.key asked.target.key
+    && (is_get x.asked && (is_forwarded x.stage && is_uri_miss x.rule))))
 
 -- ---- until when
 

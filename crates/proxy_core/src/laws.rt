@@ -22,6 +22,7 @@ ghost use Rattle.proxy_core.specs.Waiting.{RequestWaitsUntilItsLeaderEnds, Reque
 ghost use Rattle.proxy_core.specs.Waiting.{ReleasedAreInOrderOfArrival};
 ghost use Rattle.proxy_core.specs.Waiting.{WakeIsAcceptedExactlyWhereReady, WokenRequestIsJudgedAnew};
 ghost use Rattle.proxy_core.specs.Waiting.{PlainLinesWaitForMisses};
+ghost use Rattle.proxy_core.specs.Awaiting.{WhoWaitedIsKeptBackByTheAnswerAlone};
 ghost use Rattle.proxy_core.specs.StoredAnswers.{ItemRemovesExactlyThese, NothingElseIsStored};
 ghost use Rattle.proxy_core.specs.StoredAnswers.{AnswerIsStoredWhereItMayBe, FreshenedIsKeptWhereItMayBe};
 ghost use Rattle.proxy_core.specs.StoredAnswers.{NothingElseIsKept};
@@ -114,11 +115,11 @@ pub fn a_line_without_cache_touches_no_stored_response()
     ensures forwards { RequestGoesForwardOverUncachedLine }
 {}
 
-/// In a good trace a GET waits exactly where the first rule against a stored response lets it, and
-/// a GET for that key is at the origin for the same reason: for the first of these to arrive. The
-/// rule is that nothing is held for its key, or where its line says so that what is held is stale.
-/// So while one that arrived is at the origin for a reason, none that may wait for that goes there
-/// for it. One that another rule sends forward, as a GET with Range, doesn't wait.
+/// In a good trace a GET waits exactly where it could be sent the answer to another: nothing is held
+/// for its key, or where its line says so the lifetime of what is held is over; and a GET for that
+/// key is at the origin for this. It waits for the first of these to arrive. So while one that
+/// arrived is at the origin, none that could be sent its answer goes there too. One that another rule
+/// sends forward, as a GET with Range, doesn't wait.
 pub fn requests_for_one_target_wait_for_the_first()
     ensures waits { RequestWaitsWhereOneLeads }
     ensures only { RequestWaitsNowhereElse }
@@ -129,6 +130,14 @@ pub fn requests_for_one_target_wait_for_the_first()
 /// their key, and nowhere else; for any that went forward for that.
 pub fn a_plain_line_waits_for_what_is_missing_alone()
     ensures { PlainLinesWaitForMisses }
+{}
+
+/// Over a line that lets requests wait for what is stale, one that could be sent the answer to
+/// another is sent a response that is held for its key, or a rule keeps it back that looks at the
+/// response: whatever is held by then, and whenever that is. Nothing of its own keeps it back, so
+/// nobody waits for what could not be sent to it.
+pub fn who_waited_is_kept_back_by_the_answer_alone()
+    ensures { WhoWaitedIsKeptBackByTheAnswerAlone }
 {}
 
 /// In a good trace a request that waits does so until the exchange that it waits for has ended, and

@@ -45,7 +45,7 @@ pub use crate::laws::worked_cases::{
     what_a_step_leaves_stored, what_an_answer_gives, what_an_arrival_gives, what_invalidates,
     what_is_made_of_an_answer, what_is_sent_after_a_failure, which_304_was_asked_for,
     which_answers_are_stored, who_waits_for_what_is_stale, who_waits_for_whom,
-    worked_passed_answers, worked_stored_replies,
+    who_would_wait_in_vain, worked_passed_answers, worked_stored_replies,
 };
 pub use crate::laws::{
     a_core_keeps_what_is_held, a_driven_core_keeps_the_promises, a_good_trace_leaves_no_choice,
@@ -57,8 +57,9 @@ pub use crate::laws::{
     each_answer_names_its_first_rule, every_good_trace_has_the_headline,
     no_other_trace_has_the_headline, open_from_arrival_to_end, overtaken_where_invalidated,
     requests_for_one_target_wait_for_the_first, serials_are_counted,
-    what_a_304_freshens_is_kept_where_it_may_be,
+    what_a_304_freshens_is_kept_where_it_may_be, who_waited_is_kept_back_by_the_answer_alone,
 };
+pub use crate::open::awaited::Awaited;
 pub use crate::open::exchange::Exchange;
 pub use crate::open::ids::Ids;
 pub use crate::open::stage::Stage;

@@ -1,6 +1,7 @@
 //! Exchanges that are open: what each keeps, how it is found, and who waits for whom.
 
 pub(crate) mod arrivals_by_key;
+pub(crate) mod awaited;
 pub(crate) mod exchange;
 pub(crate) mod exchanges;
 pub(crate) mod ids;

@@ -34,7 +34,7 @@ left_so (Some key) id xs all = mapped (overtaken_exchange key) (overtake-asked k
 
 woken_so : (table : Table) (es : List Stored) (id now : ℕ) (o : Option Exchange) (xs : List Exchange) → All HasReadRequest xs → All HasReadRequest (exchanges_after_wake table es id now o xs)
 woken_so table es id now None xs all = all
-woken_so table es id now (Some x) xs all = mapped (exchange_sent_forward id now _ _) (sent_out-asked id now _ _) xs all
+woken_so table es id now (Some x) xs all = mapped (exchange_sent_forward id now _ _ _) (sent_out-asked id now _ _ _) xs all
 
 added : (xs : List Exchange) (x : Exchange) → All HasReadRequest xs → RequestWasRead x.asked → All HasReadRequest (xs ++ x ∷ [])
 added xs x all is = All-append HasReadRequest xs (x ∷ []) all (All-cons HasReadRequest x [] (record { is = is }) (All-nil HasReadRequest))

@@ -48,7 +48,7 @@ use Rattle.proxy_core.specs.declared.event.Event.TheVariants.{Arrive, Answer, Fa
 use Rattle.proxy_core.specs.declared.outcome.Outcome.{Outcome}
 use Rattle.proxy_core.specs.declared.outcome.Outcome.TheVariants.{Forward}
 use Rattle.proxy_core.specs.Histories.{held_entries, held_entry, held_serials, next_serial, open_exchanges}
-use Rattle.proxy_core.specs.Leading.{leader_of_request}
+use Rattle.proxy_core.specs.Awaiting.{leader_of_request}
 use Rattle.proxy_core.specs.Outcomes.{outcome_of_allowed_request, outcome_of_answer, outcome_of_arrival, outcome_of_failure, fallback_for, fault_at_exchange, find_exchange, forward_text, exchange_id_of_event, is_error_status, is_only_if_cached, fault_if_not_forwarded, fault_if_not_released, outcome_of, outcome_of_passing_on, outcome_of_passing_on_or_stale, outcome_of_refusal, outcome_of_304, outcome_of_waiting_or_forwarding, serial_of_stored_answer, outcome_without_stored_response, outcome_of_wake}
 use Rattle.proxy_core.specs.Moments.{moment_too_late_fault}
 use Rattle.proxy_core.specs.ReadAnswers.{WasReadFromAStream, EventIsReadFromAStream}
@@ -121,9 +121,9 @@ module _ (table : Table) (es : List Stored) (token : IsToken table.name) (fit : 
     sent_on_one line condition (Some leader) are = tt
     sent_on_one line condition None are = forward_one line condition are
 
-    unanswered_one : (xs : List Exchange) (line : ℕ) (rule : ReuseRule) (against : Option ℕ) (b : Bool) → OutcomeIsOneMessage table.name (is_head asked) (outcome_without_stored_response table xs line now asked rule (condition_about_serial es against) b)
+    unanswered_one : (xs : List Exchange) (line : ℕ) (rule : ReuseRule) (against : Option ℕ) (b : Bool) → OutcomeIsOneMessage table.name (is_head asked) (outcome_without_stored_response table es xs line now asked rule (condition_about_serial es against) b)
     unanswered_one xs line rule against true = refused_one (OnlyIfCached rule)
-    unanswered_one xs line rule against false = sent_on_one line (condition_about_serial es against) (leader_of_request (policy_of table.lines line) xs asked rule) (fit against)
+    unanswered_one xs line rule against false = sent_on_one line (condition_about_serial es against) (leader_of_request (policy_of table.lines line) es xs asked rule) (fit against)
 
     allowed_one : (xs : List Exchange) (line : ℕ) (d : Decision) → serial_used_by_outcome (outcome_of_allowed_request table es xs line now asked d) ≡ None → OutcomeIsOneMessage table.name (is_head asked) (outcome_of_allowed_request table es xs line now asked d)
     allowed_one xs line (decision.Hit serial) unused = never serial unused

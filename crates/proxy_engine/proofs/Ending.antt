@@ -77,7 +77,7 @@ Remains outcomes.Ended id xs ys = (key : Option Key) × (ys ≡ exchanges_after_
 
 answer_remains : (table : Table) (es : List Stored) (xs : List Exchange) (now id : ℕ) (r : Response) (o : Outcome) → is_wait o ≡ false → Remains o id xs (open_exchanges_after table es xs (events.Answer now id r) o)
 answer_remains table es xs now id r (outcomes.Reply reply) n = (key_invalidated_by_response (find_exchange id xs) r, refl)
-answer_remains table es xs now id r (outcomes.Forward line bytes) n = ((λ (x : Exchange). exchange_gone_forward now x.rule None x), record { id = λ x. refl; stage = λ x. refl }, refl)
+answer_remains table es xs now id r (outcomes.Forward line bytes) n = ((λ (x : Exchange). exchange_gone_forward now x.rule x.named None x), record { id = λ x. refl; stage = λ x. refl }, refl)
 answer_remains table es xs now id r (outcomes.Waits leader) n = absurd (cc)
 answer_remains table es xs now id r outcomes.Ended n = (key_invalidated_by_response (find_exchange id xs) r, refl)
 
@@ -86,7 +86,7 @@ wake_remains table es xs now id (outcomes.Reply reply) w there n f = (None, refl
 wake_remains table es xs now id (outcomes.Forward line bytes) None there n f = absurd (cc)
 wake_remains table es xs now id (outcomes.Forward line bytes) (Some x) there n f =
     let d = decision_of (policy_of table.lines x.line) es x.asked now in
-    ((λ (y : Exchange). exchange_gone_forward now (rule_of_decision d) (condition_about_serial es (serial_named_by_decision d)) y), record { id = λ y. refl; stage = λ y. refl }, ap (λ (w : Option Exchange). exchanges_after_wake table es id now w xs) f)
+    ((λ (y : Exchange). exchange_gone_forward now (rule_of_decision d) (serial_named_by_decision d) (condition_about_serial es (serial_named_by_decision d)) y), record { id = λ y. refl; stage = λ y. refl }, ap (λ (w : Option Exchange). exchanges_after_wake table es id now w xs) f)
 wake_remains table es xs now id (outcomes.Waits leader) w there n f = absurd (cc)
 wake_remains table es xs now id outcomes.Ended w there n f = (None, refl)
 

@@ -34,7 +34,8 @@ use Rattle.proxy_core.specs.declared.steps.condition.Condition.{Condition}
 use Rattle.proxy_core.specs.declared.steps.fallback.Fallback.{Fallback}
 use Rattle.proxy_core.specs.declared.steps.fallback.Fallback.TheVariants as fallback
 use Rattle.proxy_core.specs.Validating.{condition_about_serial}
-use Rattle.proxy_core.specs.Leading.{is_forwarded, waits_for, leader_of_request}
+use Rattle.proxy_core.specs.Leading.{is_forwarded, waits_for}
+use Rattle.proxy_core.specs.Awaiting.{leader_of_request}
 use Rattle.proxy_core.specs.Outcomes.{find_exchange, exchange_id_of_event, fault_at_exchange, fallback_for, outcome_of, outcome_of_arrival, outcome_of_allowed_request, outcome_without_stored_response, outcome_of_waiting_or_forwarding, outcome_of_failure, outcome_of_wake, is_only_if_cached}
 use Rattle.proxy_core.specs.Promises.{is_arrival_event, outcome_ends_exchange, outcome_goes_forward}
 use Rattle.proxy_core.specs.Replies.{is_head}
@@ -109,9 +110,9 @@ arrival_tells table es xs now asked (verdict.Allowed line) = by_decision (decisi
     by_leader condition None = refl
     by_leader condition (Some leader) = refl
 
-    by_only : (rule : ReuseRule) (condition : Option Condition) (only : Bool) → is_end (outcome_without_stored_response table xs line now asked rule condition only) ≡ false
+    by_only : (rule : ReuseRule) (condition : Option Condition) (only : Bool) → is_end (outcome_without_stored_response table es xs line now asked rule condition only) ≡ false
     by_only rule condition true = refl
-    by_only rule condition false = by_leader condition (leader_of_request (policy_of table.lines line) xs asked rule)
+    by_only rule condition false = by_leader condition (leader_of_request (policy_of table.lines line) es xs asked rule)
 
     by_decision : (d : Decision) → is_end (outcome_of_allowed_request table es xs line now asked d) ≡ false
     by_decision (decision.Hit serial) = refl

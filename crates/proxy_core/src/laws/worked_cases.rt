@@ -29,7 +29,7 @@ ghost use Rattle.proxy_core.specs.Storing.{stored_response_made, replaced_by, st
 ghost use Rattle.proxy_core.specs.Validating.{condition_about_stored, stored_response_is_answered};
 ghost use Rattle.proxy_core.specs.Validating.{freshened_may_be_kept, is_validation, freshened_by_304};
 ghost use Rattle.hx_validate.specs.Cases.{many_lines};
-ghost use Rattle.proxy_core.specs.Leading.{leader_of_request};
+ghost use Rattle.proxy_core.specs.Awaiting.{leader_of_request};
 ghost use Rattle.proxy_core.specs.Outcomes.{outcome_of_answer, outcome_of_arrival, hit_status_info, fallback_for};
 ghost use Rattle.proxy_core.specs.Outcomes.{fault_at_exchange, forwarded_status_info};
 ghost use Rattle.proxy_core.specs.Outcomes.{is_error_status, outcome_of_passing_on_or_stale, outcome_of_refusal};
@@ -46,7 +46,8 @@ ghost use Rattle.proxy_core.specs.Cases.{key_of_path, wait_for_stale_policy, lin
 ghost use Rattle.proxy_core.specs.Cases.{no_errors_policy, forwarded_over_line_2, post_exchange};
 ghost use Rattle.proxy_core.specs.Cases.{forwarded_on_stale, accept_language, stored_without_lifetime, stored_with};
 ghost use Rattle.proxy_core.specs.Cases.{table, table_with_policy, three_held, etag_field};
-ghost use Rattle.proxy_core.specs.Cases.{vary_field, waiting, forwarded_on_miss};
+ghost use Rattle.proxy_core.specs.Cases.{vary_field, waiting, forwarded_on_miss, forwarded_on_stale_by, stale_with};
+ghost use Rattle.proxy_core.specs.Cases.{stale_held, get_a_if_changed, get_a_with_no_cache, get_a_with_no_store};
 
 /// The stored response of the first run at 130: whole, to HEAD, and to a client that has it (RFC
 /// 9110, section 15.4.5); one that a 304 validated (RFC 9211, section 2.3); one of status 204 (RFC
@@ -288,91 +289,125 @@ pub fn what_is_sent_after_a_failure()
 {}
 
 /// For whom a request waits: for the first GET of its key that went forward since nothing was held,
-/// where it is one as well.
+/// where it is one as well. Over a line without the word nothing else counts.
 pub fn who_waits_for_whom()
-    ensures first { leader_of_request (plain true) (forwarded_on_miss (get_a_with []) ∷ record
+    ensures first { leader_of_request (plain true) [] (forwarded_on_miss (get_a_with []) ∷ record
         (forwarded_on_miss (get_a_with [])) { id = 2 } ∷ []) (get_a_with []) UriMiss
         ≡ Some 1 }
-    ensures a_head { leader_of_request (plain true) (forwarded_on_miss (get_a_with []) ∷ []) head_of_a UriMiss ≡ None }
-    ensures another_rule { leader_of_request (plain true) (forwarded_on_miss (get_a_with []) ∷ [])
+    ensures a_head { leader_of_request (plain true) [] (forwarded_on_miss (get_a_with []) ∷ []) head_of_a UriMiss
+        ≡ None }
+    ensures another_rule { leader_of_request (plain true) [] (forwarded_on_miss (get_a_with []) ∷ [])
         (get_a_with []) VaryMiss ≡ None }
-    ensures another_path { leader_of_request (plain true) (forwarded_on_miss (get_a_with []) ∷ [])
+    ensures another_path { leader_of_request (plain true) [] (forwarded_on_miss (get_a_with []) ∷ [])
         (request_for (codes "GET") (codes "/b") []) UriMiss
         ≡ None }
-    ensures behind_a_head { leader_of_request (plain true) (forwarded_on_miss head_of_a ∷ []) (get_a_with []) UriMiss
+    ensures behind_a_head { leader_of_request (plain true) [] (forwarded_on_miss head_of_a ∷ []) (get_a_with []) UriMiss
         ≡ None }
-    ensures behind_another_rule { leader_of_request (plain true)
-        (record (forwarded_on_miss (get_a_with [])) { rule = NoMaxStale }
-        ∷ []) (get_a_with []) UriMiss ≡ None }
-    ensures behind_one_that_waits { leader_of_request (plain true) (waiting ∷ []) (get_a_with []) UriMiss ≡ None }
-    ensures stale { leader_of_request (plain true) (forwarded_on_stale ∷ []) (get_a_with []) NoMaxStale ≡ None }
-    ensures behind_authorization { leader_of_request (plain true) (forwarded_on_miss get_a_with_authorization ∷ [])
+    ensures behind_another_rule { leader_of_request (plain true) [] (forwarded_on_stale ∷ []) (get_a_with []) UriMiss
+        ≡ None }
+    ensures behind_one_that_waits { leader_of_request (plain true) [] (waiting ∷ []) (get_a_with []) UriMiss ≡ None }
+    ensures stale { leader_of_request (plain true) stale_held (forwarded_on_stale ∷ []) (get_a_with []) NoMaxStale
+        ≡ None }
+    ensures behind_authorization { leader_of_request (plain true) [] (forwarded_on_miss get_a_with_authorization ∷ [])
         (get_a_with []) UriMiss ≡ Some 1 }
-    ensures behind_no_store { leader_of_request (plain true)
-        (forwarded_on_miss (get_a_with (cache_control (codes "no-store") ∷ []))
-        ∷ []) (get_a_with []) UriMiss ≡ Some 1 }
+    ensures behind_no_store { leader_of_request (plain true) [] (forwarded_on_miss get_a_with_no_store ∷ [])
+        (get_a_with []) UriMiss ≡ Some 1 }
+    ensures behind_a_condition { leader_of_request (plain true) [] (forwarded_on_miss get_a_if_changed ∷ [])
+        (get_a_with []) UriMiss ≡ Some 1 }
+    ensures behind_one_overtaken { leader_of_request (plain true) []
+        (record (forwarded_on_miss (get_a_with [])) { overtaken = true } ∷ []) (get_a_with []) UriMiss ≡ Some 1 }
+    ensures with_no_cache { leader_of_request (plain true) [] (forwarded_on_miss (get_a_with []) ∷ [])
+        get_a_with_no_cache UriMiss ≡ Some 1 }
 {}
 
-/// And where its line lets a request wait for what is stale: for the first GET of its key that went
-/// forward since what was held was stale, whatever lets no such response be sent. It waits neither
-/// for one that no-cache or a missing lifetime sends forward, nor by such a rule, nor for one whose
-/// answer may be for itself alone.
+/// And where its line lets a request wait for what is stale: for the first GET of its key whose rule
+/// names the chosen response, whichever rule that is, where that had a lifetime, which is over.
+#[tactic(auto, unfolding(hx_age::specs::Lifetime::lifetime_of))]
 pub fn who_waits_for_what_is_stale()
-    ensures first { leader_of_request wait_for_stale_policy (forwarded_on_stale ∷ record forwarded_on_stale { id = 2 }
-        ∷ []) (get_a_with []) NoMaxStale
+    ensures first { leader_of_request wait_for_stale_policy stale_held (forwarded_on_stale
+        ∷ record forwarded_on_stale { id = 2 } ∷ []) (get_a_with []) NoMaxStale ≡ Some 1 }
+    ensures must_revalidate { leader_of_request wait_for_stale_policy
+        (stale_with (codes "max-age=10, must-revalidate") ∷ []) (forwarded_on_stale ∷ []) (get_a_with []) MustRevalidate
         ≡ Some 1 }
-    ensures must_revalidate { leader_of_request wait_for_stale_policy (forwarded_on_stale ∷ [])
-        (get_a_with []) MustRevalidate ≡ Some 1 }
-    ensures past_max_stale { leader_of_request wait_for_stale_policy (forwarded_on_stale ∷ [])
+    ensures past_max_stale { leader_of_request wait_for_stale_policy stale_held (forwarded_on_stale ∷ [])
         (get_a_with []) PastMaxStale ≡ Some 1 }
-    ensures max_age { leader_of_request wait_for_stale_policy (forwarded_on_stale ∷ []) (get_a_with []) StaleMaxAge
-        ≡ Some 1 }
-    ensures min_fresh { leader_of_request wait_for_stale_policy (forwarded_on_stale ∷ []) (get_a_with []) StaleMinFresh
-        ≡ Some 1 }
-    ensures missing { leader_of_request wait_for_stale_policy (forwarded_on_miss (get_a_with []) ∷ [])
-        (get_a_with []) UriMiss ≡ Some 1 }
-    ensures missing_behind_stale { leader_of_request wait_for_stale_policy (forwarded_on_stale ∷ [])
+    ensures max_age { leader_of_request wait_for_stale_policy stale_held (forwarded_on_stale ∷ [])
+        (get_a_with []) StaleMaxAge ≡ Some 1 }
+    ensures min_fresh { leader_of_request wait_for_stale_policy stale_held (forwarded_on_stale ∷ [])
+        (get_a_with []) StaleMinFresh ≡ Some 1 }
+    ensures behind_no_cache { leader_of_request wait_for_stale_policy stale_held
+        (record (forwarded_on_miss get_a_with_no_cache) { rule = StaleNoCache; named = Some 1 } ∷ []) (get_a_with [])
+        NoMaxStale ≡ Some 1 }
+    ensures stale_behind_missing { leader_of_request wait_for_stale_policy stale_held
+        (forwarded_on_miss (get_a_with []) ∷ []) (get_a_with []) NoMaxStale ≡ None }
+    ensures missing_behind_stale { leader_of_request wait_for_stale_policy [] (forwarded_on_stale ∷ [])
         (get_a_with []) UriMiss ≡ None }
-    ensures stale_behind_missing { leader_of_request wait_for_stale_policy (forwarded_on_miss (get_a_with []) ∷ [])
-        (get_a_with []) NoMaxStale ≡ None }
-    ensures no_lifetime { leader_of_request wait_for_stale_policy (record forwarded_on_stale { rule = NoLifetime }
-        ∷ []) (get_a_with []) NoLifetime
+    ensures no_lifetime { leader_of_request wait_for_stale_policy (stale_with (codes "must-revalidate") ∷ [])
+        (forwarded_on_stale ∷ []) (get_a_with []) MustRevalidate ≡ None }
+    ensures lifetime_of_0 { leader_of_request wait_for_stale_policy
+        (stale_with (codes "public, max-age=0, must-revalidate") ∷ []) (forwarded_on_stale ∷ []) (get_a_with [])
+        MustRevalidate ≡ None }
+    ensures lifetime_of_the_line { leader_of_request (record wait_for_stale_policy { lifetime = Some 10 })
+        (stale_with (codes "must-revalidate") ∷ []) (forwarded_on_stale ∷ []) (get_a_with []) MustRevalidate ≡ Some 1 }
+    ensures never_stated { leader_of_request wait_for_stale_policy (stored_without_lifetime ∷ [])
+        (record forwarded_on_stale { rule = NoLifetime } ∷ []) (get_a_with []) NoLifetime ≡ None }
+    ensures asked_each_time { leader_of_request wait_for_stale_policy
+        (stale_with (codes "max-age=10, no-cache") ∷ []) (record forwarded_on_stale { rule = ResponseNoCache } ∷ [])
+        (get_a_with []) ResponseNoCache ≡ None }
+    ensures stale_no_cache { leader_of_request wait_for_stale_policy stale_held (forwarded_on_stale ∷ [])
+        get_a_with_no_cache StaleNoCache ≡ None }
+    ensures a_head { leader_of_request wait_for_stale_policy stale_held (forwarded_on_stale ∷ []) head_of_a NoMaxStale
         ≡ None }
-    ensures no_cache { leader_of_request wait_for_stale_policy (record forwarded_on_stale { rule = ResponseNoCache }
-        ∷ []) (get_a_with []) ResponseNoCache ≡ None }
-    ensures requests_no_cache { leader_of_request wait_for_stale_policy
-        (record forwarded_on_stale { rule = RequestNoCache }
-        ∷ []) (get_a_with []) RequestNoCache ≡ None }
-    ensures stale_no_cache { leader_of_request wait_for_stale_policy (record forwarded_on_stale { rule = StaleNoCache }
-        ∷ []) (get_a_with []) StaleNoCache ≡ None }
-    ensures a_variant { leader_of_request wait_for_stale_policy (record forwarded_on_stale { rule = VaryMiss } ∷ [])
-        (get_a_with []) VaryMiss ≡ None }
-    ensures a_head { leader_of_request wait_for_stale_policy (forwarded_on_stale ∷ []) head_of_a NoMaxStale ≡ None }
-    ensures behind_a_head { leader_of_request wait_for_stale_policy
-        (record (forwarded_on_miss head_of_a) { rule = NoMaxStale } ∷ []) (get_a_with []) NoMaxStale
-        ≡ None }
-    ensures another_path { leader_of_request wait_for_stale_policy (forwarded_on_stale ∷ [])
-        (request_for (codes "GET") (codes "/b") []) NoMaxStale
-        ≡ None }
-    ensures behind_one_that_waits { leader_of_request wait_for_stale_policy
-        (record forwarded_on_stale { stage = Waiting 7 } ∷ []) (get_a_with [])
-        NoMaxStale ≡ None }
-    ensures behind_one_released { leader_of_request wait_for_stale_policy
-        (record forwarded_on_stale { stage = Released } ∷ []) (get_a_with [])
-        NoMaxStale ≡ None }
-    ensures behind_authorization { leader_of_request wait_for_stale_policy
-        (record (forwarded_on_miss get_a_with_authorization) { rule = NoMaxStale }
-        ∷ []) (get_a_with []) NoMaxStale ≡ None }
-    ensures behind_no_store { leader_of_request wait_for_stale_policy
-        (record (forwarded_on_miss (get_a_with (cache_control (codes "no-store") ∷ []))) { rule = NoMaxStale } ∷ [])
-        (get_a_with []) NoMaxStale ≡ None }
-    ensures missing_behind_authorization { leader_of_request wait_for_stale_policy
-        (forwarded_on_miss get_a_with_authorization ∷ []) (get_a_with []) UriMiss ≡ None }
-    ensures past_authorization { leader_of_request wait_for_stale_policy
-        (record (forwarded_on_miss get_a_with_authorization) { rule = NoMaxStale }
-        ∷ record forwarded_on_stale { id = 2 } ∷ []) (get_a_with []) NoMaxStale ≡ Some 2 }
-    ensures an_authorized_one { leader_of_request wait_for_stale_policy
-        (forwarded_on_stale ∷ []) get_a_with_authorization NoMaxStale ≡ Some 1 }
+    ensures another_path { leader_of_request wait_for_stale_policy stale_held (forwarded_on_stale ∷ [])
+        (request_for (codes "GET") (codes "/b") []) NoMaxStale ≡ None }
+{}
+
+/// Over such a line a request waits for none whose answer could not be sent to it: not for one about
+/// another variant, nor for one with no-store, with a condition of the client's own, of a key that
+/// was invalidated since, or with Authorization where it has none; nor where no-cache keeps all that
+/// is held from it.
+#[tactic(auto, unfolding(hx_age::specs::Lifetime::lifetime_of))]
+pub fn who_would_wait_in_vain()
+    ensures another_variant { leader_of_request wait_for_stale_policy stale_held
+        (record forwarded_on_stale { named = Some 2 } ∷ []) (get_a_with []) NoMaxStale ≡ None }
+    ensures a_missing_variant { leader_of_request wait_for_stale_policy stale_held
+        (record (forwarded_on_miss (get_a_with [])) { rule = VaryMiss } ∷ []) (get_a_with []) VaryMiss ≡ None }
+    ensures behind_a_head { leader_of_request wait_for_stale_policy stale_held
+        (forwarded_on_stale_by head_of_a ∷ []) (get_a_with []) NoMaxStale ≡ None }
+    ensures behind_one_that_waits { leader_of_request wait_for_stale_policy stale_held
+        (record forwarded_on_stale { stage = Waiting 7 } ∷ []) (get_a_with []) NoMaxStale ≡ None }
+    ensures behind_one_released { leader_of_request wait_for_stale_policy stale_held
+        (record forwarded_on_stale { stage = Released } ∷ []) (get_a_with []) NoMaxStale ≡ None }
+    ensures behind_no_store { leader_of_request wait_for_stale_policy stale_held
+        (forwarded_on_stale_by get_a_with_no_store ∷ []) (get_a_with []) NoMaxStale ≡ None }
+    ensures behind_a_condition { leader_of_request wait_for_stale_policy []
+        (forwarded_on_miss get_a_if_changed ∷ []) (get_a_with []) UriMiss ≡ None }
+    ensures behind_a_condition_about_stale { leader_of_request wait_for_stale_policy stale_held
+        (forwarded_on_stale_by get_a_if_changed ∷ []) (get_a_with []) NoMaxStale ≡ None }
+    ensures behind_a_condition_of_the_proxy { leader_of_request wait_for_stale_policy stale_held
+        (record (revalidates_e get_a_if_changed) { rule = NoMaxStale } ∷ []) (get_a_with []) NoMaxStale ≡ Some 1 }
+    ensures behind_one_overtaken { leader_of_request wait_for_stale_policy []
+        (record (forwarded_on_miss (get_a_with [])) { overtaken = true } ∷ []) (get_a_with []) UriMiss ≡ None }
+    ensures behind_authorization { leader_of_request wait_for_stale_policy stale_held
+        (forwarded_on_stale_by get_a_with_authorization ∷ []) (get_a_with []) NoMaxStale ≡ None }
+    ensures with_authorization { leader_of_request wait_for_stale_policy stale_held (forwarded_on_stale ∷ [])
+        get_a_with_authorization NoMaxStale ≡ None }
+    ensures both_with_authorization { leader_of_request wait_for_stale_policy stale_held
+        (forwarded_on_stale_by get_a_with_authorization ∷ []) get_a_with_authorization NoMaxStale ≡ Some 1 }
+    ensures both_with_authorization_at_a_miss { leader_of_request wait_for_stale_policy []
+        (forwarded_on_miss get_a_with_authorization ∷ []) get_a_with_authorization UriMiss ≡ Some 1 }
+    ensures past_authorization { leader_of_request wait_for_stale_policy stale_held
+        (forwarded_on_stale_by get_a_with_authorization ∷ record forwarded_on_stale { id = 2 } ∷ []) (get_a_with [])
+        NoMaxStale ≡ Some 2 }
+    ensures missing { leader_of_request wait_for_stale_policy [] (forwarded_on_miss (get_a_with []) ∷ [])
+        (get_a_with []) UriMiss ≡ Some 1 }
+    ensures no_cache_at_a_miss { leader_of_request wait_for_stale_policy [] (forwarded_on_miss (get_a_with []) ∷ [])
+        get_a_with_no_cache UriMiss ≡ None }
+    ensures no_cache_that_is_not_heeded { leader_of_request (record wait_for_stale_policy { heeds_requests = false })
+        [] (forwarded_on_miss (get_a_with []) ∷ []) get_a_with_no_cache UriMiss ≡ Some 1 }
+    ensures no_cache_about_stale { leader_of_request wait_for_stale_policy
+        (stale_with (codes "max-age=10, must-revalidate") ∷ []) (forwarded_on_stale ∷ []) get_a_with_no_cache
+        MustRevalidate ≡ None }
 {}
 
 /// The faults of steps, the least of those that stand; and the serial behind a serial, while there is one.
@@ -474,22 +509,13 @@ pub fn what_a_step_leaves_open()
     ensures waits { open_exchanges_after table [] (forwarded_on_miss (get_a_with []) ∷ [])
         (Arrive 130 2 (get_a_with [])) (Waits 1)
         ≡ forwarded_on_miss (get_a_with []) ∷ record waiting { request_time = 130 } ∷ [] }
-    ensures for_itself { open_exchanges_after table [] [] (Arrive 130 1 get_a_with_authorization) (Forward 1 [])
-        ≡ record (forwarded_on_miss get_a_with_authorization) { request_time = 130; for_others = false } ∷ [] }
-    ensures for_itself_by_no_store { open_exchanges_after table [] []
-        (Arrive 130 1 (get_a_with (cache_control (codes "no-store") ∷ []))) (Forward 1 [])
-        ≡ record (forwarded_on_miss (get_a_with (cache_control (codes "no-store") ∷ []))) {
-          request_time
-              = 130;
-          for_others = false;
-        } ∷ [] }
-    ensures for_others { open_exchanges_after table [] []
-        (Arrive 130 1 (get_a_with (cache_control (codes "no-cache") ∷ []))) (Forward 1 [])
-        ≡ record (forwarded_on_miss (get_a_with (cache_control (codes "no-cache") ∷ []))) {
-          request_time
-              = 130;
-          for_others = true;
-        } ∷ [] }
+    ensures to_be_stored { open_exchanges_after table [] [] (Arrive 130 1 get_a_with_authorization) (Forward 1 [])
+        ≡ record (forwarded_on_miss get_a_with_authorization) { request_time = 130; no_store = false } ∷ [] }
+    ensures not_to_be_stored { open_exchanges_after table [] [] (Arrive 130 1 get_a_with_no_store) (Forward 1 [])
+        ≡ record (forwarded_on_miss get_a_with_no_store) { request_time = 130; no_store = true } ∷ [] }
+    ensures names_what_is_held { open_exchanges_after table (stored_without_lifetime ∷ []) []
+        (Arrive 130 1 (get_a_with [])) (Forward 1 [])
+        ≡ record (revalidates_e (get_a_with [])) { request_time = 130; named = Some 1 } ∷ [] }
     ensures woken_on { open_exchanges_after table (stored_without_lifetime ∷ []) (record waiting { overtaken = true }
         ∷ []) (Wake 130 2)
         (Forward 1 []) ≡ record (revalidates_e (get_a_with [])) { id = 2; request_time = 130 } ∷ [] }

@@ -17,23 +17,32 @@ pub struct Exchange {
     pub line: u16,
     /// The rule at arrival, or when it was woken. It is named in the answer even if the store has changed since.
     pub rule: ReuseRule,
+    /// The held response that this rule names.
+    pub named: Option<u64>,
     /// When it last went forward, or began to wait, in Unix seconds (RFC 9111, section 4.2.3: request_time).
     pub request_time: u64,
     /// The held response that its latest request asks about, with the proxy's conditions.
     pub condition: Option<Condition>,
     /// Whether its key was invalidated since (RFC 9111, section 4.4).
     pub overtaken: bool,
-    /// Whether nothing in the request keeps what it is answered for itself (RFC 9111, sections 5.2.1.5 and 3.5).
-    pub for_others: bool,
+    /// Whether the request has no-store: its answer isn't stored (RFC 9111, section 5.2.1.5).
+    pub no_store: bool,
     pub stage: Stage,
 }
 
 impl Exchange {
-    /// Its request goes forward, with this rule and these conditions of the proxy.
-    pub(crate) fn go_forward(&mut self, now: u64, rule: ReuseRule, condition: Option<Condition>)
-        ensures { self.new ≡ exchange_gone_forward now rule condition self.old }
+    /// Its request goes forward, with this rule, the held response that it names, and these conditions of the proxy.
+    pub(crate) fn go_forward(
+        &mut self,
+        now: u64,
+        rule: ReuseRule,
+        named: Option<u64>,
+        condition: Option<Condition>,
+    )
+        ensures { self.new ≡ exchange_gone_forward now rule named condition self.old }
     {
         self.rule = rule;
+        self.named = named;
         self.request_time = now;
         self.condition = condition;
         self.overtaken = false;
@@ -67,10 +76,11 @@ impl Drop for Exchange {
             asked: _,
             line: _,
             rule: _,
+            named: _,
             request_time: _,
             condition: _,
             overtaken: _,
-            for_others: _,
+            no_store: _,
             stage: _,
         } = self;
     }

@@ -26,6 +26,7 @@ ghost use Rattle.proxy_core.specs.State.{exchanges_after_close, released_exchang
 ghost use Rattle.proxy_core.specs.State.{exchanges_after_end, exchange_forwarded_again, exchange_sent_forward};
 
 use crate::open::arrivals_by_key::ArrivalsByKey;
+use crate::open::awaited::Awaited;
 use crate::open::exchange::Exchange;
 use crate::open::ids::Ids;
 use crate::open::key_index::KeyIndex;
@@ -33,6 +34,7 @@ use crate::open::leading::{is_released, leads_waiters};
 use crate::open::released::Released;
 use crate::open::wait_index::WaitIndex;
 use crate::steps::condition::Condition;
+use hx_hop::Asked;
 use hx_policy::Policy;
 use hx_reuse::ReuseRule;
 use hx_target::Key;
@@ -130,14 +132,14 @@ impl Exchanges {
         }
     }
 
-    /// The first exchange to arrive for whose answer GETs of this key wait that go forward by this
-    /// rule, over a line of this policy. It looks through the open GETs of that key up to that one,
-    /// which mostly is the first of them.
-    pub(crate) fn leader(&self, policy: Policy, rule: ReuseRule, key: &Key) -> Option<u64>
-        ensures { result ≡ leader policy rule key.now self.now }
+    /// The first exchange to arrive for whose answer a GET waits that could be sent this, over a
+    /// line of this policy. It looks through the open GETs of its key up to that one, which mostly
+    /// is the first of them.
+    pub(crate) fn leader(&self, policy: Policy, awaited: Awaited, asked: &Asked) -> Option<u64>
+        ensures { result ≡ leader policy awaited asked.now self.now }
     {
-        match self.by_key.gets.find(key) {
-            Some(arrivals) => first_to_lead(&self.by_arrival, arrivals, policy, rule, key),
+        match self.by_key.gets.find(&asked.target.key) {
+            Some(arrivals) => first_to_lead(&self.by_arrival, arrivals, policy, awaited, asked),
             None => None,
         }
     }
@@ -203,27 +205,29 @@ impl Exchanges {
         if let Some(arrival) = self.arrivals.get(&id) {
             if let Some(x) = self.by_arrival.get_mut(arrival) {
                 self.waiting.leave(x.stage, *arrival);
-                let rule = x.rule;
-                x.go_forward(now, rule, None);
+                let (rule, named) = (x.rule, x.named);
+                x.go_forward(now, rule, named, None);
                 self.released.settle(&self.by_arrival);
             }
         }
     }
 
-    /// The exchange of an id goes forward with this rule and these conditions, in its place. No memory is taken.
+    /// The exchange of an id goes forward in its place, with this rule, the held response that it names, and these
+    /// conditions. No memory is taken.
     pub(crate) fn send_forward(
         &mut self,
         id: u64,
         now: u64,
         rule: ReuseRule,
+        named: Option<u64>,
         condition: Option<Condition>,
     )
-        ensures { self.new ≡ map (exchange_sent_forward id now rule condition) self.old }
+        ensures { self.new ≡ map (exchange_sent_forward id now rule named condition) self.old }
     {
         if let Some(arrival) = self.arrivals.get(&id) {
             if let Some(x) = self.by_arrival.get_mut(arrival) {
                 self.waiting.leave(x.stage, *arrival);
-                x.go_forward(now, rule, condition);
+                x.go_forward(now, rule, named, condition);
                 self.released.settle(&self.by_arrival);
             }
         }
@@ -347,17 +351,17 @@ fn first_to_lead(
     by_arrival: &BTreeMap<u64, Exchange>,
     arrivals: &BTreeSet<u64>,
     policy: Policy,
-    rule: ReuseRule,
-    key: &Key,
+    awaited: Awaited,
+    asked: &Asked,
 ) -> Option<u64>
-    requires { GetArrivalsPass key.now (contains nat_cmp arrivals.now) by_arrival.now.entries }
-    ensures { result ≡ leader policy rule key.now (values by_arrival.now) }
+    requires { GetArrivalsPass asked.now.target.key (contains nat_cmp arrivals.now) by_arrival.now.entries }
+    ensures { result ≡ leader policy awaited asked.now (values by_arrival.now) }
 {
     // It is said of the length that the numbers ascend.
     let _open = by_arrival.len();
     for arrival in arrivals {
         if let Some(x) = by_arrival.get(arrival) {
-            if leads_waiters(x, policy, rule, key) {
+            if leads_waiters(x, policy, awaited, asked) {
                 return Some(x.id);
             }
         }

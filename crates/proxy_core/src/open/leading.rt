@@ -1,18 +1,20 @@
 //! Which open exchange others wait for.
-ghost use Rattle.std.specs.Prelude.{◌≡◌};
+ghost use Rattle.std.specs.Prelude.{◌≡◌, option_copied, IfOk};
 ghost use Rattle.hx_directives.specs.Occurrences.{occurrences_of};
-ghost use Rattle.proxy_core.specs.Leading.{is_forwarded, is_released, waits_for, is_get, is_uri_miss, has_expired};
-ghost use Rattle.proxy_core.specs.Leading.{can_wait, goes_forward_for_same_reason, may_be_answered_for_others};
-ghost use Rattle.proxy_core.specs.Leading.{may_lead_waiters, leads_waiters};
+ghost use Rattle.proxy_core.specs.Leading.{is_forwarded, is_released, waits_for, is_get, is_uri_miss, has_authorization};
+ghost use Rattle.proxy_core.specs.Leading.{has_no_store, asks_for, sends_clients_condition, may_serve, leads_waiters};
+ghost use Rattle.proxy_core.specs.Awaiting.{has_expired, asks_the_origin, awaited_of_chosen, awaited_by_rule};
 
+use crate::open::awaited::Awaited;
 use crate::open::exchange::Exchange;
 use crate::open::stage::Stage;
 use http::Method;
 use hx_directives::{Directive, Directives};
 use hx_hop::Asked;
 use hx_policy::Policy;
-use hx_reuse::ReuseRule;
-use hx_target::Key;
+use hx_reuse::{ReuseRule, lifetime_under};
+use hx_store::Entry;
+use std::alloc::{AllocError, Global};
 
 /// Whether the request is at the origin.
 pub(crate) fn is_forwarded(stage: Stage) -> bool
@@ -56,7 +58,7 @@ fn is_uri_miss(rule: ReuseRule) -> bool
     matches!(rule, ReuseRule::UriMiss)
 }
 
-/// Whether the chosen response is past its lifetime, and may not be sent so.
+/// Whether the chosen response is stale by this rule, and nothing but its age keeps it back.
 fn has_expired(rule: ReuseRule) -> bool
     ensures { result ≡ has_expired rule }
 {
@@ -70,43 +72,118 @@ fn has_expired(rule: ReuseRule) -> bool
     )
 }
 
-/// Whether a request that goes forward by this rule may wait for another's answer.
-pub(crate) fn can_wait(policy: Policy, rule: ReuseRule) -> bool
-    ensures { result ≡ can_wait policy rule }
+/// What an exchange went forward for is what a request could be sent.
+fn asks_for(exchange: &Exchange, awaited: Awaited) -> bool
+    ensures { result ≡ asks_for awaited exchange.now }
 {
-    is_uri_miss(rule) || (policy.waits_for_stale && has_expired(rule))
+    match awaited {
+        Awaited::Missing => is_uri_miss(exchange.rule),
+        Awaited::Expired(serial) => match exchange.named {
+            Some(named) => named == serial,
+            None => false,
+        },
+    }
 }
 
-/// Whether two go forward for the same reason.
-fn goes_forward_for_same_reason(rule: ReuseRule, other: ReuseRule) -> bool
-    ensures { result ≡ goes_forward_for_same_reason rule other }
+fn has_authorization(asked: &Asked) -> bool
+    ensures { result ≡ has_authorization asked.now }
 {
-    (is_uri_miss(rule) && is_uri_miss(other)) || (has_expired(rule) && has_expired(other))
+    asked.fields.has(b"Authorization")
 }
 
-/// Whether nothing in the request keeps what it is answered for itself: neither no-store nor Authorization (RFC 9111,
-/// sections 5.2.1.5 and 3.5).
-pub(crate) fn may_be_answered_for_others(asked_directives: &Directives, asked: &Asked) -> bool
-    requires { asked_directives.now ≡ occurrences_of asked.now.fields }
-    ensures { result ≡ may_be_answered_for_others asked.now }
+/// Whether a condition of the client's own is at the origin, so that a 304 may be for it alone.
+fn sends_clients_condition(exchange: &Exchange) -> bool
+    ensures { result ≡ sends_clients_condition exchange.now }
 {
-    !asked_directives.has(Directive::NoStore) && !asked.fields.has(b"Authorization")
+    let fields = &exchange.asked.fields;
+    exchange.condition.is_none()
+        && (fields.has(b"If-None-Match") || fields.has(b"If-Modified-Since"))
 }
 
-fn may_lead_waiters(policy: Policy, for_others: bool) -> bool
-    ensures { result ≡ may_lead_waiters policy for_others }
+/// Whether nothing that is known of an exchange keeps its answer from this request.
+fn may_serve(exchange: &Exchange, asked: &Asked) -> bool
+    ensures { result ≡ may_serve asked.now exchange.now }
 {
-    !policy.waits_for_stale || for_others
+    !exchange.no_store
+        && !exchange.overtaken
+        && !sends_clients_condition(exchange)
+        && has_authorization(&exchange.asked) == has_authorization(asked)
 }
 
-/// Whether GETs of this key that go forward by this rule, over a line of this policy, wait for it:
-/// it is one itself, and went forward for the same reason.
-pub(crate) fn leads_waiters(exchange: &Exchange, policy: Policy, rule: ReuseRule, key: &Key) -> bool
-    ensures { result ≡ leads_waiters policy rule key.now exchange.now }
+/// Whether a GET that could be sent this, over a line of this policy, waits for an exchange.
+pub(crate) fn leads_waiters(
+    exchange: &Exchange,
+    policy: Policy,
+    awaited: Awaited,
+    asked: &Asked,
+) -> bool
+    ensures { result ≡ leads_waiters policy awaited asked.now exchange.now }
 {
-    exchange.asked.target.key.is_same(key)
+    exchange.asked.target.key.is_same(&asked.target.key)
         && is_get(&exchange.asked)
-        && goes_forward_for_same_reason(exchange.rule, rule)
         && is_forwarded(exchange.stage)
-        && may_lead_waiters(policy, exchange.for_others)
+        && asks_for(exchange, awaited)
+        && (!policy.waits_for_stale || may_serve(exchange, asked))
+}
+
+/// Whether a request has no-store (RFC 9111, section 5.2.1.5).
+pub(crate) fn has_no_store(asked_directives: &Directives, asked: &Asked) -> bool
+    requires { asked_directives.now ≡ occurrences_of asked.now.fields }
+    ensures { result ≡ has_no_store asked.now }
+{
+    asked_directives.has(Directive::NoStore)
+}
+
+/// Whether a request has no-cache, where the operator's line heeds it.
+fn asks_the_origin(policy: Policy, asked_directives: &Directives, asked: &Asked) -> bool
+    requires { asked_directives.now ≡ occurrences_of asked.now.fields }
+    ensures { result ≡ asks_the_origin policy asked.now }
+{
+    policy.heeds_requests && asked_directives.has(Directive::NoCache)
+}
+
+/// What is awaited of the chosen response, which is stale: it, where it had a lifetime.
+fn awaited_of_chosen(
+    alloc: Global,
+    policy: Policy,
+    chosen: Option<&Entry>,
+) -> Result<Option<Awaited>, AllocError>
+    ensures { IfOk result (λ awaited. awaited ≡ awaited_of_chosen policy (option_copied chosen.entry)) }
+{
+    let Some(entry) = chosen else {
+        return Ok(None);
+    };
+    let directives = Directives::of(alloc, &entry.fields)?;
+    if lifetime_under(policy, entry.status, &entry.fields, &directives).seconds > 0 {
+        Ok(Some(Awaited::Expired(entry.serial)))
+    } else {
+        Ok(None)
+    }
+}
+
+/// What a request could be sent of the answer to another, which this rule keeps from the chosen response.
+pub(crate) fn awaited_of(
+    alloc: Global,
+    policy: Policy,
+    asked: &Asked,
+    asked_directives: &Directives,
+    rule: ReuseRule,
+    chosen: Option<&Entry>,
+) -> Result<Option<Awaited>, AllocError>
+    requires { asked_directives.now ≡ occurrences_of asked.now.fields }
+    ensures { IfOk result (λ awaited. awaited ≡ awaited_by_rule policy (option_copied chosen.entry) asked.now rule) }
+{
+    if !is_get(asked)
+        || (policy.waits_for_stale && asks_the_origin(policy, asked_directives, asked))
+    {
+        return Ok(None);
+    }
+    if is_uri_miss(rule) {
+        return Ok(Some(Awaited::Missing));
+    }
+    if policy.waits_for_stale && has_expired(rule) {
+        awaited_of_chosen(alloc, policy, chosen)
+    } else {
+        Ok(None)
+    }
 }

@@ -4,7 +4,9 @@ ghost use Rattle.hx_directives.specs.Occurrences.{occurrences_of};
 ghost use Rattle.hx_allow.specs.Matching.{policy_of, verdict_of};
 ghost use Rattle.hx_allow.specs.declared.verdicts.Verdict.TheVariants.{Allowed};
 ghost use Rattle.hx_reuse.specs.Rules.{decision_of};
-ghost use Rattle.proxy_core.specs.Leading.{leader_of_request};
+ghost use Rattle.hx_reuse.specs.declared.decision.Decision.TheVariants as decision;
+ghost use Rattle.proxy_core.specs.Leading.{leader_if_awaited};
+ghost use Rattle.proxy_core.specs.Awaiting.{awaited_of};
 ghost use Rattle.proxy_core.specs.Outcomes.{hit_status_info, find_exchange, outcome_of_refusal};
 ghost use Rattle.proxy_core.specs.Outcomes.{outcome_of_allowed_request, outcome_of_waiting_or_forwarding, forward_text};
 ghost use Rattle.proxy_core.specs.Outcomes.{is_only_if_cached};
@@ -15,8 +17,9 @@ ghost use Rattle.proxy_core.specs.State.{StepIsAccepted, StepIsRefusedWith, stat
 use crate::core_fault::CoreFault;
 use crate::core_state::Core;
 use crate::moments::moment_fault;
+use crate::open::awaited::Awaited;
 use crate::open::exchange::Exchange;
-use crate::open::leading::{can_wait, is_get, may_be_answered_for_others};
+use crate::open::leading::{awaited_of, has_no_store};
 use crate::open::stage::Stage;
 use crate::outcome::Outcome;
 use crate::replies::stored_reply::CacheStatusInfo;
@@ -120,31 +123,51 @@ impl<S: Shelf> Core<S> {
                     let pending = refuse(alloc, now, Cause::OnlyIfCached(rule), asked)?;
                     return Ok(pending.into_outcome());
                 }
+                let awaited = self.awaited(alloc, now, asked, &directives, policy, rule, named)?;
                 let exchange = Exchange {
                     id,
                     asked: asked.copy(alloc)?,
                     line,
                     rule,
+                    named,
                     request_time: now,
                     condition: condition_about_serial(alloc, &self.shelf, named)?,
                     overtaken: false,
-                    for_others: may_be_answered_for_others(&directives, asked),
+                    no_store: has_no_store(&directives, asked),
                     stage: Stage::Forwarded,
                 };
-                self.wait_or_forward(alloc, policy, exchange)
+                self.wait_or_forward(alloc, policy, awaited, exchange)
             }
         }
     }
 
-    /// The open exchange for whose answer a request waits, which a rule keeps from the store.
-    fn leader_for(&self, policy: Policy, asked: &Asked, rule: ReuseRule) -> Option<u64>
-        ensures { result ≡ leader_of_request policy self.now.exchanges asked.now rule }
+    /// What a request could be sent of the answer to another, which a rule keeps from the response that it names.
+    fn awaited(
+        &self,
+        alloc: Global,
+        now: u64,
+        asked: &Asked,
+        directives: &Directives,
+        policy: Policy,
+        rule: ReuseRule,
+        named: Option<u64>,
+    ) -> Result<Option<Awaited>, AllocError>
+        requires directives { directives.now ≡ occurrences_of asked.now.fields }
+        requires decided { decision_of policy self.now.entries asked.now now ≡ decision.Forward rule named }
+        ensures { IfOk result (λ awaited. awaited ≡ awaited_of policy self.now.entries asked.now rule) }
     {
-        if is_get(asked) && can_wait(policy, rule) {
-            self.exchanges.leader(policy, rule, &asked.target.key)
-        } else {
-            None
-        }
+        let chosen = match named {
+            Some(serial) => self.shelf.peek(serial),
+            None => None,
+        };
+        awaited_of(alloc, policy, asked, directives, rule, chosen)
+    }
+
+    /// The open exchange for whose answer a request waits.
+    fn leader_for(&self, policy: Policy, awaited: Option<Awaited>, asked: &Asked) -> Option<u64>
+        ensures { result ≡ leader_if_awaited policy asked.now self.now.exchanges awaited }
+    {
+        self.exchanges.leader(policy, awaited?, asked)
     }
 
     /// The exchange of a request opens, which waits or goes forward.
@@ -152,21 +175,22 @@ impl<S: Shelf> Core<S> {
         &mut self,
         alloc: Global,
         policy: Policy,
+        awaited: Option<Awaited>,
         exchange: Exchange,
     ) -> Result<Outcome, AllocError>
         requires free { find_exchange exchange.id self.old.exchanges ≡ None }
         requires stage { exchange.stage ≡ Forwarded }
         ensures outcome { IfOk result
             (λ outcome. outcome ≡ outcome_of_waiting_or_forwarding self.old.table exchange.line exchange.asked
-            exchange.condition (leader_of_request policy self.old.exchanges exchange.asked exchange.rule)) }
+            exchange.condition (leader_if_awaited policy exchange.asked self.old.exchanges awaited)) }
         ensures after { OnOk result (self.new ≡ record self.old {
           exchanges = self.old.exchanges
               ++ exchange_with_leader
-              (leader_of_request policy self.old.exchanges exchange.asked exchange.rule) exchange ∷ [];
+              (leader_if_awaited policy exchange.asked self.old.exchanges awaited) exchange ∷ [];
         }) }
         ensures unchanged { OnErr result (self.new ≡ self.old) }
     {
-        match self.leader_for(policy, &exchange.asked, exchange.rule) {
+        match self.leader_for(policy, awaited, &exchange.asked) {
             Some(leader) => {
                 let mut waiting = exchange;
                 waiting.stage = Stage::Waiting(leader);

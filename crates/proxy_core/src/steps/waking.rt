@@ -29,8 +29,8 @@ use std::alloc::{AllocError, Global};
 pub(crate) enum AfterWake {
     /// A stored response is sent.
     Ends(PendingReply),
-    /// The request goes forward, with this rule and these conditions of the proxy.
-    GoesOut(ReuseRule, Option<Condition>, Bytes),
+    /// The request goes forward, with this rule, the held response that it names, and these conditions of the proxy.
+    GoesOut(ReuseRule, Option<u64>, Option<Condition>, Bytes),
 }
 
 impl<S: Shelf> Core<S> {
@@ -56,7 +56,7 @@ impl<S: Shelf> Core<S> {
             Decision::Forward(rule, named) => {
                 let condition = condition_about_serial(alloc, &self.shelf, named)?;
                 let bytes = forward_text(alloc, &self.config, asked, condition.as_ref())?;
-                Ok(AfterWake::GoesOut(rule, condition, bytes))
+                Ok(AfterWake::GoesOut(rule, named, condition, bytes))
             }
         }
     }
@@ -72,8 +72,8 @@ impl<S: Shelf> Core<S> {
         let line = x.line;
         match self.follow_wake(alloc, x, now)? {
             AfterWake::Ends(pending) => Ok(self.finish(id, pending, None)?),
-            AfterWake::GoesOut(rule, condition, bytes) => {
-                self.exchanges.send_forward(id, now, rule, condition);
+            AfterWake::GoesOut(rule, named, condition, bytes) => {
+                self.exchanges.send_forward(id, now, rule, named, condition);
                 Ok(Outcome::Forward(line, bytes))
             }
         }

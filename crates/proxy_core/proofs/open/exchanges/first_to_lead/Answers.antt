@@ -5,29 +5,28 @@ use Rattle.proxy_core.proofs.open.exchanges.first_to_lead.Goals as goal
 pub loop-arrival-init : goal.loop-arrival-init
 loop-arrival-init c =
     let es = c.args.by_arrival.now.entries in
-    let key = c.args.key.now in
     let gives = c.into_iter-arrival-iterator.ensures.into_iter_gives in
-    subst (λ ns. LeadersLeft c.args.policy c.args.rule key ns es) (sym gives.0) (leaders c.args.policy c.args.rule key c.args.arrivals.now.keys es gives.4 c.requires)
+    subst (λ ns. LeadersLeft c.args.policy c.args.awaited c.args.asked.now ns es) (sym gives.0) (leaders c.args.policy c.args.awaited c.args.asked.now c.args.arrivals.now.keys es gives.4 c.requires)
 
 pub returns-then-leads_waiters : goal.returns-then-leads_waiters
 returns-then-leads_waiters c =
     let es = c.args.by_arrival.now.entries in
-    it_leads c.args.policy c.args.rule c.args.key.now c.in-Some.arrival.now c.in-Some-get.x.now c.next.new.self es c.len-open.ensures.ordered c.in-Some-get.ensures.value
-    (sym c.leads_waiters.ensures ∙ c.if-leads_waiters.true) (subst (λ ns. LeadersLeft c.args.policy c.args.rule c.args.key.now ns es) c.in-Some.ensures.steps c.loop-arrival.invariant)
+    it_leads c.args.policy c.args.awaited c.args.asked.now c.in-Some.arrival.now c.in-Some-get.x.now c.next.new.self es c.len-open.ensures.ordered c.in-Some-get.ensures.value
+    (sym c.leads_waiters.ensures ∙ c.if-leads_waiters.true) (subst (λ ns. LeadersLeft c.args.policy c.args.awaited c.args.asked.now ns es) c.in-Some.ensures.steps c.loop-arrival.invariant)
 
 pub loop-arrival-preserved-else-leads_waiters : goal.loop-arrival-preserved-else-leads_waiters
 loop-arrival-preserved-else-leads_waiters c =
     let es = c.args.by_arrival.now.entries in
-    not_leading c.args.policy c.args.rule c.args.key.now c.in-Some.arrival.now c.in-Some-get.x.now c.next.new.self es c.len-open.ensures.ordered c.in-Some-get.ensures.value
-    (sym c.leads_waiters.ensures ∙ c.if-leads_waiters.false) (subst (λ ns. LeadersLeft c.args.policy c.args.rule c.args.key.now ns es) c.in-Some.ensures.steps c.loop-arrival.invariant)
+    not_leading c.args.policy c.args.awaited c.args.asked.now c.in-Some.arrival.now c.in-Some-get.x.now c.next.new.self es c.len-open.ensures.ordered c.in-Some-get.ensures.value
+    (sym c.leads_waiters.ensures ∙ c.if-leads_waiters.false) (subst (λ ns. LeadersLeft c.args.policy c.args.awaited c.args.asked.now ns es) c.in-Some.ensures.steps c.loop-arrival.invariant)
 
 pub loop-arrival-preserved : goal.loop-arrival-preserved
 loop-arrival-preserved c =
     let es = c.args.by_arrival.now.entries in
-    not_open c.args.policy c.args.rule c.args.key.now c.in-Some.arrival.now c.next.new.self es c.in_default.ensures.value
-    (subst (λ ns. LeadersLeft c.args.policy c.args.rule c.args.key.now ns es) c.in-Some.ensures.steps c.loop-arrival.invariant)
+    not_open c.args.policy c.args.awaited c.args.asked.now c.in-Some.arrival.now c.next.new.self es c.in_default.ensures.value
+    (subst (λ ns. LeadersLeft c.args.policy c.args.awaited c.args.asked.now ns es) c.in-Some.ensures.steps c.loop-arrival.invariant)
 
 pub returns : goal.returns
 returns c =
     let es = c.args.by_arrival.now.entries in
-    sym (none_leads c.args.policy c.args.rule c.args.key.now es (subst (λ ns. LeadersLeft c.args.policy c.args.rule c.args.key.now ns es) c.in-None.ensures.steps.0 c.loop-arrival.invariant))
+    sym (none_leads c.args.policy c.args.awaited c.args.asked.now es (subst (λ ns. LeadersLeft c.args.policy c.args.awaited c.args.asked.now ns es) c.in-None.ensures.steps.0 c.loop-arrival.invariant))

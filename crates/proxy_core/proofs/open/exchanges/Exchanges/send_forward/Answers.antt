@@ -19,43 +19,43 @@ use Rattle.proxy_core.proofs.open.exchanges.Exchanges.send_forward.Goals as goal
 pub settle-requires : goal.settle-requires
 settle-requires c =
     let s = c.self.inside in
-    let is : (c.get_mut.follows.lender c.go_forward.new.self).entries ≡ map_exchanges (exchange_sent_forward c.args.id c.args.now c.args.rule c.args.condition) c.self.inside.by_arrival.entries =
+    let is : (c.get_mut.follows.lender c.go_forward.new.self).entries ≡ map_exchanges (exchange_sent_forward c.args.id c.args.now c.args.rule c.args.named c.args.condition) c.self.inside.by_arrival.entries =
     (c.get_mut.follows.holds c.go_forward.new.self).0
-    ∙ sent_written c.args.id c.args.now c.args.rule c.args.condition c.in-Some.arrival.now c.in-Some-get_mut.x.now c.go_forward.new.self c.self.inside.by_arrival.entries (λ id. get nat_cmp c.self.inside.arrivals id) c.self.invariant.indexes.ids
+    ∙ sent_written c.args.id c.args.now c.args.rule c.args.named c.args.condition c.in-Some.arrival.now c.in-Some-get_mut.x.now c.go_forward.new.self c.self.inside.by_arrival.entries (λ id. get nat_cmp c.self.inside.arrivals id) c.self.invariant.indexes.ids
     c.in-Some.ensures.value c.in-Some-get_mut.ensures.value c.go_forward.ensures in
     subst (ReleasedArrivalsPass (may_be_released s.released)) (sym is)
-    (pass-changed (may_be_released s.released) (exchange_sent_forward c.args.id c.args.now c.args.rule c.args.condition) (released-sent c.args.id c.args.now c.args.rule c.args.condition) s.by_arrival.entries c.self.invariant.releases.within)
+    (pass-changed (may_be_released s.released) (exchange_sent_forward c.args.id c.args.now c.args.rule c.args.named c.args.condition) (released-sent c.args.id c.args.now c.args.rule c.args.named c.args.condition) s.by_arrival.entries c.self.invariant.releases.within)
 
 pub invariant_of-self : goal.invariant_of-self
 invariant_of-self c =
     let s = c.self.inside in
-    let is : (c.get_mut.follows.lender c.go_forward.new.self).entries ≡ map_exchanges (exchange_sent_forward c.args.id c.args.now c.args.rule c.args.condition) c.self.inside.by_arrival.entries =
+    let is : (c.get_mut.follows.lender c.go_forward.new.self).entries ≡ map_exchanges (exchange_sent_forward c.args.id c.args.now c.args.rule c.args.named c.args.condition) c.self.inside.by_arrival.entries =
     (c.get_mut.follows.holds c.go_forward.new.self).0
-    ∙ sent_written c.args.id c.args.now c.args.rule c.args.condition c.in-Some.arrival.now c.in-Some-get_mut.x.now c.go_forward.new.self c.self.inside.by_arrival.entries (λ id. get nat_cmp c.self.inside.arrivals id) c.self.invariant.indexes.ids
+    ∙ sent_written c.args.id c.args.now c.args.rule c.args.named c.args.condition c.in-Some.arrival.now c.in-Some-get_mut.x.now c.go_forward.new.self c.self.inside.by_arrival.entries (λ id. get nat_cmp c.self.inside.arrivals id) c.self.invariant.indexes.ids
     c.in-Some.ensures.value c.in-Some-get_mut.ensures.value c.go_forward.ensures in
     record {
       indexes = record {
         ids = subst (λ (zs : List (ℕ × Exchange)). IsIdIndexOf zs (λ id. get nat_cmp s.arrivals id)) (sym is)
-            (indexed_on_all (exchange_sent_forward c.args.id c.args.now c.args.rule c.args.condition) (sent_out-id c.args.id c.args.now c.args.rule c.args.condition) s.by_arrival.entries _ c.self.invariant.indexes.ids);
+            (indexed_on_all (exchange_sent_forward c.args.id c.args.now c.args.rule c.args.named c.args.condition) (sent_out-id c.args.id c.args.now c.args.rule c.args.named c.args.condition) s.by_arrival.entries _ c.self.invariant.indexes.ids);
         waiters = subst (AllIndexed c.leave.new.self) (sym (c.get_mut.follows.holds c.go_forward.new.self).0)
             (waiters-written c.in-Some.arrival.now c.in-Some-get_mut.x.now c.go_forward.new.self s.by_arrival.entries s.waiting c.leave.new.self (sym c.in-Some-get_mut.ensures.value)
             (ap (λ (x : Exchange). is_forwarded x.stage) c.go_forward.ensures) c.leave.ensures.left c.self.invariant.indexes.waiters);
       };
       releases = c.settle.ensures.settled;
-      asking = subst (TellsAllByKey s.by_key) (sym is) (asked-on_all (exchange_sent_forward c.args.id c.args.now c.args.rule c.args.condition) (sent_out-asked c.args.id c.args.now c.args.rule c.args.condition) s.by_arrival.entries s.by_key c.self.invariant.asking);
+      asking = subst (TellsAllByKey s.by_key) (sym is) (asked-on_all (exchange_sent_forward c.args.id c.args.now c.args.rule c.args.named c.args.condition) (sent_out-asked c.args.id c.args.now c.args.rule c.args.named c.args.condition) s.by_arrival.entries s.by_key c.self.invariant.asking);
       trim_waits = c.leave.ensures.trim c.self.invariant.trim_waits;
       trim_keys = c.self.invariant.trim_keys;
     }
 
 pub returns-in-Some-get_mut : goal.returns-in-Some-get_mut
 returns-in-Some-get_mut c =
-    let is : (c.get_mut.follows.lender c.go_forward.new.self).entries ≡ map_exchanges (exchange_sent_forward c.args.id c.args.now c.args.rule c.args.condition) c.self.inside.by_arrival.entries =
+    let is : (c.get_mut.follows.lender c.go_forward.new.self).entries ≡ map_exchanges (exchange_sent_forward c.args.id c.args.now c.args.rule c.args.named c.args.condition) c.self.inside.by_arrival.entries =
     (c.get_mut.follows.holds c.go_forward.new.self).0
-    ∙ sent_written c.args.id c.args.now c.args.rule c.args.condition c.in-Some.arrival.now c.in-Some-get_mut.x.now c.go_forward.new.self c.self.inside.by_arrival.entries (λ id. get nat_cmp c.self.inside.arrivals id) c.self.invariant.indexes.ids
+    ∙ sent_written c.args.id c.args.now c.args.rule c.args.named c.args.condition c.in-Some.arrival.now c.in-Some-get_mut.x.now c.go_forward.new.self c.self.inside.by_arrival.entries (λ id. get nat_cmp c.self.inside.arrivals id) c.self.invariant.indexes.ids
     c.in-Some.ensures.value c.in-Some-get_mut.ensures.value c.go_forward.ensures in
     ap values_of is
-    ∙ (values_on_all (exchange_sent_forward c.args.id c.args.now c.args.rule c.args.condition) c.self.inside.by_arrival.entries
-    ∙ ap (map (exchange_sent_forward c.args.id c.args.now c.args.rule c.args.condition)) c.self.view_is)
+    ∙ (values_on_all (exchange_sent_forward c.args.id c.args.now c.args.rule c.args.named c.args.condition) c.self.inside.by_arrival.entries
+    ∙ ap (map (exchange_sent_forward c.args.id c.args.now c.args.rule c.args.named c.args.condition)) c.self.view_is)
 
 pub returns-in_default-get_mut : goal.returns-in_default-get_mut
 returns-in_default-get_mut c =
@@ -68,10 +68,10 @@ pub returns-in_default : goal.returns-in_default
 returns-in_default c =
     let es = c.self.inside.by_arrival.entries in
     let id = c.args.id in
-    let f : Exchange → Exchange = exchange_sent_forward id c.args.now c.args.rule c.args.condition in
+    let f : Exchange → Exchange = exchange_sent_forward id c.args.now c.args.rule c.args.named c.args.condition in
     let none : arrival_of id es ≡ None = sym (c.self.invariant.indexes.ids.indexed id) ∙ sym c.in_default.ensures.value in
     sym c.self.view_is
-    ∙ (ap values_of (sym (same_all id f (sent_out-others id c.args.now c.args.rule c.args.condition) es none))
+    ∙ (ap values_of (sym (same_all id f (sent_out-others id c.args.now c.args.rule c.args.named c.args.condition) es none))
     ∙ (values_on_all f es ∙ ap (map f) c.self.view_is))
 
 pub invariant_of-self-in_default-get_mut : goal.invariant_of-self-in_default-get_mut
