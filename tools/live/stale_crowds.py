@@ -13,7 +13,9 @@ from live.told_words import TOOLS, told
 from live.waiting import READ, asking
 
 WAITS, ERROR = {"wait": "missing-or-stale"}, {"stale-if-error": 600}
-STALE, TAG = "Cache-Control: max-age=0", 'ETag: "v1"'
+TAG = 'ETag: "v1"'
+# (an earlier cache has had it for all of its second)
+STALE = ["Cache-Control: max-age=1", "Age: 1", TAG]
 WENT, VALIDATED = "edge;fwd=stale", "edge;fwd=stale;fwd-status=304;ttl=60"
 STORED, COLLAPSED = "edge;fwd=stale;ttl=60;stored", "edge;fwd=stale;ttl=60;collapsed"
 # What sends a page forward whose lifetime is over, and whose origin fails.
@@ -22,7 +24,7 @@ KEPT_BACK = "fwd=stale;stale-if-error=no-directive"
 
 def before_a_stale_page(stage, words, *lines):
     """A proxy that holds a page whose lifetime is over, by a line of these words, and its origin."""
-    client, origin = by_words(stage, words, {"/a": whole(200, *(lines or (STALE, TAG)), content=b"old")})
+    client, origin = by_words(stage, words, {"/a": whole(200, *(lines or STALE), content=b"old")})
     expect("status", 200, client.ask("/a").status)
     expect_asked(origin, 1)
     return stage.proxies[-1], origin
@@ -49,12 +51,12 @@ def expect_waiting(clients, seconds=READ):
 def a_crowd_at_an_expired_page_asks_its_origin_once(stage):
     """RFC 9111, 4, and `wait = "missing-or-stale"`: of a hundred GETs for a page whose second is over one goes to the
     origin, with the page's tag. Its 304 answers all; so does a 200 that is stored, with its own content."""
-    for lifetime, seconds, answer, member, content in (
-        (SECOND, PAST_A_SECOND, whole(304, MINUTE, TAG), VALIDATED, b"old"),
+    for lines, seconds, answer, member, content in (
+        ([SECOND, TAG], PAST_A_SECOND, whole(304, MINUTE, TAG), VALIDATED, b"old"),
         (STALE, 0, whole(200, MINUTE, 'ETag: "v2"', content=b"new"), STORED, b"new"),
     ):
         go = threading.Event()
-        proxy, origin = before_a_stale_page(stage, WAITS, lifetime, TAG)
+        proxy, origin = before_a_stale_page(stage, WAITS, *lines)
         origin.answers["/a"] = held_back(go, answer)
         time.sleep(seconds)
         clients = asking(proxy, 100, "/a")
@@ -90,7 +92,7 @@ def each_line_says_whether_its_gets_wait(stage):
     """One line with the word and one without: at a stale page five ask as one by the first, and as five by the second.
     What is missing is waited for by both."""
     go, pages = threading.Event(), ("/waits/a", "/plain/a")
-    origin = stage.origin(Origin({it: whole(200, STALE, TAG, content=b"old") for it in pages}))
+    origin = stage.origin(Origin({it: whole(200, *STALE, content=b"old") for it in pages}))
     proxy = stage.proxy(("/waits", ["*"], origin.address, WAITS), ("/", ["*"], origin.address), version=3)
     for it in pages:
         expect("status", 200, proxy.client().ask(it).status)
@@ -139,11 +141,11 @@ def a_crowd_goes_on_behind_what_is_not_stored(stage):
 
 @scenario
 def a_crowd_goes_on_behind_what_is_stale_at_once(stage):
-    """A 304 that gives no lifetime: it answers the first alone. Each other is validated by itself, and waits no second
+    """A 304 that gives a lifetime of 0: it answers the first alone. Each other is validated by itself, and waits no second
     time."""
     go = threading.Event()
     proxy, origin = before_a_stale_page(stage, WAITS)
-    origin.answers["/a"] = held_back(go, whole(304, TAG))
+    origin.answers["/a"] = held_back(go, whole(304, "Cache-Control: max-age=0", TAG))
     clients = asking(proxy, 10, "/a")
     expect_asked(origin, 2, " so far")
     go.set()
@@ -154,8 +156,8 @@ def a_crowd_goes_on_behind_what_is_stale_at_once(stage):
 
 @scenario
 def what_is_for_one_alone_leads_nobody(stage):
-    """RFC 9111, 3.5 and 5.2.1.5: behind a GET with Authorization or no-store nobody waits by a line with the word,
-    neither for a stale page nor for a missing one. The next one leads, also who has Authorization itself."""
+    """RFC 9111, 3.5 and 5.2.1.5: behind a GET with Authorization or no-store no other waits by a line with the word,
+    neither for a stale page nor for a missing one. The next one leads."""
     targets = {"/a": WENT, "/new": MISS}
     for line in ("Authorization: Basic eDp5", "Cache-Control: no-store"):
         go, rest = threading.Event(), threading.Event()
@@ -171,7 +173,7 @@ def what_is_for_one_alone_leads_nobody(stage):
         others = {it: [sent(proxy, it)] for it in targets}
         origin.wait_for(1 + 2 + 2)
         for it, some in others.items():
-            some += sent(proxy, it), sent(proxy, it, "Authorization: Basic eDp5")
+            some += sent(proxy, it), sent(proxy, it)
         expect_waiting([it for some in others.values() for it in some])
         expect_asked(origin, 1 + 2 + 2, " so far")
         go.set()
@@ -183,6 +185,23 @@ def what_is_for_one_alone_leads_nobody(stage):
             for one, word in zip(others[it], ("stored", "collapsed", "collapsed")):
                 expect_answer(one.response(), 200, f"{went};ttl=60;{word}", b"new")
         expect_asked(origin, 1 + 2 + 2)
+
+
+@scenario
+def those_with_authorization_wait_for_each_other(stage):
+    """By a line with the word one of three GETs with Authorization goes to the origin, and `public` lets the others be
+    sent its answer (RFC 9111, 3.5)."""
+    go, words = threading.Event(), "Authorization: Basic eDp5"
+    answers = {"/new": held_back(go, whole(200, f"{MINUTE}, public", content=b"new"))}
+    client, origin = by_words(stage, WAITS, answers)
+    client.send(request("/new", words))
+    origin.wait_for(1)
+    others = [sent(stage.proxies[-1], "/new", words) for _ in range(2)]
+    expect_waiting([client, *others])
+    go.set()
+    for it, word in zip((client, *others), ("stored", "collapsed", "collapsed")):
+        expect_answer(it.response(), 200, f"{MISS};ttl=60;{word}", b"new")
+    expect_asked(origin, 1)
 
 
 @scenario
@@ -236,7 +255,7 @@ def a_stale_page_stands_in_for_each_of_a_crowd(stage):
         expect_asked(origin, 2, " so far")
         go.set()
         for it in clients:
-            expect_stale(it.response(), 0, status, b"old")
+            expect_stale(it.response(), 1, status, b"old")
         expect_asked(origin, 1 + 10)
 
 
@@ -245,7 +264,7 @@ def a_crowd_outlasts_a_silent_origin(stage):
     """A silent origin keeps a crowd until the first one's time-out, and each other until its own behind that: 504, or
     the stale page by `stale-if-error`."""
     pages = {"/a": WAITS, "/b": {**WAITS, **ERROR}}
-    origin = stage.origin(Origin({it: whole(200, STALE, TAG, content=b"old") for it in pages}))
+    origin = stage.origin(Origin({it: whole(200, *STALE, content=b"old") for it in pages}))
     lines = [(path, ["*"], origin.address, words) for path, words in pages.items()]
     # (three and more time out in a row, which is warned of when the second is over)
     stage.lines = range(2)
@@ -256,7 +275,7 @@ def a_crowd_outlasts_a_silent_origin(stage):
     began, clients = time.monotonic(), {it: asking(proxy, 3, it) for it in pages}
     for place, count in enumerate((1, 2, 2)):
         expect_refusal(clients["/a"][place].response(), 504, f"origin timed-out;{KEPT_BACK}")
-        expect_stale(clients["/b"][place].response(), 0, None, b"old")
+        expect_stale(clients["/b"][place].response(), 1, None, b"old")
         expect_within("both answers", count * SHORT, count * LATEST, time.monotonic() - began)
     expect_asked(origin, 2 + 2 * 3)
 
@@ -321,11 +340,10 @@ BESIDE = [
     ("/no-cache", [f"{KEPT}, no-cache", TAG], [], [], [f"{WENT};detail=response-no-cache"] * 2),
     ("/no-lifetime", [TAG], [], [], [f"{WENT};detail=no-lifetime"] * 2),
     ("/fresh", [KEPT, TAG], [NO_CACHE], [NO_CACHE], ["edge;fwd=request;detail=no-cache"] * 2),
-    ("/stale", [STALE, TAG], [NO_CACHE], [NO_CACHE], [f"{WENT};detail=no-cache"] * 2),
-    ("/behind-no-cache", [STALE, TAG], [NO_CACHE], [], [f"{WENT};detail=no-cache", WENT]),
-    ("/reload", [STALE, TAG], [], [NO_CACHE], [WENT, f"{WENT};detail=no-cache"]),
-    ("/variants", [STALE, TAG, "Vary: X"], [], ["X: 1"], [WENT, "edge;fwd=vary-miss"]),
-    ("/range", [STALE, TAG], [], ["Range: bytes=0-1"], [WENT, "edge;fwd=bypass;detail=range"]),
+    ("/stale", STALE, [NO_CACHE], [NO_CACHE], [f"{WENT};detail=no-cache"] * 2),
+    ("/reload", STALE, [], [NO_CACHE], [WENT, f"{WENT};detail=no-cache"]),
+    ("/variants", [*STALE, "Vary: X"], [], ["X: 1"], [WENT, "edge;fwd=vary-miss"]),
+    ("/range", STALE, [], ["Range: bytes=0-1"], [WENT, "edge;fwd=bypass;detail=range"]),
 ]
 
 
@@ -353,7 +371,7 @@ def what_is_asked_by_each_anew_makes_nobody_wait(stage):
     expect_refusal(answer, 504, "only-if-cached;fwd=stale")
     expect_within("the answer to only-if-cached", 0, AT_ONCE, seconds)
     answer, seconds = timed(proxy.client(), "/reload", "Cache-Control: max-stale")
-    expect_answer(answer, 200, f"edge;hit;ttl={-int(answer.value('Age'))}", b"old")
+    expect_answer(answer, 200, f"edge;hit;ttl={1 - int(answer.value('Age'))}", b"old")
     expect_within("the answer to max-stale", 0, AT_ONCE, seconds)
     go.set()
     for it, member in clients:

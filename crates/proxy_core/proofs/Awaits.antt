@@ -5,16 +5,13 @@ use Rattle.std.proofs.lemmas.Bool.{false≢true}
 use Rattle.std.proofs.lemmas.Option.{same_Some}
 use Rattle.hx_fields.specs.declared.field_line.Field.{Field}
 use Rattle.hx_fields.specs.FieldLines.{has_field as has_line}
-use Rattle.hx_fields.proofs.JoinedTests.{below, is_below, under_not, first_absent, last_absent, not_first, second_false, not_false, not_true}
+use Rattle.hx_fields.proofs.JoinedTests.{below, is_below, first_absent, last_absent, not_first, second_false, not_true}
 use Rattle.hx_policy.specs.declared.words.Policy.{Policy}
 use Rattle.hx_policy.specs.Policies.{given_lifetime}
 use Rattle.hx_directives.specs.Occurrences.{occurrences_of}
-use Rattle.hx_directives.specs.Seconds.{capped}
 use Rattle.hx_directives.specs.Answers.{directive_occurs, seconds_of_directive}
 use Rattle.hx_directives.specs.declared.names.Directive.TheVariants as directive
-use Rattle.hx_age.specs.declared.lifetimes.Lifetime.{Lifetime}
 use Rattle.hx_age.specs.Lifetime.{lifetime_of, explicit_lifetime, stated_seconds, until_expires}
-use Rattle.hx_age.specs.Age.{age_of, is_fresh_of}
 use Rattle.hx_hop.specs.declared.request_view.Asked.{Asked}
 use Rattle.hx_store.specs.Stored.{Stored}
 use Rattle.hx_store.specs.Serials.{Distinct}
@@ -28,7 +25,6 @@ use Rattle.hx_reuse.specs.Rules.{Situation, rule_condition, reuse_rule_applies, 
 use Rattle.hx_reuse.specs.ChosenAndNamed.{IsLeastReuseRule, RuleNamesTheResponse}
 use Rattle.hx_reuse.specs.declared.rule.ReuseRule.{ReuseRule}
 use Rattle.hx_reuse.specs.declared.rule.ReuseRule.TheVariants as rules
-use Rattle.hx_reuse.specs.declared.decision.Decision.{Decision}
 use Rattle.hx_reuse.specs.declared.decision.Decision.TheVariants as decision
 use Rattle.hx_reuse.proofs.MeaningLemmas.{forwards, names_the_least}
 use Rattle.proxy_core.specs.declared.open.awaited.Awaited.{Awaited}

@@ -1,5 +1,5 @@
 -- Of the open exchanges the first that leads, and that none does.
-use Rattle.std.proofs.Common.{◌≡◌, ℕ, Bool, true, false, cond, ◌&&◌, Option, None, Some, List, [], ◌∷◌, ◌++◌, refl, sym, ◌∙◌, ap}
+use Rattle.std.proofs.Common.{◌≡◌, ℕ, Bool, true, false, cond, Option, None, Some, List, [], ◌∷◌, ◌++◌, refl, sym, ◌∙◌, ap}
 use Rattle.std.proofs.lemmas.Option.{same_Some}
 use Rattle.hx_policy.specs.declared.words.Policy.{Policy}
 use Rattle.hx_store.specs.Stored.{Stored}

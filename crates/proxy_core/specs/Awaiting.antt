@@ -5,7 +5,8 @@
 -- awaited_of: the same by the first rule against what is held
 -- leader_of_request: the exchange for which a request waits
 -- WhoWaitedIsKeptBackByTheAnswerAlone: nobody waits in vain, but by what the answer says
-use Rattle.std.specs.Prelude.{◌≡◌, ◌⊎◌, ℕ, ◌<◌, ◌&&◌, ◌||◌, nat_lt, not, Bool, true, false, List, Option, Some, None, cond}
+use Rattle.std.specs.Prelude.{◌≡◌, ◌⊎◌, ℕ, ◌<◌, ◌&&◌, ◌||◌, nat_lt, not, Bool, true, false, List, Option, Some}
+use Rattle.std.specs.Prelude.{None, cond}
 use Rattle.std.specs.Option.{option_and_then}
 use Rattle.std.specs.List.{Contains}
 use Rattle.hx_target.specs.Keys.{same_key}

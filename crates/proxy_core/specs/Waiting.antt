@@ -117,7 +117,8 @@ OnlyOneGoesForwardForKey = (table : Table) (limit first line : ℕ) (awaited : A
     (between before : List Item) →
     IsGoodHistory table limit first (later ∷ (between ++ earlier ∷ before))
     → later.event ≡ Arrive now id asked → later.outcome ≡ Forward line bytes
-    → RequestAwaits (policy_of table.lines line) (held_entries table limit (between ++ earlier ∷ before)) asked now awaited
+    → RequestAwaits (policy_of table.lines line) (held_entries table limit (between ++ earlier ∷ before)) asked now
+    awaited
     → (went : RequestGoesOutBy table limit rule named earlier before)
     → is_get went.asked ≡ true → same_key went.asked.target.key asked.target.key ≡ true
     → went_for awaited rule named ≡ true
