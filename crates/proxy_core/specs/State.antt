@@ -187,7 +187,8 @@ exchange_gone_forward now rule named condition x =
 
 -- that of an id does
 abbrev pub exchange_sent_forward : ℕ → ℕ → ReuseRule → Option ℕ → Option Condition → Exchange → Exchange
-exchange_sent_forward id now rule named condition x = cond (x.id == id) (exchange_gone_forward now rule named condition x) x
+exchange_sent_forward id now rule named condition x =
+    cond (x.id == id) (exchange_gone_forward now rule named condition x) x
 
 -- that of an id goes forward once more: the client's own request, with the rule that it has
 abbrev pub exchange_forwarded_again : ℕ → ℕ → Exchange → Exchange

@@ -11,12 +11,13 @@ use Rattle.proxy_core.specs.Validating.{condition_about_serial}
 use Rattle.proxy_core.specs.Outcomes.{outcome_of_wake, forward_text}
 use Rattle.proxy_core.specs.Pending.{outcome_of_pending_reply, ChangeStoresNothing}
 
--- a reply that sends what is held, or the rule, what it names, the conditions and the bytes with which the request goes forward
+-- a reply that sends what is held, or the rule, what it names, the conditions and the bytes with which the request goes
+-- forward
 abbrev pub IsPreparedForWake : Table → List Stored → ℕ → Exchange → Decision → AfterWake → Type 0
 IsPreparedForWake table es now x (decision.Hit serial) (Ends p) =
     (outcome_of_pending_reply p ≡ outcome_of_wake table es now x (decision.Hit serial)) × ChangeStoresNothing p.change
 IsPreparedForWake table es now x (decision.Forward rule against) (GoesOut q named condition bytes) =
-    (q ≡ rule) × (named ≡ against) × (condition ≡ condition_about_serial es against) × (bytes ≡ forward_text table x.asked
-    (condition_about_serial es against))
+    (q ≡ rule) × (named ≡ against) × (condition ≡ condition_about_serial es against)
+    × (bytes ≡ forward_text table x.asked (condition_about_serial es against))
 IsPreparedForWake table es now x (decision.Hit serial) (GoesOut q named condition bytes) = ⊥
 IsPreparedForWake table es now x (decision.Forward rule against) (Ends p) = ⊥
