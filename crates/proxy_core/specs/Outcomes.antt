@@ -101,8 +101,8 @@ outcome_of_waiting_or_forwarding table line asked condition (Some leader) = Wait
 outcome_of_waiting_or_forwarding table line asked condition None = Forward line (forward_text table asked condition)
 
 -- a rule keeps each stored response back
-abbrev pub outcome_without_stored_response : Table → List Stored → List Exchange → ℕ → ℕ → Asked → ReuseRule → Option Condition
-    → Bool → Outcome
+abbrev pub outcome_without_stored_response : Table → List Stored → List Exchange → ℕ → ℕ → Asked → ReuseRule
+    → Option Condition → Bool → Outcome
 outcome_without_stored_response table es xs line now asked rule condition true = outcome_of_refusal now
     (OnlyIfCached rule) asked
 outcome_without_stored_response table es xs line now asked rule condition false =

@@ -183,7 +183,14 @@ exchange_with_leader (Some leader) x = record x { stage = Waiting leader }
 -- conditions of the proxy
 abbrev pub exchange_gone_forward : ℕ → ReuseRule → Option ℕ → Option Condition → Exchange → Exchange
 exchange_gone_forward now rule named condition x =
-    record x { rule = rule; named = named; request_time = now; condition = condition; overtaken = false; stage = Forwarded }
+    record x {
+      rule = rule;
+      named = named;
+      request_time = now;
+      condition = condition;
+      overtaken = false;
+      stage = Forwarded;
+    }
 
 -- that of an id does
 abbrev pub exchange_sent_forward : ℕ → ℕ → ReuseRule → Option ℕ → Option Condition → Exchange → Exchange

@@ -2,7 +2,8 @@
 ghost use Rattle.std.specs.Prelude.{◌≡◌, option_copied, IfOk};
 ghost use Rattle.hx_directives.specs.Occurrences.{occurrences_of};
 ghost use Rattle.proxy_core.specs.Leading.{is_forwarded, is_released, waits_for, is_get, is_uri_miss};
-ghost use Rattle.proxy_core.specs.Leading.{has_authorization, has_no_store, asks_for, sends_clients_condition, may_serve, leads_waiters};
+ghost use Rattle.proxy_core.specs.Leading.{has_authorization, has_no_store, asks_for, sends_clients_condition};
+ghost use Rattle.proxy_core.specs.Leading.{may_serve, leads_waiters};
 ghost use Rattle.proxy_core.specs.Awaiting.{has_expired, asks_the_origin, awaited_of_chosen, awaited_by_rule};
 
 use crate::open::awaited::Awaited;
