@@ -24,7 +24,7 @@ use Rattle.proxy_turn.specs.OverSteps.{TurnOverStepsAreExecuted}
 use Rattle.proxy_turn.specs.declared.bounds.TurnBounds.{TurnBounds}
 use Rattle.proxy_turn.specs.declared.report.Report.{Report}
 use Rattle.proxy_turn.specs.declared.report.TurnFault.{TurnFault}
-use Rattle.proxy_turn.specs.Served.{initial_model_of, EngineExecuted, steps_of_taking, IsLostEnd, TurnIsServedBehindLosses, steps_of_served_turn, NoLossIsALossList, OneLossIsTaken, LossesAreTakenTransitively, EngineGoesOnByLosses, TurnIsServedByLossesAndTurn, NewEngineIsReachable, EngineGoesOnByNothing, EngineGoesOnTransitively, EngineGoesOnByHappening, EngineGoesOnByTurn, ReachableEngineStaysReachable, ReachableEngineIsServing, TurnExecutesItsSteps, ExecutedEngineIsServing, EngineKeepsItsTable}
+use Rattle.proxy_turn.specs.Served.{initial_model_of, EngineExecuted, steps_of_taking, IsLostEnd, TurnIsServedBehindLosses, steps_of_served_turn, NoLossIsALossList, OneLossIsTaken, LossesAreTakenTransitively, LossesAreTakenOneAfterAnother, LossesKeepOrder, EngineGoesOnByLosses, TurnIsServedByLossesAndTurn, NewEngineIsReachable, EngineGoesOnByNothing, EngineGoesOnTransitively, EngineGoesOnByHappening, EngineGoesOnByTurn, ReachableEngineStaysReachable, ReachableEngineIsServing, TurnExecutesItsSteps, ExecutedEngineIsServing, EngineKeepsItsTable}
 use Rattle.proxy_turn.proofs.Stepping.{executes_on}
 
 -- ---- the table and the room of the store stay
@@ -126,18 +126,24 @@ one_is_lost e new h loss taken s represents =
     let took = taken s represents in
     record { lost = h ∷ []; are_losses = (loss, tt); after = model_after_happening s h; takes = (s, refl, (took.free, refl)); represents = took.represents }
 
+pub both_are_lost : LossesAreTakenOneAfterAnother
+both_are_lost s mid new one other = (
+  record {
+    lost = one.lost ++ other.lost;
+    are_losses = both_losses one.lost other.lost one.are_losses other.are_losses;
+    after = other.after;
+    takes = subst (λ (steps : List ExecutionStep). StepsLead s steps other.after) (sym (take_both one.lost other.lost []))
+        (takes_live other.lost s (steps_of_taking one.lost []) one.after other.after one.takes other.takes);
+    represents = other.represents;
+  },
+  refl,
+  refl,
+)
+
 pub more_are_lost : LossesAreTakenTransitively
 more_are_lost e mid new first rest s represents =
     let one = first s represents in
-    let other = rest one.after one.represents in
-    record {
-      lost = one.lost ++ other.lost;
-      are_losses = both_losses one.lost other.lost one.are_losses other.are_losses;
-      after = other.after;
-      takes = subst (λ (steps : List ExecutionStep). StepsLead s steps other.after) (sym (take_both one.lost other.lost []))
-          (takes_live other.lost s (steps_of_taking one.lost []) one.after other.after one.takes other.takes);
-      represents = other.represents;
-    }
+    (both_are_lost s mid new one (rest one.after one.represents)).0
 
 pub losses_go_on : EngineGoesOnByLosses
 losses_go_on e new loses s represents orderly =
@@ -148,6 +154,10 @@ executes_orderly : HappeningKeepsOrder → ActKeepsOrder → (s : EngineModel) (
 executes_orderly takes acts s [] t h here = subst ModelIsOrderly (sym here) h
 executes_orderly takes acts s (Took said ∷ past) t h executes = subst ModelIsOrderly (sym executes.2.1) (takes executes.0 said (executes_orderly takes acts s past executes.0 h executes.1))
 executes_orderly takes acts s (Worked now act emitted ∷ past) t h executes = (acts executes.0 now act emitted t (executes_orderly takes acts s past executes.0 h executes.1) executes.2.0 executes.2.1).0
+
+pub losses_keep_order : HappeningKeepsOrder → ActKeepsOrder → LossesKeepOrder
+losses_keep_order takes acts s e losses orderly =
+    executes_orderly takes acts s (steps_of_taking losses.lost []) losses.after orderly losses.takes
 
 pub turns_are_served : HappeningKeepsOrder → ActKeepsOrder → TurnIsServedByLossesAndTurn
 turns_are_served takes acts e mid new now bounds given left before after emitted loses turns s represents orderly =

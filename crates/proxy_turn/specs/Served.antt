@@ -6,7 +6,7 @@
 -- steps_of_taking, IsLostEnd, LossesAreTaken, EngineTakesLosses: ends that were lost
 -- TurnIsServedBehindLosses, steps_of_served_turn: a turn behind them, and its steps
 -- NewEngineIsReachable and what follows it: the laws
-use Rattle.std.specs.Prelude.{◌≡◌, ℕ, List, [], ◌∷◌, Result}
+use Rattle.std.specs.Prelude.{◌≡◌, ℕ, List, [], ◌∷◌, ◌++◌, Result}
 use Rattle.std.specs.List.{AllByRecursion}
 use Rattle.hx_allow.specs.TableLines.{Table}
 use Rattle.proxy_core.specs.Traces.{initial_state as core_begun}
@@ -172,6 +172,17 @@ OneLossIsTaken = (e new : State) (h : PlainHappening) → IsLostEnd h → ((s : 
 abbrev pub LossesAreTakenTransitively : Type 0
 LossesAreTakenTransitively = (e mid new : State) → EngineTakesLosses e mid → EngineTakesLosses mid new
     → EngineTakesLosses e new
+
+-- and what they lose is what the ones lost, and then the others
+abbrev pub LossesAreTakenOneAfterAnother : Type 0
+LossesAreTakenOneAfterAnother =
+    (s : EngineModel) (mid new : State) (one : LossesAreTaken s mid) (other : LossesAreTaken one.after new)
+    → (both : LossesAreTaken s new) × (both.lost ≡ one.lost ++ other.lost) × (both.after ≡ other.after)
+
+-- what was in order is so behind them
+abbrev pub LossesKeepOrder : Type 0
+LossesKeepOrder = (s : EngineModel) (e : State) (losses : LossesAreTaken s e) → ModelIsOrderly s
+    → ModelIsOrderly losses.after
 
 -- it lives on
 abbrev pub EngineGoesOnByLosses : Type 0

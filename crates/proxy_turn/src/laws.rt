@@ -2,6 +2,7 @@
 ghost use Rattle.proxy_turn.specs.TurnSteps.{TurnStepsAreExecuted, TurnStepsEmitTheirEffects};
 ghost use Rattle.proxy_turn.specs.OverSteps.{TurnOverStepsAreExecuted, TurnOverStepsEmitTheirEffects};
 ghost use Rattle.proxy_turn.specs.Served.{NoLossIsALossList, OneLossIsTaken, LossesAreTakenTransitively};
+ghost use Rattle.proxy_turn.specs.Served.{LossesAreTakenOneAfterAnother, LossesKeepOrder};
 ghost use Rattle.proxy_turn.specs.Served.{EngineGoesOnByLosses, TurnIsServedByLossesAndTurn};
 ghost use Rattle.proxy_turn.specs.Served.{NewEngineIsReachable, EngineGoesOnByNothing, EngineGoesOnTransitively};
 ghost use Rattle.proxy_turn.specs.Served.{EngineGoesOnByHappening, EngineGoesOnByTurn, ReachableEngineStaysReachable};
@@ -26,6 +27,8 @@ pub fn a_turn_is_served_behind_losses()
     ensures none { NoLossIsALossList }
     ensures one { OneLossIsTaken }
     ensures more { LossesAreTakenTransitively }
+    ensures joined { LossesAreTakenOneAfterAnother }
+    ensures order { LossesKeepOrder }
     ensures on { EngineGoesOnByLosses }
     ensures served { TurnIsServedByLossesAndTurn }
 {
