@@ -7,7 +7,7 @@ use Rattle.proxy_turn.specs.Calls.{Call, ReadOutcome, accept_outcome_of}
 use Rattle.proxy_script.specs.Happenings.{PlainHappening as Happening}
 use Rattle.proxy_turn.specs.Turn.{happening_of_read}
 use Rattle.proxy_record.specs.Records.{Record}
-use Rattle.proxy_record.specs.Recorded.{CallsArePassedOn, passed_on_of_one_call, happening_of_call, HappeningIfAnyIsNoted, is_recording, call_gave_something, end_gave_something, may_be_taken_while_recording, TurnIsNoted, was_recording_before}
+use Rattle.proxy_record.specs.Recorded.{CallsArePassedOn, passed_on_of_one_call, happening_of_call, HappeningIfAnyIsNoted, CallIsNoted, record_ends, is_recording, call_gave_something, may_be_taken_while_recording, TurnIsNoted, was_recording_before, call_was_recorded}
 
 pub passes_it : (failed : Bool) (made : Call) → CallsArePassedOn failed (made ∷ []) (made ∷ [])
 passes_it failed made = passed_on_of_one_call failed made (made ∷ []) (inl refl)
@@ -25,6 +25,13 @@ pub passes_none : (failed came : Bool) (n : ℕ) → came ≡ false → CallsAre
 passes_none failed true n is = absurd cc
 passes_none failed false n is = passes_it failed (call.Accept n call.NoneCame)
 
+-- none was asked for
+pub passes_nobody : (failed : Bool) (n : ℕ) → CallsArePassedOn failed (call.Accept n call.NoneCame ∷ []) []
+passes_nobody failed n = passed_on_of_one_call failed (call.Accept n call.NoneCame) [] (inr (inl refl))
+
+pub passes_unread : (failed : Bool) (end : End) → CallsArePassedOn failed (call.Read end call.Nothing ∷ []) []
+passes_unread failed end = passed_on_of_one_call failed (call.Read end call.Nothing) [] (inr (inl refl))
+
 pub passes_nothing : (failed : Bool) (end : End) (given : ReadOutcome) → failed ≡ true → CallsArePassedOn failed (call.Read end call.Nothing ∷ []) (call.Read end given ∷ [])
 passes_nothing failed end given is = passed_on_of_one_call failed (call.Read end call.Nothing) (call.Read end given ∷ []) (inr (inr (is, given, refl)))
 
@@ -35,23 +42,27 @@ may_be_first false true true may is = absurd (false≢true may)
 may_be_first false true false may is = absurd (false≢true is)
 may_be_first true taken recording may is = absurd (false≢true may)
 
-noted_call : (now : ℕ) (old : Option Record) (taken : Bool) (made : Call) (then : ℕ) (new : Option Record) (later : Bool) → then ≡ now → HappeningIfAnyIsNoted now (happening_of_call made) old new → (is_recording new ≡ true → (call_gave_something made ≡ true → taken ≡ false)) → later ≡ cond (end_gave_something made) true taken → TurnIsNoted now old taken (made ∷ []) then new later
-noted_call now old taken made then new later stays noted first is = record { stays = stays; notes = (new, noted, refl); takes = λ writes. (first writes, is) }
+noted_call : (now : ℕ) (old : Option Record) (taken : Bool) (made : Call) (then : ℕ) (new : Option Record) (later : Bool) → then ≡ now → CallIsNoted now made old new → (is_recording new ≡ true → (call_gave_something made ≡ true → taken ≡ false)) → later ≡ cond (call_gave_something made) true taken → TurnIsNoted now old taken (made ∷ []) then new later
+noted_call now old taken made then new later stays noted first is = record {
+  stays = stays;
+  notes = (new, noted, refl);
+  takes = λ writes. (first writes, is);
+  whole = λ writes. ((call_was_recorded now made old new noted writes).0, tt);
+}
 
 -- a call by which nothing can arrive, as it is told
-pub noted_reported : (now : ℕ) (old : Option Record) (taken : Bool) (call : Bool → Call) (done reported : Bool) (then : ℕ) (new : Option Record) (later : Bool) → ((b : Bool) → call_gave_something (call b) ≡ false) → ((b : Bool) → end_gave_something (call b) ≡ false) → reported ≡ done → then ≡ now → HappeningIfAnyIsNoted now (happening_of_call (call done)) old new → later ≡ taken → TurnIsNoted now old taken (call reported ∷ []) then new later
-noted_reported now old taken call done reported then new later arrives gives is stays noted same =
+pub noted_reported : (now : ℕ) (old : Option Record) (taken : Bool) (call : Bool → Call) (done reported : Bool) (then : ℕ) (new : Option Record) (later : Bool) → ((b : Bool) → call_gave_something (call b) ≡ false) → ((b : Bool) → new ≡ cond b old (record_ends old) → CallIsNoted now (call b) old new) → reported ≡ done → then ≡ now → new ≡ cond done old (record_ends old) → later ≡ taken → TurnIsNoted now old taken (call reported ∷ []) then new later
+noted_reported now old taken call done reported then new later gives ends is stays noted same =
     noted_call now old taken (call reported) then new later stays
-    (subst (λ (b : Bool). HappeningIfAnyIsNoted now (happening_of_call (call b)) old new) (sym is) noted)
-    (λ writes arrived. absurd (true≢false (sym arrived ∙ arrives reported)))
+    (ends reported (subst (λ (b : Bool). new ≡ cond b old (record_ends old)) (sym is) noted))
+    (λ writes arrived. absurd (true≢false (sym arrived ∙ gives reported)))
     (subst (λ (b : Bool). later ≡ cond b true taken) (sym (gives reported)) same)
 
 -- nothing came of it
-pub noted_nothing : (now : ℕ) (old : Option Record) (taken : Bool) (made : Call) → happening_of_call made ≡ None → call_gave_something made ≡ false → end_gave_something made ≡ false → TurnIsNoted now old taken (made ∷ []) now old taken
-noted_nothing now old taken made says arrives gives =
-    noted_call now old taken made now old taken refl
-    (subst (λ h. HappeningIfAnyIsNoted now h old old) (sym says) refl)
-    (λ writes arrived. absurd (true≢false (sym arrived ∙ arrives)))
+pub noted_nothing : (now : ℕ) (old : Option Record) (taken : Bool) (made : Call) → CallIsNoted now made old old → call_gave_something made ≡ false → TurnIsNoted now old taken (made ∷ []) now old taken
+noted_nothing now old taken made noted gives =
+    noted_call now old taken made now old taken refl noted
+    (λ writes arrived. absurd (true≢false (sym arrived ∙ gives)))
     (subst (λ (b : Bool). taken ≡ cond b true taken) (sym gives) refl)
 
 pub noted_read : (now : ℕ) (old : Option Record) (failed taken : Bool) (end : End) (given : ReadOutcome) (then : ℕ) (new : Option Record) (later : Bool) → then ≡ now → may_be_taken_while_recording failed taken (is_recording old) ≡ true → HappeningIfAnyIsNoted now (happening_of_read end given) old new → later ≡ cond (is_some (happening_of_read end given)) true taken → TurnIsNoted now old taken (call.Read end given ∷ []) then new later
@@ -60,7 +71,7 @@ noted_read now old failed taken end given then new later stays may noted is =
     (λ writes arrived. may_be_first failed taken (is_recording old) may (was_recording_before now (happening_of_read end given) old new noted writes))
     is
 
-pub noted_came : (now : ℕ) (old : Option Record) (failed taken : Bool) (n : ℕ) (reported : Bool) (then : ℕ) (new : Option Record) (later : Bool) → reported ≡ true → then ≡ now → may_be_taken_while_recording failed taken (is_recording old) ≡ true → HappeningIfAnyIsNoted now (happening_of_call (call.Accept n call.Came)) old new → later ≡ taken → TurnIsNoted now old taken (call.Accept n (accept_outcome_of (Ok reported)) ∷ []) then new later
+pub noted_came : (now : ℕ) (old : Option Record) (failed taken : Bool) (n : ℕ) (reported : Bool) (then : ℕ) (new : Option Record) (later : Bool) → reported ≡ true → then ≡ now → may_be_taken_while_recording failed taken (is_recording old) ≡ true → HappeningIfAnyIsNoted now (happening_of_call (call.Accept n call.Came)) old new → later ≡ true → TurnIsNoted now old taken (call.Accept n (accept_outcome_of (Ok reported)) ∷ []) then new later
 noted_came now old failed taken n false then new later reported stays may noted is = absurd (false≢true reported)
 noted_came now old failed taken n true then new later reported stays may noted is =
     noted_call now old taken (call.Accept n call.Came) then new later stays noted

@@ -9,7 +9,7 @@ use Rattle.proxy_script.specs.Script.{PlainItem as Item, Table, Moment, Happens,
 use Rattle.proxy_script.specs.Happenings.{PlainHappening as Happening}
 use Rattle.proxy_script.specs.Happenings as happening
 use Rattle.proxy_script.specs.declared.limits.TheConstants.{MOST_SCRIPT_BYTES}
-use Rattle.proxy_record.specs.Records.{Record, TextIsAdded, has_room, text_added, empty_record, items_of_happening, text_of_items, RecordBegins, HappeningIsNoted, NotedHappening, EachIsNoted, items_of_noted, script_of_noted, HasSpelling, IsRecordOfNoted}
+use Rattle.proxy_record.specs.Records.{Record, TextIsAdded, has_room, text_added, empty_record, items_of_happening, text_of_items, RecordBegins, ended_record, RecordMayEnd, HappeningIsNoted, NotedHappening, IsNotedOrEnds, items_of_noted, script_of_noted, HasSpelling, IsRecordOfNoted}
 
 -- what a text that had room, or had none, made of a record
 abbrev HadRoom : Bool → Record → List ℕ → ℕ → Record → Type 0
@@ -26,16 +26,21 @@ record Kept (r new : Record) : Type 0 where
   len : new.len ≡ r.len
   over : new.over ≡ true
 
+kept_as_it_is : (r new : Record) → r.over ≡ true → RecordMayEnd r new → Kept r new
+kept_as_it_is r new over (inl same) = subst (Kept r) (sym same) (record { held = Appends-nil r.held; len = refl; over = over })
+kept_as_it_is r new over (inr ends) = subst (Kept r) (sym ends) (record { held = Appends-nil r.held; len = refl; over = refl })
+
 -- nothing is added to a record that has ended
-kept_over : (r : Record) (all_noted : List NotedHappening) (new : Record) → r.over ≡ true → EachIsNoted r all_noted new → Kept r new
-kept_over r [] new over same = subst (Kept r) (sym same) (record { held = Appends-nil r.held; len = refl; over = over })
-kept_over r (one ∷ more) new over noted =
-    let first = had_room false r (text_of_items (items_of_happening r.moment one.moment one.happening)) one.moment noted.0 (none_where_over r _ over) noted.1 in
-    let first_len : noted.0.len ≡ r.len + 0 = first.1 in
-    let rest = kept_over noted.0 more new first.3 noted.2 in
+kept_over : (r : Record) (all_noted : List NotedHappening) (new : Record) → r.over ≡ true → IsNotedOrEnds r all_noted new → Kept r new
+kept_over r [] new over same = kept_as_it_is r new over same
+kept_over r (one ∷ more) new over (begun, may_end, mid, happens, noted) =
+    let still = kept_as_it_is r begun over may_end in
+    let first = had_room false begun (text_of_items (items_of_happening begun.moment one.moment one.happening)) one.moment mid (none_where_over begun _ still.over) happens in
+    let first_len : mid.len ≡ begun.len + 0 = first.1 in
+    let rest = kept_over mid more new first.3 noted in
     record {
-      held = Appends-trans _ _ _ [] [] first.0 rest.held;
-      len = omega (arith, rest.len, first_len);
+      held = Appends-trans _ _ _ [] [] still.held (Appends-trans _ _ _ [] [] first.0 rest.held);
+      len = omega (arith, rest.len, first_len, still.len);
       over = rest.over;
     }
 
@@ -52,41 +57,59 @@ texts : (xs ys : List Item) → text_of_items (xs ++ ys) ≡ text_of_items xs ++
 texts [] ys = refl
 texts (x ∷ xs) ys = ap (λ (t : List ℕ). item_spelling x ++ t) (texts xs ys) ∙ sym (append_assoc (item_spelling x) (text_of_items xs) (text_of_items ys))
 
-grew : (r : Record) (all_noted : List NotedHappening) (new : Record) → r.over ≡ false → EachIsNoted r all_noted new → Grew r all_noted new
-grew r [] new going same = subst (Grew r []) (sym same) (record { front = []; rest = []; split = refl; all = λ is. refl; held = Appends-nil r.held; len = omega arith })
-grew r (one ∷ more) new going noted = elim (cases_Bool (has_room r (text_of_items (items_of_happening r.moment one.moment one.happening)))) [
+nothing_more : (r new : Record) → RecordMayEnd r new → Grew r [] new
+nothing_more r new (inl same) = subst (Grew r []) (sym same) (record { front = []; rest = []; split = refl; all = λ is. refl; held = Appends-nil r.held; len = omega arith })
+nothing_more r new (inr ends) = subst (Grew r []) (sym ends) (record { front = []; rest = []; split = refl; all = λ is. refl; held = Appends-nil r.held; len = omega arith })
+
+-- what comes behind the end of a record isn't in it
+grew_none : (r : Record) (all_noted : List NotedHappening) (new : Record) → Kept r new → Grew r all_noted new
+grew_none r all_noted new kept = record {
+  front = [];
+  rest = all_noted;
+  split = refl;
+  all = λ is. absurd (true≢false (sym kept.over ∙ is));
+  held = kept.held;
+  len = omega (arith, kept.len);
+}
+
+grew : (r : Record) (all_noted : List NotedHappening) (new : Record) → r.over ≡ false → IsNotedOrEnds r all_noted new → Grew r all_noted new
+grew r [] new going same = nothing_more r new same
+grew r (one ∷ more) new going (begun, inr ends, mid, happens, noted) =
+    let over : begun.over ≡ true = ap (λ (b : Record). b.over) ends in
+    let kept = subst (λ (b : Record). Kept b new) ends (kept_over begun (one ∷ more) new over (begun, inl refl, mid, happens, noted)) in
+    grew_none r (one ∷ more) new (record { held = kept.held; len = kept.len; over = kept.over })
+grew r (one ∷ more) new going (begun, inl same, mid, happened, noted) = elim (cases_Bool (has_room r (text_of_items (items_of_happening r.moment one.moment one.happening)))) [
   | inl room ↦
+      let happens : HappeningIsNoted r one.moment one.happening mid = subst (λ (b : Record). HappeningIsNoted b one.moment one.happening mid) same happened in
       let text = text_of_items (items_of_happening r.moment one.moment one.happening) in
-      let first = had_room true r text one.moment noted.0 room noted.1 in
-      let first_len : noted.0.len ≡ r.len + length text = first.1 in
-      let rest = grew noted.0 more new first.3 noted.2 in
-      let behind : text_of_items (items_of_noted noted.0.moment rest.front) ≡ text_of_items (items_of_noted one.moment rest.front) = ap (λ (m : ℕ). text_of_items (items_of_noted m rest.front)) first.2 in
-      let whole : text_of_items (items_of_noted r.moment (one ∷ rest.front)) ≡ text ++ text_of_items (items_of_noted noted.0.moment rest.front) =
+      let first = had_room true r text one.moment mid room happens in
+      let first_len : mid.len ≡ r.len + length text = first.1 in
+      let rest = grew mid more new first.3 noted in
+      let behind : text_of_items (items_of_noted mid.moment rest.front) ≡ text_of_items (items_of_noted one.moment rest.front) = ap (λ (m : ℕ). text_of_items (items_of_noted m rest.front)) first.2 in
+      let whole : text_of_items (items_of_noted r.moment (one ∷ rest.front)) ≡ text ++ text_of_items (items_of_noted mid.moment rest.front) =
       texts (items_of_happening r.moment one.moment one.happening) (items_of_noted one.moment rest.front) ∙ ap (λ (t : List ℕ). text ++ t) (sym behind) in
       record {
         front = one ∷ rest.front;
         rest = rest.rest;
         split = ap (λ (ts : List NotedHappening). one ∷ ts) rest.split;
         all = rest.all;
-        held = subst (Appends r.held new.held) (sym whole) (Appends-trans _ _ _ text (text_of_items (items_of_noted noted.0.moment rest.front)) first.0 rest.held);
-        len = omega (arith, rest.len, first_len, ap length whole, length-append text (text_of_items (items_of_noted noted.0.moment rest.front)));
+        held = subst (Appends r.held new.held) (sym whole) (Appends-trans _ _ _ text (text_of_items (items_of_noted mid.moment rest.front)) first.0 rest.held);
+        len = omega (arith, rest.len, first_len, ap length whole, length-append text (text_of_items (items_of_noted mid.moment rest.front)));
       }
   | inr full ↦
-      let first = had_room false r (text_of_items (items_of_happening r.moment one.moment one.happening)) one.moment noted.0 full noted.1 in
-      let first_len : noted.0.len ≡ r.len + 0 = first.1 in
-      let kept = kept_over noted.0 more new first.3 noted.2 in
-      record {
-        front = [];
-        rest = one ∷ more;
-        split = refl;
-        all = λ is. absurd (true≢false (sym kept.over ∙ is));
+      let happens : HappeningIsNoted r one.moment one.happening mid = subst (λ (b : Record). HappeningIsNoted b one.moment one.happening mid) same happened in
+      let first = had_room false r (text_of_items (items_of_happening r.moment one.moment one.happening)) one.moment mid full happens in
+      let first_len : mid.len ≡ r.len + 0 = first.1 in
+      let kept = kept_over mid more new first.3 noted in
+      grew_none r (one ∷ more) new (record {
         held = Appends-trans _ _ _ [] [] first.0 kept.held;
         len = omega (arith, kept.len, first_len);
-      }
+        over = kept.over;
+      })
 ]
 
 -- a record that has begun, and what was told since
-pub is_record_of : (before : Option (List ℕ)) (table : List ℕ) (all_noted : List NotedHappening) (begun new : Record) → RecordBegins before table begun → begun.over ≡ false → EachIsNoted begun all_noted new → IsRecordOfNoted before table all_noted new
+pub is_record_of : (before : Option (List ℕ)) (table : List ℕ) (all_noted : List NotedHappening) (begun new : Record) → RecordBegins before table begun → begun.over ≡ false → IsNotedOrEnds begun all_noted new → IsRecordOfNoted before table all_noted new
 is_record_of before table all_noted begun new begins going noted = elim (cases_Bool (has_room (empty_record before) (item_spelling (Table table)))) [
   | inl room ↦
       let first = had_room true (empty_record before) (item_spelling (Table table)) 0 begun room begins in

@@ -1,5 +1,5 @@
 -- The happenings of a turn's steps are those that are recorded of its calls.
-use Rattle.std.proofs.Common.{◌≡◌, ℕ, ◌+◌, List, [], ◌∷◌, ◌++◌, length, refl, sym, ap, ◌∙◌, subst, inl, inr, Option, None, Some, append-nil, append_assoc}
+use Rattle.std.proofs.Common.{◌≡◌, ℕ, ◌+◌, List, [], ◌∷◌, ◌++◌, length, refl, sym, ap, ◌∙◌, subst, inl, inr, Bool, true, false, cond, Option, None, Some, append-nil, append_assoc, arith}
 use Rattle.hx_status.specs.declared.cause.FailKind.{FailKind}
 use Rattle.hx_status.specs.declared.cause.FailKind.TheVariants as kinds
 use Rattle.proxy_script.specs.declared.effect_list.Effect.{Effect}
@@ -8,6 +8,7 @@ use Rattle.proxy_script.specs.Happenings.{PlainHappening as Happening}
 use Rattle.proxy_engine.specs.EngineModel.{EngineModel}
 use Rattle.proxy_engine.specs.Executions.{ExecutionStep, Took, Worked}
 use Rattle.proxy_engine.specs.declared.work.End.{End}
+use Rattle.proxy_engine.specs.declared.work.End.TheVariants as ends
 use Rattle.proxy_turn.specs.Calls as call
 use Rattle.proxy_turn.specs.Calls.{Call, AcceptOutcome, NoneCame, Failed, Came}
 use Rattle.proxy_turn.specs.Turn.{EndRead, ActRound, EffectFate, Carried, Passed, Lost, EffectFailsAs, EffectsAreCarriedOut, ActsAreCarriedOut, happening_of_read, happening_of_loss, end_of_effect, calls_of_reads, calls_of_effect, calls_of_effects, calls_of_rounds}
@@ -15,8 +16,9 @@ use Rattle.proxy_turn.specs.Over.{happening_of_answer, calls_of_accepts, TurnOve
 use Rattle.proxy_turn.specs.OverSteps.{steps_of_accepts, steps_of_turn_over}
 use Rattle.proxy_turn.specs.declared.bounds.TurnBounds.{TurnBounds}
 use Rattle.proxy_turn.specs.TurnSteps.{step_of_happening_if_any, steps_of_reads, steps_of_losses, steps_of_rounds}
-use Rattle.proxy_record.specs.Recorded.{happening_of_call, HappeningIfAnyIsNoted, CallsAreNoted}
-use Rattle.proxy_record.specs.Records.{Record, NotedHappening, EachIsNoted}
+use Rattle.std.proofs.KnownBytes.{Appends-nil}
+use Rattle.proxy_record.specs.Recorded.{happening_of_call, HappeningIfAnyIsNoted, CallIsNoted, CallsAreNoted, record_ends}
+use Rattle.proxy_record.specs.Records.{Record, ended_record, HappeningIsNoted, NotedHappening, IsNotedOrEnds}
 use Rattle.proxy_record.specs.RecordedTurns.{happening_as_list, happenings_of_steps, happenings_of_calls, noted_at_moment, TurnsAreRecorded}
 
 said_both : (a b : List Call) → happenings_of_calls (a ++ b) ≡ happenings_of_calls a ++ happenings_of_calls b
@@ -99,17 +101,42 @@ took_turn now bounds s given accepts reads rest rounds t turn =
     ∙ sym (said_both asked (calls_of_reads reads ++ calls_of_rounds rounds)))))
 
 abbrev IsNotedAs : ℕ → List Happening → Record → Option Record → Type 0
-IsNotedAs now hs r new = (later : Record) × (new ≡ Some later) × EachIsNoted r (noted_at_moment now hs) later
+IsNotedAs now hs r new = (later : Record) × (new ≡ Some later) × IsNotedOrEnds r (noted_at_moment now hs) later
+
+-- a record that has ended takes nothing
+takes_nothing : (r : Record) (now : ℕ) (h : Happening) → HappeningIsNoted (ended_record r) now h (ended_record r)
+takes_nothing r now h = record { written = Appends-nil r.held; len = omega arith; moment_is = refl; ends = refl }
+
+ends_in_front : (r : Record) (hs : List NotedHappening) (later : Record) → IsNotedOrEnds (ended_record r) hs later → IsNotedOrEnds r hs later
+ends_in_front r [] later (inl same) = inr same
+ends_in_front r [] later (inr ends) = inr ends
+ends_in_front r (one ∷ more) later (begun, inl same, mid, happens, rest) = (begun, inr same, mid, happens, rest)
+ends_in_front r (one ∷ more) later (begun, inr ends, mid, happens, rest) = (begun, inr ends, mid, happens, rest)
+
+-- a call failed: the record ends, and what the engine takes of it isn't told
+ended_behind : (now : ℕ) (hs : List Happening) (r : Record) (new : Option Record) → IsNotedAs now hs (ended_record r) new → (o : Option Happening) → IsNotedAs now (happening_as_list o ++ hs) r new
+ended_behind now hs r new noted None = (noted.0, noted.1, ends_in_front r (noted_at_moment now hs) noted.0 noted.2)
+ended_behind now hs r new noted (Some h) = (noted.0, noted.1, (ended_record r, inr refl, ended_record r, takes_nothing r now h, noted.2))
 
 noted_behind : (now : ℕ) (more : List Call) (r : Record) (new : Option Record) → ((k : Record) → CallsAreNoted now more (Some k) new → IsNotedAs now (happenings_of_calls more) k new) → (h : Option Happening) (mid : Option Record) → HappeningIfAnyIsNoted now h (Some r) mid → CallsAreNoted now more mid new → IsNotedAs now (happening_as_list h ++ happenings_of_calls more) r new
 noted_behind now more r new on None mid one rest = on r (subst (λ (m : Option Record). CallsAreNoted now more m new) one rest)
 noted_behind now more r new on (Some h) mid one rest =
     let behind = on one.0 (subst (λ (m : Option Record). CallsAreNoted now more m new) one.1 rest) in
-    (behind.0, behind.1, (one.0, one.2, behind.2))
+    (behind.0, behind.1, (r, inl refl, one.0, one.2, behind.2))
+
+-- what a call that may fail told
+told_behind : (now : ℕ) (more : List Call) (r : Record) (new : Option Record) → ((k : Record) → CallsAreNoted now more (Some k) new → IsNotedAs now (happenings_of_calls more) k new) → (done : Bool) (o : Option Happening) (mid : Option Record) → mid ≡ cond done (Some r) (record_ends (Some r)) → CallsAreNoted now more mid new → IsNotedAs now (happening_as_list (cond done None o) ++ happenings_of_calls more) r new
+told_behind now more r new on true o mid is rest = on r (subst (λ (m : Option Record). CallsAreNoted now more m new) is rest)
+told_behind now more r new on false o mid is rest =
+    ended_behind now (happenings_of_calls more) r new (on (ended_record r) (subst (λ (m : Option Record). CallsAreNoted now more m new) is rest)) o
 
 notes_in_order : (now : ℕ) (calls : List Call) (r : Record) (new : Option Record) → CallsAreNoted now calls (Some r) new → IsNotedAs now (happenings_of_calls calls) r new
-notes_in_order now [] r new noted = (r, noted, refl)
-notes_in_order now (made ∷ more) r new noted = noted_behind now more r new (λ k. notes_in_order now more k new) (happening_of_call made) noted.0 noted.1 noted.2
+notes_in_order now [] r new noted = (r, noted, inl refl)
+notes_in_order now (call.Accept n answer ∷ more) r new noted = noted_behind now more r new (λ k. notes_in_order now more k new) (happening_of_call (call.Accept n answer)) noted.0 noted.1 noted.2
+notes_in_order now (call.Read end given ∷ more) r new noted = noted_behind now more r new (λ k. notes_in_order now more k new) (happening_of_read end given) noted.0 noted.1 noted.2
+notes_in_order now (call.Write end bytes done ∷ more) r new noted = told_behind now more r new (λ k. notes_in_order now more k new) done (happening_of_loss end kinds.Closed) noted.0 noted.1 noted.2
+notes_in_order now (call.Connect link address done ∷ more) r new noted = told_behind now more r new (λ k. notes_in_order now more k new) done (happening_of_loss (ends.Link link) kinds.Refused) noted.0 noted.1 noted.2
+notes_in_order now (call.Shut end done ∷ more) r new noted = told_behind now more r new (λ k. notes_in_order now more k new) done (happening_of_loss end kinds.Closed) noted.0 noted.1 noted.2
 
 pub turns_are_recorded : TurnsAreRecorded
 turns_are_recorded now bounds s given accepts reads rest rounds t r new turn noted =

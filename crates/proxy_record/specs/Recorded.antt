@@ -3,15 +3,17 @@
 -- CallGaveNothing, CallIsPassedOn: what a call on them is on the sockets below
 -- CallsArePassedOn: calls, one after another
 -- happening_of_call: what is recorded of a call
--- HappeningIfAnyIsNoted, CallsAreNoted: calls are recorded, one after another
--- AtMostOneThingIsTaken: at most one end gives something      TurnIsNoted: calls, while recording doesn't fail
+-- HappeningIfAnyIsNoted, CallIsNoted, CallsAreNoted: calls are recorded, one after another
+-- NoCallFailed: and none failed, where a record ends
+-- AtMostOneThingIsTaken: at most one gives something      TurnIsNoted: calls, while recording doesn't fail
 -- passed_on_joined, passed_on_of_one_call, was_recording_before, turn_is_noted_with_no_call, turn_is_noted_joined,
 -- recording_had_not_failed: laws
 use Rattle.std.proofs.Common.{refl, sym, ap, ◌∙◌, subst, inl, inr}
 use Rattle.std.proofs.lemmas.Bool.{false≢true, true≢false}
 use Rattle.std.proofs.lemmas.List.{append-nil, append_assoc}
 use Rattle.std.specs.Prelude.{◌≡◌, ℕ, ◌-◌, nat_le, length, List, [], ◌∷◌, ◌++◌, ◌⊎◌, Bool, true, false, not, ◌&&◌, ◌||◌}
-use Rattle.std.specs.Prelude.{Option, None, Some, is_some, cond}
+use Rattle.std.specs.Prelude.{Option, None, Some, is_some, cond, option_map}
+use Rattle.std.specs.List.{AllByRecursion}
 use Rattle.hx_status.specs.declared.cause.FailKind.TheVariants.{Refused, Closed}
 use Rattle.proxy_engine.specs.declared.work.End.TheVariants as ends
 use Rattle.proxy_script.specs.Happenings.{PlainHappening as Happening, Accepts}
@@ -19,7 +21,7 @@ use Rattle.proxy_turn.specs.Calls as call
 use Rattle.proxy_turn.specs.Calls.{Call, ReadOutcome}
 use Rattle.proxy_turn.specs.Turn.{happening_of_read, happening_of_loss}
 use Rattle.proxy_script.specs.declared.limits.TheConstants.{MOST_SCRIPT_BYTES}
-use Rattle.proxy_record.specs.Records.{Record, HappeningIsNoted, items_of_happening, text_of_items}
+use Rattle.proxy_record.specs.Records.{Record, ended_record, HappeningIsNoted, items_of_happening, text_of_items}
 
 -- Nothing came, as it is told: none was made below, or, where recording has failed, what that gave isn't told.
 abbrev pub CallGaveNothing : Bool → Call → List Call → Type 0
@@ -97,16 +99,41 @@ happening_of_call (call.Write end bytes done) = cond done None (happening_of_los
 happening_of_call (call.Connect link address done) = cond done None (happening_of_loss (ends.Link link) Refused)
 happening_of_call (call.Shut end done) = cond done None (happening_of_loss end Closed)
 
+-- a write, a connect or a close that failed
+abbrev pub call_failed : Call → Bool
+call_failed (call.Write end bytes done) = not done
+call_failed (call.Connect link address done) = not done
+call_failed (call.Shut end done) = not done
+call_failed other = false
+
 -- what happened is recorded at this moment, where there is something, and where a record is written
 abbrev pub HappeningIfAnyIsNoted : ℕ → Option Happening → Option Record → Option Record → Type 0
 HappeningIfAnyIsNoted now None old new = new ≡ old
 HappeningIfAnyIsNoted now (Some h) None new = new ≡ None
 HappeningIfAnyIsNoted now (Some h) (Some r) new = (later : Record) × (new ≡ Some later) × HappeningIsNoted r now h later
 
+-- the record, if one is written, ends here
+abbrev pub record_ends : Option Record → Option Record
+record_ends old = option_map ended_record old
+
+-- What came is recorded. At a write, a connect or a close that failed the record ends: the engine takes the loss amid the
+-- acts of its turn, where a script can't tell of it.
+abbrev pub CallIsNoted : ℕ → Call → Option Record → Option Record → Type 0
+CallIsNoted now (call.Accept n answer) old new =
+    HappeningIfAnyIsNoted now (happening_of_call (call.Accept n answer)) old new
+CallIsNoted now (call.Read end given) old new = HappeningIfAnyIsNoted now (happening_of_read end given) old new
+CallIsNoted now (call.Write end bytes done) old new = new ≡ cond done old (record_ends old)
+CallIsNoted now (call.Connect link address done) old new = new ≡ cond done old (record_ends old)
+CallIsNoted now (call.Shut end done) old new = new ≡ cond done old (record_ends old)
+
 abbrev pub CallsAreNoted : ℕ → List Call → Option Record → Option Record → Type 0
 CallsAreNoted now [] old new = new ≡ old
 CallsAreNoted now (made ∷ more) old new =
-    (mid : Option Record) × HappeningIfAnyIsNoted now (happening_of_call made) old mid × CallsAreNoted now more mid new
+    (mid : Option Record) × CallIsNoted now made old mid × CallsAreNoted now more mid new
+
+-- no write, connect or close among them failed
+abbrev pub NoCallFailed : List Call → Type 0
+NoCallFailed made = AllByRecursion (λ (one : Call). call_failed one ≡ false) made
 
 -- a record is being written
 abbrev pub is_recording : Option Record → Bool
@@ -128,27 +155,22 @@ call_gave_something (call.Accept n answer) = is_some (happening_of_call (call.Ac
 call_gave_something (call.Read end given) = is_some (happening_of_read end given)
 call_gave_something other = false
 
--- an end gave something
-abbrev pub end_gave_something : Call → Bool
-end_gave_something (call.Read end given) = is_some (happening_of_read end given)
-end_gave_something other = false
-
--- Nothing arrives behind what an end gave, and at most one end gives something. `taken`: one has given something
--- before, or something is due.
+-- At most one of these calls gives something. `taken`: something was given before, or something is due.
 abbrev pub AtMostOneThingIsTaken : Bool → List Call → Bool → Type 0
 AtMostOneThingIsTaken taken [] later = later ≡ taken
 AtMostOneThingIsTaken taken (made ∷ more) later =
     (call_gave_something made ≡ true → taken ≡ false) × AtMostOneThingIsTaken
-    (cond (end_gave_something made) true taken) more later
+    (cond (call_gave_something made) true taken) more later
 
 -- All of these calls were recorded, in order and at this moment; and while a record is written, they took one thing at
--- most.
+-- most, and none of them failed.
 pub record TurnIsNoted (now : ℕ) (old : Option Record) (taken : Bool) (made : List Call) (then : ℕ)
     (new : Option Record)
     (later : Bool) : Type 0 where
   pub stays : then ≡ now
   pub notes : CallsAreNoted now made old new
   pub takes : is_recording new ≡ true → AtMostOneThingIsTaken taken made later
+  pub whole : is_recording new ≡ true → NoCallFailed made
 
 open_before : (over fits later : Bool) → later ≡ not (not over && fits) → not later ≡ true → not over ≡ true
 open_before false fits later ends is = refl
@@ -165,17 +187,40 @@ was_recording_before now (Some h) (Some r) new noted is =
     (MOST_SCRIPT_BYTES - r.len)) noted.0.over noted.2.ends
     (subst (λ (r : Option Record). is_recording r ≡ true) noted.1 is)
 
+ended_is_over : (old : Option Record) → is_recording (record_ends old) ≡ false
+ended_is_over None = refl
+ended_is_over (Some r) = refl
+
+still_done : (done : Bool) (old new : Option Record) → new ≡ cond done old (record_ends old)
+    → is_recording new ≡ true → (done ≡ true) × (is_recording old ≡ true)
+still_done true old new same is = (refl, subst (λ (r : Option Record). is_recording r ≡ true) same is)
+still_done false old new ends is =
+    absurd (false≢true (sym (ended_is_over old) ∙ subst (λ (r : Option Record). is_recording r ≡ true) ends is))
+
+-- a record that is being written behind a call was so before it, and the call hasn't failed
+pub call_was_recorded : (now : ℕ) (made : Call) (old new : Option Record) → CallIsNoted now made old new
+    → is_recording new ≡ true → (call_failed made ≡ false) × (is_recording old ≡ true)
+call_was_recorded now (call.Accept n answer) old new noted is =
+    (refl, was_recording_before now (happening_of_call (call.Accept n answer)) old new noted is)
+call_was_recorded now (call.Read end given) old new noted is =
+    (refl, was_recording_before now (happening_of_read end given) old new noted is)
+call_was_recorded now (call.Write end bytes done) old new noted is =
+    let still = still_done done old new noted is in (ap not still.0, still.1)
+call_was_recorded now (call.Connect link address done) old new noted is =
+    let still = still_done done old new noted is in (ap not still.0, still.1)
+call_was_recorded now (call.Shut end done) old new noted is =
+    let still = still_done done old new noted is in (ap not still.0, still.1)
+
 recording_behind : (now : ℕ) (made : List Call) (old new : Option Record) → CallsAreNoted now made old new
     → is_recording new ≡ true → is_recording old ≡ true
 recording_behind now [] old new noted is = subst (λ (r : Option Record). is_recording r ≡ true) noted is
 recording_behind now (one ∷ more) old new noted is =
-    was_recording_before now (happening_of_call one) old noted.0 noted.1
-    (recording_behind now more noted.0 new noted.2 is)
+    (call_was_recorded now one old noted.0 noted.1 (recording_behind now more noted.0 new noted.2 is)).1
 
 -- with no call
 pub turn_is_noted_with_no_call : (now : ℕ) (old : Option Record) (taken : Bool)
     → TurnIsNoted now old taken [] now old taken
-turn_is_noted_with_no_call now old taken = record { stays = refl; notes = refl; takes = λ is. refl }
+turn_is_noted_with_no_call now old taken = record { stays = refl; notes = refl; takes = λ is. refl; whole = λ is. tt }
 
 notes_on : (now : ℕ) (a b : List Call) (old mid new : Option Record) → CallsAreNoted now a old mid
     → CallsAreNoted now b mid new → CallsAreNoted now (a ++ b) old new
@@ -187,7 +232,11 @@ takes_on : (taken mid later : Bool) (a b : List Call) → AtMostOneThingIsTaken 
     → AtMostOneThingIsTaken taken (a ++ b) later
 takes_on taken mid later [] b one two = subst (λ (t : Bool). AtMostOneThingIsTaken t b later) one two
 takes_on taken mid later (made ∷ more) b one two =
-    (one.0, takes_on (cond (end_gave_something made) true taken) mid later more b one.1 two)
+    (one.0, takes_on (cond (call_gave_something made) true taken) mid later more b one.1 two)
+
+none_failed : (a b : List Call) → NoCallFailed a → NoCallFailed b → NoCallFailed (a ++ b)
+none_failed [] b one two = two
+none_failed (made ∷ more) b one two = (one.0, none_failed more b one.1 two)
 
 -- one after another
 pub turn_is_noted_joined : (now then last : ℕ) (old mid new : Option Record) (taken some later : Bool) (a b : List Call)
@@ -199,6 +248,7 @@ turn_is_noted_joined now then last old mid new taken some later a b one two =
       stays = two.stays ∙ one.stays;
       notes = notes_on now a b old mid new one.notes same;
       takes = λ is. takes_on taken some later a b (one.takes (recording_behind now b mid new same is)) (two.takes is);
+      whole = λ is. none_failed a b (one.whole (recording_behind now b mid new same is)) (two.whole is);
     }
 
 -- where recording hasn't failed later, it hadn't before

@@ -15,7 +15,7 @@ use Rattle.proxy_turn.specs.Over.{TurnOverAsFarAsItCame, calls_of_turn_over}
 use Rattle.proxy_turn.specs.OverSteps.{steps_of_turn_over}
 use Rattle.proxy_turn.specs.declared.bounds.TurnBounds.{TurnBounds}
 use Rattle.proxy_record.specs.Recorded.{happening_of_call, CallsAreNoted}
-use Rattle.proxy_record.specs.Records.{Record, NotedHappening, EachIsNoted}
+use Rattle.proxy_record.specs.Records.{Record, NotedHappening, IsNotedOrEnds}
 
 abbrev pub happening_as_list : Option Happening → List Happening
 happening_as_list None = []
@@ -36,7 +36,7 @@ noted_at_moment now [] = []
 noted_at_moment now (h ∷ hs) = record { moment = now; happening = h } ∷ noted_at_moment now hs
 
 -- Where the calls of a turn are recorded, the record takes each happening that the engine took in that turn, in that
--- order and at the turn's moment, and nothing else.
+-- order and at the turn's moment, and nothing else: up to a call that failed, where it ends.
 abbrev pub TurnsAreRecorded : Type 0
 TurnsAreRecorded =
     (now : ℕ) (bounds : TurnBounds) (s : EngineModel) (given : List End) (accepts : List AcceptOutcome)
@@ -45,4 +45,5 @@ TurnsAreRecorded =
     → TurnOverAsFarAsItCame now bounds s given accepts reads rest rounds t
     → CallsAreNoted now (calls_of_turn_over s accepts reads rounds) (Some r) new
     → (later : Record) × (new ≡ Some later)
-    × EachIsNoted r (noted_at_moment now (happenings_of_steps (steps_of_turn_over now s accepts reads rounds []))) later
+    × IsNotedOrEnds r (noted_at_moment now (happenings_of_steps (steps_of_turn_over now s accepts reads rounds [])))
+    later

@@ -3,12 +3,14 @@
 -- Record: what is known of a record            TextIsAdded: a text was added whole, or the record ends
 -- items_of_happening: a happening at a moment, as items
 -- RecordBegins, HappeningIsNoted: a record begins, and takes one more happening
+-- ended_record: it ends
 -- NotedHappening: a happening and its moment             EachIsNoted: several, one after another
+-- IsNotedOrEnds: several, where the record may end anywhere among them
 -- items_of_noted, script_of_noted: the items and the script that tell of them
 -- HasSpelling: what a script can tell of
 -- IsRecordOfNoted, RecordsAreScripts: the laws
 use Rattle.std.specs.Prelude.{◌≡◌, ℕ, ◌+◌, ◌-◌, ◌<◌, ◌≤◌, List, [], ◌∷◌, ◌++◌, length, Bool, true, false, not, ◌&&◌}
-use Rattle.std.specs.Prelude.{◌==◌, nat_le, if◌then◌else◌, Option, None, Some}
+use Rattle.std.specs.Prelude.{◌==◌, nat_le, if◌then◌else◌, Option, None, Some, ◌⊎◌}
 use Rattle.std.specs.Io.KnownBytes.{Appends}
 use Rattle.std.specs.List.{flat_map, AllByRecursion}
 use Rattle.hx_fields.specs.declared.limits.TheConstants.{END_OF_TIME}
@@ -28,6 +30,10 @@ pub record Record : Type 0 where
 -- nothing was recorded behind these bytes
 abbrev pub empty_record : Option (List ℕ) → Record
 empty_record held = record { held = held; len = 0; moment = 0; over = false }
+
+-- the record ends here
+abbrev pub ended_record : Record → Record
+ended_record r = record r { over = true }
 
 -- a text may be added: the record hasn't ended, and is no longer than a script with it
 abbrev pub has_room : Record → List ℕ → Bool
@@ -69,6 +75,16 @@ EachIsNoted r [] new = new ≡ r
 EachIsNoted r (one ∷ more) new = (mid : Record) × HappeningIsNoted r one.moment one.happening mid
     × EachIsNoted mid more new
 
+-- the record goes on as it is, or ends here
+abbrev pub RecordMayEnd : Record → Record → Type 0
+RecordMayEnd r new = (new ≡ r) ⊎ (new ≡ ended_record r)
+
+-- each of them, and the record may end in front of any, or behind all
+abbrev pub IsNotedOrEnds : Record → List NotedHappening → Record → Type 0
+IsNotedOrEnds r [] new = RecordMayEnd r new
+IsNotedOrEnds r (one ∷ more) new = (begun : Record) × RecordMayEnd r begun × (mid : Record)
+    × HappeningIsNoted begun one.moment one.happening mid × IsNotedOrEnds mid more new
+
 -- the items that tell of them, behind a moment
 abbrev pub items_of_noted : ℕ → List NotedHappening → List Item
 items_of_noted last [] = []
@@ -96,7 +112,7 @@ abbrev pub RecordsAreScripts : Type 0
 RecordsAreScripts =
     (before : Option (List ℕ)) (table : List ℕ) (all_noted : List NotedHappening) (begun new : Record)
     → RecordBegins before table begun
-    → begun.over ≡ false → EachIsNoted begun all_noted new → IsRecordOfNoted before table all_noted new
+    → begun.over ≡ false → IsNotedOrEnds begun all_noted new → IsRecordOfNoted before table all_noted new
 
 -- such a script is one of the grammar, of these items
 abbrev pub ScriptsAreSpelled : Type 0

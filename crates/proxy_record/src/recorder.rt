@@ -3,7 +3,7 @@ ghost use Rattle.std.specs.Prelude.{◌≡◌, IfOk, OnOk};
 ghost use Rattle.std.specs.Io.KnownBytes.{Appends};
 ghost use Rattle.proxy_script.specs.Happenings.{plain_happening};
 ghost use Rattle.proxy_record.specs.Records.{TextIsAdded, RecordBegins, HappeningIsNoted, items_of_happening};
-ghost use Rattle.proxy_record.specs.Records.{text_of_items};
+ghost use Rattle.proxy_record.specs.Records.{text_of_items, ended_record};
 
 use proxy_script::{Happening, Item, MOST_SCRIPT_BYTES, item_text};
 use std::alloc::{AllocError, Global};
@@ -99,6 +99,13 @@ impl<W: Write + Drop> Recorder<W> {
         ensures { result ≡ self.now.over }
     {
         self.over
+    }
+
+    /// Ends the record: nothing that happens from now on is recorded.
+    pub fn end(&mut self)
+        ensures { self.new ≡ ended_record self.old }
+    {
+        self.over = true;
     }
 
     /// Adds a text whole, up to a moment, unless the record has ended or ends here.

@@ -1,26 +1,28 @@
 //! Sockets whose calls are recorded.
 //!
 //! A script has all that is due done behind each happening, a turn behind all that it took. So while a record is
-//! written, at most one end gives something in a turn, and none before all is done that was due; then a replay does the
-//! same acts in the same order. Who serves hands in one end at a time, in the order in which they became ready.
+//! written, at most one thing happens in a turn (a connection comes, or an end gives something), and none before all is
+//! done that was due; then a replay does the same acts in the same order. Who serves hands in one end at a time, in the
+//! order in which they became ready. Where a call fails amid the acts of a turn, which is where memory is refused, the
+//! engine takes the loss between two acts, and no script can tell of that: there the record ends.
 ghost use Rattle.std.specs.Prelude.{◌≡◌, ◌≤◌, List, [], ◌∷◌, ◌++◌, length, IfOk, true, false, refl, Some, None};
 ghost use Rattle.std.specs.Prelude.{is_some, is_ok, not, ◌||◌, cond, option_map};
+ghost use Rattle.std.proofs.Common.{◌∙◌};
 ghost use Rattle.proxy_record.specs.Records.{Record};
 ghost use Rattle.proxy_record.specs.Recorded.{CallsArePassedOn, passed_on_joined, HappeningIfAnyIsNoted, TurnIsNoted};
 ghost use Rattle.proxy_record.specs.Recorded.{is_recording, may_be_taken_while_recording};
-ghost use Rattle.proxy_record.specs.Recorded.{record_has_ended};
+ghost use Rattle.proxy_record.specs.Recorded.{record_has_ended, record_ends};
 ghost use Rattle.proxy_record.specs.Recorded.{turn_is_noted_with_no_call, turn_is_noted_joined};
 ghost use Rattle.proxy_record.specs.Recorded.{recording_had_not_failed};
 ghost use Rattle.proxy_script.specs.Happenings.{plain_happening};
 ghost use Rattle.proxy_turn.specs.Calls.{Call, read_outcome_of};
-ghost use Rattle.proxy_turn.specs.Turn.{happening_of_read, happening_of_loss};
+ghost use Rattle.proxy_turn.specs.Turn.{happening_of_read};
 ghost use Rattle.proxy_turn.specs.Counts.{CountRisesBy, failed};
 ghost use Rattle.proxy_turn.specs.Received.{FitsTheBuffer};
 
 use crate::recorder::{RecordFault, Recorder};
-use hx_status::FailKind;
 use proxy_script::Happening;
-use proxy_turn::{End, Received, SocketFailed, Sockets, happening_of_lost_end, happening_of_read};
+use proxy_turn::{End, Received, SocketFailed, Sockets, happening_of_read};
 use std::io::Write;
 use std::net::SocketAddrV4;
 
@@ -100,10 +102,11 @@ impl<K: Sockets + Drop, W: Write + Drop> Recording<K, W> {
     /// which is that of the one before until what was due then is done.
     pub fn begin(&mut self, now: u64, settled: bool) -> u64
         ensures moment { result ≡ self.new.moment }
-        ensures now { self.new.moment ≡ cond (settled || not (is_recording self.old.recorder)) now self.old.moment }
-        ensures recorder { self.new.recorder ≡ self.old.recorder }
-        ensures fault { self.new.fault ≡ self.old.fault }
-        ensures taken { self.new.taken ≡ not settled }
+        ensures begun { self.new ≡ record self.old {
+          moment = cond (settled || not (is_recording self.old.recorder)) now self.old.moment;
+          taken = not settled;
+          passed = false;
+        } }
     {
         if settled || !self.is_recording() {
             self.moment = now;
@@ -158,11 +161,15 @@ impl<K: Sockets + Drop, W: Write + Drop> Recording<K, W> {
     /// Records what happens between two turns, as the one thing that happens.
     pub fn note_between(&mut self, happening: Happening<'_>) -> bool
         ensures reported { result ≡ false → is_some self.new.fault ≡ true }
+        ensures kept { is_some self.old.fault ≡ true → is_some self.new.fault ≡ true }
         ensures noted { is_some self.new.fault ≡ false
             → HappeningIfAnyIsNoted self.old.moment
             (Some (plain_happening happening.entry)) self.old.recorder self.new.recorder }
-        ensures now { self.new.moment ≡ self.old.moment }
-        ensures taken { self.new.taken ≡ true }
+        ensures rest { self.new ≡ record self.old {
+          recorder = self.new.recorder;
+          fault = self.new.fault;
+          taken = true;
+        } }
     {
         self.taken = true;
         note(&mut self.recorder, &mut self.fault, self.moment, happening)
@@ -179,30 +186,22 @@ impl<K: Sockets + Drop, W: Write + Drop> Recording<K, W> {
         !self.may_happen()
     }
 
-    /// Passes on what a call answered. One that failed is counted, and its end recorded as lost, which is taken in any
-    /// case.
-    fn pass_on(
-        &mut self,
-        done: Result<(), SocketFailed>,
-        end: End,
-        kind: FailKind,
-    ) -> Result<(), SocketFailed>
+    /// Passes on what a call answered. One that failed is counted, and the record ends there.
+    fn pass_on(&mut self, done: Result<(), SocketFailed>) -> Result<(), SocketFailed>
         ensures value { result ≡ done }
         ensures sockets { self.new.sockets ≡ self.old.sockets }
-        ensures fault { is_some self.old.fault ≡ true → is_some self.new.fault ≡ true }
+        ensures fault { self.new.fault ≡ self.old.fault }
         ensures accepts { self.new.accepts ≡ self.old.accepts }
         ensures reads { self.new.reads ≡ self.old.reads }
         ensures failures { CountRisesBy self.old.failures self.new.failures (failed done) }
-        ensures noted { is_some self.new.fault ≡ false
-            → HappeningIfAnyIsNoted self.old.moment
-            (cond (is_ok done) None (happening_of_loss end kind)) self.old.recorder self.new.recorder }
+        ensures noted { self.new.recorder ≡ cond (is_ok done) self.old.recorder (record_ends self.old.recorder) }
         ensures now { self.new.moment ≡ self.old.moment }
         ensures taken { self.new.taken ≡ self.old.taken }
     {
         if done.is_err() {
             self.failures = self.failures.saturating_add(1);
-            if let Some(happening) = happening_of_lost_end(end, kind) {
-                let _ = note(&mut self.recorder, &mut self.fault, self.moment, happening);
+            if let Some(recorder) = &mut self.recorder {
+                recorder.end();
             }
         }
         done
@@ -212,7 +211,8 @@ impl<K: Sockets + Drop, W: Write + Drop> Recording<K, W> {
 impl<K: Sockets + Drop, W: Write + Drop> Sockets for Recording<K, W> {
     ghost Did = { λ s made t. (is_some s.fault ≡ true → is_some t.fault ≡ true) × (below : List Call)
         × K.Did s.sockets below t.sockets × CallsArePassedOn (is_some t.fault) made below
-        × (is_some t.fault ≡ false → TurnIsNoted s.moment s.recorder s.taken made t.moment t.recorder t.taken) };
+        × (is_some t.fault ≡ false → TurnIsNoted s.moment s.recorder s.taken made t.moment t.recorder t.taken)
+        × (t.moment ≡ s.moment) };
 
     ghost accepts = { λ s. s.accepts };
 
@@ -226,6 +226,7 @@ impl<K: Sockets + Drop, W: Write + Drop> Sockets for Recording<K, W> {
       K.none s.sockets,
       refl,
       λ ok. turn_is_noted_with_no_call s.moment s.recorder s.taken,
+      refl,
     ) };
 
     ghost joined = { λ s t u a b first then. (
@@ -237,6 +238,8 @@ impl<K: Sockets + Drop, W: Write + Drop> Sockets for Recording<K, W> {
           (is_some u.fault) a b first.1 then.1 then.0 first.3 then.3,
       λ ok. turn_is_noted_joined s.moment t.moment u.moment s.recorder t.recorder u.recorder s.taken t.taken u.taken a b
           (first.4 (recording_had_not_failed (is_some t.fault) (is_some u.fault) then.0 ok)) (then.4 ok),
+      then.5
+          ∙ first.5,
     ) };
 
     fn accept(&mut self, n: u64) -> Result<bool, SocketFailed> {
@@ -246,12 +249,11 @@ impl<K: Sockets + Drop, W: Write + Drop> Sockets for Recording<K, W> {
             return Ok(false);
         }
         match self.sockets.accept(n) {
-            Ok(true) => Ok(note(
-                &mut self.recorder,
-                &mut self.fault,
-                self.moment,
-                Happening::Accept(n),
-            )),
+            Ok(true) => {
+                self.taken = true;
+                let came = Happening::Accept(n);
+                Ok(note(&mut self.recorder, &mut self.fault, self.moment, came))
+            }
             Ok(false) => Ok(false),
             Err(failed) => {
                 self.failures = self.failures.saturating_add(1);
@@ -284,16 +286,16 @@ impl<K: Sockets + Drop, W: Write + Drop> Sockets for Recording<K, W> {
 
     fn write(&mut self, end: End, bytes: &[u8]) -> Result<(), SocketFailed> {
         let written = self.sockets.write(end, bytes);
-        self.pass_on(written, end, FailKind::Closed)
+        self.pass_on(written)
     }
 
     fn connect(&mut self, link: u64, address: SocketAddrV4) -> Result<(), SocketFailed> {
         let connected = self.sockets.connect(link, address);
-        self.pass_on(connected, End::Link(link), FailKind::Refused)
+        self.pass_on(connected)
     }
 
     fn shut(&mut self, end: End) -> Result<(), SocketFailed> {
         let shut = self.sockets.shut(end);
-        self.pass_on(shut, end, FailKind::Closed)
+        self.pass_on(shut)
     }
 }

@@ -1,28 +1,136 @@
 -- What an engine has lived through, from one step of a server to the next.
-use Rattle.std.proofs.Common.{◌≡◌, ℕ, sym, subst, Result, Ok, Err}
-use Rattle.proxy_engine.specs.State.{State}
-use Rattle.proxy_turn.specs.Served.{EngineGoesOn, EngineTakesLosses, EngineServesTurn, EngineGoesOnByNothing, EngineGoesOnByTurn, LossesAreTakenTransitively}
+use Rattle.std.proofs.Common.{◌≡◌, ℕ, List, refl, sym, ap, ◌∙◌, subst, Bool, Result, Ok, Err}
+use Rattle.std.specs.Prelude.{◌<◌, ◌||◌, not, cond, true, false, Option}
+use Rattle.hx_fields.specs.declared.limits.TheConstants.{END_OF_TIME}
+use Rattle.proxy_engine.specs.EngineModel.{EngineModel}
+use Rattle.proxy_engine.specs.Orderly.{ModelIsOrderly}
+use Rattle.proxy_engine.specs.State.{State, EngineRepresents}
+use Rattle.proxy_engine.specs.declared.work.End.{End}
+use Rattle.proxy_turn.specs.Over.{EngineTurnsOverWithCalls}
+use Rattle.proxy_turn.specs.Served.{EngineGoesOn, EngineServesTurn, EngineGoesOnByNothing, EngineGoesOnByTurn, LossesKeepOrder}
+use Rattle.proxy_turn.specs.Counts.{Calls}
+use Rattle.proxy_record.specs.Records.{Record}
+use Rattle.proxy_record.specs.Recorded.{is_recording}
 use Rattle.proxy_turn.specs.declared.report.Report.{Report}
 use Rattle.proxy_turn.specs.declared.report.TurnFault.{TurnFault}
 use Rattle.proxy_turn.specs.declared.report.TurnFault.TheVariants as faults
-use Rattle.proxy_server.specs.Serving.{server_bounds, ServeTurnAnswers}
+use Rattle.proxy_server.specs.ServerState.{ServerState, turn_begun, OwnSocketsDid}
+use Rattle.proxy_server.specs.Losses.{ServerTakesLosses}
+use Rattle.proxy_server.specs.Serving.{server_bounds, turn_settles, ServerServesTurn, TurnIsServed, TurnIsServedAndSettled, ServeTurnAnswers}
+use Rattle.proxy_server.specs.Paces.{next_turn_must_not_wait}
+use Rattle.proxy_server.specs.declared.pace.Pace.{Pace}
 use Rattle.proxy_server.specs.declared.server.Turned.{Turned}
 use Rattle.proxy_server.specs.declared.server.ServeFault.{ServeFault}
-use Rattle.proxy_server.specs.declared.server.ServeFault.TheVariants.{Socket, Clock, Record, Spent}
+use Rattle.proxy_server.specs.declared.server.ServeFault.TheVariants as fault
 
--- from a state that is the one before
-pub on_from : LossesAreTakenTransitively → (e mid same new : State) → same ≡ mid → EngineTakesLosses e mid → EngineTakesLosses same new → EngineTakesLosses e new
-on_from more e mid same new is first rest = more e mid new first (subst (λ (x : State). EngineTakesLosses x new) is rest)
+-- what a turn of a server is of its engine
+engine_turns : (a b : ServerState) (reported : Result Report TurnFault) → ServerServesTurn a b reported → EngineServesTurn a.moment server_bounds a.engine b.engine reported
+engine_turns a b reported serves s represents orderly =
+    let turn = serves s represents orderly in
+    record {
+      lost = turn.handed_in.losses.lost;
+      are_losses = turn.handed_in.losses.are_losses;
+      mid = turn.handed_in.losses.after;
+      takes = turn.handed_in.losses.takes;
+      given = turn.given;
+      left = turn.left;
+      before = turn.mid.calls;
+      after = b.calls;
+      turn = turn.turn.turns;
+    }
 
--- a turn from a state that is the one before, to one that is the one behind it
-pub served_as : (now : ℕ) (e from new last : State) (reported : Result Report TurnFault) → from ≡ e → last ≡ new → EngineServesTurn now server_bounds from new reported → EngineServesTurn now server_bounds e last reported
-served_as now e from new last reported first rest serves =
-    subst (λ (x : State). EngineServesTurn now server_bounds e x reported) (sym rest) (subst (λ (x : State). EngineServesTurn now server_bounds x new reported) first serves)
+pub goes_by_turn : EngineGoesOnByTurn → (a b : ServerState) (reported : Result Report TurnFault) → ServerServesTurn a b reported → EngineGoesOn a.engine b.engine
+goes_by_turn turns a b reported serves = turns a.engine b.engine a.moment server_bounds reported (engine_turns a b reported serves)
+
+served_on : EngineGoesOnByTurn → (a b : ServerState) (reported : Result Report TurnFault) → TurnIsServed a b reported → EngineGoesOn a.engine b.engine
+served_on turns a b reported served = goes_by_turn turns (turn_begun served.now a) b reported served.serves
+
+settled_on : EngineGoesOnByTurn → (a b : ServerState) (reported : Result Report TurnFault) → TurnIsServedAndSettled a b reported → EngineGoesOn a.engine b.engine
+settled_on turns a b reported did =
+    subst (λ (x : ServerState). EngineGoesOn a.engine x.engine) (sym did.settles) (served_on turns a did.last reported did.served)
 
 -- whatever a call answers, the engine has gone on
-pub answered_on : EngineGoesOnByNothing → EngineGoesOnByTurn → (e new : State) (result : Result Turned ServeFault) → ServeTurnAnswers e new result → EngineGoesOn e new
-answered_on stays turns e new (Ok turned) did = turns e new turned.moment server_bounds turned.reported did.2
-answered_on stays turns e new (Err Socket) same = subst (EngineGoesOn e) (sym same) (stays e)
-answered_on stays turns e new (Err Clock) same = subst (EngineGoesOn e) (sym same) (stays e)
-answered_on stays turns e new (Err (Record fault)) did = turns e new did.1.0 server_bounds did.0 did.1.2
-answered_on stays turns e new (Err Spent) did = turns e new did.0 server_bounds (Err faults.Spent) did.2
+pub answered_on : EngineGoesOnByNothing → EngineGoesOnByTurn → (a b : ServerState) (result : Result Turned ServeFault) → ServeTurnAnswers a b result → EngineGoesOn a.engine b.engine
+answered_on stays turns a b (Ok turned) did = settled_on turns a b turned.reported did.1.0
+answered_on stays turns a b (Err fault.Socket) same = subst (λ (x : ServerState). EngineGoesOn a.engine x.engine) (sym same) (stays a.engine)
+answered_on stays turns a b (Err fault.Clock) same = subst (λ (x : ServerState). EngineGoesOn a.engine x.engine) (sym same) (stays a.engine)
+answered_on stays turns a b (Err (fault.Record why)) did = served_on turns a b did.0 did.1
+answered_on stays turns a b (Err fault.Spent) did = settled_on turns a b (Err faults.Spent) did
+
+-- what a turn leaves to the next
+pub settles : (p : Pace) (reported : Result Report TurnFault) (more : Bool) → (next_turn_must_not_wait p reported more).settled ≡ turn_settles reported
+settles p (Ok report) more = refl
+settles p (Err faults.Listener) more = refl
+settles p (Err faults.NoMemory) more = refl
+settles p (Err faults.Spent) more = refl
+
+-- a turn begins at the moment of the clock, or at that of the one before
+pub begun_early : (end now was : ℕ) (fresh : Bool) → now < end → was < end → cond fresh now was < end
+begun_early end now was true early before = early
+begun_early end now was false early before = before
+
+-- What was lost was handed in, and then one turn was served over the sockets of the server.
+pub turned_over : LossesKeepOrder → (a seen b : ServerState) (now : ℕ) → now ≡ a.moment → (given left : List End) (reported : Result Report TurnFault)
+    → ServerTakesLosses a seen → b.settled ≡ seen.settled
+    → ((s : EngineModel) → EngineRepresents seen.engine s → ModelIsOrderly s → EngineTurnsOverWithCalls now server_bounds s given b.engine left (λ made. OwnSocketsDid seen made b) seen.calls b.calls reported)
+    → ServerServesTurn a b reported
+turned_over order a seen b now is given left reported loses settled turns s represents orderly =
+    let handed_in = loses s represents in
+    record {
+      mid = seen;
+      handed_in = handed_in;
+      given = given;
+      left = left;
+      turn = subst (λ (m : ℕ). EngineTurnsOverWithCalls m server_bounds handed_in.losses.after given b.engine left (λ made. OwnSocketsDid seen made b) seen.calls b.calls reported) is
+          (turns handed_in.losses.after handed_in.losses.represents (order s seen.engine handed_in.losses orderly));
+      settled = settled ∙ handed_in.settled;
+    }
+
+-- what is seen of a server, part for part
+abbrev pub server_state : State → Option Record → Bool → ℕ → Bool → Bool → Calls → ServerState
+server_state engine recorder failed moment taken settled calls = record {
+  engine = engine;
+  recorder = recorder;
+  failed = failed;
+  moment = moment;
+  taken = taken;
+  settled = settled;
+  calls = calls;
+}
+
+pub begun_from : (now : ℕ) (seen before a : ServerState) → before ≡ a → seen ≡ turn_begun now before → seen ≡ turn_begun now a
+begun_from now seen before a first begun = begun ∙ ap (turn_begun now) first
+
+pub served_behind : (now : ℕ) (seen a b : ServerState) (reported : Result Report TurnFault) → seen ≡ turn_begun now a → now < END_OF_TIME → a.moment < END_OF_TIME
+    → ServerServesTurn seen b reported → TurnIsServed a b reported
+served_behind now seen a b reported begun early before serves = record {
+  now = now;
+  early = begun_early END_OF_TIME now a.moment (a.settled || not (is_recording a.recorder)) early before;
+  serves = subst (λ (x : ServerState). ServerServesTurn x b reported) begun serves;
+}
+
+pub settled_behind : (now : ℕ) (seen a b last : ServerState) (reported : Result Report TurnFault) → seen ≡ turn_begun now a → now < END_OF_TIME → a.moment < END_OF_TIME
+    → ServerServesTurn seen b reported → last ≡ record b { settled = turn_settles reported } → TurnIsServedAndSettled a last reported
+settled_behind now seen a b last reported begun early before serves settles = record {
+  last = b;
+  served = served_behind now seen a b reported begun early before serves;
+  settles = settles;
+}
+
+-- and the moment that it names is that of the turn
+pub answered_at : (now : ℕ) (seen a b last : ServerState) (reported : Result Report TurnFault) (moment : ℕ) → seen ≡ turn_begun now a → now < END_OF_TIME → a.moment < END_OF_TIME
+    → ServerServesTurn seen b reported → last ≡ record b { settled = turn_settles reported } → moment ≡ seen.moment
+    → (served : TurnIsServedAndSettled a last reported) × (moment ≡ (turn_begun served.served.now a).moment)
+answered_at now seen a b last reported moment begun early before serves settles is =
+    (
+      record {
+        last = b;
+        served = record {
+          now = now;
+          early = begun_early END_OF_TIME now a.moment (a.settled || not (is_recording a.recorder)) early before;
+          serves = subst (λ (x : ServerState). ServerServesTurn x b reported) begun serves;
+        };
+        settles = settles;
+      },
+      is ∙ ap (λ (x : ServerState). x.moment) begun,
+    )

@@ -1,48 +1,218 @@
--- Ends that are lost, one after another: whatever a take answers, and that nothing else is taken.
-use Rattle.std.proofs.Common.{◌≡◌, List, [], ◌∷◌, ◌++◌, refl, sym, ap, ◌∙◌, subst, inl, inr, Option, None, Some, Result, Ok, Err, OnOk, OnErr}
-use Rattle.std.specs.Prelude.{option_map}
+-- Ends that are lost, one after another: each is taken and recorded, and nothing else is.
+use Rattle.std.proofs.Common.{◌≡◌, ◌⊎◌, List, [], ◌∷◌, ◌++◌, refl, sym, ap, ◌∙◌, subst, inl, inr, Bool, true, false, Option, None, Some, is_some, is_ok, Result, Ok, Err, IfErr, OnOk, OnErr}
+use Rattle.std.proofs.lemmas.Bool.{false≢true, true≢false}
+use Rattle.std.specs.Prelude.{ℕ, option_map, unwrap_or}
 use Rattle.hx_status.specs.declared.cause.FailKind.{FailKind}
 use Rattle.proxy_script.specs.declared.happening.Happening.{Happening}
-use Rattle.proxy_engine.specs.Happenings.{PlainHappening, plain_happening}
-use Rattle.proxy_engine.specs.EngineModel.{EngineModel}
-use Rattle.proxy_engine.specs.State.{State, EngineRepresents, EngineTakesHappening}
+use Rattle.proxy_engine.specs.Happenings as happened
+use Rattle.proxy_engine.specs.Happenings.{PlainHappening, plain_happening, happening_takes_memory}
+use Rattle.proxy_engine.specs.EngineModel.{EngineModel, model_after_happening, happening_fault}
+use Rattle.proxy_engine.specs.State.{State, EngineRepresents, EngineTakesHappening, IsFaultOrOutOfMemory, IsFaultOfTaking}
+use Rattle.proxy_engine.specs.declared.work.EngineFault.{EngineFault}
+use Rattle.proxy_engine.specs.declared.work.EngineFault.TheVariants.{OutOfMemory}
 use Rattle.proxy_engine.specs.declared.work.End.{End}
 use Rattle.proxy_engine.specs.declared.work.End.TheVariants as ends
-use Rattle.proxy_engine.specs.declared.work.EngineFault.{EngineFault}
 use Rattle.proxy_turn.specs.Turn.{happening_of_loss}
-use Rattle.proxy_turn.specs.Served.{EngineTakesLosses, NoLossIsALossList, OneLossIsTaken}
-use Rattle.proxy_server.specs.Losses.{EngineTakesLoss, EndIsLost}
+use Rattle.proxy_turn.specs.Served.{IsLostEnd, EngineTakesLosses, LossesAreTakenOneAfterAnother}
+use Rattle.proxy_record.specs.Records.{Record, EachIsNoted}
+use Rattle.proxy_record.specs.Recorded.{HappeningIfAnyIsNoted, is_recording, may_be_taken_while_recording, was_recording_before, recording_had_not_failed}
+use Rattle.proxy_record.specs.RecordedTurns.{noted_at_moment}
+use Rattle.proxy_server.specs.ServerState.{ServerState}
+use Rattle.proxy_server.specs.Losses.{LossIsTaken, LossIsRefused, LossIfAnyIsTaken, EndIsLost, LossesAreNoted, AtMostOneLoss, LossesAreHandedIn, ServerTakesLosses}
 
--- nothing is taken
-stays : (o : Option PlainHappening) (e : State) → EngineTakesLoss o e e
-stays None e = refl
-stays (Some h) e = inl refl
+-- ---- none
 
-pub not_lost : (end : End) (kind : FailKind) (e new : State) → new ≡ e → EndIsLost end kind e new
-not_lost end kind e new is = subst (EndIsLost end kind e) (sym is) (stays (happening_of_loss end kind) e)
+notes_none : (now : ℕ) (r : Option Record) → LossesAreNoted now [] r r
+notes_none now None = refl
+notes_none now (Some r) = (r, refl, refl)
 
-took : (e new : State) (h : PlainHappening) (r : Result (Unit {0}) EngineFault) → OnOk r ((s : EngineModel) → EngineRepresents e s → EngineTakesHappening s h new) → OnErr r (new ≡ e) → EngineTakesLoss (Some h) e new
-took e new h (Ok x) taken same = inr taken
-took e new h (Err fault) taken same = inl same
+-- its engine stands for the same, and nothing else changes
+pub roomier : (a : ServerState) (e : State) → ((s : EngineModel) → EngineRepresents a.engine s → EngineRepresents e s) → ServerTakesLosses a (record a { engine = e })
+roomier a e same s represents = record {
+  losses = record { lost = []; are_losses = tt; after = s; takes = refl; represents = same s represents };
+  fails = λ is. is;
+  notes = λ ok. notes_none a.moment a.recorder;
+  takes = λ ok is. refl;
+  moment = refl;
+  settled = refl;
+  calls = refl;
+}
 
--- what is handed in is what happened
-pub lost_end : (o : Option Happening) (end : End) (kind : FailKind) (h : Happening) (e new : State) (r : Result (Unit {0}) EngineFault) → o ≡ Some h → option_map plain_happening o ≡ happening_of_loss end kind → OnOk r ((s : EngineModel) → EngineRepresents e s → EngineTakesHappening s (plain_happening h) new) → OnErr r (new ≡ e) → EndIsLost end kind e new
-lost_end o end kind h e new r is reported taken same =
-    subst (λ (l : Option PlainHappening). EngineTakesLoss l e new) (sym (ap (option_map plain_happening) is) ∙ reported) (took e new (plain_happening h) r taken same)
+pub none_on : (a b : ServerState) → b ≡ a → ServerTakesLosses a b
+none_on a b is = subst (ServerTakesLosses a) (sym is) (roomier a a.engine (λ s h. h))
 
--- ---- they are losses, and nothing else
+-- ---- one
 
-module _ (none : NoLossIsALossList) (one : OneLossIsTaken) where
-  on_same : (e new : State) → new ≡ e → EngineTakesLosses e new
-  on_same e new is = subst (EngineTakesLosses e) (sym is) (none e)
+may_be_first : (failed taken recording : Bool) → may_be_taken_while_recording failed taken recording ≡ true → recording ≡ true → taken ≡ false
+may_be_first false false recording may is = refl
+may_be_first false true true may is = absurd (false≢true may)
+may_be_first false true false may is = absurd (false≢true is)
+may_be_first true taken recording may is = absurd (false≢true may)
 
-  -- it stands for the same: no end was lost
-  pub roomier : (e new : State) → ((s : EngineModel) → EngineRepresents e s → EngineRepresents new s) → EngineTakesLosses e new
-  roomier e new same = λ s h. let nothing = none e s h in record { lost = nothing.lost; are_losses = nothing.are_losses; after = nothing.after; takes = nothing.takes; represents = same nothing.after nothing.represents }
+notes_one : (now : ℕ) (h : PlainHappening) (old new : Option Record) → HappeningIfAnyIsNoted now (Some h) old new → LossesAreNoted now (h ∷ []) old new
+notes_one now h None new noted = noted
+notes_one now h (Some r) new noted = (noted.0, noted.1, (noted.0, noted.2, refl))
 
-  pub end_on : (end : End) (kind : FailKind) (e new : State) → EndIsLost end kind e new → EngineTakesLosses e new
-  end_on ends.Listener kind e new is = on_same e new is
-  end_on (ends.Client n) kind e new (inl same) = on_same e new same
-  end_on (ends.Client n) kind e new (inr taken) = one e new _ tt taken
-  end_on (ends.Link l) kind e new (inl same) = on_same e new same
-  end_on (ends.Link l) kind e new (inr taken) = one e new _ tt taken
+abbrev may : ServerState → Type 0
+may a = may_be_taken_while_recording a.failed a.taken (is_recording a.recorder) ≡ true
+
+one_on : (h : PlainHappening) (a b : ServerState) → IsLostEnd h → may a → LossIsTaken h a b → ServerTakesLosses a b
+one_on h a b loss free taken s represents =
+    let took = taken.takes s represents in
+    record {
+      losses = record { lost = h ∷ []; are_losses = (loss, tt); after = model_after_happening s h; takes = (s, refl, (took.free, refl)); represents = took.represents };
+      fails = taken.fails;
+      notes = λ ok. notes_one a.moment h a.recorder b.recorder (taken.notes ok);
+      takes = λ ok is. (
+        may_be_first a.failed a.taken (is_recording a.recorder) free (was_recording_before a.moment (Some h) a.recorder b.recorder (taken.notes ok) is),
+        taken.taken,
+      );
+      moment = taken.moment;
+      settled = taken.settled;
+      calls = taken.calls;
+    }
+
+pub end_on : (end : End) (kind : FailKind) (a b : ServerState) → may a → EndIsLost end kind a b → ServerTakesLosses a b
+end_on ends.Listener kind a b free is = none_on a b is
+end_on (ends.Client n) kind a b free (inl taken) = one_on _ a b tt free taken
+end_on (ends.Client n) kind a b free (inr refused) = none_on a b refused.same
+end_on (ends.Link l) kind a b free (inl taken) = one_on _ a b tt free taken
+end_on (ends.Link l) kind a b free (inr refused) = none_on a b refused.same
+
+-- ---- and then others
+
+each_on : (now : ℕ) (xs ys : List PlainHappening) (r mid new : Record) → EachIsNoted r (noted_at_moment now xs) mid → EachIsNoted mid (noted_at_moment now ys) new → EachIsNoted r (noted_at_moment now (xs ++ ys)) new
+each_on now [] ys r mid new same rest = subst (λ (k : Record). EachIsNoted k (noted_at_moment now ys) new) same rest
+each_on now (h ∷ xs) ys r mid new noted rest = (noted.0, noted.1, each_on now xs ys noted.0 mid new noted.2 rest)
+
+notes_on : (now : ℕ) (xs ys : List PlainHappening) (old mid new : Option Record) → LossesAreNoted now xs old mid → LossesAreNoted now ys mid new → LossesAreNoted now (xs ++ ys) old new
+notes_on now xs ys None mid new same rest = subst (λ (r : Option Record). LossesAreNoted now ys r new) same rest
+notes_on now xs ys (Some r) mid new noted rest =
+    let behind = subst (λ (k : Option Record). LossesAreNoted now ys k new) noted.1 rest in
+    (behind.0, behind.1, each_on now xs ys r noted.0 behind.0 noted.2 behind.2)
+
+each_was_recorded : (now : ℕ) (xs : List PlainHappening) (r new : Record) → EachIsNoted r (noted_at_moment now xs) new → is_recording (Some new) ≡ true → is_recording (Some r) ≡ true
+each_was_recorded now [] r new same is = subst (λ (k : Record). is_recording (Some k) ≡ true) same is
+each_was_recorded now (h ∷ xs) r new noted is =
+    was_recording_before now (Some h) (Some r) (Some noted.0) (noted.0, refl, noted.1) (each_was_recorded now xs noted.0 new noted.2 is)
+
+was_recorded : (now : ℕ) (xs : List PlainHappening) (old new : Option Record) → LossesAreNoted now xs old new → is_recording new ≡ true → is_recording old ≡ true
+was_recorded now xs None new same is = subst (λ (r : Option Record). is_recording r ≡ true) same is
+was_recorded now xs (Some r) new noted is =
+    each_was_recorded now xs r noted.0 noted.2 (subst (λ (k : Option Record). is_recording k ≡ true) noted.1 is)
+
+one_of_both : (taken some later : Bool) (xs ys : List PlainHappening) → AtMostOneLoss taken xs some → AtMostOneLoss some ys later → AtMostOneLoss taken (xs ++ ys) later
+one_of_both taken some later [] ys same rest = subst (λ (t : Bool). AtMostOneLoss t ys later) same rest
+one_of_both taken some later (h ∷ xs) ys first rest = (first.0, one_of_both true some later xs ys first.1 rest)
+
+pub more_on : LossesAreTakenOneAfterAnother → (a mid b : ServerState) → ServerTakesLosses a mid → ServerTakesLosses mid b → ServerTakesLosses a b
+more_on joined a mid b first rest s represents =
+    let one = first s represents in
+    let other = rest one.losses.after one.losses.represents in
+    let both = joined s mid.engine b.engine one.losses other.losses in
+    record {
+      losses = both.0;
+      fails = λ is. other.fails (one.fails is);
+      notes = λ ok.
+          let before = one.notes (recording_had_not_failed mid.failed b.failed other.fails ok) in
+          let behind = subst (λ (now : ℕ). LossesAreNoted now other.losses.lost mid.recorder b.recorder) one.moment (other.notes ok) in
+          subst (λ (lost : List PlainHappening). LossesAreNoted a.moment lost a.recorder b.recorder) (sym both.1)
+          (notes_on a.moment one.losses.lost other.losses.lost a.recorder mid.recorder b.recorder before behind);
+      takes = λ ok is.
+          let free = recording_had_not_failed mid.failed b.failed other.fails ok in
+          let was = was_recorded mid.moment other.losses.lost mid.recorder b.recorder (other.notes ok) is in
+          subst (λ (lost : List PlainHappening). AtMostOneLoss a.taken lost b.taken) (sym both.1)
+          (one_of_both a.taken mid.taken b.taken one.losses.lost other.losses.lost (one.takes free was) (other.takes ok is));
+      moment = other.moment ∙ one.moment;
+      settled = other.settled ∙ one.settled;
+      calls = other.calls ∙ one.calls;
+    }
+
+-- from a state that is the one before
+pub on_from : LossesAreTakenOneAfterAnother → (a mid same b : ServerState) → same ≡ mid → ServerTakesLosses a mid → ServerTakesLosses same b → ServerTakesLosses a b
+on_from joined a mid same b is first rest = more_on joined a mid b first (subst (λ (x : ServerState). ServerTakesLosses x b) is rest)
+
+-- of its engine they are losses, and nothing else
+pub engine_loses : (a b : ServerState) → ServerTakesLosses a b → EngineTakesLosses a.engine b.engine
+engine_loses a b loses s represents = (loses s represents).losses
+
+pub engine_roomier : (e new : State) → ((s : EngineModel) → EngineRepresents e s → EngineRepresents new s) → EngineTakesLosses e new
+engine_roomier e new same s represents = record { lost = []; are_losses = tt; after = s; takes = refl; represents = same s represents }
+
+-- whatever a state is seen as
+pub from_view : (seen a b : ServerState) → seen ≡ a → ServerTakesLosses seen b → ServerTakesLosses a b
+from_view seen a b is loses = subst (λ (x : ServerState). ServerTakesLosses x b) is loses
+
+-- ---- what is handed in is what happened
+
+pub is_lost : (end : End) (kind : FailKind) (o : Option Happening) (h : Happening) (a b : ServerState) → o ≡ Some h → option_map plain_happening o ≡ happening_of_loss end kind → LossIsTaken (plain_happening h) a b → EndIsLost end kind a b
+is_lost end kind o h a b is says taken =
+    subst (λ (l : Option PlainHappening). LossIfAnyIsTaken l a b) (sym (ap (option_map plain_happening) is) ∙ says) (inl taken)
+
+pub is_refused : (end : End) (kind : FailKind) (o : Option Happening) (h : Happening) (a b : ServerState) → o ≡ Some h → option_map plain_happening o ≡ happening_of_loss end kind → LossIsRefused (plain_happening h) a b → EndIsLost end kind a b
+is_refused end kind o h a b is says refused =
+    subst (λ (l : Option PlainHappening). LossIfAnyIsTaken l a b) (sym (ap (option_map plain_happening) is) ∙ says) (inr refused)
+
+pub is_none : (end : End) (kind : FailKind) (o : Option Happening) (a b : ServerState) → o ≡ None → option_map plain_happening o ≡ happening_of_loss end kind → b ≡ a → EndIsLost end kind a b
+is_none end kind o a b is says same =
+    subst (λ (l : Option PlainHappening). LossIfAnyIsTaken l a b) (sym (ap (option_map plain_happening) is) ∙ says) same
+
+-- it takes no memory, so it is refused where the engine has no such end, and nowhere else
+loss_takes_none : (h : PlainHappening) → IsLostEnd h → happening_takes_memory h ≡ true → ⊥
+loss_takes_none (happened.Accepts n) loss is = loss
+loss_takes_none (happened.Sends n bytes) loss is = loss
+loss_takes_none (happened.Hears l bytes) loss is = loss
+loss_takes_none (happened.Ends n) loss is = loss
+loss_takes_none (happened.Leaves n) loss is = absurd (false≢true is)
+loss_takes_none (happened.Shuts l) loss is = loss
+loss_takes_none (happened.Fails l kind) loss is = absurd (false≢true is)
+
+stands : (o : Option EngineFault) (fault : EngineFault) → (fault ≡ OutOfMemory → ⊥) → IsFaultOrOutOfMemory o fault → is_some o ≡ true
+stands None fault fits is = absurd (fits is)
+stands (Some f) fault fits is = refl
+
+pub refused_where_gone : (h : PlainHappening) (a : ServerState) (r : Result (Unit {0}) EngineFault) (fault : EngineFault) → IsLostEnd h → r ≡ Err fault
+    → (r ≡ Err OutOfMemory → happening_takes_memory h ≡ true) → ((s : EngineModel) → EngineRepresents a.engine s → IsFaultOfTaking s h fault)
+    → LossIsRefused h a a
+refused_where_gone h a r fault loss is memory faults = record {
+  same = refl;
+  gone = λ s represents. stands (happening_fault s h) fault (λ wanting. loss_takes_none h loss (memory (is ∙ ap Err wanting))) (faults s represents);
+}
+
+some_inj : {x y : PlainHappening} → Some x ≡ Some y → x ≡ y
+some_inj {x} same = ap (λ (o : Option PlainHappening). unwrap_or o x) same
+
+loss_by_end : (e : End) (kind : FailKind) (h : PlainHappening) → Some h ≡ happening_of_loss e kind → IsLostEnd h
+loss_by_end ends.Listener kind h said = absurd cc
+loss_by_end (ends.Client n) kind h said = subst IsLostEnd (sym (some_inj said)) tt
+loss_by_end (ends.Link l) kind h said = subst IsLostEnd (sym (some_inj said)) tt
+
+-- an end that is lost is a loss
+pub loss_of_end : (end : End) (kind : FailKind) (o : Option Happening) (h : Happening) → o ≡ Some h → option_map plain_happening o ≡ happening_of_loss end kind → IsLostEnd (plain_happening h)
+loss_of_end end kind o h is says = loss_by_end end kind (plain_happening h) (sym (ap (option_map plain_happening) is) ∙ says)
+
+-- what the engine took was recorded
+pub taken_here : (end : End) (kind : FailKind) (o : Option Happening) (h : Happening) (seen b : ServerState) (r : Result (Unit {0}) EngineFault) → is_ok r ≡ true → o ≡ Some h → option_map plain_happening o ≡ happening_of_loss end kind
+    → OnOk r ((s : EngineModel) → EngineRepresents seen.engine s → EngineTakesHappening s (plain_happening h) b.engine)
+    → (seen.failed ≡ true → b.failed ≡ true) → (b.failed ≡ false → HappeningIfAnyIsNoted seen.moment (Some (plain_happening h)) seen.recorder b.recorder)
+    → b.taken ≡ true → b.moment ≡ seen.moment → b.settled ≡ seen.settled → b.calls ≡ seen.calls → EndIsLost end kind seen b
+taken_here end kind o h seen b (Ok done) ok is says takes fails notes taken moment settled calls =
+    is_lost end kind o h seen b is says (record { takes = takes; fails = fails; notes = notes; taken = taken; moment = moment; settled = settled; calls = calls })
+taken_here end kind o h seen b (Err fault) ok is says takes fails notes taken moment settled calls = absurd (false≢true ok)
+
+-- the engine has no such end
+pub refused_here : (end : End) (kind : FailKind) (o : Option Happening) (h : Happening) (seen : ServerState) (e : State) (r : Result (Unit {0}) EngineFault) → is_ok r ≡ false → o ≡ Some h → option_map plain_happening o ≡ happening_of_loss end kind
+    → (r ≡ Err OutOfMemory → happening_takes_memory (plain_happening h) ≡ true) → IfErr r (λ (fault : EngineFault). (s : EngineModel) → EngineRepresents seen.engine s → IsFaultOfTaking s (plain_happening h) fault)
+    → OnErr r (e ≡ seen.engine) → EndIsLost end kind seen (record seen { engine = e })
+refused_here end kind o h seen e (Ok done) failed is says memory faults same = absurd (true≢false failed)
+refused_here end kind o h seen e (Err fault) failed is says memory faults same =
+    subst (λ (x : State). EndIsLost end kind seen (record seen { engine = x })) (sym same)
+    (is_refused end kind o h seen seen is says (refused_where_gone (plain_happening h) seen (Err fault) fault (loss_of_end end kind o h is says) refl memory faults))
+
+pub lost_from_view : (end : End) (kind : FailKind) (seen a b : ServerState) → seen ≡ a → EndIsLost end kind seen b → EndIsLost end kind a b
+lost_from_view end kind seen a b is lost = subst (λ (x : ServerState). EndIsLost end kind x b) is lost
+
+-- what a call answered well did
+pub did_well : {T : Type 0} (r : Result (Unit {0}) EngineFault) → is_ok r ≡ true → OnOk r T → T
+did_well (Ok done) ok did = did
+did_well (Err fault) ok did = absurd (false≢true ok)

@@ -8,6 +8,7 @@ pub mod OtherEntries
 pub mod Paces
 pub mod Patience
 pub mod Peers
+pub mod ServerState
 pub mod Serving
 pub mod Streams
 pub mod Tokens

@@ -1,15 +1,23 @@
 -- What a call of `serve_turn` did, by what it answers.
 --
--- server_bounds: how many connections it serves      ServeTurnAnswers: what it answers
-use Rattle.std.specs.Prelude.{◌≡◌, ℕ, ◌<◌, Result, Ok, Err}
+-- server_bounds: how many connections it serves
+-- ServerTurn, ServerServesTurn: what was lost and one turn, over the sockets of the server itself
+-- ServeTurnAnswers: what it answers
+use Rattle.std.specs.Prelude.{◌≡◌, ℕ, ◌<◌, nat_lt, List, Bool, false, Result, Ok, Err}
 use Rattle.hx_fields.specs.declared.limits.TheConstants.{END_OF_TIME}
-use Rattle.proxy_engine.specs.State.{State}
-use Rattle.proxy_turn.specs.Served.{EngineServesTurn}
+use Rattle.proxy_engine.specs.State.{EngineRepresents}
+use Rattle.proxy_engine.specs.EngineModel.{EngineModel}
+use Rattle.proxy_engine.specs.Orderly.{ModelIsOrderly}
+use Rattle.proxy_engine.specs.declared.work.End.{End}
+use Rattle.proxy_turn.specs.Over.{EngineTurnsOverWithCalls}
+use Rattle.proxy_turn.specs.declared.limits.TheConstants.{MOST_WORKS}
 use Rattle.proxy_turn.specs.declared.bounds.TurnBounds.{TurnBounds}
 use Rattle.proxy_turn.specs.declared.report.Report.{Report}
 use Rattle.proxy_turn.specs.declared.report.TurnFault.{TurnFault}
 use Rattle.proxy_turn.specs.declared.report.TurnFault.TheVariants as faults
 use Rattle.proxy_server.specs.declared.limits.TheConstants.{MOST_OPEN, MOST_ACCEPTED}
+use Rattle.proxy_server.specs.ServerState.{ServerState, turn_begun, OwnSocketsDid}
+use Rattle.proxy_server.specs.Losses.{LossesAreHandedIn}
 use Rattle.proxy_server.specs.declared.server.Turned.{Turned}
 use Rattle.proxy_server.specs.declared.server.ServeFault.{ServeFault}
 use Rattle.proxy_server.specs.declared.server.ServeFault.TheVariants.{Socket, Clock, Record, Spent}
@@ -26,20 +34,47 @@ TurnHadLinkNumbersLeft (Err faults.Listener) = Unit {0}
 TurnHadLinkNumbersLeft (Err faults.NoMemory) = Unit {0}
 TurnHadLinkNumbersLeft (Err faults.Spent) = ⊥
 
--- one turn was served, behind what was lost, at some moment of those up to the end of the year 9999
-abbrev pub TurnIsServedAtAMoment : State → State → Result Report TurnFault → Type 0
-TurnIsServedAtAMoment e new reported =
-    (now : ℕ) × (now < END_OF_TIME) × EngineServesTurn now server_bounds e new reported
+-- what a turn leaves to the next: nothing, where it told of fewer acts than it may do
+abbrev pub turn_settles : Result Report TurnFault → Bool
+turn_settles (Ok report) = nat_lt report.works MOST_WORKS
+turn_settles (Err fault) = false
+
+-- What was lost was handed in, and then one turn was served, at the moment that had begun: with the engine of the server,
+-- over its own sockets, and within its bounds. It told this. Nothing else was taken or done.
+pub record ServerTurn (s : EngineModel) (a b : ServerState) (reported : Result Report TurnFault) : Type 0 where
+  pub mid : ServerState
+  pub handed_in : LossesAreHandedIn s a mid
+  pub given : List End
+  pub left : List End
+  pub turn : EngineTurnsOverWithCalls a.moment server_bounds handed_in.losses.after given b.engine left
+      (λ made. OwnSocketsDid mid made b) mid.calls b.calls reported
+  pub settled : b.settled ≡ a.settled
+
+-- from each orderly model that its engine stood for
+abbrev pub ServerServesTurn : ServerState → ServerState → Result Report TurnFault → Type 0
+ServerServesTurn a b reported = (s : EngineModel) → EngineRepresents a.engine s → ModelIsOrderly s
+    → ServerTurn s a b reported
+
+-- A turn began at some moment up to the end of the year 9999, and was served.
+pub record TurnIsServed (a b : ServerState) (reported : Result Report TurnFault) : Type 0 where
+  pub now : ℕ
+  pub early : (turn_begun now a).moment < END_OF_TIME
+  pub serves : ServerServesTurn (turn_begun now a) b reported
+
+-- the same, with what it leaves to the next
+pub record TurnIsServedAndSettled (a b : ServerState) (reported : Result Report TurnFault) : Type 0 where
+  pub last : ServerState
+  pub served : TurnIsServed a last reported
+  pub settles : b ≡ record last { settled = turn_settles reported }
 
 -- One turn was served, behind what was lost, at the moment that it names, and told what it says. Where the system can't
 -- tell what is ready, or a clock can't be read, nothing was taken or done. Where the record failed, a turn was served
 -- as far as it came; and where the last number of a link is used, by a turn that ended so.
-abbrev pub ServeTurnAnswers : State → State → Result Turned ServeFault → Type 0
-ServeTurnAnswers e new (Ok turned) =
-    (turned.moment < END_OF_TIME) × TurnHadLinkNumbersLeft turned.reported
-    × EngineServesTurn turned.moment server_bounds e new turned.reported
-ServeTurnAnswers e new (Err Socket) = new ≡ e
-ServeTurnAnswers e new (Err Clock) = new ≡ e
-ServeTurnAnswers e new (Err (Record fault)) = (reported : Result Report TurnFault)
-    × TurnIsServedAtAMoment e new reported
-ServeTurnAnswers e new (Err Spent) = TurnIsServedAtAMoment e new (Err faults.Spent)
+abbrev pub ServeTurnAnswers : ServerState → ServerState → Result Turned ServeFault → Type 0
+ServeTurnAnswers a b (Ok turned) = TurnHadLinkNumbersLeft turned.reported
+    × ((served : TurnIsServedAndSettled a b turned.reported)
+    × (turned.moment ≡ (turn_begun served.served.now a).moment))
+ServeTurnAnswers a b (Err Socket) = b ≡ a
+ServeTurnAnswers a b (Err Clock) = b ≡ a
+ServeTurnAnswers a b (Err (Record fault)) = (reported : Result Report TurnFault) × TurnIsServed a b reported
+ServeTurnAnswers a b (Err Spent) = TurnIsServedAndSettled a b (Err faults.Spent)

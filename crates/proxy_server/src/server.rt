@@ -1,14 +1,15 @@
 //! A server: a wait, what failed or was silent since the last turn, and a turn, again and again.
-ghost use Rattle.std.specs.Prelude.{◌≡◌, ◌<◌, ◌||◌, Bool, [], Some, IfOk};
+ghost use Rattle.std.specs.Prelude.{◌≡◌, ◌<◌, ◌||◌, Bool, true, false, [], Some, IfOk, IfSome};
 ghost use Rattle.hx_fields.specs.declared.limits.TheConstants.{END_OF_TIME};
 ghost use Rattle.proxy_engine.specs.State.{EngineRepresents, new_engine_model};
-ghost use Rattle.proxy_turn.specs.Served.{EngineIsServing, EngineGoesOn, EngineTakesLosses, EngineServesTurn};
-ghost use Rattle.proxy_server.specs.Losses.{EndIsLost};
+ghost use Rattle.proxy_turn.specs.Served.{EngineIsServing, EngineGoesOn};
+ghost use Rattle.proxy_record.specs.Recorded.{may_be_taken_while_recording, is_recording};
+ghost use Rattle.proxy_server.specs.Losses.{EndIsLost, ServerTakesLosses};
 ghost use Rattle.proxy_server.specs.Paces.{next_turn_must_not_wait};
-ghost use Rattle.proxy_server.specs.Serving.{server_bounds, ServeTurnAnswers};
+ghost use Rattle.proxy_server.specs.Serving.{turn_settles, ServeTurnAnswers, ServerServesTurn};
 
 use crate::limits::{MOST_ACCEPTED, MOST_OPEN, MOST_READ};
-use crate::pace::{LATEST, Pace, milliseconds_of_duration, moment_and_milliseconds};
+use crate::pace::{Pace, milliseconds_of_duration, moment_and_milliseconds};
 use crate::sockets::live_sockets::LiveSockets;
 use hx_allow::Config;
 use hx_fields::END_OF_TIME;
@@ -55,7 +56,8 @@ pub struct Turned {
 }
 
 /// An engine over sockets of the system. Contracts see the engine's state, and whatever the sockets do, its core's
-/// steps are a good run of the requests that its clients' bytes spell.
+/// steps are a good run of the requests that its clients' bytes spell. They see the record of what the engine takes,
+/// too, where one is kept.
 #[derive(Drop)]
 pub struct Server<'a, S: Shelf + Drop, R: Net, W: Write + Drop> {
     alloc: Global,
@@ -69,14 +71,25 @@ pub struct Server<'a, S: Shelf + Drop, R: Net, W: Write + Drop> {
 }
 
 impl<'a, S: Shelf + Drop, R: Net, W: Write + Drop> Model for Server<'a, S, R, W> {
-    ghost use Rattle.proxy_engine.specs.State.{State};
+    ghost use Rattle.std.specs.Prelude.{◌<◌, is_some};
+    ghost use Rattle.hx_fields.specs.declared.limits.TheConstants.{END_OF_TIME};
+    ghost use Rattle.proxy_turn.specs.Counts.{calls};
     ghost use Rattle.proxy_turn.specs.Served.{EngineIsReachable};
+    ghost use Rattle.proxy_server.specs.ServerState.{ServerState};
 
-    ghost Value = { State };
+    ghost Value = { ServerState };
 
-    ghost view = { λ s. s.engine };
+    ghost view = { λ s. record {
+      engine = s.engine;
+      recorder = s.ends.recorder;
+      failed = is_some s.ends.fault;
+      moment = s.ends.moment;
+      taken = s.ends.taken;
+      settled = s.pace.settled;
+      calls = calls s.ends.accepts s.ends.reads s.ends.failures;
+    } };
 
-    ghost invariant = { λ s. EngineIsReachable s.engine };
+    ghost invariant = { λ s. EngineIsReachable s.engine × (s.ends.moment < END_OF_TIME) };
 }
 
 /// The moment of a clock, in Unix seconds, and its milliseconds; 0 before 1970.
@@ -123,8 +136,10 @@ impl<'a, S: Shelf + Drop, R: Net, W: Write + Drop> Server<'a, S, R, W> {
     ) -> Server<'a, S, R, W>
         requires empty { S.entries shelf ≡ [] }
         requires capacity { S.limit shelf ≡ config.capacity }
-        ensures table { result.core.table ≡ config }
-        ensures begins { EngineRepresents result
+        ensures table { result.engine.core.table ≡ config }
+        ensures record { result.recorder ≡ recorder }
+        ensures free { (result.failed ≡ false) × (result.taken ≡ false) × (result.settled ≡ true) }
+        ensures begins { EngineRepresents result.engine
             (new_engine_model (record {
               table = config;
               limit = config.capacity;
@@ -179,14 +194,18 @@ impl<'a, S: Shelf + Drop, R: Net, W: Write + Drop> Server<'a, S, R, W> {
     /// Waits until something is ready, for a second at most, and serves a turn: what failed or was silent since the
     /// last one is taken, and then the turn.
     ///
+    /// The turn is one over the server's own sockets: what they gave is what the engine took, and the bytes of its
+    /// effects went to them. Where a record is kept, what was taken is recorded, and while one is written it is one
+    /// thing at most.
+    ///
     /// After it, also after an `Err`, what the engine had lived through has gone on by the steps of that turn and no
     /// others, and the steps of its core are a good run by its table, over a store of its capacity, with the headline.
     pub fn serve_turn<C: Clock>(&mut self, clock: &C) -> Result<Turned, ServeFault>
         ensures served { ServeTurnAnswers self.old self.new result }
-        ensures goes_on { EngineGoesOn self.old self.new }
-        ensures serves { EngineIsServing self.new }
-        ensures table { self.new.core.table ≡ self.old.core.table }
-        ensures limit { self.new.core.limit ≡ self.old.core.limit }
+        ensures goes_on { EngineGoesOn self.old.engine self.new.engine }
+        ensures serves { EngineIsServing self.new.engine }
+        ensures table { self.new.engine.core.table ≡ self.old.engine.core.table }
+        ensures limit { self.new.engine.core.limit ≡ self.old.engine.core.limit }
     {
         engines_go_on();
         let _before = &self.engine;
@@ -228,7 +247,7 @@ impl<'a, S: Shelf + Drop, R: Net, W: Write + Drop> Server<'a, S, R, W> {
             }
             self.pace.sweeping = true;
         }
-        let moment = self.ends.begin(now, self.pace.settled).min(LATEST);
+        let moment = self.ends.begin(now, self.pace.settled);
         self.ends.sockets.set_moment(moment, now, milliseconds);
         let reported = self.turn_at(moment);
         if let Some(fault) = self.ends.fault() {
@@ -245,8 +264,9 @@ impl<'a, S: Shelf + Drop, R: Net, W: Write + Drop> Server<'a, S, R, W> {
 
     /// Hands in what happened since the last turn, and then takes one at a moment.
     fn turn_at(&mut self, now: u64) -> Result<Report, TurnFault>
-        requires { now < END_OF_TIME }
-        ensures { EngineServesTurn now server_bounds self.old self.new result }
+        requires early { now < END_OF_TIME }
+        requires moment { now ≡ self.old.moment }
+        ensures { ServerServesTurn self.old self.new result }
     {
         engines_go_on();
         a_turn_is_served_behind_losses();
@@ -284,32 +304,34 @@ impl<'a, S: Shelf + Drop, R: Net, W: Write + Drop> Server<'a, S, R, W> {
 
     /// Whether the next turn has to wait, by what this one told.
     fn look_ahead(&mut self, reported: Result<Report, TurnFault>)
-        ensures { self.new ≡ self.old }
+        ensures { self.new ≡ record self.old { settled = turn_settles reported } }
     {
         self.ends.sockets.note_turn(&self.ready, reported);
         look_ahead(&mut self.pace, &self.ends, reported);
     }
 
-    /// The engine takes that an end is lost.
-    #[tactic(auto, using(crate::proofs::Losing::not_lost))]
+    /// The engine takes that an end is lost, and that is recorded.
     fn disconnect(&mut self, end: End, kind: FailKind)
+        requires { may_be_taken_while_recording self.old.failed self.old.taken (is_recording self.old.recorder)
+            ≡ true }
         ensures loses { EndIsLost end kind self.old self.new }
-        ensures on { EngineTakesLosses self.old self.new }
+        ensures on { ServerTakesLosses self.old self.new }
     {
         engines_go_on();
         a_turn_is_served_behind_losses();
         if let Some(happening) = happening_of_lost_end(end, kind) {
-            if self.ends.note_between(happening) {
-                self.ends.sockets.note_lost(end);
-                // It takes no memory, and the end was there.
-                let _ = self.engine.take(self.alloc, happening);
+            self.ends.sockets.note_lost(end);
+            // It takes no memory, and the end was there.
+            if self.engine.take(self.alloc, happening).is_ok() {
+                // Where that can't be recorded, the server ends behind this turn.
+                self.ends.note_between(happening);
             }
         }
     }
 
     /// A client of which no byte waits gives the room for its next ones back.
     fn release_room(&mut self, end: End)
-        ensures { EngineTakesLosses self.old self.new }
+        ensures { ServerTakesLosses self.old self.new }
     {
         engines_go_on();
         a_turn_is_served_behind_losses();
@@ -321,7 +343,7 @@ impl<'a, S: Shelf + Drop, R: Net, W: Write + Drop> Server<'a, S, R, W> {
     /// The ends that the last turn read keep no room: who is idle costs little, and each read goes into memory that was
     /// used just now.
     fn release_rooms(&mut self)
-        ensures { EngineTakesLosses self.old self.new }
+        ensures { ServerTakesLosses self.old self.new }
     {
         a_turn_is_served_behind_losses();
         for _ in 0..self.ready.len() {
@@ -334,7 +356,7 @@ impl<'a, S: Shelf + Drop, R: Net, W: Write + Drop> Server<'a, S, R, W> {
 
     /// Hands in the ends that failed since the last turn.
     fn hand_in_lost(&mut self)
-        ensures { EngineTakesLosses self.old self.new }
+        ensures { ServerTakesLosses self.old self.new }
     {
         a_turn_is_served_behind_losses();
         for _ in 0..self.ends.sockets.lost_of_a_turn() {
@@ -349,7 +371,7 @@ impl<'a, S: Shelf + Drop, R: Net, W: Write + Drop> Server<'a, S, R, W> {
 
     /// Hands in what is lost, whose time is over, and who is let go.
     fn hand_in(&mut self)
-        ensures { EngineTakesLosses self.old self.new }
+        ensures { ServerTakesLosses self.old self.new }
     {
         a_turn_is_served_behind_losses();
         self.release_rooms();
@@ -380,8 +402,10 @@ impl<'a, S: Shelf + Drop, R: Net, W: Write + Drop> Server<'a, S, R, W> {
 
     /// Drops the stream of an end whose time is over: the engine takes that it is lost, a link as timed out.
     fn release(&mut self, end: End)
+        requires { may_be_taken_while_recording self.old.failed self.old.taken (is_recording self.old.recorder)
+            ≡ true }
         ensures loses { EndIsLost end FailKind.TimedOut self.old self.new }
-        ensures on { EngineTakesLosses self.old self.new }
+        ensures on { ServerTakesLosses self.old self.new }
     {
         self.ends.sockets.forget(end);
         self.disconnect(end, FailKind::TimedOut);
@@ -389,7 +413,9 @@ impl<'a, S: Shelf + Drop, R: Net, W: Write + Drop> Server<'a, S, R, W> {
 
     /// The next end whose time may be over, if it can be handed in.
     fn next_to_look_at(&mut self) -> Option<End>
-        ensures { self.new ≡ self.old }
+        ensures same { self.new ≡ self.old }
+        ensures may { IfSome result (λ end. may_be_taken_while_recording self.old.failed self.old.taken
+            (is_recording self.old.recorder) ≡ true) }
     {
         if !self.pace.sweeping || !self.ends.may_happen() {
             return None;
@@ -401,7 +427,9 @@ impl<'a, S: Shelf + Drop, R: Net, W: Write + Drop> Server<'a, S, R, W> {
 
     /// Hands in an end whose time is over: a link as timed out, a client as gone.
     fn look_at(&mut self, end: End)
-        ensures { EngineTakesLosses self.old self.new }
+        requires { may_be_taken_while_recording self.old.failed self.old.taken (is_recording self.old.recorder)
+            ≡ true }
+        ensures { ServerTakesLosses self.old self.new }
     {
         a_turn_is_served_behind_losses();
         if self.is_over(end) {
@@ -413,7 +441,7 @@ impl<'a, S: Shelf + Drop, R: Net, W: Write + Drop> Server<'a, S, R, W> {
 
     /// Looks at the ends whose times may be over, and hands in those of which one is.
     fn hand_in_overdue(&mut self)
-        ensures { EngineTakesLosses self.old self.new }
+        ensures { ServerTakesLosses self.old self.new }
     {
         a_turn_is_served_behind_losses();
         for _ in 0..MOST_LOOKS {
@@ -426,7 +454,9 @@ impl<'a, S: Shelf + Drop, R: Net, W: Write + Drop> Server<'a, S, R, W> {
 
     /// The next client that has sent its end, where links are short and it can be handed in.
     fn next_departed(&mut self) -> Option<u64>
-        ensures { self.new ≡ self.old }
+        ensures same { self.new ≡ self.old }
+        ensures may { IfSome result (λ n. may_be_taken_while_recording self.old.failed self.old.taken
+            (is_recording self.old.recorder) ≡ true) }
     {
         if !self.ends.may_happen() {
             return None;
@@ -436,7 +466,9 @@ impl<'a, S: Shelf + Drop, R: Net, W: Write + Drop> Server<'a, S, R, W> {
 
     /// Gives up the answer of a client that has sent its end, if it waits for one.
     fn give_up(&mut self, n: u64)
-        ensures { EngineTakesLosses self.old self.new }
+        requires { may_be_taken_while_recording self.old.failed self.old.taken (is_recording self.old.recorder)
+            ≡ true }
+        ensures { ServerTakesLosses self.old self.new }
     {
         a_turn_is_served_behind_losses();
         if self.engine.may_read(End::Client(n)) {
@@ -448,7 +480,7 @@ impl<'a, S: Shelf + Drop, R: Net, W: Write + Drop> Server<'a, S, R, W> {
 
     /// Where links to an origin are short, the answers of clients that have sent their end are given up.
     fn give_up_departed(&mut self)
-        ensures { EngineTakesLosses self.old self.new }
+        ensures { ServerTakesLosses self.old self.new }
     {
         a_turn_is_served_behind_losses();
         for _ in 0..MOST_LOOKS {
@@ -461,7 +493,9 @@ impl<'a, S: Shelf + Drop, R: Net, W: Write + Drop> Server<'a, S, R, W> {
 
     /// Closes the next client that is let go since no more connections are taken, if it can be handed in.
     fn next_to_let_go(&mut self) -> Option<u64>
-        ensures { self.new ≡ self.old }
+        ensures same { self.new ≡ self.old }
+        ensures may { IfSome result (λ n. may_be_taken_while_recording self.old.failed self.old.taken
+            (is_recording self.old.recorder) ≡ true) }
     {
         if !self.ends.may_happen() {
             return None;
@@ -473,7 +507,7 @@ impl<'a, S: Shelf + Drop, R: Net, W: Write + Drop> Server<'a, S, R, W> {
 
     /// Once no more connections are taken, clients between two requests are let go.
     fn let_go(&mut self)
-        ensures { EngineTakesLosses self.old self.new }
+        ensures { ServerTakesLosses self.old self.new }
     {
         a_turn_is_served_behind_losses();
         for _ in 0..MOST_LOOKS {

@@ -147,9 +147,10 @@ impl<S: Stream + Drop> Client<S> {
         ensures without { self.old.logged ≡ None → result ≡ Ok None }
     {
         let alloc = self.alloc;
-        let Some(logged) = &mut self.logged else {
+        let Some(kept) = &mut self.logged else {
             return Ok(None);
         };
+        let logged = &mut **kept;
         let question = logged.asked.next_question(alloc);
         let address = logged.address.to_string(alloc)?;
         let seen = SeenOfReply {

@@ -1,13 +1,14 @@
-use Rattle.std.proofs.Common.{[], ◌∷◌, refl, sym, ap, subst, Bool, is_ok, is_some}
+use Rattle.std.proofs.Common.{[], ◌∷◌, true, ◌≡◌, refl, sym, ap, subst, Bool, is_ok, is_some}
 use Rattle.proxy_turn.specs.Calls.{Connect}
 use Rattle.proxy_record.proofs.Passing.{passes_reported, noted_reported}
 use Rattle.proxy_record.proofs.recording.RecordingSockets.connect.Goals as goal
 
 pub returns-clause-did : goal.returns-clause-did
 returns-clause-did g c = (
-  c.pass_on.ensures.fault,
+  λ failed. subst (λ o. is_some o ≡ true) (sym c.pass_on.ensures.fault) failed,
   Connect c.args.link c.args.address (is_ok c.connect-connected.result) ∷ [],
   subst (λ k. g.K.Sockets.Did c.args.self.now.sockets (Connect c.args.link c.args.address (is_ok c.connect-connected.result) ∷ []) k) (sym c.pass_on.ensures.sockets) c.connect-connected.ensures.did,
   passes_reported (is_some c.pass_on.new.self.fault) (λ (done : Bool). Connect c.args.link c.args.address done) (is_ok c.connect-connected.result) (is_ok c.pass_on.result) (ap is_ok c.pass_on.ensures.value),
-  λ ok. noted_reported _ _ _ (λ (done : Bool). Connect c.args.link c.args.address done) (is_ok c.connect-connected.result) (is_ok c.pass_on.result) _ _ _ (λ b. refl) (λ b. refl) (ap is_ok c.pass_on.ensures.value) c.pass_on.ensures.now (c.pass_on.ensures.noted ok) c.pass_on.ensures.taken,
+  λ ok. noted_reported _ _ _ (λ (done : Bool). Connect c.args.link c.args.address done) (is_ok c.connect-connected.result) (is_ok c.pass_on.result) _ _ _ (λ b. refl) (λ b is. is) (ap is_ok c.pass_on.ensures.value) c.pass_on.ensures.now c.pass_on.ensures.noted c.pass_on.ensures.taken,
+  c.pass_on.ensures.now,
 )

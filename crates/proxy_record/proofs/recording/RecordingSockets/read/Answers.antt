@@ -2,22 +2,29 @@ use Rattle.std.proofs.Common.{◌≡◌, [], ◌∷◌, true, false, refl, sym, 
 use Rattle.std.specs.Prelude.{option_map}
 use Rattle.std.proofs.lemmas.Bool.{true≢false}
 use Rattle.proxy_script.specs.Happenings.{plain_happening}
-use Rattle.proxy_turn.specs.Calls.{Read, read_outcome_of}
+use Rattle.proxy_turn.specs.Calls.{Read, Nothing, read_outcome_of}
 use Rattle.proxy_record.specs.Recorded.{TurnIsNoted}
-use Rattle.proxy_record.proofs.Passing.{passes_it, passes_nothing, noted_some, noted_none_given}
+use Rattle.proxy_record.proofs.Passing.{passes_it, passes_nothing, passes_unread, noted_some, noted_none_given, noted_nothing}
 use Rattle.proxy_record.proofs.recording.RecordingSockets.read.Goals as goal
 use Rattle.proxy_record.proofs.recording.RecordingSockets.read.Goals.{in-Some+else-not-note, in-None}
+
+pub returns-then-has_to_wait-clause-did : goal.returns-then-has_to_wait-clause-did
+returns-then-has_to_wait-clause-did g c = (λ failed. failed, [], g.met.K.Sockets.none c.args.self.now.sockets, passes_unread (is_some c.args.self.now.fault) _, λ ok. noted_nothing _ _ _ (Read _ Nothing) refl refl, refl)
 
 pub returns-then-not-note-clause-did : goal.returns-then-not-note-clause-did
 returns-then-not-note-clause-did g c =
     let failed = c.if-not-note.ensures.reported refl in
-    (c.note.ensures.kept, _, c.read-received.ensures.did, passes_nothing (is_some c.note.new.fault) _ _ failed, λ ok. absurd (true≢false (sym failed ∙ ok)))
+    (c.note.ensures.kept, _, c.read-received.ensures.did, passes_nothing (is_some c.note.new.fault) _ _ failed, λ ok. absurd (true≢false (sym failed ∙ ok)), refl)
 
 pub returns-then-is_err-clause-did : goal.returns-then-is_err-clause-did
 returns-then-is_err-clause-did g c =
     let given = read_outcome_of c.read-received.result c.read-received.new.buf in
     let may = c.has_to_wait.ensures.may c.if-has_to_wait.false in
     let sockets : c.match-happening_of_read.self.sockets ≡ c.read-received.new.self = elim c.match-happening_of_read.branch [
+      | in-Some+else-not-note w ↦ let is = w.self-is in search rules
+      | in-None w ↦ let is = w.self-is in search rules
+    ] in
+    let stays : c.match-happening_of_read.self.moment ≡ c.args.self.now.moment = elim c.match-happening_of_read.branch [
       | in-Some+else-not-note w ↦ let is = w.self-is in search rules
       | in-None w ↦ let is = w.self-is in search rules
     ] in
@@ -48,6 +55,7 @@ returns-then-is_err-clause-did g c =
       subst (λ k. g.K.Sockets.Did c.args.self.now.sockets (Read c.args.end given ∷ []) k) (sym sockets) c.read-received.ensures.did,
       passes_it (is_some c.match-happening_of_read.self.fault) _,
       noted,
+      stays,
     )
 
 pub returns-else-is_err-clause-did : goal.returns-else-is_err-clause-did
@@ -58,6 +66,10 @@ returns-else-is_err-clause-did g c =
       | in-Some+else-not-note w ↦ let is = w.self-is in search rules
       | in-None w ↦ let is = w.self-is in search rules
     ] in
+    let stays : c.match-happening_of_read.self.moment ≡ c.args.self.now.moment = elim c.match-happening_of_read.branch [
+      | in-Some+else-not-note w ↦ let is = w.self-is in search rules
+      | in-None w ↦ let is = w.self-is in search rules
+    ] in
     let kept : is_some c.args.self.now.fault ≡ true → is_some c.match-happening_of_read.self.fault ≡ true = elim c.match-happening_of_read.branch [
       | in-Some+else-not-note w ↦ λ failed. let is = w.self-is in let later = w.note.ensures.kept failed in search rules
       | in-None w ↦ λ failed. let is = w.self-is in search rules
@@ -85,4 +97,5 @@ returns-else-is_err-clause-did g c =
       subst (λ k. g.K.Sockets.Did c.args.self.now.sockets (Read c.args.end given ∷ []) k) (sym sockets) c.read-received.ensures.did,
       passes_it (is_some c.match-happening_of_read.self.fault) _,
       noted,
+      stays,
     )

@@ -1,6 +1,14 @@
-use Rattle.proxy_server.proofs.Living.{on_from}
+use Rattle.std.proofs.Common.{refl, sym, subst}
+use Rattle.proxy_server.specs.Losses.{ServerTakesLosses}
+use Rattle.proxy_server.proofs.Losing.{on_from, none_on}
 use Rattle.proxy_server.proofs.server.Server.give_up_departed.Goals as goal
+
+pub loop-init : goal.loop-init
+loop-init g c = none_on c.args.self.now _ refl
 
 pub loop-preserved : goal.loop-preserved
 loop-preserved g c =
-    on_from c.a_turn_is_served_behind_losses.ensures.more c.args.self.now c.loop.self c.next_departed.new.self c.give_up.new.self c.next_departed.ensures c.loop.invariant c.give_up.ensures
+    on_from c.a_turn_is_served_behind_losses.ensures.joined c.args.self.now c.loop.self c.next_departed.new.self c.give_up.new.self c.next_departed.ensures.same c.loop.invariant c.give_up.ensures
+
+pub returns-in_default : goal.returns-in_default
+returns-in_default g c = subst (ServerTakesLosses c.args.self.now) (sym c.next_departed.ensures.same) c.loop.invariant

@@ -1,9 +1,10 @@
+use Rattle.proxy_server.proofs.Losing.{more_on}
 use Rattle.proxy_server.proofs.server.Server.hand_in.Goals as goal
 
 pub returns : goal.returns
 returns g c =
-    let more = c.a_turn_is_served_behind_losses.ensures.more in
-    let lost = more c.args.self.now c.release_rooms.new.self c.hand_in_lost.new.self c.release_rooms.ensures c.hand_in_lost.ensures in
-    let overdue = more c.args.self.now c.hand_in_lost.new.self c.hand_in_overdue.new.self lost c.hand_in_overdue.ensures in
-    more c.args.self.now c.give_up_departed.new.self c.let_go.new.self
-    (more c.args.self.now c.hand_in_overdue.new.self c.give_up_departed.new.self overdue c.give_up_departed.ensures) c.let_go.ensures
+    let joined = c.a_turn_is_served_behind_losses.ensures.joined in
+    let lost = more_on joined c.args.self.now c.release_rooms.new.self c.hand_in_lost.new.self c.release_rooms.ensures c.hand_in_lost.ensures in
+    let overdue = more_on joined c.args.self.now c.hand_in_lost.new.self c.hand_in_overdue.new.self lost c.hand_in_overdue.ensures in
+    more_on joined c.args.self.now c.give_up_departed.new.self c.let_go.new.self
+    (more_on joined c.args.self.now c.hand_in_overdue.new.self c.give_up_departed.new.self overdue c.give_up_departed.ensures) c.let_go.ensures

@@ -1,21 +1,15 @@
-use Rattle.std.proofs.Common.{subst}
-use Rattle.proxy_engine.specs.State.{State}
-use Rattle.proxy_turn.specs.Served.{EngineTakesLosses}
-use Rattle.proxy_server.proofs.Losing.{roomier}
-use Rattle.proxy_server.proofs.server.Server.release_room.Given.{Over}
+use Rattle.std.proofs.Common.{refl}
+use Rattle.proxy_server.proofs.Losing.{roomier, engine_roomier, from_view, none_on}
 use Rattle.proxy_server.proofs.server.Server.release_room.Goals as goal
-use Rattle.proxy_server.proofs.server.Server.release_room.Goals.{After-release_room}
-
--- no end was lost
-taken : (g : Over) (c : After-release_room g) → EngineTakesLosses c.self.inside.engine c.release_room.new.self
-taken g c =
-    let losses = c.a_turn_is_served_behind_losses.ensures in
-    roomier losses.none losses.one c.self.inside.engine c.release_room.new.self c.release_room.ensures.represents
 
 pub invariant_of-self : goal.invariant_of-self
 invariant_of-self g c =
     let losses = c.a_turn_is_served_behind_losses.ensures in
-    c.engines_go_on.ensures.executed c.self.inside.engine c.release_room.new.self (losses.on c.self.inside.engine c.release_room.new.self (taken g c)) c.self.invariant
+    let same = engine_roomier c.self.inside.engine c.release_room.new.self c.release_room.ensures.represents in
+    (c.engines_go_on.ensures.executed c.self.inside.engine c.release_room.new.self (losses.on c.self.inside.engine c.release_room.new.self same) c.self.invariant.0, c.self.invariant.1)
 
 pub returns-in-Client : goal.returns-in-Client
-returns-in-Client g c = subst (λ (e : State). EngineTakesLosses e c.release_room.new.self) c.self.view_is (taken g c)
+returns-in-Client g c = from_view _ _ _ c.self.view_is (roomier _ c.release_room.new.self c.release_room.ensures.represents)
+
+pub returns-in_default : goal.returns-in_default
+returns-in_default g c = none_on c.args.self.now c.args.self.now refl

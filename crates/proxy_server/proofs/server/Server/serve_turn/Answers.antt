@@ -1,5 +1,6 @@
-use Rattle.std.proofs.Common.{subst}
+use Rattle.std.proofs.Common.{ap, subst}
 use Rattle.proxy_turn.specs.Served.{EngineIsReachable}
+use Rattle.proxy_server.specs.ServerState.{ServerState}
 use Rattle.proxy_server.proofs.Living.{answered_on}
 use Rattle.proxy_server.proofs.server.Server.serve_turn.Goals as goal
 
@@ -12,10 +13,10 @@ pub returns-clause-table : goal.returns-clause-table
 returns-clause-table g c =
     let laws = c.engines_go_on.ensures in
     let goes = answered_on laws.stays laws.turns c.args.self.now c.serve_next-served.new.self c.serve_next-served.result c.serve_next-served.ensures in
-    (laws.table c.args.self.now c.serve_next-served.new.self goes (subst EngineIsReachable c.self.view_is c.self.invariant)).0
+    (laws.table c.args.self.now.engine c.serve_next-served.new.self.engine goes (subst EngineIsReachable (ap (λ (a : ServerState). a.engine) c.self.view_is) c.self.invariant.0)).0
 
 pub returns-clause-limit : goal.returns-clause-limit
 returns-clause-limit g c =
     let laws = c.engines_go_on.ensures in
     let goes = answered_on laws.stays laws.turns c.args.self.now c.serve_next-served.new.self c.serve_next-served.result c.serve_next-served.ensures in
-    (laws.table c.args.self.now c.serve_next-served.new.self goes (subst EngineIsReachable c.self.view_is c.self.invariant)).1
+    (laws.table c.args.self.now.engine c.serve_next-served.new.self.engine goes (subst EngineIsReachable (ap (λ (a : ServerState). a.engine) c.self.view_is) c.self.invariant.0)).1
