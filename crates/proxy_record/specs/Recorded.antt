@@ -116,8 +116,8 @@ HappeningIfAnyIsNoted now (Some h) (Some r) new = (later : Record) × (new ≡ S
 abbrev pub record_ends : Option Record → Option Record
 record_ends old = option_map ended_record old
 
--- What came is recorded. At a write, a connect or a close that failed the record ends: the engine takes the loss amid the
--- acts of its turn, where a script can't tell of it.
+-- What came is recorded. At a write, a connect or a close that failed the record ends: the engine takes the loss amid
+-- the acts of its turn, where a script can't tell of it.
 abbrev pub CallIsNoted : ℕ → Call → Option Record → Option Record → Type 0
 CallIsNoted now (call.Accept n answer) old new =
     HappeningIfAnyIsNoted now (happening_of_call (call.Accept n answer)) old new

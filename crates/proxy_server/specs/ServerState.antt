@@ -1,13 +1,13 @@
 -- What contracts see of a server: its engine, and the record of what that takes.
 --
--- ServerState: what they see                 turn_begun: a turn begins
+-- ServerState: what they see      may_take_one: an end may be lost      turn_begun: a turn begins
 -- OwnSocketsDid: these calls were made on the sockets of the server itself, as it records them
 use Rattle.std.specs.Prelude.{◌≡◌, ℕ, List, Bool, true, false, not, ◌||◌, Option, cond}
 use Rattle.proxy_engine.specs.State.{State}
 use Rattle.proxy_turn.specs.Calls.{Call}
 use Rattle.proxy_turn.specs.Counts.{Calls}
 use Rattle.proxy_record.specs.Records.{Record}
-use Rattle.proxy_record.specs.Recorded.{CallsArePassedOn, TurnIsNoted, is_recording}
+use Rattle.proxy_record.specs.Recorded.{CallsArePassedOn, TurnIsNoted, is_recording, may_be_taken_while_recording}
 
 -- Its engine; the record, where one is kept, and whether that has failed; the moment of the turn; whether something has
 -- happened in it, or is due from the one before; whether nothing is due any more; and how many calls were made on its
@@ -20,6 +20,10 @@ pub record ServerState : Type 0 where
   pub taken : Bool
   pub settled : Bool
   pub calls : Calls
+
+-- An end may be lost in front of the turn: recording hasn't failed, and while a record is written nothing was taken.
+abbrev pub may_take_one : ServerState → Bool
+may_take_one a = may_be_taken_while_recording a.failed a.taken (is_recording a.recorder)
 
 -- A turn begins at a moment: while a record is written, at that of the turn before until all is done that was due then.
 abbrev pub turn_begun : ℕ → ServerState → ServerState

@@ -39,8 +39,8 @@ abbrev pub turn_settles : Result Report TurnFault → Bool
 turn_settles (Ok report) = nat_lt report.works MOST_WORKS
 turn_settles (Err fault) = false
 
--- What was lost was handed in, and then one turn was served, at the moment that had begun: with the engine of the server,
--- over its own sockets, and within its bounds. It told this. Nothing else was taken or done.
+-- What was lost was handed in, and then one turn was served, at the moment that had begun: with the engine of the
+-- server, over its own sockets, and within its bounds. It told this. Nothing else was taken or done.
 pub record ServerTurn (s : EngineModel) (a b : ServerState) (reported : Result Report TurnFault) : Type 0 where
   pub mid : ServerState
   pub handed_in : LossesAreHandedIn s a mid

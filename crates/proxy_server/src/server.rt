@@ -3,9 +3,9 @@ ghost use Rattle.std.specs.Prelude.{◌≡◌, ◌<◌, ◌||◌, Bool, true, fa
 ghost use Rattle.hx_fields.specs.declared.limits.TheConstants.{END_OF_TIME};
 ghost use Rattle.proxy_engine.specs.State.{EngineRepresents, new_engine_model};
 ghost use Rattle.proxy_turn.specs.Served.{EngineIsServing, EngineGoesOn};
-ghost use Rattle.proxy_record.specs.Recorded.{may_be_taken_while_recording, is_recording};
 ghost use Rattle.proxy_server.specs.Losses.{EndIsLost, ServerTakesLosses};
 ghost use Rattle.proxy_server.specs.Paces.{next_turn_must_not_wait};
+ghost use Rattle.proxy_server.specs.ServerState.{may_take_one};
 ghost use Rattle.proxy_server.specs.Serving.{turn_settles, ServeTurnAnswers, ServerServesTurn};
 
 use crate::limits::{MOST_ACCEPTED, MOST_OPEN, MOST_READ};
@@ -312,8 +312,7 @@ impl<'a, S: Shelf + Drop, R: Net, W: Write + Drop> Server<'a, S, R, W> {
 
     /// The engine takes that an end is lost, and that is recorded.
     fn disconnect(&mut self, end: End, kind: FailKind)
-        requires { may_be_taken_while_recording self.old.failed self.old.taken (is_recording self.old.recorder)
-            ≡ true }
+        requires { may_take_one self.old ≡ true }
         ensures loses { EndIsLost end kind self.old self.new }
         ensures on { ServerTakesLosses self.old self.new }
     {
@@ -402,8 +401,7 @@ impl<'a, S: Shelf + Drop, R: Net, W: Write + Drop> Server<'a, S, R, W> {
 
     /// Drops the stream of an end whose time is over: the engine takes that it is lost, a link as timed out.
     fn release(&mut self, end: End)
-        requires { may_be_taken_while_recording self.old.failed self.old.taken (is_recording self.old.recorder)
-            ≡ true }
+        requires { may_take_one self.old ≡ true }
         ensures loses { EndIsLost end FailKind.TimedOut self.old self.new }
         ensures on { ServerTakesLosses self.old self.new }
     {
@@ -414,8 +412,7 @@ impl<'a, S: Shelf + Drop, R: Net, W: Write + Drop> Server<'a, S, R, W> {
     /// The next end whose time may be over, if it can be handed in.
     fn next_to_look_at(&mut self) -> Option<End>
         ensures same { self.new ≡ self.old }
-        ensures may { IfSome result (λ end. may_be_taken_while_recording self.old.failed self.old.taken
-            (is_recording self.old.recorder) ≡ true) }
+        ensures may { IfSome result (λ end. may_take_one self.old ≡ true) }
     {
         if !self.pace.sweeping || !self.ends.may_happen() {
             return None;
@@ -427,8 +424,7 @@ impl<'a, S: Shelf + Drop, R: Net, W: Write + Drop> Server<'a, S, R, W> {
 
     /// Hands in an end whose time is over: a link as timed out, a client as gone.
     fn look_at(&mut self, end: End)
-        requires { may_be_taken_while_recording self.old.failed self.old.taken (is_recording self.old.recorder)
-            ≡ true }
+        requires { may_take_one self.old ≡ true }
         ensures { ServerTakesLosses self.old self.new }
     {
         a_turn_is_served_behind_losses();
@@ -455,8 +451,7 @@ impl<'a, S: Shelf + Drop, R: Net, W: Write + Drop> Server<'a, S, R, W> {
     /// The next client that has sent its end, where links are short and it can be handed in.
     fn next_departed(&mut self) -> Option<u64>
         ensures same { self.new ≡ self.old }
-        ensures may { IfSome result (λ n. may_be_taken_while_recording self.old.failed self.old.taken
-            (is_recording self.old.recorder) ≡ true) }
+        ensures may { IfSome result (λ n. may_take_one self.old ≡ true) }
     {
         if !self.ends.may_happen() {
             return None;
@@ -466,8 +461,7 @@ impl<'a, S: Shelf + Drop, R: Net, W: Write + Drop> Server<'a, S, R, W> {
 
     /// Gives up the answer of a client that has sent its end, if it waits for one.
     fn give_up(&mut self, n: u64)
-        requires { may_be_taken_while_recording self.old.failed self.old.taken (is_recording self.old.recorder)
-            ≡ true }
+        requires { may_take_one self.old ≡ true }
         ensures { ServerTakesLosses self.old self.new }
     {
         a_turn_is_served_behind_losses();
@@ -494,8 +488,7 @@ impl<'a, S: Shelf + Drop, R: Net, W: Write + Drop> Server<'a, S, R, W> {
     /// Closes the next client that is let go since no more connections are taken, if it can be handed in.
     fn next_to_let_go(&mut self) -> Option<u64>
         ensures same { self.new ≡ self.old }
-        ensures may { IfSome result (λ n. may_be_taken_while_recording self.old.failed self.old.taken
-            (is_recording self.old.recorder) ≡ true) }
+        ensures may { IfSome result (λ n. may_take_one self.old ≡ true) }
     {
         if !self.ends.may_happen() {
             return None;
