@@ -121,16 +121,15 @@ settled_behind now seen a b last reported begun early before serves settles = re
 pub answered_at : (now : ℕ) (seen a b last : ServerState) (reported : Result Report TurnFault) (moment : ℕ) → seen ≡ turn_begun now a → now < END_OF_TIME → a.moment < END_OF_TIME
     → ServerServesTurn seen b reported → last ≡ record b { settled = turn_settles reported } → moment ≡ seen.moment
     → (served : TurnIsServedAndSettled a last reported) × (moment ≡ (turn_begun served.served.now a).moment)
-answered_at now seen a b last reported moment begun early before serves settles is =
-    (
-      record {
-        last = b;
-        served = record {
-          now = now;
-          early = begun_early END_OF_TIME now a.moment (a.settled || not (is_recording a.recorder)) early before;
-          serves = subst (λ (x : ServerState). ServerServesTurn x b reported) begun serves;
-        };
-        settles = settles;
-      },
-      is ∙ ap (λ (x : ServerState). x.moment) begun,
-    )
+answered_at now seen a b last reported moment begun early before serves settles is = (
+  record {
+    last = b;
+    served = record {
+      now = now;
+      early = begun_early END_OF_TIME now a.moment (a.settled || not (is_recording a.recorder)) early before;
+      serves = subst (λ (x : ServerState). ServerServesTurn x b reported) begun serves;
+    };
+    settles = settles;
+  },
+  is ∙ ap (λ (x : ServerState). x.moment) begun,
+)

@@ -11,8 +11,7 @@ invariant_of-self g c =
     let losses = c.a_turn_is_served_behind_losses.ensures in
     let loss = loss_of_end c.args.end c.args.kind c.happening_of_lost_end.result c.in-Some.happening c.in-Some.is c.happening_of_lost_end.ensures in
     let took = did_well c.take.result (sym c.is_ok.ensures.value ∙ c.if-is_ok.true) c.take.ensures.ok in
-    let lost = losses.one c.self.inside.engine c.take.new.self (plain_happening c.in-Some.happening) loss took in
-    (
+    let lost = losses.one c.self.inside.engine c.take.new.self (plain_happening c.in-Some.happening) loss took in (
       c.engines_go_on.ensures.executed c.self.inside.engine c.take.new.self (losses.on c.self.inside.engine c.take.new.self lost) c.self.invariant.0,
       subst (λ (moment : ℕ). moment < END_OF_TIME) (sym (ap (λ r. r.moment) c.note_between.ensures.rest)) c.self.invariant.1,
     )
