@@ -129,6 +129,7 @@ impl Question {
         push_echo(&mut echo, head, "X-Id")?;
         push_echo(&mut echo, head, "X-Target")?;
         let has_condition = fields::last_value(head, b"If-None-Match").is_some()
+            || fields::last_value(head, b"if-none-match").is_some()
             || fields::last_value(head, b"If-Modified-Since").is_some();
         Ok(Question {
             echo,

@@ -17,32 +17,24 @@
 //! - An answer is as the words of its line have it: `words.rt` says how.
 
 use crate::clients::{Client, clients_of, index_of_number};
-use crate::counts::Counts;
+use crate::counts::{Counts, count_plus_one};
 use crate::fields::{id_of, id_of_request};
 use crate::log::{Log, Occurred, Step};
 use crate::past_store::{claims_past_store, shows_past_store};
 use crate::replies::{
-    Reason, Source, has_successful_status, has_target, read_reply, reason_shown, seconds_left,
+    Reason, Source, has_successful_status, has_target, is_bad_answer, read_reply, reason_shown,
+    seconds_left,
 };
-use crate::requests::Asked;
-use crate::tables::{Table, is_address, is_past_the_store, lets_wait_for_stale};
-use crate::waiting::{Arrival, Exchange, Now, Suspect, Waiter, Woken, beside, found, reason_of};
+use crate::requests::{Asked, has_clients_condition};
+use crate::stored_answers::{Chosen, StoredAnswers};
+use crate::tables::{Table, heeds_no_cache, is_address, is_past_the_store, lets_wait_for_stale};
+use crate::waiting::{
+    Arrival, Exchange, Now, Suspect, Waiter, Woken, found, next_touched, overtake, possible_leaders,
+};
 use crate::words::{Said, word_of_answer};
+use crate::wrong::Wrong;
 use case_text::{Effect, read_effect};
 use std::alloc::{AllocError, Global};
-
-/// What doesn't hold, with the connection or link at which it doesn't.
-#[derive(Clone, Copy)]
-pub enum Wrong {
-    OutOfMemory,
-    Rule(&'static str, u64),
-}
-
-impl From<AllocError> for Wrong {
-    fn from(_: AllocError) -> Self {
-        Wrong::OutOfMemory
-    }
-}
 
 struct Check<'a> {
     alloc: Global,
@@ -61,6 +53,8 @@ struct Check<'a> {
     woken: Vec<u64>,
     /// The requests whose answers may have been kept.
     kept: Vec<Asked>,
+    /// The answers that may be held.
+    held: StoredAnswers,
     /// Until when the last answer that was stored or sent for a target is fresh, the latest behind the others.
     fresh: Vec<(Asked, u64)>,
     table: Table,
@@ -81,6 +75,7 @@ impl Drop for Check<'_> {
             happening: _,
             woken: _,
             kept: _,
+            held: _,
             fresh: _,
             table: _,
             now: _,
@@ -90,10 +85,6 @@ impl Drop for Check<'_> {
 }
 
 const CONTINUE: &[u8] = b"HTTP/1.1 100 Continue\r\n\r\n";
-
-fn count_plus_one(count: &mut u64) {
-    *count = count.saturating_add(1);
-}
 
 impl<'a> Check<'a> {
     /// Nothing has happened yet; the requests that the clients of a log will send are known.
@@ -115,6 +106,7 @@ impl<'a> Check<'a> {
             happening: Now::default(),
             woken: Vec::new(alloc),
             kept: Vec::new(alloc),
+            held: StoredAnswers::new(alloc),
             fresh: Vec::new(alloc),
             table: log.table,
             now: 0,
@@ -201,13 +193,15 @@ impl<'a> Check<'a> {
         if self.happening.has_woken_behind(arrived) {
             return Err(Wrong::Rule("requests are woken in another order than they came", number));
         }
-        let reason = reason_of(self.exchanges.as_slice(), ended);
-        if !waiter.may_wait_by(reason) {
-            return Err(Wrong::Rule(
-                "a request waited that went forward for no such reason",
-                number,
-            ));
-        }
+        let reason = match self.exchanges.get(ended) {
+            Some(exchange) if waiter.may_have_waited_for(exchange) => exchange.reason,
+            _ => {
+                return Err(Wrong::Rule(
+                    "a request waited for one that went forward for something else",
+                    number,
+                ));
+            }
+        };
         waiter.push_suspects(&mut self.suspects, self.exchanges.as_slice(), ended)?;
         self.wake(arrived)?;
         Ok(Some(Woken { arrived, reason }))
@@ -254,35 +248,23 @@ impl<'a> Check<'a> {
     /// A request has come whole, and got nothing: it waits.
     fn begin_to_wait(&mut self, asked: Asked) -> Result<(), Wrong> {
         let connection = asked.connection;
-        if asked.method != "GET" || asked.is_only_if_cached || self.is_past(&asked) {
+        let is_past = self.is_past(&asked);
+        if asked.is_only_if_cached || is_past || !self.could_wait(&asked) {
             return Err(Wrong::Rule("a request that never waits gets nothing", connection));
         }
         let lets_wait = self.lets_wait(&asked);
-        let beside = beside(self.alloc, self.exchanges.as_slice(), &asked, lets_wait)?;
+        let beside = possible_leaders(self.alloc, self.exchanges.as_slice(), &asked, lets_wait)?;
         if beside.is_empty() {
             return Err(Wrong::Rule("a request waits for none", connection));
         }
         let waiter = Waiter {
             arrived: self.arrival(connection),
             lets_wait,
+            chosen: self.held.chosen(&asked),
             beside,
         };
         count_plus_one(&mut self.counts.waited);
         Ok(self.waiters.push(waiter).map_err(AllocError::from)?)
-    }
-
-    /// The least connection behind this one to which the happening happened, or which it has woken.
-    fn next_touched(&self, last: u64) -> Option<u64> {
-        let mut next = match self.happening.about {
-            Some(about) if about > last => about,
-            _ => u64::MAX,
-        };
-        for woken in &self.woken {
-            if *woken > last && *woken < next {
-                next = *woken;
-            }
-        }
-        if next == u64::MAX { None } else { Some(next) }
     }
 
     /// The request of a connection that has come whole, got nothing, and isn't known to wait.
@@ -303,7 +285,8 @@ impl<'a> Check<'a> {
     fn note_waiting(&mut self) -> Result<(), Wrong> {
         let mut last = 0;
         for _ in 0..self.woken.len().saturating_add(1) {
-            let Some(connection) = self.next_touched(last) else {
+            let about = self.happening.about;
+            let Some(connection) = next_touched(about, self.woken.as_slice(), last) else {
                 break;
             };
             last = connection;
@@ -343,6 +326,12 @@ impl<'a> Check<'a> {
     /// Whether the line of this request lets it wait for what is stale.
     fn lets_wait(&self, asked: &Asked) -> bool {
         self.table == Table::WithWords && lets_wait_for_stale(asked.host, asked.path)
+    }
+
+    /// Whether a request waits where one leads: a GET, over a line with the word without a no-cache that counts.
+    fn could_wait(&self, asked: &Asked) -> bool {
+        let asks_the_origin = asked.has_no_cache && heeds_no_cache(asked.host);
+        asked.method == "GET" && !(self.lets_wait(asked) && asks_the_origin)
     }
 
     /// A request of this connection comes now.
@@ -414,19 +403,17 @@ impl<'a> Check<'a> {
     /// A request goes forward that has just come: there was none that it could have waited for.
     fn begin_at_once(&mut self, asked: &Asked) -> Result<(), Wrong> {
         self.happening.is_serving = true;
-        if asked.method != "GET" {
+        if !self.could_wait(asked) {
             return Ok(());
         }
-        let lets_wait = self.lets_wait(asked);
-        let others = beside(self.alloc, self.exchanges.as_slice(), asked, lets_wait)?;
+        let (lets_wait, chosen) = (self.lets_wait(asked), self.held.chosen(asked));
+        let others = possible_leaders(self.alloc, self.exchanges.as_slice(), asked, lets_wait)?;
         for other in &others {
-            let suspect = Suspect {
-                exchanges: (*other, self.exchanges.len()),
-                lets_wait,
-                rule: "a request goes forward beside one that it could have waited for",
-                connection: asked.connection,
-            };
-            self.suspects.push(suspect).map_err(AllocError::from)?;
+            if other.is_sure {
+                let opened = self.exchanges.len();
+                let suspect = Suspect::forwarded(other.place, opened, asked, chosen, lets_wait);
+                self.suspects.push(suspect).map_err(AllocError::from)?;
+            }
         }
         Ok(())
     }
@@ -442,14 +429,20 @@ impl<'a> Check<'a> {
             return Ok(self.arrival(asked.connection));
         };
         count_plus_one(&mut self.counts.woken_forward);
-        if woken.reason == Some(Reason::Expired) {
+        if matches!(woken.reason, Some(Reason::Expired | Reason::Held)) {
             count_plus_one(&mut self.counts.waited_for_stale);
         }
         Ok(woken.arrived)
     }
 
     /// A request goes forward for the first time.
-    fn open(&mut self, asked: Asked, number: u64, woken: Option<Woken>) -> Result<(), Wrong> {
+    fn open(
+        &mut self,
+        asked: Asked,
+        number: u64,
+        woken: Option<Woken>,
+        has_own_condition: bool,
+    ) -> Result<(), Wrong> {
         let arrived = self.arrival_of_forwarded(&asked, woken)?;
         let exchange = self.exchanges.len();
         if let Some(client) = self.clients.get_mut(index_of_number(asked.connection)) {
@@ -460,15 +453,25 @@ impl<'a> Check<'a> {
             arrived,
             link: Some(number),
             reason: None,
+            chosen: self.held.chosen(&asked),
+            has_own_condition,
+            is_overtaken: Some(false),
         };
         self.exchanges.push(opened).map_err(AllocError::from)?;
         Ok(self.links.push(exchange).map_err(AllocError::from)?)
     }
 
     /// A request goes forward once more: its exchange goes on.
-    fn go_on(&mut self, exchange: usize, number: u64) -> Result<(), Wrong> {
+    fn go_on(
+        &mut self,
+        exchange: usize,
+        number: u64,
+        has_own_condition: bool,
+    ) -> Result<(), Wrong> {
         if let Some(exchange) = self.exchanges.get_mut(exchange) {
             exchange.link = Some(number);
+            exchange.has_own_condition = has_own_condition;
+            exchange.is_overtaken = Some(false);
         }
         self.happening.ended = None;
         Ok(self.links.push(exchange).map_err(AllocError::from)?)
@@ -487,9 +490,10 @@ impl<'a> Check<'a> {
             return Err(Wrong::Rule("a forward is of no request", number));
         };
         self.check_forward(&asked, number, address)?;
+        let has_own_condition = has_clients_condition(request);
         match exchange {
-            Some(exchange) => self.go_on(exchange, number),
-            None => self.open(asked, number, woken),
+            Some(exchange) => self.go_on(exchange, number, has_own_condition),
+            None => self.open(asked, number, woken, has_own_condition),
         }
     }
 
@@ -544,18 +548,6 @@ impl<'a> Check<'a> {
         }
     }
 
-    fn count(&mut self, source: Source) {
-        count_plus_one(&mut self.counts.replies);
-        match source {
-            Source::Own => count_plus_one(&mut self.counts.refused),
-            Source::Stored => count_plus_one(&mut self.counts.stored),
-            Source::Hit => count_plus_one(&mut self.counts.hits),
-            Source::Validated => count_plus_one(&mut self.counts.validated),
-            Source::Collapsed => count_plus_one(&mut self.counts.collapsed),
-            Source::Origin | Source::Store => {}
-        }
-    }
-
     /// The client of a connection to which bytes may go.
     fn receiving_client(&mut self, number: u64) -> Result<&mut Client<'a>, Wrong> {
         let client = self.client(number)?;
@@ -591,6 +583,8 @@ impl<'a> Check<'a> {
         let before = self.kept.len();
         self.kept.retain(|kept| !kept.has_target_of(asked));
         self.fresh.retain(|(known, _)| !known.has_target_of(asked));
+        self.held.forget_target(asked);
+        overtake(self.exchanges.as_mut_slice(), asked, Some(true));
         if self.is_past(asked) && self.kept.len() < before {
             count_plus_one(&mut self.counts.past_taking);
         }
@@ -604,6 +598,10 @@ impl<'a> Check<'a> {
         }
         if matches!(source, Source::Origin) && asked.is_unsafe() && has_successful_status(head) {
             self.forget_stored_target(asked);
+        }
+        // A 304 that nobody asked for takes away what is stored, too; an answer that can't be read doesn't.
+        if asked.is_unsafe() && is_bad_answer(head) {
+            overtake(self.exchanges.as_mut_slice(), asked, None);
         }
         Ok(())
     }
@@ -644,18 +642,23 @@ impl<'a> Check<'a> {
         Ok(())
     }
 
-    /// What an answer says of why its request went forward, if it did.
-    fn note_reason(&mut self, number: u64, head: &[u8]) {
+    /// What an answer says of why its request went forward, if it did. Gives the answer for which it did so, if it was
+    /// for one.
+    fn note_reason(&mut self, number: u64, head: &[u8]) -> Chosen {
         let Some(client) = self.clients.get_mut(index_of_number(number)) else {
-            return;
+            return Chosen::default();
         };
         let Some(exchange) = client.exchange else {
             self.happening.is_serving = true;
-            return;
+            return Chosen::default();
         };
         client.exchange = None;
-        if let Some(exchange) = self.exchanges.get_mut(exchange) {
-            exchange.reason = reason_shown(head);
+        match self.exchanges.get_mut(exchange) {
+            Some(exchange) => {
+                exchange.reason = reason_shown(head);
+                exchange.chosen
+            }
+            None => Chosen::default(),
         }
     }
 
@@ -669,12 +672,7 @@ impl<'a> Check<'a> {
         woken: Woken,
     ) -> Result<(), Wrong> {
         let occurred = reason_shown(head);
-        let may_wait = match occurred {
-            Some(Reason::Missing) => true,
-            Some(Reason::Expired) => self.lets_wait(asked),
-            Some(Reason::Other) | None => false,
-        };
-        if !may_wait || (woken.reason.is_some() && woken.reason != occurred) {
+        if !woken.may_tell(occurred, self.lets_wait(asked)) {
             return Err(Wrong::Rule("a request tells wrongly for what it waited", number));
         }
         if occurred == Some(Reason::Expired) {
@@ -692,17 +690,19 @@ impl<'a> Check<'a> {
         if woken.is_some() != matches!(source, Source::Collapsed) {
             return Err(Wrong::Rule("a reply says wrongly whether its request waited", number));
         }
+        let mut about = Chosen::default();
         match woken {
             Some(woken) => self.check_woken_reply(number, head, &asked, woken)?,
-            None => self.note_reason(number, head),
+            None => about = self.note_reason(number, head),
         }
         if !self.answers(head, source, &asked)? {
             return Err(Wrong::Rule("a reply is to another request", number));
         }
         self.check_past_store(number, head, &asked)?;
         self.check_line_words(number, head, source, &asked)?;
-        self.count(source);
+        self.counts.note_reply(source);
         self.note(head, source, &asked)?;
+        self.held.note(asked, about, head, source)?;
         self.keep(source, asked)
     }
 

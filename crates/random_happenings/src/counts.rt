@@ -1,5 +1,6 @@
 //! How much there was of what in a run.
 
+use crate::replies::Source;
 use std::fmt;
 
 /// How much there was of what.
@@ -39,6 +40,25 @@ pub struct Counts {
     pub collapsed_stale: u64,
     /// Requests whose clients went away while they waited.
     pub waiters_gone: u64,
+}
+
+pub fn count_plus_one(count: &mut u64) {
+    *count = count.saturating_add(1);
+}
+
+impl Counts {
+    /// One more reply, which comes from there.
+    pub fn note_reply(&mut self, source: Source) {
+        count_plus_one(&mut self.replies);
+        match source {
+            Source::Own => count_plus_one(&mut self.refused),
+            Source::Stored => count_plus_one(&mut self.stored),
+            Source::Hit => count_plus_one(&mut self.hits),
+            Source::Validated => count_plus_one(&mut self.validated),
+            Source::Collapsed => count_plus_one(&mut self.collapsed),
+            Source::Origin | Source::Store => {}
+        }
+    }
 }
 
 impl fmt::Display for Counts {

@@ -17,11 +17,13 @@ mod log;
 mod past_store;
 mod replies;
 mod requests;
+mod stored_answers;
 mod tables;
 mod trial;
 mod waiting;
 mod words;
 mod world;
+mod wrong;
 
 use std::process::ExitCode;
 

@@ -1,8 +1,8 @@
 //! What a reply says of itself.
 
-use crate::check::Wrong;
 use crate::fields::{head_and_content, last_value};
 use crate::requests::Asked;
+use crate::wrong::Wrong;
 use bstr::ByteSlice;
 use case_text::number_of;
 use std::alloc::{AllocError, Global};
@@ -108,26 +108,33 @@ fn source_of(head: &[u8]) -> Option<Source> {
 pub enum Reason {
     /// Nothing was held for its target.
     Missing,
-    /// What was held for it had a lifetime, which was over, and may not be sent so.
+    /// What was held for it was stale, and nothing but its age kept it back.
     Expired,
+    /// What was held for it was kept back for more than its age, or perhaps for that alone.
+    Held,
+    /// What was held, if anything, had no part in it.
     Other,
 }
 
-/// The reason of what was stale, by its detail, unless a later word has taken the place of that. A rule without one
-/// leaves room for why an answer isn't stored.
-fn reason_by_detail(detail: &[u8]) -> Option<Reason> {
-    if detail.starts_with(b"stale-if-error") || detail.starts_with(b"reuse-after-") {
-        return None;
+impl Reason {
+    /// Whether it went forward for a response that was held.
+    pub fn is_of_held(self) -> bool {
+        matches!(self, Reason::Expired | Reason::Held)
     }
+}
+
+/// The reason of what was stale, by its detail. A rule without one leaves room for why an answer isn't stored; a later
+/// word may have taken the place of any.
+fn reason_by_detail(detail: &[u8]) -> Reason {
     let has_expired = detail.starts_with(b"not-stored-")
         || ["must-revalidate", "max-stale", "max-age", "min-fresh"]
             .iter()
             .any(|word| word.as_bytes() == detail);
-    Some(if has_expired {
+    if has_expired {
         Reason::Expired
     } else {
-        Reason::Other
-    })
+        Reason::Held
+    }
 }
 
 /// Why an answer tells that its request went forward.
@@ -136,12 +143,63 @@ pub fn reason_shown(head: &[u8]) -> Option<Reason> {
     if member.starts_with(b"uri-miss") {
         return Some(Reason::Missing);
     }
+    if member.starts_with(b"request") {
+        return Some(Reason::Held);
+    }
     let Some(shown) = member.strip_prefix(b"stale") else {
         return Some(Reason::Other);
     };
     match shown.split_once_str(b";detail=") {
-        Some((_, detail)) => reason_by_detail(detail),
+        Some((_, detail)) => Some(reason_by_detail(detail)),
         None => Some(Reason::Expired),
+    }
+}
+
+/// Whether the Vary of an answer, where one is there, names the language. Beside it no Vary here names what requests
+/// have.
+pub fn names_the_language(head: &[u8]) -> bool {
+    matches!(
+        last_value(head, b"Vary"),
+        Some(b"Accept-Language" | b"accept-language, X-None")
+    )
+}
+
+/// Whether a stored answer has a lifetime above 0, where its head tells it.
+pub fn has_lifetime(head: &[u8]) -> Option<bool> {
+    let control = last_value(head, b"Cache-Control").unwrap_or(b"");
+    let is_fresh = seconds_left(head).unwrap_or(0) > 0;
+    if is_fresh || control.contains_str(b"s-maxage=30") {
+        return Some(true);
+    }
+    if control.contains_str(b"max-age=0") || control.contains_str(b"max-age=x") {
+        return Some(false);
+    }
+    if control.contains_str(b"max-age=") {
+        Some(true)
+    } else {
+        None
+    }
+}
+
+/// Whether an answer that comes from the store is one that a 304 freshened.
+pub fn is_freshened(head: &[u8], source: Source) -> bool {
+    match source {
+        Source::Validated => true,
+        Source::Store => {
+            let member = last_value(head, b"Cache-Status").unwrap_or(b"");
+            head.starts_with(b"HTTP/1.1 304 ")
+                && !member.contains_str(b";detail=stale-if-error")
+                && !member.contains_str(b";detail=reuse-after-")
+        }
+        _ => false,
+    }
+}
+
+/// Whether the origin gave no answer that can be passed on.
+pub fn is_bad_answer(head: &[u8]) -> bool {
+    match last_value(head, b"Refusal") {
+        Some(refusal) => refusal.starts_with(b"origin bad-answer"),
+        None => false,
     }
 }
 

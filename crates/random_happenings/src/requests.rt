@@ -2,6 +2,7 @@
 
 use crate::dice::Dice;
 use crate::fields::last_value;
+use bstr::ByteSlice;
 use std::alloc::{AllocError, Global};
 
 const UNUSUAL_METHODS: &[&str] = &[
@@ -34,8 +35,9 @@ const DIRECTIVES: &[&str] = &[
     "Cache-Control: stale-if-error=30\r\n",
 ];
 
+/// The first four aren't as the proxy writes its own for a stored response, so what comes to an origin tells whose it is.
 const CONDITIONS: &[&str] = &[
-    "If-None-Match: \"v1\"\r\n",
+    "if-none-match: \"v1\"\r\n",
     "If-None-Match: W/\"v2\", \"v1\"\r\n",
     "If-None-Match: *\r\n",
     "If-Modified-Since: Thu, 01 Jan 1970 00:10:00 GMT\r\n",
@@ -77,10 +79,33 @@ pub struct Asked {
     pub host: &'static str,
     pub path: &'static str,
     pub method: &'static str,
-    /// Whether it has neither no-store nor Authorization.
-    pub is_for_others: bool,
+    /// The language that it asks for, empty where it asks for none.
+    pub language: &'static str,
+    pub has_authorization: bool,
+    pub has_no_store: bool,
+    pub has_no_cache: bool,
     /// Whether it has only-if-cached.
     pub is_only_if_cached: bool,
+}
+
+/// The language that a request asks for, unless that is for its connection alone.
+fn language_of(text: &[u8]) -> &'static str {
+    if last_value(text, b"Connection") == Some(b"Accept-Language".as_slice()) {
+        return "";
+    }
+    match last_value(text, b"Accept-Language").or(last_value(text, b"accept-language")) {
+        Some(b"de" | b" de ") => "de",
+        Some(_) => "en",
+        None => "",
+    }
+}
+
+/// Whether a request at an origin has a condition of its client's own.
+pub fn has_clients_condition(request: &[u8]) -> bool {
+    CONDITIONS
+        .iter()
+        .take(4)
+        .any(|line| request.contains_str(line.as_bytes()))
 }
 
 impl Asked {
@@ -92,7 +117,10 @@ impl Asked {
             host: dice.pick(HOSTS),
             path: dice.pick(PATHS),
             method: one_of(dice, "GET", 5, UNUSUAL_METHODS),
-            is_for_others: true,
+            language: "",
+            has_authorization: false,
+            has_no_store: false,
+            has_no_cache: false,
             is_only_if_cached: false,
         }
     }
@@ -100,8 +128,10 @@ impl Asked {
     /// Notes what its text says of its answer.
     pub fn note_fields(&mut self, text: &[u8]) {
         let control = last_value(text, b"Cache-Control").unwrap_or(b"");
-        let has_no_store = control == b"no-store".as_slice();
-        self.is_for_others = !has_no_store && last_value(text, b"Authorization").is_none();
+        self.language = language_of(text);
+        self.has_authorization = last_value(text, b"Authorization").is_some();
+        self.has_no_store = control == b"no-store".as_slice();
+        self.has_no_cache = control == b"no-cache".as_slice();
         self.is_only_if_cached = control == b"only-if-cached".as_slice();
     }
 

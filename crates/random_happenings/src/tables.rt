@@ -91,6 +91,11 @@ pub fn lets_wait_for_stale(host: &str, path: &str) -> bool {
     host == "i" || path == "/a"
 }
 
+/// Whether the third table lets the no-cache of a request for this host count.
+pub fn heeds_no_cache(host: &str) -> bool {
+    host != "i"
+}
+
 /// Whether a line has this address, one of those without cache or one of the others.
 pub fn is_address(address: &[u8], is_past: bool) -> bool {
     if is_past {

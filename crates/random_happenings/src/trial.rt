@@ -1,10 +1,11 @@
 //! The trials: scripts are made, replayed and checked.
 
-use crate::check::{Wrong, check_run};
+use crate::check::check_run;
 use crate::counts::Counts;
 use crate::log::Log;
 use crate::tables::Table;
 use crate::world::{Stopped, World};
+use crate::wrong::Wrong;
 use proxy_replay::{ReplayFault, replay, replay_on_list};
 use std::alloc::Global;
 use std::io;
