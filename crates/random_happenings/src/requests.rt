@@ -35,7 +35,8 @@ const DIRECTIVES: &[&str] = &[
     "Cache-Control: stale-if-error=30\r\n",
 ];
 
-/// The first four aren't as the proxy writes its own for a stored response, so what comes to an origin tells whose it is.
+/// The first four aren't as the proxy writes its own for a stored response, so what comes to an origin tells whose it
+/// is.
 const CONDITIONS: &[&str] = &[
     "if-none-match: \"v1\"\r\n",
     "If-None-Match: W/\"v2\", \"v1\"\r\n",
