@@ -207,9 +207,11 @@ pub fn next_touched(about: Option<u64>, woken: &[u64], last: u64) -> Option<u64>
 
 /// What is stored for the target of this request was taken away while others for it were open, or perhaps was.
 pub fn overtake(exchanges: &mut [Exchange], asked: &Asked, is_overtaken: Option<bool>) {
-    for exchange in exchanges {
-        if exchange.asked.has_target_of(asked) && exchange.is_overtaken != Some(true) {
-            exchange.is_overtaken = is_overtaken;
+    for i in 0..exchanges.len() {
+        if let Some(exchange) = exchanges.get_mut(i) {
+            if exchange.asked.has_target_of(asked) && exchange.is_overtaken != Some(true) {
+                exchange.is_overtaken = is_overtaken;
+            }
         }
     }
 }
