@@ -1,0 +1,308 @@
+-- A replay of a server's record tells what was served.
+use Rattle.std.proofs.Common.{◌≡◌, ◌⊎◌, inl, inr, ℕ, ◌+◌, ◌<◌, ◌≤◌, List, [], ◌∷◌, ◌++◌, length, length-append, ◌==◌, refl, sym, ap, ◌∙◌, subst, arith, append-nil, append_assoc, Bool, true, false, Option, None, Some, Result, Ok, Err}
+use Rattle.std.specs.Prelude.{not, if◌then◌else◌, nat_le, ◌-◌}
+use Rattle.std.proofs.lemmas.Bool.Decides.{nat_tests}
+use Rattle.std.specs.Io.KnownBytes.{Appends}
+use Rattle.std.specs.List.{AllByRecursion}
+use Rattle.hx_allow.specs.TableLines.{Table}
+use Rattle.hx_allow.specs.Tables.{BytesReadAs}
+use Rattle.hx_allow.specs.declared.config_faults.ConfigFault.{ConfigFault}
+use Rattle.proxy_script.specs.Effects.{effects_text}
+use Rattle.proxy_script.specs.Happenings.{PlainHappening as Happening}
+use Rattle.proxy_script.specs.Script.{PlainItem as Item, Moment, Happens, line_of_item, block_of_item, item_spelling, ItemHasSpelling, ItemMayStandHere, IsScript, Found, item_in_front}
+use Rattle.proxy_script.specs.Script as item
+use Rattle.proxy_script.specs.ScriptLines.{line_text}
+use Rattle.proxy_script.specs.declared.limits.TheConstants.{MOST_SCRIPT_BYTES}
+use Rattle.proxy_script.specs.declared.effect_list.Effect.{Effect}
+use Rattle.proxy_engine.specs.EngineModel.{EngineModel}
+use Rattle.proxy_engine.specs.Due.{Act, IsDueFirst}
+use Rattle.proxy_engine.specs.Executions.{ExecutionStep, StepsLead, effects_of_steps}
+use Rattle.proxy_engine.specs.State.{EngineRepresents}
+use Rattle.proxy_replay.specs.Played.{Scene, initial_scene, ItemsArePlayed}
+use Rattle.proxy_replay.specs.Replay.{IsReplayed}
+use Rattle.proxy_turn.specs.OverSteps.{TurnOverStepsEmitTheirEffects}
+use Rattle.proxy_turn.specs.Served.{initial_model_of, EngineExecuted, TurnIsServedBehindLosses, TurnExecutesItsSteps, ExecutedEngineIsServing}
+use Rattle.proxy_turn.specs.declared.report.Report.{Report}
+use Rattle.proxy_turn.specs.declared.report.TurnFault.{TurnFault}
+use Rattle.proxy_turn.specs.declared.report.TurnFault.TheVariants as faults
+use Rattle.proxy_turn_laws.specs.ActsOfATurn.{RoundsAreActsInOrder}
+use Rattle.proxy_record.specs.Records.{Record, text_added, items_of_happening, text_of_items, RecordBegins, NotedHappening, RecordMayEnd, IsNotedOrEnds, items_of_noted, script_of_noted, HasSpelling, IsRecordOfNoted, RecordsAreScripts, ScriptsAreSpelled}
+use Rattle.proxy_record.specs.Recorded.{is_recording}
+use Rattle.proxy_record.specs.RecordedTurns.{noted_at_moment, TurnsAreRecorded}
+use Rattle.proxy_server.specs.ServerState.{ServerState, turn_begun}
+use Rattle.proxy_server.specs.Serving.{server_bounds, ServerTurn, TurnIsServedAndSettled}
+use Rattle.proxy_record_laws.specs.PlaysOfARecord.{ThePlayGoesOn}
+use Rattle.proxy_record_laws.specs.LivesOfAServer.{steps_of_server_turn, happenings_of_server_turn, ServerLife, LifeBegins, LifeGoesOn, LifeLeadsTo, ANewServerBegins, ALifeIsExecuted, ATurnIsLived, ASpentTurnIsLived, ARecordReplaysWhatWasServed, AnEndedRecordReplaysWhatWasServed}
+use Rattle.proxy_record_laws.proofs.Playing.{moment_behind, items_joined, played_in_two}
+use Rattle.proxy_record_laws.proofs.PlayingOn.{nothing_due}
+use Rattle.proxy_record_laws.proofs.Living.{noted_joined, first_fine, life_noted}
+use Rattle.proxy_record_laws.proofs.LivingOn.{Stands, life_stands, isnt, is_not}
+use Rattle.proxy_record_laws.proofs.Spelling.{one_script}
+
+-- ---- a life is lived by steps
+
+pub new_server_begins : ANewServerBegins
+new_server_begins bytes table a begun reads table_is represents recorder begins unended = (
+  record { server = a; model = (initial_scene table).model; steps = []; happened = [] },
+  refl,
+  record {
+    reads = reads;
+    table_is = table_is;
+    represents = represents;
+    model = refl;
+    steps = refl;
+    happened = refl;
+    begun = begun;
+    recorder = recorder;
+    begins = begins;
+    unended = unended;
+  },
+)
+
+begins_with_no_step : (bytes : List ℕ) (table : Table) (l : ServerLife) → LifeBegins bytes table l → EngineExecuted l.server.engine 1 1 l.steps l.model
+begins_with_no_step bytes table l begins =
+    let begin = initial_model_of l.server.engine 1 1 in
+    let same : (initial_scene table).model ≡ begin = ap (λ (t : Table). (initial_scene t).model) (sym begins.table_is) in
+    record {
+      executes = subst (λ (ss : List ExecutionStep). StepsLead begin ss l.model) (sym begins.steps) (begins.model ∙ same);
+      represents = subst (EngineRepresents l.server.engine) (sym begins.model) begins.represents;
+    }
+
+-- a turn of a server, as one of an engine
+abbrev turn_of_engine : (s : EngineModel) (a b : ServerState) (reported : Result Report TurnFault) → ServerTurn s a b reported → TurnIsServedBehindLosses a.moment server_bounds s b.engine reported
+turn_of_engine s a b reported turn = record {
+  lost = turn.handed_in.losses.lost;
+  are_losses = turn.handed_in.losses.are_losses;
+  mid = turn.handed_in.losses.after;
+  takes = turn.handed_in.losses.takes;
+  given = turn.given;
+  left = turn.left;
+  before = turn.mid.calls;
+  after = b.calls;
+  turn = turn.turn.turns;
+}
+
+pub life_is_executed : TurnExecutesItsSteps → ALifeIsExecuted
+life_is_executed by_steps bytes table begin l [] begins same = subst (λ (k : ServerLife). EngineExecuted k.server.engine 1 1 k.steps k.model) (sym same) (begins_with_no_step bytes table begin begins)
+life_is_executed by_steps bytes table begin l (reported ∷ past) begins leads =
+    let before = leads.0 in
+    let on = leads.2 in
+    let begun = turn_begun on.now before.server in
+    let executed = life_is_executed by_steps bytes table begin before past begins leads.1 in
+    let lived : EngineExecuted on.last.engine 1 1 (steps_of_server_turn on.served before.steps) on.served.turn.turns.last =
+    by_steps before.server.engine on.last.engine 1 1 before.steps before.model begun.moment server_bounds reported executed (turn_of_engine before.model begun on.last reported on.served) in
+    subst (λ (a : ServerState). EngineExecuted a.engine 1 1 l.steps l.model) (sym on.server)
+    (subst (λ (s : EngineModel). EngineExecuted on.last.engine 1 1 l.steps s) (sym on.model)
+    (subst (λ (ss : List ExecutionStep). EngineExecuted on.last.engine 1 1 ss on.served.turn.turns.last) (sym on.steps) lived))
+
+settled_turn_is_lived : ExecutedEngineIsServing → (l : ServerLife) (b : ServerState) (reported : Result Report TurnFault) → EngineExecuted l.server.engine 1 1 l.steps l.model → TurnIsServedAndSettled l.server b reported → (m : ServerLife) × (m.server ≡ b) × LifeGoesOn l reported m
+settled_turn_is_lived runs l b reported executed settled =
+    let begun = turn_begun settled.served.now l.server in
+    let orderly = (runs l.server.engine 1 1 l.steps l.model executed).0 in
+    let turn : ServerTurn l.model begun settled.last reported = settled.served.serves l.model executed.represents orderly in (
+      record {
+        server = b;
+        model = turn.turn.turns.last;
+        steps = steps_of_server_turn turn l.steps;
+        happened = l.happened ++ noted_at_moment begun.moment (happenings_of_server_turn turn);
+      },
+      refl,
+      record { now = settled.served.now; last = settled.last; served = turn; server = settled.settles; model = refl; steps = refl; happened = refl },
+    )
+
+pub turn_is_lived : ExecutedEngineIsServing → ATurnIsLived
+turn_is_lived runs l b turned executed answers = settled_turn_is_lived runs l b turned.reported executed answers.1.0
+
+pub spent_turn_is_lived : ExecutedEngineIsServing → ASpentTurnIsLived
+spent_turn_is_lived runs l b executed answers = settled_turn_is_lived runs l b (Err faults.Spent) executed answers
+
+-- ---- lists
+
+abbrev OneIsInFront : List NotedHappening → List NotedHappening → Type 0
+OneIsInFront xs us =
+    ((more : List NotedHappening) × (us ≡ xs ++ more)) ⊎ ((one : NotedHappening) × (more : List NotedHappening) × (xs ≡ us ++ one ∷ more))
+
+one_in_front : (xs ys us vs : List NotedHappening) → xs ++ ys ≡ us ++ vs → OneIsInFront xs us
+one_in_front [] ys us vs is = inl (us, refl)
+one_in_front (x ∷ xs) ys [] vs is = inr (x, xs, refl)
+one_in_front (x ∷ xs) ys (u ∷ us) vs is = behind (one_in_front xs ys us vs rest)
+  where
+    first : x ≡ u
+    first = cc
+
+    rest : xs ++ ys ≡ us ++ vs
+    rest = cc
+
+    behind : OneIsInFront xs us → OneIsInFront (x ∷ xs) (u ∷ us)
+    behind (inl here) = inl (here.0, ap (λ (k : NotedHappening). k ∷ us) (sym first) ∙ ap (λ (ks : List NotedHappening). x ∷ ks) here.1)
+    behind (inr here) = inr (here.0, here.1, ap (λ (k : NotedHappening). k ∷ xs) first ∙ ap (λ (ks : List NotedHappening). u ∷ ks) here.2)
+
+all_in_front : (P : NotedHappening → Type 0) (xs ys : List NotedHappening) → AllByRecursion P (xs ++ ys) → AllByRecursion P xs
+all_in_front P [] ys all = tt
+all_in_front P (x ∷ xs) ys all = (all.0, all_in_front P xs ys all.1)
+
+-- ---- lengths
+
+text_joined : (is js : List Item) → text_of_items (is ++ js) ≡ text_of_items is ++ text_of_items js
+text_joined [] js = refl
+text_joined (i ∷ is) js = ap (λ (bs : List ℕ). item_spelling i ++ bs) (text_joined is js) ∙ sym (append_assoc (item_spelling i) (text_of_items is) (text_of_items js))
+
+some_text : (i : Item) (more : List ℕ) → length more < length (item_spelling i ++ more)
+some_text i more =
+    let all = length-append (item_spelling i) more in
+    let parts = length-append (line_text (line_of_item i)) (10 ∷ block_of_item i) in
+    omega (arith, all, parts)
+
+happening_has_text : (same : Bool) (now : ℕ) (h : Happening) → 0 < length (text_of_items (if same then Happens h ∷ [] else Moment now ∷ Happens h ∷ []))
+happening_has_text true now h = some_text (Happens h) []
+happening_has_text false now h = let some = some_text (Moment now) (text_of_items (Happens h ∷ [])) in omega (arith, some)
+
+script_is_longer : (bytes : List ℕ) (us : List NotedHappening) (one : NotedHappening) (more : List NotedHappening) → length (script_of_noted bytes us) < length (script_of_noted bytes (us ++ one ∷ more))
+script_is_longer bytes us one more =
+    let table = item_spelling (item.Table bytes) in
+    let last = moment_behind 0 us in
+    let here = items_of_happening last one.moment one.happening in
+    let behind = items_of_noted one.moment more in
+    let texts : text_of_items (items_of_noted 0 (us ++ one ∷ more)) ≡ text_of_items (items_of_noted 0 us) ++ (text_of_items here ++ text_of_items behind) =
+    ap text_of_items (items_joined 0 us (one ∷ more)) ∙ (text_joined (items_of_noted 0 us) (here ++ behind) ∙ ap (λ (bs : List ℕ). text_of_items (items_of_noted 0 us) ++ bs) (text_joined here behind)) in
+    let some : 0 < length (text_of_items here) = happening_has_text (one.moment == last) one.moment one.happening in
+    let first = length-append table (text_of_items (items_of_noted 0 us)) in
+    let second = length-append table (text_of_items (items_of_noted 0 (us ++ one ∷ more))) in
+    let third = ap length texts in
+    let fourth = length-append (text_of_items (items_of_noted 0 us)) (text_of_items here ++ text_of_items behind) in
+    let fifth = length-append (text_of_items here) (text_of_items behind) in
+    omega (arith, some, first, second, third, fourth, fifth)
+
+same_length : (r new : Record) → RecordMayEnd r new → new.len ≡ r.len
+same_length r new (inl same) = ap (λ (k : Record). k.len) same
+same_length r new (inr ends) = ap (λ (k : Record). k.len) ends
+
+no_shorter : (ns : List NotedHappening) (r new : Record) → IsNotedOrEnds r ns new → r.len ≤ new.len
+no_shorter [] r new may = let same = same_length r new may in omega (arith, same)
+no_shorter (one ∷ ns) r new (begun, may, mid, happens, rest) =
+    let same = same_length r begun may in
+    let longer : mid.len ≡ begun.len + length (text_added begun (text_of_items (items_of_happening begun.moment one.moment one.happening))) = happens.len in
+    let more = no_shorter ns mid new rest in
+    omega (arith, same, longer, more)
+
+few_bytes : (n : ℕ) → nat_le n (MOST_SCRIPT_BYTES - 0) ≡ true → n ≤ 16777216
+few_bytes n fits = grind (arith, nat_tests)
+
+-- a table with which a record begins has a spelling
+table_has_spelling : (bytes : List ℕ) (begun : Record) → RecordBegins (Some []) bytes begun → begun.over ≡ false → ItemHasSpelling (item.Table bytes)
+table_has_spelling bytes begun begins unended =
+    let text = item_spelling (item.Table bytes) in
+    let fits : nat_le (length text) (MOST_SCRIPT_BYTES - 0) ≡ true = isnt (nat_le (length text) (MOST_SCRIPT_BYTES - 0)) (sym begins.ends ∙ unended) in
+    let few = few_bytes (length text) fits in
+    let all = length-append (line_text (line_of_item (item.Table bytes))) (10 ∷ block_of_item (item.Table bytes)) in
+    let block = length-append bytes (10 ∷ []) in
+    omega (arith, few, all, block)
+
+held_is : (held : Option (List ℕ)) (script text : List ℕ) → held ≡ Some script → Appends (Some []) held text → script ≡ text
+held_is held script text is appends = subst (λ (o : Option (List ℕ)). Appends (Some []) o text) is appends
+
+-- ---- the replay
+
+life_fine : TurnsAreRecorded → (turns : List (Result Report TurnFault)) (l m : ServerLife) → LifeLeadsTo l turns m → m.server.failed ≡ false → l.server.failed ≡ false
+life_fine recorded [] l m same fine = ap (λ (k : ServerLife). k.server.failed) (sym same) ∙ fine
+life_fine recorded (reported ∷ past) l m leads fine = life_fine recorded past l leads.0 leads.1 (first_fine recorded leads.0 reported m leads.2 fine)
+
+module _ (recorded : TurnsAreRecorded) (due : (s : EngineModel) → (a b : Option Act) → IsDueFirst s a → IsDueFirst s b → a ≡ b) (in_order : RoundsAreActsInOrder) (emit : TurnOverStepsEmitTheirEffects) (goes_on : ThePlayGoesOn) where
+  module _ (one_table : (bytes : List ℕ) (r s : Result Table ConfigFault) → BytesReadAs bytes r → BytesReadAs bytes s → r ≡ s) (again : (first : Bool) (h : Item) (rest : List ℕ) → ItemHasSpelling h → ItemMayStandHere first h → item_in_front first (item_spelling h ++ rest) ≡ Found h rest)
+      (scripts : RecordsAreScripts) (spelled : ScriptsAreSpelled) where
+    record PlaysNoted (table : Table) (ns : List NotedHappening) (text : List ℕ) : Type 0 where
+      effects : List Effect
+      end : Scene
+      plays : ItemsArePlayed (initial_scene table) (items_of_noted 0 ns) effects end
+      text_is : text ≡ effects_text effects
+
+    replay_plays : (table : Table) (bytes : List ℕ) (ns : List NotedHappening) (script text : List ℕ) → BytesReadAs bytes (Ok table) → script ≡ script_of_noted bytes ns → ItemHasSpelling (item.Table bytes) → AllByRecursion HasSpelling ns → IsReplayed script text → PlaysNoted table ns text
+    replay_plays table bytes ns script text reads is fits all replayed =
+        let here : IsScript script bytes (items_of_noted 0 ns) = subst (λ (bs : List ℕ). IsScript bs bytes (items_of_noted 0 ns)) (sym is) (spelled bytes ns fits all) in
+        let same = one_script again script bytes replayed.table (items_of_noted 0 ns) replayed.items here replayed.is_script in
+        let read : Ok table ≡ Ok replayed.config = one_table bytes (Ok table) (Ok replayed.config) reads (subst (λ (bs : List ℕ). BytesReadAs bs (Ok replayed.config)) (sym same.table_is) replayed.reads) in
+        let config : table ≡ replayed.config = cc in
+        record {
+          effects = replayed.effects;
+          end = replayed.last;
+          plays = subst (λ (t : Table). ItemsArePlayed (initial_scene t) (items_of_noted 0 ns) replayed.effects replayed.last) (sym config)
+              (subst (λ (is : List Item). ItemsArePlayed (initial_scene replayed.config) is replayed.effects replayed.last) (sym same.items_are) replayed.plays);
+          text_is = replayed.emitted;
+        }
+
+    begin_stands : (bytes : List ℕ) (table : Table) (begin : ServerLife) → LifeBegins bytes table begin → Stands table begin
+    begin_stands bytes table begin begins = record {
+      played = inl (begins.happened, ap effects_of_steps begins.steps, begins.model);
+      settled = λ is. subst (λ (s : EngineModel). IsDueFirst s None) (sym begins.model) (nothing_due table);
+    }
+
+    -- all that happened since the beginning was noted
+    record Noted (bytes : List ℕ) (begun : Record) (l : ServerLife) : Type 0 where
+      r : Record
+      held : l.server.recorder ≡ Some r
+      noted : IsNotedOrEnds begun l.happened r
+      of : IsRecordOfNoted (Some []) bytes l.happened r
+
+    all_noted : (bytes : List ℕ) (table : Table) (begin l : ServerLife) (turns : List (Result Report TurnFault)) (begins : LifeBegins bytes table begin) → LifeLeadsTo begin turns l → l.server.failed ≡ false → Noted bytes begins.begun l
+    all_noted bytes table begin l turns begins leads fine =
+        let since = life_noted recorded turns begin l begins.begun leads begins.recorder fine in
+        let all : since.since ≡ l.happened = sym (since.happened ∙ ap (λ (ns : List NotedHappening). ns ++ since.since) begins.happened) in
+        let noted : IsNotedOrEnds begins.begun l.happened since.later = subst (λ (ns : List NotedHappening). IsNotedOrEnds begins.begun ns since.later) all since.noted in
+        record { r = since.later; held = since.held; noted = noted; of = scripts (Some []) bytes l.happened begins.begun since.later begins.begins begins.unended noted }
+
+    same_record : (r k : Record) (o : Option Record) → o ≡ Some r → o ≡ Some k → r ≡ k
+    same_record r k o is are = let same : Some r ≡ Some k = sym is ∙ are in cc
+
+    whole_front : (bytes : List ℕ) (ns : List NotedHappening) (r : Record) (of : IsRecordOfNoted (Some []) bytes ns r) → r.over ≡ false → of.front ≡ ns
+    whole_front bytes ns r of is = sym (append-nil of.front) ∙ (ap (λ (ks : List NotedHappening). of.front ++ ks) (sym (of.all is)) ∙ sym of.split)
+
+    pub record_replays : ARecordReplaysWhatWasServed
+    record_replays bytes table begin l turns r script text begins leads fine is unended held all replayed =
+        let noted = all_noted bytes table begin l turns begins leads fine in
+        let same : noted.r ≡ r = same_record noted.r r l.server.recorder noted.held is in
+        let of : IsRecordOfNoted (Some []) bytes l.happened r = subst (IsRecordOfNoted (Some []) bytes l.happened) same noted.of in
+        let front : of.front ≡ l.happened = whole_front bytes l.happened r of unended in
+        let script_is : script ≡ script_of_noted bytes l.happened = held_is r.held script (script_of_noted bytes of.front) held of.held ∙ ap (script_of_noted bytes) front in
+        let writes : is_recording l.server.recorder ≡ true = ap is_recording is ∙ ap not unended in
+        let stands = life_stands recorded due in_order emit turns table begin l begins.begun (begin_stands bytes table begin begins) leads begins.recorder fine writes in
+        let plays = replay_plays table bytes l.happened script text begins.reads script_is (table_has_spelling bytes begins.begun begins.begins begins.unended) all replayed in
+        let more = goes_on table l.happened (effects_of_steps l.steps) plays.effects l.model l.server.moment plays.end stands.played plays.plays in
+        record { rest = more.0; text_is = plays.text_is ∙ ap effects_text more.1; due = more.2; settled = λ settled. more.2 (stands.settled settled) }
+
+    -- what was noted while a record was written stands in front, whatever follows
+    stays_in_front : (bytes : List ℕ) (us ks : List NotedHappening) (r k : Record) (more : List NotedHappening) → IsRecordOfNoted (Some []) bytes us r → r.over ≡ false → IsNotedOrEnds r more k → (of : IsRecordOfNoted (Some []) bytes ks k) → ks ≡ us ++ more
+        → (behind : List NotedHappening) × (of.front ≡ us ++ behind)
+    stays_in_front bytes us ks r k more first is noted of all = by_front (one_in_front us more of.front of.rest (sym all ∙ of.split))
+      where
+        by_front : OneIsInFront us of.front → (behind : List NotedHappening) × (of.front ≡ us ++ behind)
+        by_front (inl here) = here
+        by_front (inr here) =
+            let longer = script_is_longer bytes of.front here.0 here.1 in
+            let is_us : length (script_of_noted bytes us) ≡ length (script_of_noted bytes (of.front ++ here.0 ∷ here.1)) = ap (λ (ns : List NotedHappening). length (script_of_noted bytes ns)) here.2 in
+            let first_len : r.len ≡ length (script_of_noted bytes us) = first.len ∙ ap (λ (ns : List NotedHappening). length (script_of_noted bytes ns)) (whole_front bytes us r first is) in
+            let last_len : k.len ≡ length (script_of_noted bytes of.front) = of.len in
+            let grows = no_shorter more r k noted in
+            absurd (omega (arith, longer, is_us, first_len, last_len, grows))
+
+    pub ended_record_replays : AnEndedRecordReplaysWhatWasServed
+    ended_record_replays bytes table begin l m turns more k script text begins leads writes later fine is held all replayed =
+        let first_fine_is = life_fine recorded more l m later fine in
+        let noted = all_noted bytes table begin l turns begins leads first_fine_is in
+        let since = life_noted recorded more l m noted.r later noted.held fine in
+        let same : since.later ≡ k = same_record since.later k m.server.recorder since.held is in
+        let both : IsNotedOrEnds begins.begun (l.happened ++ since.since) since.later = noted_joined l.happened since.since begins.begun noted.r since.later noted.noted since.noted in
+        let all_of : IsRecordOfNoted (Some []) bytes (l.happened ++ since.since) since.later = scripts (Some []) bytes (l.happened ++ since.since) begins.begun since.later begins.begins begins.unended both in
+        let of : IsRecordOfNoted (Some []) bytes (l.happened ++ since.since) k = subst (IsRecordOfNoted (Some []) bytes (l.happened ++ since.since)) same all_of in
+        let unended : noted.r.over ≡ false = is_not noted.r.over (ap is_recording (sym noted.held) ∙ writes) in
+        let front = stays_in_front bytes l.happened (l.happened ++ since.since) noted.r k since.since noted.of unended (subst (IsNotedOrEnds noted.r since.since) same since.noted) of refl in
+        let script_is : script ≡ script_of_noted bytes of.front = held_is k.held script (script_of_noted bytes of.front) held of.held in
+        let all_front : AllByRecursion HasSpelling of.front = all_in_front HasSpelling of.front of.rest (subst (AllByRecursion HasSpelling) (since.happened ∙ of.split) all) in
+        let plays = replay_plays table bytes of.front script text begins.reads script_is (table_has_spelling bytes begins.begun begins.begins begins.unended) all_front replayed in
+        let items : ItemsArePlayed (initial_scene table) (items_of_noted 0 l.happened ++ items_of_noted (moment_behind 0 l.happened) front.0) plays.effects plays.end =
+        subst (λ (is : List Item). ItemsArePlayed (initial_scene table) is plays.effects plays.end) (ap (items_of_noted 0) front.1 ∙ items_joined 0 l.happened front.0) plays.plays in
+        let parts = played_in_two (items_of_noted 0 l.happened) (items_of_noted (moment_behind 0 l.happened) front.0) (initial_scene table) plays.end plays.effects items in
+        let stands = life_stands recorded due in_order emit turns table begin l begins.begun (begin_stands bytes table begin begins) leads begins.recorder first_fine_is writes in
+        let on = goes_on table l.happened (effects_of_steps l.steps) parts.1 l.model l.server.moment parts.0 stands.played parts.3 in (
+          on.0 ++ parts.2,
+          plays.text_is ∙ ap effects_text (parts.5 ∙ (ap (λ (es : List Effect). es ++ parts.2) on.1 ∙ append_assoc (effects_of_steps l.steps) on.0 parts.2)),
+        )

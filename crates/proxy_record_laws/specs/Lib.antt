@@ -1,0 +1,3 @@
+pub mod LivesOfAServer
+pub mod OneThing
+pub mod PlaysOfARecord

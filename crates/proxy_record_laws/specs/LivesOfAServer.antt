@@ -1,0 +1,167 @@
+-- The life of a server that keeps a record, from its beginning on, and what a replay of the record does.
+--
+-- steps_of_server_turn, happenings_of_server_turn: what was lost in front of a turn, and what it took and did
+-- ServerLife: how far a server has come
+-- LifeBegins, LifeGoesOn, LifeLeadsTo: its beginning, one more turn, and turns one after another
+-- ANewServerBegins, ATurnIsLived, ASpentTurnIsLived: what a call of `new` or of `serve_turn` did
+-- ALifeIsExecuted: its steps are what its engine has lived through
+-- ARecordedTurnWritesItsEffects: while a record is written, what its sockets were called with
+-- ReplayTellsWhatWasServed, ARecordReplaysWhatWasServed, AnEndedRecordReplaysWhatWasServed: the law
+use Rattle.std.specs.Prelude.{◌≡◌, ℕ, true, false, List, [], ◌∷◌, ◌++◌, None, Some, Result, Ok, Err}
+use Rattle.std.specs.List.{AllByRecursion}
+use Rattle.hx_allow.specs.TableLines.{Table}
+use Rattle.hx_allow.specs.Tables.{BytesReadAs}
+use Rattle.proxy_core.specs.Traces.{initial_state as core_begun}
+use Rattle.proxy_script.specs.Effects.{effects_text}
+use Rattle.proxy_script.specs.Happenings.{PlainHappening as Happening}
+use Rattle.proxy_script.specs.declared.effect_list.Effect.{Effect}
+use Rattle.proxy_engine.specs.EngineModel.{EngineModel}
+use Rattle.proxy_engine.specs.Due.{IsDueFirst}
+use Rattle.proxy_engine.specs.Executions.{ExecutionStep, effects_of_steps}
+use Rattle.proxy_engine.specs.State.{EngineRepresents, new_engine_model}
+use Rattle.proxy_replay.specs.Played.{initial_scene}
+use Rattle.proxy_replay.specs.Replay.{IsReplayed}
+use Rattle.proxy_turn.specs.Turn.{calls_of_rounds}
+use Rattle.proxy_turn.specs.TurnSteps.{effects_of_rounds}
+use Rattle.proxy_turn.specs.OverSteps.{steps_of_turn_over}
+use Rattle.proxy_turn.specs.Served.{EngineExecuted, steps_of_taking}
+use Rattle.proxy_turn.specs.declared.report.Report.{Report}
+use Rattle.proxy_turn.specs.declared.report.TurnFault.{TurnFault}
+use Rattle.proxy_turn.specs.declared.report.TurnFault.TheVariants as faults
+use Rattle.proxy_turn_laws.specs.ActsOfATurn.{writes_of_effects, without_link_shuts}
+use Rattle.proxy_record.specs.Recorded.{is_recording}
+use Rattle.proxy_record.specs.RecordedTurns.{happenings_of_steps, noted_at_moment}
+use Rattle.proxy_record.specs.Records.{Record, RecordBegins, NotedHappening, HasSpelling}
+use Rattle.proxy_server.specs.ServerState.{ServerState, turn_begun}
+use Rattle.proxy_server.specs.Serving.{ServerTurn, ServeTurnAnswers, turn_settles}
+use Rattle.proxy_server.specs.declared.server.ServeFault.TheVariants.{Spent}
+use Rattle.proxy_server.specs.declared.server.Turned.{Turned}
+
+-- ---- what a turn took and did
+
+-- the steps of what was lost, and those of the turn, behind those before
+abbrev pub steps_of_server_turn : {s : EngineModel} {a b : ServerState} {reported : Result Report TurnFault}
+    → ServerTurn s a b reported → List ExecutionStep → List ExecutionStep
+steps_of_server_turn {s} {a} served past =
+    steps_of_turn_over a.moment served.handed_in.losses.after served.turn.turns.accepts served.turn.turns.reads
+    served.turn.turns.rounds (steps_of_taking served.handed_in.losses.lost past)
+
+-- what was lost, and then what the turn took
+abbrev pub happenings_of_server_turn : {s : EngineModel} {a b : ServerState} {reported : Result Report TurnFault}
+    → ServerTurn s a b reported → List Happening
+happenings_of_server_turn {s} {a} served =
+    served.handed_in.losses.lost ++ happenings_of_steps (steps_of_turn_over a.moment served.handed_in.losses.after
+    served.turn.turns.accepts served.turn.turns.reads served.turn.turns.rounds [])
+
+-- ---- a life
+
+-- A server, the model for which its engine stands, the steps that led to it, and all that happened, each at the moment
+-- of its turn.
+pub record ServerLife : Type 0 where
+  pub server : ServerState
+  pub model : EngineModel
+  pub steps : List ExecutionStep
+  pub happened : List NotedHappening
+
+-- Nothing has happened to a server by the table that these bytes say, and a record begins with them.
+pub record LifeBegins (bytes : List ℕ) (table : Table) (l : ServerLife) : Type 0 where
+  pub reads : BytesReadAs bytes (Ok table)
+  pub table_is : l.server.engine.core.table ≡ table
+  pub represents : EngineRepresents l.server.engine (initial_scene table).model
+  pub model : l.model ≡ (initial_scene table).model
+  pub steps : l.steps ≡ []
+  pub happened : l.happened ≡ []
+  pub begun : Record
+  pub recorder : l.server.recorder ≡ Some begun
+  pub begins : RecordBegins (Some []) bytes begun
+  pub unended : begun.over ≡ false
+
+-- a turn began at some moment and was served, behind what was lost; it told this, and left to the next what it leaves
+pub record LifeGoesOn (l : ServerLife) (reported : Result Report TurnFault) (m : ServerLife) : Type 0 where
+  pub now : ℕ
+  pub last : ServerState
+  pub served : ServerTurn l.model (turn_begun now l.server) last reported
+  pub server : m.server ≡ record last { settled = turn_settles reported }
+  pub model : m.model ≡ served.turn.turns.last
+  pub steps : m.steps ≡ steps_of_server_turn served l.steps
+  pub happened : m.happened
+      ≡ l.happened ++ noted_at_moment (turn_begun now l.server).moment (happenings_of_server_turn served)
+
+-- turns one after another, which told this, the latest first
+abbrev pub LifeLeadsTo : ServerLife → List (Result Report TurnFault) → ServerLife → Type 0
+LifeLeadsTo begin [] l = l ≡ begin
+LifeLeadsTo begin (reported ∷ past) l =
+    (before : ServerLife) × LifeLeadsTo begin past before × LifeGoesOn before reported l
+
+-- A server as `Server::new` makes it, whose record begins with its table, is at its beginning.
+abbrev pub ANewServerBegins : Type 0
+ANewServerBegins =
+    (bytes : List ℕ) (table : Table) (a : ServerState) (begun : Record) → BytesReadAs bytes (Ok table)
+    → a.engine.core.table ≡ table → EngineRepresents a.engine (new_engine_model (core_begun table table.capacity 1) 1)
+    → a.recorder ≡ Some begun → RecordBegins (Some []) bytes begun → begun.over ≡ false
+    → (l : ServerLife) × (l.server ≡ a) × LifeBegins bytes table l
+
+-- What an engine has lived through from the beginning on are the steps of its server's life.
+abbrev pub ALifeIsExecuted : Type 0
+ALifeIsExecuted =
+    (bytes : List ℕ) (table : Table) (begin l : ServerLife) (turns : List (Result Report TurnFault))
+    → LifeBegins bytes table begin → LifeLeadsTo begin turns l → EngineExecuted l.server.engine 1 1 l.steps l.model
+
+-- Then what a call of `serve_turn` did is one more turn, whole or as far as it came,
+abbrev pub ATurnIsLived : Type 0
+ATurnIsLived =
+    (l : ServerLife) (b : ServerState) (turned : Turned) → EngineExecuted l.server.engine 1 1 l.steps l.model
+    → ServeTurnAnswers l.server b (Ok turned)
+    → (m : ServerLife) × (m.server ≡ b) × LifeGoesOn l turned.reported m
+
+-- also where the last number of a link is used.
+abbrev pub ASpentTurnIsLived : Type 0
+ASpentTurnIsLived =
+    (l : ServerLife) (b : ServerState) → EngineExecuted l.server.engine 1 1 l.steps l.model
+    → ServeTurnAnswers l.server b (Err Spent)
+    → (m : ServerLife) × (m.server ≡ b) × LifeGoesOn l (Err faults.Spent) m
+
+-- While a record is written, the effects of a turn are those of its acts, behind those before it; and of its acts just
+-- these are written: each reply to its client and each request on its new link whole, once, in order. It leaves out no
+-- more than the shutting of a link that had failed.
+abbrev pub ARecordedTurnWritesItsEffects : Type 0
+ARecordedTurnWritesItsEffects =
+    (bytes : List ℕ) (table : Table) (begin l m : ServerLife) (past : List (Result Report TurnFault))
+    (reported : Result Report TurnFault)
+    → LifeBegins bytes table begin → LifeLeadsTo begin past l → (on : LifeGoesOn l reported m)
+    → m.server.failed ≡ false → is_recording m.server.recorder ≡ true
+    → (effects_of_steps m.steps ≡ effects_of_steps l.steps ++ effects_of_rounds on.served.turn.turns.rounds)
+    × (without_link_shuts (calls_of_rounds on.served.turn.turns.rounds)
+    ≡ writes_of_effects (effects_of_rounds on.served.turn.turns.rounds))
+
+-- ---- what a replay does
+
+-- the text is that of the effects of these steps, and of more only where something is due
+pub record ReplayTellsWhatWasServed (l : ServerLife) (text : List ℕ) : Type 0 where
+  pub rest : List Effect
+  pub text_is : text ≡ effects_text (effects_of_steps l.steps ++ rest)
+  pub due : IsDueFirst l.model None → rest ≡ []
+  pub settled : l.server.settled ≡ true → rest ≡ []
+
+-- A record that is being written, and that is replayed to its end, replays what was served: all of it, each byte, in
+-- order. More only where something is still due. A script can spell what happened.
+abbrev pub ARecordReplaysWhatWasServed : Type 0
+ARecordReplaysWhatWasServed =
+    (bytes : List ℕ) (table : Table) (begin l : ServerLife) (turns : List (Result Report TurnFault)) (r : Record)
+    (script text : List ℕ)
+    → LifeBegins bytes table begin → LifeLeadsTo begin turns l
+    → l.server.failed ≡ false → l.server.recorder ≡ Some r → r.over ≡ false → r.held ≡ Some script
+    → AllByRecursion HasSpelling l.happened
+    → IsReplayed script text → ReplayTellsWhatWasServed l text
+
+-- A record that has ended, or goes on, replays first all that was served while it was being written.
+abbrev pub AnEndedRecordReplaysWhatWasServed : Type 0
+AnEndedRecordReplaysWhatWasServed =
+    (bytes : List ℕ) (table : Table) (begin l m : ServerLife) (turns more : List (Result Report TurnFault))
+    (r : Record) (script text : List ℕ)
+    → LifeBegins bytes table begin → LifeLeadsTo begin turns l → is_recording l.server.recorder ≡ true
+    → LifeLeadsTo l more m
+    → m.server.failed ≡ false → m.server.recorder ≡ Some r → r.held ≡ Some script
+    → AllByRecursion HasSpelling m.happened
+    → IsReplayed script text
+    → (rest : List Effect) × (text ≡ effects_text (effects_of_steps l.steps ++ rest))

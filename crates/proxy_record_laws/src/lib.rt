@@ -1,0 +1,10 @@
+//! Laws on the record of what happens to an engine over sockets: a replay of it does what was done. Each function's
+//! contract is a law, and its body calls the laws that it follows from. Nothing here runs.
+#![tactic(auto)]
+
+mod record_laws;
+
+pub use crate::record_laws::{
+    a_play_of_a_record_goes_on, a_record_is_played_on, a_record_replays_what_was_served,
+    a_recorded_turn_writes_its_effects, a_server_lives_by_its_turns, a_turn_takes_one_thing,
+};

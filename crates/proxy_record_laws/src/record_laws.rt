@@ -1,0 +1,88 @@
+//! Laws on what a replay of a record does.
+ghost use Rattle.proxy_record_laws.specs.LivesOfAServer.{ANewServerBegins, ALifeIsExecuted};
+ghost use Rattle.proxy_record_laws.specs.LivesOfAServer.{ATurnIsLived, ASpentTurnIsLived};
+ghost use Rattle.proxy_record_laws.specs.LivesOfAServer.{ARecordedTurnWritesItsEffects};
+ghost use Rattle.proxy_record_laws.specs.LivesOfAServer.{ARecordReplaysWhatWasServed};
+ghost use Rattle.proxy_record_laws.specs.LivesOfAServer.{AnEndedRecordReplaysWhatWasServed};
+ghost use Rattle.proxy_record_laws.specs.OneThing.{ATurnTakesOneThing, ATurnTakesNoSecondThing};
+ghost use Rattle.proxy_record_laws.specs.PlaysOfARecord.{ATurnPlaysOn, ALossPlaysOn, ThePlayGoesOn};
+
+use hx_allow::a_table_is_read_in_one_way;
+use proxy_engine::{an_act_is_done_in_one_way, one_act_is_due_first};
+use proxy_record::{a_record_is_a_script, what_a_turn_takes_is_recorded};
+use proxy_replay::a_script_has_one_play;
+use proxy_script::items_are_found_as_they_are_spelled;
+use proxy_turn::{engines_go_on, turns_are_executed};
+use proxy_turn_laws::{a_turn_does_its_acts_in_order, a_turn_writes_its_effects};
+
+/// A turn of whose calls one thing at most is taken, and none failed, takes it first, and then does acts one after
+/// another, each the first that was due: so as a script has a happening, and what is due behind it.
+pub fn a_turn_takes_one_thing()
+    ensures turn { ATurnTakesOneThing }
+    ensures second { ATurnTakesNoSecondThing }
+{
+    a_turn_does_its_acts_in_order();
+}
+
+/// The play of a record comes as far as the turns that were recorded, and the ends that were lost between them: all
+/// that was noted, each thing with what was due behind it at its moment, and of the last one as much as was done.
+pub fn a_record_is_played_on()
+    ensures turn { ATurnPlaysOn }
+    ensures loss { ALossPlaysOn }
+{
+    a_turn_does_its_acts_in_order();
+    one_act_is_due_first();
+    turns_are_executed();
+}
+
+/// Whoever plays all that was noted has the effects of what was played of it so far first, in order, and then those of
+/// what was still due. Where nothing was due there are no others.
+pub fn a_play_of_a_record_goes_on()
+    ensures { ThePlayGoesOn }
+{
+    a_script_has_one_play();
+    one_act_is_due_first();
+    an_act_is_done_in_one_way();
+}
+
+/// A server that `Server::new` makes is at the beginning of its life; each call of `serve_turn` that served a turn is
+/// one more turn of it; and what its engine has lived through are the steps of that life.
+pub fn a_server_lives_by_its_turns()
+    ensures begins { ANewServerBegins }
+    ensures executed { ALifeIsExecuted }
+    ensures turn { ATurnIsLived }
+    ensures spent { ASpentTurnIsLived }
+{
+    engines_go_on();
+}
+
+/// While a record is written, each turn of its server writes the effects of its acts: each reply to its client and each
+/// request on its new link whole, once, in order, and nothing else. No call of them failed.
+pub fn a_recorded_turn_writes_its_effects()
+    ensures { ARecordedTurnWritesItsEffects }
+{
+    a_turn_writes_its_effects();
+    what_a_turn_takes_is_recorded();
+    turns_are_executed();
+    engines_go_on();
+}
+
+/// Where a server that began with a record has served turns, a replay of the record writes what was served: the text of
+/// the effects of all steps that the server lived through, each in order, and more only where something is still due.
+/// Where the record has ended, it does so for all that was served while it was being written.
+///
+/// It is a law on records that were handed on to their writer without a fault, whose numbers and failures a script can
+/// spell, and that a replay plays to their end.
+pub fn a_record_replays_what_was_served()
+    ensures whole { ARecordReplaysWhatWasServed }
+    ensures ended { AnEndedRecordReplaysWhatWasServed }
+{
+    what_a_turn_takes_is_recorded();
+    a_record_is_a_script();
+    a_turn_does_its_acts_in_order();
+    turns_are_executed();
+    one_act_is_due_first();
+    a_play_of_a_record_goes_on();
+    a_table_is_read_in_one_way();
+    items_are_found_as_they_are_spelled();
+}
