@@ -1,5 +1,6 @@
 pub mod Living
 pub mod LivingOn
+pub mod Messages
 pub mod Playing
 pub mod PlayingOn
 pub mod Replaying

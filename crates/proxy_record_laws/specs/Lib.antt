@@ -1,3 +1,4 @@
 pub mod LivesOfAServer
+pub mod MessagesOfAServer
 pub mod OneThing
 pub mod PlaysOfARecord

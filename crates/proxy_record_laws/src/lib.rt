@@ -1,4 +1,4 @@
-//! Laws on the record of what happens to an engine over sockets: a replay of it does what was done. Each function's
+//! Laws on a server: each of its writes is one message, and a replay of its record does what was done. Each function's
 //! contract is a law, and its body calls the laws that it follows from. Nothing here runs.
 #![tactic(auto)]
 
@@ -7,4 +7,5 @@ mod record_laws;
 pub use crate::record_laws::{
     a_play_of_a_record_goes_on, a_record_is_played_on, a_record_replays_what_was_served,
     a_recorded_turn_writes_its_effects, a_server_lives_by_its_turns, a_turn_takes_one_thing,
+    each_write_of_a_server_is_one_message, replies_of_a_server_follow_requests,
 };

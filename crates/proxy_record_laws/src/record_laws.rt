@@ -1,9 +1,11 @@
-//! Laws on what a replay of a record does.
+//! Laws on what a server writes, and on what a replay of its record does.
 ghost use Rattle.proxy_record_laws.specs.LivesOfAServer.{ANewServerBegins, ALifeIsExecuted};
 ghost use Rattle.proxy_record_laws.specs.LivesOfAServer.{ATurnIsLived, ASpentTurnIsLived};
 ghost use Rattle.proxy_record_laws.specs.LivesOfAServer.{ARecordedTurnWritesItsEffects};
 ghost use Rattle.proxy_record_laws.specs.LivesOfAServer.{ARecordReplaysWhatWasServed};
 ghost use Rattle.proxy_record_laws.specs.LivesOfAServer.{AnEndedRecordReplaysWhatWasServed};
+ghost use Rattle.proxy_record_laws.specs.MessagesOfAServer.{EachWriteOfAServerIsOneMessage};
+ghost use Rattle.proxy_record_laws.specs.MessagesOfAServer.{RepliesOfAServerFollowRequests};
 ghost use Rattle.proxy_record_laws.specs.OneThing.{ATurnTakesOneThing, ATurnTakesNoSecondThing};
 ghost use Rattle.proxy_record_laws.specs.PlaysOfARecord.{ATurnPlaysOn, ALossPlaysOn, ThePlayGoesOn};
 
@@ -13,7 +15,10 @@ use proxy_record::{a_record_is_a_script, what_a_turn_takes_is_recorded};
 use proxy_replay::a_script_has_one_play;
 use proxy_script::items_are_found_as_they_are_spelled;
 use proxy_turn::{engines_go_on, turns_are_executed};
-use proxy_turn_laws::{a_turn_does_its_acts_in_order, a_turn_writes_its_effects};
+use proxy_turn_laws::{
+    a_turn_does_its_acts_in_order, a_turn_writes_its_effects, each_write_of_a_turn_is_one_message,
+    replies_follow_requests,
+};
 
 /// A turn of whose calls one thing at most is taken, and none failed, takes it first, and then does acts one after
 /// another, each the first that was due: so as a script has a happening, and what is due behind it.
@@ -85,4 +90,21 @@ pub fn a_record_replays_what_was_served()
     a_play_of_a_record_goes_on();
     a_table_is_read_in_one_way();
     items_are_found_as_they_are_spelled();
+}
+
+/// Each write of a server's turn is one message (RFC 9112, sections 11.1 and 11.2): a request on a link, a continue
+/// or a response to a client. No byte of a client's or of an origin's ends it early, or stands behind it.
+pub fn each_write_of_a_server_is_one_message()
+    ensures { EachWriteOfAServerIsOneMessage }
+{
+    each_write_of_a_turn_is_one_message();
+}
+
+/// Whatever a server lives through, on each connection each reply follows its own request (RFC 9112, section 9.3.2): no
+/// request is answered twice, and none is passed over by a later one.
+pub fn replies_of_a_server_follow_requests()
+    ensures { RepliesOfAServerFollowRequests }
+{
+    replies_follow_requests();
+    a_server_lives_by_its_turns();
 }

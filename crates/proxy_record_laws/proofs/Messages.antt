@@ -1,0 +1,66 @@
+-- The laws of turns, behind what was lost in front of them.
+use Rattle.std.proofs.Common.{◌≡◌, ℕ, List, [], ◌∷◌, refl, sym, ap, ◌∙◌, subst, Result}
+use Rattle.std.specs.Prelude.{◌<◌}
+use Rattle.std.specs.List.{All}
+use Rattle.hx_fields.specs.declared.limits.TheConstants.{END_OF_TIME}
+use Rattle.hx_allow.specs.TableLines.{Table}
+use Rattle.proxy_core.specs.State.{State as CoreState}
+use Rattle.proxy_core.specs.Traces.{initial_state as core_begun}
+use Rattle.proxy_core_laws.specs.SentMessages.{TableWasRead}
+use Rattle.proxy_engine.specs.Happenings.{PlainHappening, Accepts, Sends, Hears, Ends, Leaves, Shuts, Fails}
+use Rattle.proxy_engine.specs.EngineModel.{EngineModel, model_after_happening}
+use Rattle.proxy_engine.specs.Executions.{ExecutionStep, Took, StepsLead}
+use Rattle.proxy_engine.specs.State.{new_engine_model}
+use Rattle.proxy_turn.specs.Calls.{Call}
+use Rattle.proxy_turn.specs.Over.{calls_of_turn_over}
+use Rattle.proxy_turn.specs.Served.{EngineExecuted, steps_of_taking, initial_model_of}
+use Rattle.proxy_turn.specs.declared.report.Report.{Report}
+use Rattle.proxy_turn.specs.declared.report.TurnFault.{TurnFault}
+use Rattle.proxy_turn_laws.specs.WritesOfATurn.{CallWritesOneMessage, EachWriteOfATurnIsOneMessage}
+use Rattle.proxy_turn_laws.specs.Dialogue.{RepliesFollowRequests}
+use Rattle.proxy_server.specs.ServerState.{ServerState}
+use Rattle.proxy_server.specs.Serving.{server_bounds, ServerTurn}
+use Rattle.proxy_record_laws.specs.LivesOfAServer.{ALifeIsExecuted}
+use Rattle.proxy_record_laws.specs.MessagesOfAServer.{EachWriteOfAServerIsOneMessage, RepliesOfAServerFollowRequests}
+
+core_heard : (s : EngineModel) (h : PlainHappening) → (model_after_happening s h).core ≡ s.core
+core_heard s (Accepts n) = refl
+core_heard s (Sends n bytes) = refl
+core_heard s (Hears l bytes) = refl
+core_heard s (Ends n) = refl
+core_heard s (Leaves n) = refl
+core_heard s (Shuts l) = refl
+core_heard s (Fails l kind) = refl
+
+-- what is taken leaves the core
+core_stays : (hs : List PlainHappening) (past : List ExecutionStep) (s t : EngineModel) → ((m : EngineModel) → StepsLead s past m → m.core ≡ s.core) → StepsLead s (steps_of_taking hs past) t → t.core ≡ s.core
+core_stays [] past s t before leads = before t leads
+core_stays (h ∷ hs) past s t before leads =
+    core_stays hs (Took h ∷ past) s t (λ m (took : StepsLead s (Took h ∷ past) m). ap (λ (x : EngineModel). x.core) took.2.1 ∙ (core_heard took.0 h ∙ before took.0 took.1)) leads
+
+-- it is taken behind what was lived
+taken_behind : (hs : List PlainHappening) (begin s t : EngineModel) (past other : List ExecutionStep) → ((m : EngineModel) → StepsLead s past m → StepsLead begin other m) → StepsLead s (steps_of_taking hs past) t → StepsLead begin (steps_of_taking hs other) t
+taken_behind [] begin s t past other before leads = before t leads
+taken_behind (h ∷ hs) begin s t past other before leads =
+    taken_behind hs begin s t (Took h ∷ past) (Took h ∷ other) (λ m (took : StepsLead s (Took h ∷ past) m). (took.0, before took.0 took.1, took.2)) leads
+
+pub writes_messages : EachWriteOfATurnIsOneMessage → EachWriteOfAServerIsOneMessage
+writes_messages messages a b first link steps s reported read executed early served =
+    let losses = served.handed_in.losses in
+    let turns = served.turn.turns in
+    let mid = served.mid.engine in
+    let lost = steps_of_taking losses.lost steps in
+    let same : a.engine.core.table ≡ mid.core.table =
+    ap (λ (k : CoreState). k.table) (executed.represents.core ∙ (sym (core_stays losses.lost [] s losses.after (λ m here. ap (λ (x : EngineModel). x.core) here) losses.takes) ∙ sym losses.represents.core)) in
+    let leads = taken_behind losses.lost (initial_model_of a.engine first link) s losses.after [] steps (λ m here. subst (StepsLead (initial_model_of a.engine first link) steps) (sym here) executed.executes) losses.takes in
+    let lived : EngineExecuted mid first link lost losses.after = record {
+      executes = subst (λ (table : Table). StepsLead (new_engine_model (core_begun table table.capacity first) link) lost losses.after) same leads;
+      represents = losses.represents;
+    } in
+    let all = messages mid first link lost a.moment server_bounds losses.after served.given turns.accepts turns.reads turns.rest turns.rounds turns.last (subst TableWasRead same read) lived early turns.turn in
+    subst (λ (table : Table). All (CallWritesOneMessage table.name) (calls_of_turn_over losses.after turns.accepts turns.reads turns.rounds)) (sym same) all
+
+pub replies_follow : RepliesFollowRequests → ALifeIsExecuted → RepliesOfAServerFollowRequests
+replies_follow follow executed bytes table begin l turns i begins leads =
+    let e = l.server.engine in
+    follow e.core.table e.core.table.capacity 1 1 l.steps l.model i (executed bytes table begin l turns begins leads).executes

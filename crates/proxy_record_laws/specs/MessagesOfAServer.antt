@@ -1,0 +1,42 @@
+-- What a server writes, and to whom: the laws of turns, for the turns of a server.
+--
+-- EachWriteOfAServerIsOneMessage: each write of its turns is one message
+-- RepliesOfAServerFollowRequests: on each connection each reply follows its own request
+use Rattle.std.specs.Prelude.{ℕ, ◌<◌, List, Result}
+use Rattle.std.specs.List.{All}
+use Rattle.hx_fields.specs.declared.limits.TheConstants.{END_OF_TIME}
+use Rattle.hx_allow.specs.TableLines.{Table}
+use Rattle.proxy_core.specs.Outcomes.{find_exchange}
+use Rattle.proxy_core_laws.specs.SentMessages.{TableWasRead}
+use Rattle.proxy_engine.specs.EngineModel.{EngineModel}
+use Rattle.proxy_engine.specs.Executions.{ExecutionStep}
+use Rattle.proxy_engine.specs.ConnectionNumbers.{connection_number}
+use Rattle.proxy_turn.specs.Over.{calls_of_turn_over}
+use Rattle.proxy_turn.specs.Served.{EngineExecuted}
+use Rattle.proxy_turn.specs.declared.report.Report.{Report}
+use Rattle.proxy_turn.specs.declared.report.TurnFault.{TurnFault}
+use Rattle.proxy_turn_laws.specs.WritesOfATurn.{CallWritesOneMessage}
+use Rattle.proxy_turn_laws.specs.Dialogue.{Standing, StandsAt, LastRequestIsOpen, said_by_steps}
+use Rattle.proxy_server.specs.ServerState.{ServerState}
+use Rattle.proxy_server.specs.Serving.{ServerTurn}
+use Rattle.proxy_record_laws.specs.LivesOfAServer.{ServerLife, LifeBegins, LifeLeadsTo}
+
+-- Where the engine of a server, whose table was read, has lived by some steps, each write on the server's own
+-- sockets in its next turn is one message (RFC 9112, sections 11.1 and 11.2): whatever was lost in front of the turn.
+abbrev pub EachWriteOfAServerIsOneMessage : Type 0
+EachWriteOfAServerIsOneMessage =
+    (a b : ServerState) (first link : ℕ) (steps : List ExecutionStep) (s : EngineModel)
+    (reported : Result Report TurnFault)
+    → TableWasRead a.engine.core.table → EngineExecuted a.engine first link steps s → a.moment < END_OF_TIME
+    → (served : ServerTurn s a b reported)
+    → All (CallWritesOneMessage a.engine.core.table.name)
+    (calls_of_turn_over served.handed_in.losses.after served.turn.turns.accepts served.turn.turns.reads
+    served.turn.turns.rounds)
+
+-- Whatever a server lives through, on each connection each reply follows its own request (RFC 9112, section 9.3.2).
+abbrev pub RepliesOfAServerFollowRequests : Type 0
+RepliesOfAServerFollowRequests =
+    (bytes : List ℕ) (table : Table) (begin l : ServerLife) (turns : List (Result Report TurnFault)) (i : ℕ)
+    → LifeBegins bytes table begin → LifeLeadsTo begin turns l
+    → (standing : Standing) × StandsAt standing (said_by_steps i l.steps)
+    × LastRequestIsOpen standing (said_by_steps i l.steps) (find_exchange (connection_number i) l.model.core.exchanges)
