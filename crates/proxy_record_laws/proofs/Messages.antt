@@ -13,15 +13,16 @@ use Rattle.proxy_engine.specs.Executions.{ExecutionStep, Took, StepsLead}
 use Rattle.proxy_engine.specs.State.{new_engine_model}
 use Rattle.proxy_turn.specs.Calls.{Call}
 use Rattle.proxy_turn.specs.Over.{calls_of_turn_over}
-use Rattle.proxy_turn.specs.Served.{EngineExecuted, steps_of_taking, initial_model_of}
+use Rattle.proxy_turn.specs.Served.{EngineExecuted, EngineServesTurn, EngineGoesOnByTurn, EngineKeepsItsTable, steps_of_taking, initial_model_of}
 use Rattle.proxy_turn.specs.declared.report.Report.{Report}
 use Rattle.proxy_turn.specs.declared.report.TurnFault.{TurnFault}
 use Rattle.proxy_turn_laws.specs.WritesOfATurn.{CallWritesOneMessage, EachWriteOfATurnIsOneMessage}
 use Rattle.proxy_turn_laws.specs.Dialogue.{RepliesFollowRequests}
-use Rattle.proxy_server.specs.ServerState.{ServerState}
+use Rattle.proxy_server.specs.ServerState.{ServerState, turn_begun}
 use Rattle.proxy_server.specs.Serving.{server_bounds, ServerTurn}
-use Rattle.proxy_record_laws.specs.LivesOfAServer.{ALifeIsExecuted}
-use Rattle.proxy_record_laws.specs.MessagesOfAServer.{EachWriteOfAServerIsOneMessage, RepliesOfAServerFollowRequests}
+use Rattle.proxy_record_laws.specs.LivesOfAServer.{ALifeIsExecuted, ServerLife, LifeBegins, LifeGoesOn, LifeLeadsTo}
+use Rattle.proxy_record_laws.proofs.Replaying.{turn_of_engine}
+use Rattle.proxy_record_laws.specs.MessagesOfAServer.{EachWriteOfAServerIsOneMessage, EachWriteOfALifeIsOneMessage, RepliesOfAServerFollowRequests}
 
 core_heard : (s : EngineModel) (h : PlainHappening) → (model_after_happening s h).core ≡ s.core
 core_heard s (Accepts n) = refl
@@ -64,3 +65,28 @@ pub replies_follow : RepliesFollowRequests → ALifeIsExecuted → RepliesOfASer
 replies_follow follow executed bytes table begin l turns i begins leads =
     let e = l.server.engine in
     follow e.core.table e.core.table.capacity 1 1 l.steps l.model i (executed bytes table begin l turns begins leads).executes
+
+-- ---- of a life
+
+-- its table stays
+life_keeps_table : EngineGoesOnByTurn → EngineKeepsItsTable → ALifeIsExecuted → (bytes : List ℕ) (table : Table) (begin l : ServerLife) (turns : List (Result Report TurnFault)) → LifeBegins bytes table begin → LifeLeadsTo begin turns l → l.server.engine.core.table ≡ table
+life_keeps_table by_turn keeps executed bytes table begin l [] begins same = ap (λ (k : ServerLife). k.server.engine.core.table) same ∙ begins.table_is
+life_keeps_table by_turn keeps executed bytes table begin l (reported ∷ past) begins leads =
+    let before = leads.0 in
+    let on = leads.2 in
+    let begun = turn_begun on.now before.server in
+    let serves : EngineServesTurn begun.moment server_bounds before.server.engine on.last.engine reported =
+    λ s represents orderly. turn_of_engine s begun on.last reported (on.serves s represents orderly) in
+    let goes_on = by_turn before.server.engine on.last.engine begun.moment server_bounds reported serves in
+    let lived = executed bytes table begin before past begins leads.1 in
+    let stays = (keeps before.server.engine on.last.engine goes_on (record { first = 1; link = 1; steps = before.steps; last = before.model; executed = lived })).0 in
+    ap (λ (a : ServerState). a.engine.core.table) on.server ∙ (stays ∙ life_keeps_table by_turn keeps executed bytes table begin before past begins leads.1)
+
+pub life_writes_messages : EachWriteOfATurnIsOneMessage → EngineGoesOnByTurn → EngineKeepsItsTable → ALifeIsExecuted → EachWriteOfALifeIsOneMessage
+life_writes_messages messages by_turn keeps executed bytes table begin l m turns reported begins leads on =
+    let begun = turn_begun on.now l.server in
+    let same : table ≡ begun.engine.core.table = sym (life_keeps_table by_turn keeps executed bytes table begin l turns begins leads) in
+    let made = calls_of_turn_over on.served.handed_in.losses.after on.served.turn.turns.accepts on.served.turn.turns.reads on.served.turn.turns.rounds in
+    let lived = executed bytes table begin l turns begins leads in
+    let all = writes_messages messages begun on.last 1 1 l.steps l.model reported (subst TableWasRead same (bytes, begins.reads)) lived on.early on.served in
+    subst (λ (t : Table). All (CallWritesOneMessage t.name) made) (sym same) all

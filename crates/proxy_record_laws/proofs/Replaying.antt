@@ -69,7 +69,7 @@ begins_with_no_step bytes table l begins =
     }
 
 -- a turn of a server, as one of an engine
-abbrev turn_of_engine : (s : EngineModel) (a b : ServerState) (reported : Result Report TurnFault) → ServerTurn s a b reported → TurnIsServedBehindLosses a.moment server_bounds s b.engine reported
+abbrev pub turn_of_engine : (s : EngineModel) (a b : ServerState) (reported : Result Report TurnFault) → ServerTurn s a b reported → TurnIsServedBehindLosses a.moment server_bounds s b.engine reported
 turn_of_engine s a b reported turn = record {
   lost = turn.handed_in.losses.lost;
   are_losses = turn.handed_in.losses.are_losses;
@@ -107,7 +107,7 @@ settled_turn_is_lived runs l b reported executed settled =
         happened = l.happened ++ noted_at_moment begun.moment (happenings_of_server_turn turn);
       },
       refl,
-      record { now = settled.served.now; last = settled.last; served = turn; server = settled.settles; model = refl; steps = refl; happened = refl },
+      record { now = settled.served.now; last = settled.last; early = settled.served.early; serves = settled.served.serves; served = turn; server = settled.settles; model = refl; steps = refl; happened = refl },
     )
 
 pub turn_is_lived : ExecutedEngineIsServing → ATurnIsLived

@@ -7,8 +7,9 @@
 -- ALifeIsExecuted: its steps are what its engine has lived through
 -- ARecordedTurnWritesItsEffects: while a record is written, what its sockets were called with
 -- ReplayTellsWhatWasServed, ARecordReplaysWhatWasServed, AnEndedRecordReplaysWhatWasServed: the law
-use Rattle.std.specs.Prelude.{◌≡◌, ℕ, true, false, List, [], ◌∷◌, ◌++◌, None, Some, Result, Ok, Err}
+use Rattle.std.specs.Prelude.{◌≡◌, ℕ, ◌<◌, true, false, List, [], ◌∷◌, ◌++◌, None, Some, Result, Ok, Err}
 use Rattle.std.specs.List.{AllByRecursion}
+use Rattle.hx_fields.specs.declared.limits.TheConstants.{END_OF_TIME}
 use Rattle.hx_allow.specs.TableLines.{Table}
 use Rattle.hx_allow.specs.Tables.{BytesReadAs}
 use Rattle.proxy_core.specs.Traces.{initial_state as core_begun}
@@ -33,7 +34,7 @@ use Rattle.proxy_record.specs.Recorded.{is_recording}
 use Rattle.proxy_record.specs.RecordedTurns.{happenings_of_steps, noted_at_moment}
 use Rattle.proxy_record.specs.Records.{Record, RecordBegins, NotedHappening, HasSpelling}
 use Rattle.proxy_server.specs.ServerState.{ServerState, turn_begun}
-use Rattle.proxy_server.specs.Serving.{ServerTurn, ServeTurnAnswers, turn_settles}
+use Rattle.proxy_server.specs.Serving.{ServerTurn, ServerServesTurn, ServeTurnAnswers, turn_settles}
 use Rattle.proxy_server.specs.declared.server.ServeFault.TheVariants.{Spent}
 use Rattle.proxy_server.specs.declared.server.Turned.{Turned}
 
@@ -76,10 +77,13 @@ pub record LifeBegins (bytes : List ℕ) (table : Table) (l : ServerLife) : Type
   pub begins : RecordBegins (Some []) bytes begun
   pub unended : begun.over ≡ false
 
--- a turn began at some moment and was served, behind what was lost; it told this, and left to the next what it leaves
+-- A turn began at some moment up to the end of the year 9999 and was served, behind what was lost. It told this, and
+-- left to the next what it leaves.
 pub record LifeGoesOn (l : ServerLife) (reported : Result Report TurnFault) (m : ServerLife) : Type 0 where
   pub now : ℕ
   pub last : ServerState
+  pub early : (turn_begun now l.server).moment < END_OF_TIME
+  pub serves : ServerServesTurn (turn_begun now l.server) last reported
   pub served : ServerTurn l.model (turn_begun now l.server) last reported
   pub server : m.server ≡ record last { settled = turn_settles reported }
   pub model : m.model ≡ served.turn.turns.last

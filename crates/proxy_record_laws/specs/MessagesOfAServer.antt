@@ -1,6 +1,7 @@
 -- What a server writes, and to whom: the laws of turns, for the turns of a server.
 --
 -- EachWriteOfAServerIsOneMessage: each write of its turns is one message
+-- EachWriteOfALifeIsOneMessage: the same of a server that began with a table that was read
 -- RepliesOfAServerFollowRequests: on each connection each reply follows its own request
 use Rattle.std.specs.Prelude.{ℕ, ◌<◌, List, Result}
 use Rattle.std.specs.List.{All}
@@ -19,7 +20,7 @@ use Rattle.proxy_turn_laws.specs.WritesOfATurn.{CallWritesOneMessage}
 use Rattle.proxy_turn_laws.specs.Dialogue.{Standing, StandsAt, LastRequestIsOpen, said_by_steps}
 use Rattle.proxy_server.specs.ServerState.{ServerState}
 use Rattle.proxy_server.specs.Serving.{ServerTurn}
-use Rattle.proxy_record_laws.specs.LivesOfAServer.{ServerLife, LifeBegins, LifeLeadsTo}
+use Rattle.proxy_record_laws.specs.LivesOfAServer.{ServerLife, LifeBegins, LifeGoesOn, LifeLeadsTo}
 
 -- Where the engine of a server, whose table was read, has lived by some steps, each write on the server's own
 -- sockets in its next turn is one message (RFC 9112, sections 11.1 and 11.2): whatever was lost in front of the turn.
@@ -32,6 +33,16 @@ EachWriteOfAServerIsOneMessage =
     → All (CallWritesOneMessage a.engine.core.table.name)
     (calls_of_turn_over served.handed_in.losses.after served.turn.turns.accepts served.turn.turns.reads
     served.turn.turns.rounds)
+
+-- So a server that began with a table that was read has written one message each, in each turn that it served.
+abbrev pub EachWriteOfALifeIsOneMessage : Type 0
+EachWriteOfALifeIsOneMessage =
+    (bytes : List ℕ) (table : Table) (begin l m : ServerLife) (turns : List (Result Report TurnFault))
+    (reported : Result Report TurnFault)
+    → LifeBegins bytes table begin → LifeLeadsTo begin turns l → (on : LifeGoesOn l reported m)
+    → All (CallWritesOneMessage table.name)
+    (calls_of_turn_over on.served.handed_in.losses.after on.served.turn.turns.accepts on.served.turn.turns.reads
+    on.served.turn.turns.rounds)
 
 -- Whatever a server lives through, on each connection each reply follows its own request (RFC 9112, section 9.3.2).
 abbrev pub RepliesOfAServerFollowRequests : Type 0

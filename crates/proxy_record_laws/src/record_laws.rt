@@ -5,6 +5,7 @@ ghost use Rattle.proxy_record_laws.specs.LivesOfAServer.{ARecordedTurnWritesItsE
 ghost use Rattle.proxy_record_laws.specs.LivesOfAServer.{ARecordReplaysWhatWasServed};
 ghost use Rattle.proxy_record_laws.specs.LivesOfAServer.{AnEndedRecordReplaysWhatWasServed};
 ghost use Rattle.proxy_record_laws.specs.MessagesOfAServer.{EachWriteOfAServerIsOneMessage};
+ghost use Rattle.proxy_record_laws.specs.MessagesOfAServer.{EachWriteOfALifeIsOneMessage};
 ghost use Rattle.proxy_record_laws.specs.MessagesOfAServer.{RepliesOfAServerFollowRequests};
 ghost use Rattle.proxy_record_laws.specs.OneThing.{ATurnTakesOneThing, ATurnTakesNoSecondThing};
 ghost use Rattle.proxy_record_laws.specs.PlaysOfARecord.{ATurnPlaysOn, ALossPlaysOn, ThePlayGoesOn};
@@ -94,10 +95,15 @@ pub fn a_record_replays_what_was_served()
 
 /// Each write of a server's turn is one message (RFC 9112, sections 11.1 and 11.2): a request on a link, a continue
 /// or a response to a client. No byte of a client's or of an origin's ends it early, or stands behind it.
+///
+/// So it is of each turn in the life of a server that began with a table that was read.
 pub fn each_write_of_a_server_is_one_message()
-    ensures { EachWriteOfAServerIsOneMessage }
+    ensures turn { EachWriteOfAServerIsOneMessage }
+    ensures life { EachWriteOfALifeIsOneMessage }
 {
     each_write_of_a_turn_is_one_message();
+    engines_go_on();
+    a_server_lives_by_its_turns();
 }
 
 /// Whatever a server lives through, on each connection each reply follows its own request (RFC 9112, section 9.3.2): no
