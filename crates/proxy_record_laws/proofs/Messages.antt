@@ -20,7 +20,7 @@ use Rattle.proxy_turn_laws.specs.WritesOfATurn.{CallWritesOneMessage, EachWriteO
 use Rattle.proxy_turn_laws.specs.Dialogue.{RepliesFollowRequests}
 use Rattle.proxy_server.specs.ServerState.{ServerState, turn_begun}
 use Rattle.proxy_server.specs.Serving.{server_bounds, ServerTurn}
-use Rattle.proxy_record_laws.specs.LivesOfAServer.{ALifeIsExecuted, ServerLife, LifeBegins, LifeGoesOn, LifeLeadsTo}
+use Rattle.proxy_record_laws.specs.LivesOfAServer.{ALifeIsExecuted, ServerLife, ServerBegins, LifeGoesOn, LifeLeadsTo}
 use Rattle.proxy_record_laws.proofs.Replaying.{turn_of_engine}
 use Rattle.proxy_record_laws.specs.MessagesOfAServer.{EachWriteOfAServerIsOneMessage, EachWriteOfALifeIsOneMessage, RepliesOfAServerFollowRequests}
 
@@ -69,7 +69,7 @@ replies_follow follow executed bytes table begin l turns i begins leads =
 -- ---- of a life
 
 -- its table stays
-life_keeps_table : EngineGoesOnByTurn → EngineKeepsItsTable → ALifeIsExecuted → (bytes : List ℕ) (table : Table) (begin l : ServerLife) (turns : List (Result Report TurnFault)) → LifeBegins bytes table begin → LifeLeadsTo begin turns l → l.server.engine.core.table ≡ table
+life_keeps_table : EngineGoesOnByTurn → EngineKeepsItsTable → ALifeIsExecuted → (bytes : List ℕ) (table : Table) (begin l : ServerLife) (turns : List (Result Report TurnFault)) → ServerBegins bytes table begin → LifeLeadsTo begin turns l → l.server.engine.core.table ≡ table
 life_keeps_table by_turn keeps executed bytes table begin l [] begins same = ap (λ (k : ServerLife). k.server.engine.core.table) same ∙ begins.table_is
 life_keeps_table by_turn keeps executed bytes table begin l (reported ∷ past) begins leads =
     let before = leads.0 in

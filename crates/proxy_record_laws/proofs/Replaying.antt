@@ -32,7 +32,7 @@ use Rattle.proxy_record.specs.RecordedTurns.{noted_at_moment, TurnsAreRecorded}
 use Rattle.proxy_server.specs.ServerState.{ServerState, turn_begun}
 use Rattle.proxy_server.specs.Serving.{server_bounds, ServerTurn, TurnIsServedAndSettled}
 use Rattle.proxy_record_laws.specs.PlaysOfARecord.{ThePlayGoesOn}
-use Rattle.proxy_record_laws.specs.LivesOfAServer.{steps_of_server_turn, happenings_of_server_turn, ServerLife, LifeBegins, LifeGoesOn, LifeLeadsTo, ANewServerBegins, ALifeIsExecuted, ATurnIsLived, ASpentTurnIsLived, ARecordReplaysWhatWasServed, AnEndedRecordReplaysWhatWasServed}
+use Rattle.proxy_record_laws.specs.LivesOfAServer.{steps_of_server_turn, happenings_of_server_turn, ServerLife, ServerBegins, LifeBegins, LifeGoesOn, LifeLeadsTo, AServerBegins, ANewServerBegins, ALifeIsExecuted, ATurnIsLived, ASpentTurnIsLived, ARecordReplaysWhatWasServed, AnEndedRecordReplaysWhatWasServed}
 use Rattle.proxy_record_laws.proofs.Playing.{moment_behind, items_joined, played_in_two}
 use Rattle.proxy_record_laws.proofs.PlayingOn.{nothing_due}
 use Rattle.proxy_record_laws.proofs.Living.{noted_joined, first_fine, life_noted}
@@ -41,8 +41,8 @@ use Rattle.proxy_record_laws.proofs.Spelling.{one_script}
 
 -- ---- a life is lived by steps
 
-pub new_server_begins : ANewServerBegins
-new_server_begins bytes table a begun reads table_is represents recorder begins unended = (
+pub server_begins : AServerBegins
+server_begins bytes table a reads table_is represents = (
   record { server = a; model = (initial_scene table).model; steps = []; happened = [] },
   refl,
   record {
@@ -52,14 +52,16 @@ new_server_begins bytes table a begun reads table_is represents recorder begins 
     model = refl;
     steps = refl;
     happened = refl;
-    begun = begun;
-    recorder = recorder;
-    begins = begins;
-    unended = unended;
   },
 )
 
-begins_with_no_step : (bytes : List ℕ) (table : Table) (l : ServerLife) → LifeBegins bytes table l → EngineExecuted l.server.engine 1 1 l.steps l.model
+pub new_server_begins : ANewServerBegins
+unfolding server_begins
+new_server_begins bytes table a begun reads table_is represents recorder begins unended =
+    let server = server_begins bytes table a reads table_is represents in
+    (server.0, server.1, record { server = server.2; begun = begun; recorder = recorder; begins = begins; unended = unended })
+
+begins_with_no_step : (bytes : List ℕ) (table : Table) (l : ServerLife) → ServerBegins bytes table l → EngineExecuted l.server.engine 1 1 l.steps l.model
 begins_with_no_step bytes table l begins =
     let begin = initial_model_of l.server.engine 1 1 in
     let same : (initial_scene table).model ≡ begin = ap (λ (t : Table). (initial_scene t).model) (sym begins.table_is) in
@@ -232,8 +234,8 @@ module _ (recorded : TurnsAreRecorded) (due : (s : EngineModel) → (a b : Optio
 
     begin_stands : (bytes : List ℕ) (table : Table) (begin : ServerLife) → LifeBegins bytes table begin → Stands table begin
     begin_stands bytes table begin begins = record {
-      played = inl (begins.happened, ap effects_of_steps begins.steps, begins.model);
-      settled = λ is. subst (λ (s : EngineModel). IsDueFirst s None) (sym begins.model) (nothing_due table);
+      played = inl (begins.server.happened, ap effects_of_steps begins.server.steps, begins.server.model);
+      settled = λ is. subst (λ (s : EngineModel). IsDueFirst s None) (sym begins.server.model) (nothing_due table);
     }
 
     -- all that happened since the beginning was noted
@@ -246,7 +248,7 @@ module _ (recorded : TurnsAreRecorded) (due : (s : EngineModel) → (a b : Optio
     all_noted : (bytes : List ℕ) (table : Table) (begin l : ServerLife) (turns : List (Result Report TurnFault)) (begins : LifeBegins bytes table begin) → LifeLeadsTo begin turns l → l.server.failed ≡ false → Noted bytes begins.begun l
     all_noted bytes table begin l turns begins leads fine =
         let since = life_noted recorded turns begin l begins.begun leads begins.recorder fine in
-        let all : since.since ≡ l.happened = sym (since.happened ∙ ap (λ (ns : List NotedHappening). ns ++ since.since) begins.happened) in
+        let all : since.since ≡ l.happened = sym (since.happened ∙ ap (λ (ns : List NotedHappening). ns ++ since.since) begins.server.happened) in
         let noted : IsNotedOrEnds begins.begun l.happened since.later = subst (λ (ns : List NotedHappening). IsNotedOrEnds begins.begun ns since.later) all since.noted in
         record { r = since.later; held = since.held; noted = noted; of = scripts (Some []) bytes l.happened begins.begun since.later begins.begins begins.unended noted }
 
@@ -265,7 +267,7 @@ module _ (recorded : TurnsAreRecorded) (due : (s : EngineModel) → (a b : Optio
         let script_is : script ≡ script_of_noted bytes l.happened = held_is r.held script (script_of_noted bytes of.front) held of.held ∙ ap (script_of_noted bytes) front in
         let writes : is_recording l.server.recorder ≡ true = ap is_recording is ∙ ap not unended in
         let stands = life_stands recorded due in_order emit turns table begin l begins.begun (begin_stands bytes table begin begins) leads begins.recorder fine writes in
-        let plays = replay_plays table bytes l.happened script text begins.reads script_is (table_has_spelling bytes begins.begun begins.begins begins.unended) all replayed in
+        let plays = replay_plays table bytes l.happened script text begins.server.reads script_is (table_has_spelling bytes begins.begun begins.begins begins.unended) all replayed in
         let more = goes_on table l.happened (effects_of_steps l.steps) plays.effects l.model l.server.moment plays.end stands.played plays.plays in
         record { rest = more.0; text_is = plays.text_is ∙ ap effects_text more.1; due = more.2; settled = λ settled. more.2 (stands.settled settled) }
 
@@ -297,7 +299,7 @@ module _ (recorded : TurnsAreRecorded) (due : (s : EngineModel) → (a b : Optio
         let front = stays_in_front bytes l.happened (l.happened ++ since.since) noted.r k since.since noted.of unended (subst (IsNotedOrEnds noted.r since.since) same since.noted) of refl in
         let script_is : script ≡ script_of_noted bytes of.front = held_is k.held script (script_of_noted bytes of.front) held of.held in
         let all_front : AllByRecursion HasSpelling of.front = all_in_front HasSpelling of.front of.rest (subst (AllByRecursion HasSpelling) (since.happened ∙ of.split) all) in
-        let plays = replay_plays table bytes of.front script text begins.reads script_is (table_has_spelling bytes begins.begun begins.begins begins.unended) all_front replayed in
+        let plays = replay_plays table bytes of.front script text begins.server.reads script_is (table_has_spelling bytes begins.begun begins.begins begins.unended) all_front replayed in
         let items : ItemsArePlayed (initial_scene table) (items_of_noted 0 l.happened ++ items_of_noted (moment_behind 0 l.happened) front.0) plays.effects plays.end =
         subst (λ (is : List Item). ItemsArePlayed (initial_scene table) is plays.effects plays.end) (ap (items_of_noted 0) front.1 ∙ items_joined 0 l.happened front.0) plays.plays in
         let parts = played_in_two (items_of_noted 0 l.happened) (items_of_noted (moment_behind 0 l.happened) front.0) (initial_scene table) plays.end plays.effects items in

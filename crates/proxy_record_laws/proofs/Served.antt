@@ -70,7 +70,7 @@ recorded_turn_writes writes by_steps emit recorded bytes table begin l m past re
     let losses = on.served.handed_in.losses in
     let turns = on.served.turn.turns in
     let rounds = turns.rounds in
-    let executed = life_is_executed by_steps bytes table begin l past begins leads in
+    let executed = life_is_executed by_steps bytes table begin l past begins.server leads in
     let then_executed : EngineExecuted mid.engine 1 1 (steps_of_taking losses.lost l.steps) losses.after =
     by_steps l.server.engine mid.engine 1 1 l.steps l.model moment server_bounds (Err faults.NoMemory) executed (lost_alone moment l.model mid.engine mid.calls losses) in
     let recording_last : is_recording on.last.recorder ≡ true = ap (λ (a : ServerState). is_recording a.recorder) (sym on.server) ∙ recording in

@@ -2,8 +2,9 @@
 --
 -- steps_of_server_turn, happenings_of_server_turn: what was lost in front of a turn, and what it took and did
 -- ServerLife: how far a server has come
--- LifeBegins, LifeGoesOn, LifeLeadsTo: its beginning, one more turn, and turns one after another
--- ANewServerBegins, ATurnIsLived, ASpentTurnIsLived: what a call of `new` or of `serve_turn` did
+-- ServerBegins, LifeBegins: its beginning, and that of one that keeps a record
+-- LifeGoesOn, LifeLeadsTo: one more turn, and turns one after another
+-- AServerBegins, ANewServerBegins, ATurnIsLived, ASpentTurnIsLived: what a call of `new` or of `serve_turn` did
 -- ALifeIsExecuted: its steps are what its engine has lived through
 -- ARecordedTurnWritesItsEffects: while a record is written, what its sockets were called with
 -- ReplayTellsWhatWasServed, ARecordReplaysWhatWasServed, AnEndedRecordReplaysWhatWasServed: the law
@@ -64,14 +65,18 @@ pub record ServerLife : Type 0 where
   pub steps : List ExecutionStep
   pub happened : List NotedHappening
 
--- Nothing has happened to a server by the table that these bytes say, and a record begins with them.
-pub record LifeBegins (bytes : List ℕ) (table : Table) (l : ServerLife) : Type 0 where
+-- Nothing has happened to a server by the table that these bytes say.
+pub record ServerBegins (bytes : List ℕ) (table : Table) (l : ServerLife) : Type 0 where
   pub reads : BytesReadAs bytes (Ok table)
   pub table_is : l.server.engine.core.table ≡ table
   pub represents : EngineRepresents l.server.engine (initial_scene table).model
   pub model : l.model ≡ (initial_scene table).model
   pub steps : l.steps ≡ []
   pub happened : l.happened ≡ []
+
+-- It keeps a record, which begins with them.
+pub record LifeBegins (bytes : List ℕ) (table : Table) (l : ServerLife) : Type 0 where
+  pub server : ServerBegins bytes table l
   pub begun : Record
   pub recorder : l.server.recorder ≡ Some begun
   pub begins : RecordBegins (Some []) bytes begun
@@ -97,7 +102,14 @@ LifeLeadsTo begin [] l = l ≡ begin
 LifeLeadsTo begin (reported ∷ past) l =
     (before : ServerLife) × LifeLeadsTo begin past before × LifeGoesOn before reported l
 
--- A server as `Server::new` makes it, whose record begins with its table, is at its beginning.
+-- A server as `Server::new` makes it by a table that was read is at its beginning,
+abbrev pub AServerBegins : Type 0
+AServerBegins =
+    (bytes : List ℕ) (table : Table) (a : ServerState) → BytesReadAs bytes (Ok table) → a.engine.core.table ≡ table
+    → EngineRepresents a.engine (new_engine_model (core_begun table table.capacity 1) 1)
+    → (l : ServerLife) × (l.server ≡ a) × ServerBegins bytes table l
+
+-- also one whose record begins with that table.
 abbrev pub ANewServerBegins : Type 0
 ANewServerBegins =
     (bytes : List ℕ) (table : Table) (a : ServerState) (begun : Record) → BytesReadAs bytes (Ok table)
@@ -109,7 +121,7 @@ ANewServerBegins =
 abbrev pub ALifeIsExecuted : Type 0
 ALifeIsExecuted =
     (bytes : List ℕ) (table : Table) (begin l : ServerLife) (turns : List (Result Report TurnFault))
-    → LifeBegins bytes table begin → LifeLeadsTo begin turns l → EngineExecuted l.server.engine 1 1 l.steps l.model
+    → ServerBegins bytes table begin → LifeLeadsTo begin turns l → EngineExecuted l.server.engine 1 1 l.steps l.model
 
 -- Then what a call of `serve_turn` did is one more turn, whole or as far as it came,
 abbrev pub ATurnIsLived : Type 0

@@ -20,7 +20,7 @@ use Rattle.proxy_turn_laws.specs.WritesOfATurn.{CallWritesOneMessage}
 use Rattle.proxy_turn_laws.specs.Dialogue.{Standing, StandsAt, LastRequestIsOpen, said_by_steps}
 use Rattle.proxy_server.specs.ServerState.{ServerState}
 use Rattle.proxy_server.specs.Serving.{ServerTurn}
-use Rattle.proxy_record_laws.specs.LivesOfAServer.{ServerLife, LifeBegins, LifeGoesOn, LifeLeadsTo}
+use Rattle.proxy_record_laws.specs.LivesOfAServer.{ServerLife, ServerBegins, LifeGoesOn, LifeLeadsTo}
 
 -- Where the engine of a server, whose table was read, has lived by some steps, each write on the server's own
 -- sockets in its next turn is one message (RFC 9112, sections 11.1 and 11.2): whatever was lost in front of the turn.
@@ -39,7 +39,7 @@ abbrev pub EachWriteOfALifeIsOneMessage : Type 0
 EachWriteOfALifeIsOneMessage =
     (bytes : List ℕ) (table : Table) (begin l m : ServerLife) (turns : List (Result Report TurnFault))
     (reported : Result Report TurnFault)
-    → LifeBegins bytes table begin → LifeLeadsTo begin turns l → (on : LifeGoesOn l reported m)
+    → ServerBegins bytes table begin → LifeLeadsTo begin turns l → (on : LifeGoesOn l reported m)
     → All (CallWritesOneMessage table.name)
     (calls_of_turn_over on.served.handed_in.losses.after on.served.turn.turns.accepts on.served.turn.turns.reads
     on.served.turn.turns.rounds)
@@ -48,6 +48,6 @@ EachWriteOfALifeIsOneMessage =
 abbrev pub RepliesOfAServerFollowRequests : Type 0
 RepliesOfAServerFollowRequests =
     (bytes : List ℕ) (table : Table) (begin l : ServerLife) (turns : List (Result Report TurnFault)) (i : ℕ)
-    → LifeBegins bytes table begin → LifeLeadsTo begin turns l
+    → ServerBegins bytes table begin → LifeLeadsTo begin turns l
     → (standing : Standing) × StandsAt standing (said_by_steps i l.steps)
     × LastRequestIsOpen standing (said_by_steps i l.steps) (find_exchange (connection_number i) l.model.core.exchanges)

@@ -1,5 +1,5 @@
 //! Laws on what a server writes, and on what a replay of its record does.
-ghost use Rattle.proxy_record_laws.specs.LivesOfAServer.{ANewServerBegins, ALifeIsExecuted};
+ghost use Rattle.proxy_record_laws.specs.LivesOfAServer.{AServerBegins, ANewServerBegins, ALifeIsExecuted};
 ghost use Rattle.proxy_record_laws.specs.LivesOfAServer.{ATurnIsLived, ASpentTurnIsLived};
 ghost use Rattle.proxy_record_laws.specs.LivesOfAServer.{ARecordedTurnWritesItsEffects};
 ghost use Rattle.proxy_record_laws.specs.LivesOfAServer.{ARecordReplaysWhatWasServed};
@@ -54,6 +54,7 @@ pub fn a_play_of_a_record_goes_on()
 /// A server that `Server::new` makes is at the beginning of its life; each call of `serve_turn` that served a turn is
 /// one more turn of it; and what its engine has lived through are the steps of that life.
 pub fn a_server_lives_by_its_turns()
+    ensures server { AServerBegins }
     ensures begins { ANewServerBegins }
     ensures executed { ALifeIsExecuted }
     ensures turn { ATurnIsLived }
