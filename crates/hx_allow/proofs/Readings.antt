@@ -1,12 +1,13 @@
 -- Laws of the table: one reading at most, and the first line that matches.
 use Rattle.std.proofs.Common.{◌≡◌, inl, inr, ℕ, ◌+◌, Bool, true, false, cond, List, [], ◌∷◌, Option, Some, refl, ap, sym, ◌∙◌}
-use Rattle.std.specs.Prelude.{Result, is_some}
+use Rattle.std.specs.Prelude.{Result, Ok, None, is_some}
 use Rattle.std.specs.List.{position_from}
 use Rattle.toml.specs.Data.{Members}
 use Rattle.hx_target.specs.declared.targets.Target.{Target}
 use Rattle.hx_allow.specs.TableLines.{Line, Table}
 use Rattle.hx_allow.specs.Matching.{matches_line, verdict_of_line, verdict_from, verdict_of, line_number}
-use Rattle.hx_allow.specs.Tables.{judge_table, BytesReadAs}
+use Rattle.hx_allow.specs.Tables.{judge_table, fault_or_table_read, table_fault, table_read, BytesReadAs}
+use Rattle.hx_allow.specs.Tables.{SomeTextIsToml, TableWasRead}
 use Rattle.hx_allow.specs.declared.verdicts.Verdict.TheVariants.{Allowed, DeniedBy}
 use Rattle.hx_allow.specs.declared.config_faults.ConfigFault.{ConfigFault}
 
@@ -18,6 +19,11 @@ one_reading bytes r s (inl (t, is, h)) (inl (u, also, k)) = h ∙ (ap judge_tabl
 one_reading bytes r s (inl (t, is, h)) (inr (none, k)) = absurd (none t is)
 one_reading bytes r s (inr (none, h)) (inl (u, also, k)) = absurd (none u also)
 one_reading bytes r s (inr (none, h)) (inr (also, k)) = h ∙ sym k
+
+-- what a TOML text without fault says was read
+pub said_by_a_text : (t : Members) (table : Table) → SomeTextIsToml t → table_fault t ≡ None → table ≡ table_read t → TableWasRead table
+unfolding judge_table
+said_by_a_text t table (text, is) none same = (text, inl (t, is, ap Ok same ∙ sym (ap (λ fault. fault_or_table_read fault t) none)))
 
 number_by : (t : Bool) (k : ℕ) → line_number (cond t (Allowed k) (DeniedBy k)) ≡ Some k
 number_by true k = refl

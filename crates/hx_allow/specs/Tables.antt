@@ -3,6 +3,7 @@
 -- table_fault: the first fault that stands      table_read: what is said where none stands
 -- judge_table: one or the other
 -- BytesReadAs: the same of bytes, with the reading of TOML as a relation
+-- TableWasRead: some text reads as a table
 use Rattle.std.specs.Prelude.{◌≡◌, ◌⊎◌, ◌≤◌, ℕ, ◌==◌, nat_le, Bool, true, false, not, ◌&&◌, ◌||◌, if◌then◌else◌, List}
 use Rattle.std.specs.Prelude.{[], length, slice_index, find, codes, IsUtf8, Option, Some, None, is_some}
 use Rattle.std.specs.Prelude.{unwrap_or, Result, Ok, Err}
@@ -105,6 +106,14 @@ abbrev pub BytesReadAs : List ℕ → Result Table ConfigFault → Type 0
 BytesReadAs bytes r =
     ((t : Members) × BytesAreToml bytes t × (r ≡ judge_table t))
     ⊎ (((t : Members) → ¬ (BytesAreToml bytes t)) × (r ≡ Err NotToml))
+
+-- some text is TOML of these members
+abbrev pub SomeTextIsToml : Members → Type 0
+SomeTextIsToml t = (text : List ℕ) × BytesAreToml text t
+
+-- some text reads as this table
+abbrev pub TableWasRead : Table → Type 0
+TableWasRead table = (text : List ℕ) × BytesReadAs text (Ok table)
 
 -- memory is taken before a fault is told only for the bytes of a key
 abbrev pub is_out_of_memory : Option ConfigFault → Bool

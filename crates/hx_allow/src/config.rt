@@ -4,7 +4,7 @@ ghost use Rattle.std.specs.Option.{option_copied, option_map};
 ghost use Rattle.std.specs.Net.Text.{socket_v4_text};
 ghost use Rattle.hx_allow.specs.Matching.{verdict_of, origin_of, origin_address_of, policy_of, VerdictNamesAnOrigin};
 ghost use Rattle.hx_allow.specs.NeverReached.{first_line_taking};
-ghost use Rattle.hx_allow.specs.Tables.{BytesReadAs};
+ghost use Rattle.hx_allow.specs.Tables.{BytesReadAs, TableWasRead};
 
 use crate::host_index::HostIndex;
 use crate::lines::{Line, is_never_allowed};
@@ -49,6 +49,7 @@ impl Model for Config {
     ghost use Rattle.std.specs.Prelude.{string_bytes, length, ◌≤◌, ◌≡◌};
     ghost use Rattle.hx_allow.specs.TableLines.{Table};
     ghost use Rattle.hx_allow.specs.Index.{IsHostIndexOf};
+    ghost use Rattle.hx_allow.specs.Tables.{TableWasRead};
 
     ghost Value = { Table };
 
@@ -60,7 +61,14 @@ impl Model for Config {
       lines = c.lines.items;
     } };
 
-    ghost invariant = { λ c. (length c.lines.items ≤ 256) × IsHostIndexOf c.lines.items c.by_host };
+    ghost invariant = { λ c. (length c.lines.items ≤ 256) × IsHostIndexOf c.lines.items c.by_host
+        × TableWasRead (record {
+          name = string_bytes c.name;
+          capacity = c.capacity;
+          max_body = c.max_body;
+          max_stored = c.max_stored;
+          lines = c.lines.items;
+        }) };
 }
 
 impl Config {
@@ -74,6 +82,14 @@ impl Config {
         ensures memory_last { result ≡ Err ConfigFault.OutOfMemory → length bytes.now ≤ 1048576 }
     {
         config_reading::read(alloc, bytes)
+    }
+
+    /// Says of each table that some text reads as it.
+    pub fn was_read(&self)
+        ensures { TableWasRead self.now }
+    {
+        // What holds of each table is known where one of its parts is looked at.
+        let _lines = &self.lines;
     }
 
     /// What the table says of a request: the first line decides whose host, a method and path match.

@@ -2,7 +2,7 @@
 ghost use Rattle.std.specs.Prelude.{◌≡◌, ◌≤◌, Err, IfErr, IfOk, length, true};
 ghost use Rattle.toml.specs.Errors.{IsMemory};
 ghost use Rattle.toml.specs.View.{table_view};
-ghost use Rattle.hx_allow.specs.Tables.{BytesReadAs, judge_table, table_fault, is_out_of_memory};
+ghost use Rattle.hx_allow.specs.Tables.{BytesReadAs, SomeTextIsToml, judge_table, table_fault, is_out_of_memory};
 
 use crate::limits::MOST_TABLE_BYTES;
 use crate::tables::judge_table;
@@ -27,6 +27,7 @@ fn judge_parsed(
     alloc: Global,
     parsed: Result<Table, toml::de::Error>,
 ) -> Result<Config, ConfigFault>
+    requires { IfOk parsed (λ table. SomeTextIsToml (table_view table)) }
     ensures judged { IfOk parsed (λ table. ¬ (result ≡ Err ConfigFault.OutOfMemory)
         → result ≡ judge_table (table_view table)) }
     ensures memory_last { IfOk parsed (λ table. result ≡ Err ConfigFault.OutOfMemory

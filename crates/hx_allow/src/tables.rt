@@ -8,6 +8,7 @@ ghost use Rattle.hx_allow.specs.Values.{is_some_and, text_at};
 ghost use Rattle.hx_allow.specs.LineTables.{config_fault_found};
 ghost use Rattle.hx_allow.specs.Tables.{is_name_byte, is_name, number_at, version_of, are_lines, lines_at, table_fault};
 ghost use Rattle.hx_allow.specs.Tables.{table_read, judge_table, is_good_at_top, first_bad_at_top, is_out_of_memory};
+ghost use Rattle.hx_allow.specs.Tables.{SomeTextIsToml};
 
 use crate::config_faults::FoundFault;
 use crate::host_index::HostIndex;
@@ -139,8 +140,10 @@ fn table_fault(table: &Table) -> Option<FoundFault<'_>>
 }
 
 /// What a table without fault says.
-#[tactic(auto, unfolding(crate::specs::Tables::table_read))]
+#[tactic(auto, unfolding(crate::specs::Tables::table_read), using(crate::proofs::Readings::said_by_a_text))]
 fn config_of(alloc: Global, table: &Table) -> Result<Config, AllocError>
+    requires toml { SomeTextIsToml (table_view table.now) }
+    requires faultless { table_fault (table_view table.now) ≡ None }
     ensures { IfOk result (λ config. config ≡ table_read (table_view table.now)) }
 {
     let lines = match lines_at(table) {
@@ -170,6 +173,7 @@ fn fault_of_key(copied: Result<Bytes, AllocError>) -> ConfigFault
 /// What a table says, or its first fault. Only the bytes of an unknown key are copied for a fault.
 #[tactic(auto, unfolding(crate::specs::Tables::judge_table))]
 pub fn judge_table(alloc: Global, table: &Table) -> Result<Config, ConfigFault>
+    requires { SomeTextIsToml (table_view table.now) }
     ensures judged { ¬ (result ≡ Err ConfigFault.OutOfMemory) → result ≡ judge_table (table_view table.now) }
     ensures memory_last { result ≡ Err ConfigFault.OutOfMemory
         → is_out_of_memory (table_fault (table_view table.now)) ≡ true }

@@ -12,13 +12,13 @@ use Rattle.httparse.specs.Grammar.{IsToken, is_token_byte}
 use Rattle.toml.specs.Data.{Members, get_member, as_integer}
 use Rattle.hx_allow.specs.Keys.{key_text}
 use Rattle.hx_allow.specs.TableLines.{Table}
-use Rattle.hx_allow.specs.Tables.{fault_or_table_read, is_name, is_name_byte, judge_table, number_at, table_fault, table_read}
+use Rattle.hx_allow.specs.Tables.{fault_or_table_read, is_name, is_name_byte, judge_table, number_at, table_fault, table_read, TableWasRead}
 use Rattle.hx_allow.specs.Values.{first_unknown, is_some_and, text_at, within}
 use Rattle.hx_allow.specs.declared.config_faults.ConfigFault.{ConfigFault}
 use Rattle.hx_allow.specs.declared.config_faults.ConfigFault.TheVariants.{UnknownKey, BadName}
 use Rattle.hx_allow.specs.declared.config_faults.NumberKey.TheVariants.{MaxStored}
 use Rattle.hx_allow.specs.declared.values.Scope.TheVariants.{Top}
-use Rattle.proxy_core_laws.specs.SentMessages.{TableWasRead, TableNameIsAToken, StoredContentFits64Bits}
+use Rattle.proxy_core_laws.specs.SentMessages.{TableNameIsAToken, StoredContentFits64Bits}
 
 -- ---- a name
 

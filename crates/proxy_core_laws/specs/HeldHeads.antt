@@ -34,7 +34,8 @@ use Rattle.proxy_core.specs.State.{stored_response_as_used, serial_used_by_outco
 use Rattle.proxy_core.specs.Storing.{stored_response_made}
 use Rattle.proxy_core.specs.Traces.{Item}
 use Rattle.proxy_core.specs.Validating.{freshened_may_be_kept, freshened_by_304, stored_response_validated}
-use Rattle.proxy_core_laws.specs.SentMessages.{EventsWereRead, TableWasRead, event_is_to_head}
+use Rattle.proxy_core_laws.specs.SentMessages.{EventsWereRead, event_is_to_head}
+use Rattle.hx_allow.specs.Tables.{TableWasRead}
 use Rattle.proxy_core_laws.specs.StoredReplies.{stored_sent_as_304, stored_sent_whole}
 
 -- A head that was read, and a Date where it had none: a line and 37 bytes. Each line is stored as it is sent: with one

@@ -1,7 +1,7 @@
 -- What a core gives is one message, each time, where it was handed what was read (RFC 9112, sections 6.3, 11.1 and
 -- 11.2).
 --
--- TableWasRead, RequestWasRead, EventWasRead: a table, a request and an event that were read
+-- RequestWasRead, EventWasRead: a request and an event that were read
 -- BytesAreOneRequest, BytesAreOneResponse: bytes that are one message, and end where the proxy ended it
 -- OutcomeIsOneMessage: those of an outcome
 -- The statements: the premises first (a name, conditions, a content), then what is sent
@@ -25,7 +25,7 @@ use Rattle.hx_hop.specs.declared.conditions.Conditions.{Conditions}
 use Rattle.hx_hop.specs.Asking.{asked_with_target}
 use Rattle.hx_hop.specs.Forwarding.{forwarded_of}
 use Rattle.hx_allow.specs.TableLines.{Table}
-use Rattle.hx_allow.specs.Tables.{BytesReadAs}
+use Rattle.hx_allow.specs.Tables.{TableWasRead}
 use Rattle.hx_store.specs.Stored.{Stored}
 use Rattle.hx_validate.specs.Validators.{conditions_of}
 use Rattle.hx_hop_laws.specs.OneMessage.{ConditionsAreFieldValues, RequestIsWithinLimits}
@@ -42,10 +42,6 @@ use Rattle.proxy_core.specs.Replies.{is_head}
 use Rattle.proxy_core.specs.Traces.{Item}
 
 -- ---- what was read
-
--- some text reads as this table (`Config::read` of hx_allow)
-abbrev pub TableWasRead : Table → Type 0
-TableWasRead table = (text : List ℕ) × BytesReadAs text (Ok table)
 
 -- some stream spells a request, which is asked so
 pub record RequestWasRead (asked : Asked) : Type 0 where

@@ -31,7 +31,8 @@ use Rattle.proxy_core.specs.Traces.{Item, initial_state as core_begun}
 use Rattle.proxy_core.proofs.Driven.{promises_of_a_driven_core}
 use Rattle.proxy_script.specs.declared.effect_list.Effect.{Effect}
 use Rattle.proxy_script.specs.declared.effect_list.Effect.TheVariants as effects
-use Rattle.proxy_core_laws.specs.SentMessages.{EventsWereRead, OutcomeIsOneMessage, BytesAreOneResponse, TableWasRead, event_is_to_head}
+use Rattle.proxy_core_laws.specs.SentMessages.{EventsWereRead, OutcomeIsOneMessage, BytesAreOneResponse, event_is_to_head}
+use Rattle.hx_allow.specs.Tables.{TableWasRead}
 use Rattle.proxy_core_laws.proofs.SentMessages.{one_refusal, sends_one_message_each_time}
 use Rattle.proxy_engine.specs.Admitted.{Refusal, RequestIsAdmittedOrRefused}
 use Rattle.proxy_engine.specs.EngineModel.{EngineModel, link_at}

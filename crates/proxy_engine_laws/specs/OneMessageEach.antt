@@ -14,7 +14,8 @@ use Rattle.hx_framing.specs.declared.messages.Next.TheVariants as next
 use Rattle.hx_framing.specs.Text.{continue_text}
 use Rattle.proxy_core.specs.Outcomes.{find_exchange}
 use Rattle.proxy_core.specs.Traces.{Item, initial_state as core_begun}
-use Rattle.proxy_core_laws.specs.SentMessages.{EventsWereRead, BytesAreOneRequest, BytesAreOneResponse, TableWasRead}
+use Rattle.proxy_core_laws.specs.SentMessages.{EventsWereRead, BytesAreOneRequest, BytesAreOneResponse}
+use Rattle.hx_allow.specs.Tables.{TableWasRead}
 use Rattle.proxy_script.specs.declared.effect_list.Effect.{Effect}
 use Rattle.proxy_script.specs.declared.effect_list.Effect.TheVariants as effects
 use Rattle.proxy_engine.specs.EngineModel.{EngineModel, link_at}

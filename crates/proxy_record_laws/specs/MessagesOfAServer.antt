@@ -8,7 +8,7 @@ use Rattle.std.specs.List.{All}
 use Rattle.hx_fields.specs.declared.limits.TheConstants.{END_OF_TIME}
 use Rattle.hx_allow.specs.TableLines.{Table}
 use Rattle.proxy_core.specs.Outcomes.{find_exchange}
-use Rattle.proxy_core_laws.specs.SentMessages.{TableWasRead}
+use Rattle.hx_allow.specs.Tables.{TableWasRead}
 use Rattle.proxy_engine.specs.EngineModel.{EngineModel}
 use Rattle.proxy_engine.specs.Executions.{ExecutionStep}
 use Rattle.proxy_engine.specs.ConnectionNumbers.{connection_number}

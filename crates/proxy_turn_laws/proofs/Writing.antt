@@ -15,7 +15,8 @@ use Rattle.hx_status.specs.declared.cause.FailKind.{FailKind}
 use Rattle.hx_status.specs.declared.cause.FailKind.TheVariants as kinds
 use Rattle.std.specs.declared.net.socket_addr.SocketAddrV4.{SocketAddrV4}
 use Rattle.proxy_core.specs.Traces.{initial_state as core_begun}
-use Rattle.proxy_core_laws.specs.SentMessages.{BytesAreOneRequest, BytesAreOneResponse, TableWasRead, OneRequestIsNoMore}
+use Rattle.proxy_core_laws.specs.SentMessages.{BytesAreOneRequest, BytesAreOneResponse, OneRequestIsNoMore}
+use Rattle.hx_allow.specs.Tables.{TableWasRead}
 use Rattle.proxy_script.specs.declared.effect_list.Effect.{Effect}
 use Rattle.proxy_script.specs.declared.effect_list.Effect.TheVariants as effects
 use Rattle.proxy_engine.specs.Happenings.{PlainHappening}

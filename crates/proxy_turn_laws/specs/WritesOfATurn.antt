@@ -10,7 +10,8 @@ use Rattle.hx_fields.specs.declared.limits.TheConstants.{END_OF_TIME}
 use Rattle.hx_framing.specs.Text.{continue_text}
 use Rattle.hx_hop.specs.Forwarding.{forwarded_of}
 use Rattle.hx_hop_laws.specs.OneMessage.{RequestIsWithinLimits}
-use Rattle.proxy_core_laws.specs.SentMessages.{BytesAreOneRequest, BytesAreOneResponse, TableWasRead}
+use Rattle.proxy_core_laws.specs.SentMessages.{BytesAreOneRequest, BytesAreOneResponse}
+use Rattle.hx_allow.specs.Tables.{TableWasRead}
 use Rattle.proxy_engine.specs.EngineModel.{EngineModel}
 use Rattle.proxy_engine.specs.Executions.{ExecutionStep}
 use Rattle.proxy_engine.specs.State.{State}
