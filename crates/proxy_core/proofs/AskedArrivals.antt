@@ -5,28 +5,27 @@ use Rattle.std.specs.BTreeMap.{is_at}
 use Rattle.std.specs.List.{All, AllByRecursion, list_any}
 use Rattle.std.specs.List.Sorted.{IsStrictlySortedBy}
 use Rattle.std.specs.declared.cmp.Ordering.TheVariants.{Less}
-use Rattle.std.specs.Map.{lookup, remove_entry, keys_of, values_of}
+use Rattle.std.specs.Map.{lookup, remove_entry, set_value, keys_of, values_of}
 use Rattle.std.proofs.lemmas.Map.Keys.{sorted_head, sorted_tail}
-use Rattle.std.proofs.lemmas.Bool.{cases_Bool, eqb-true, false≢true}
+use Rattle.std.proofs.lemmas.Bool.{cases_Bool, eqb-true, eq-eqb, false≢true}
 use Rattle.std.proofs.lemmas.Bool.Decides.{nat_tests}
 use Rattle.std.proofs.lemmas.Option.{same_Some}
 use Rattle.hx_policy.specs.declared.words.Policy.{Policy}
-use Rattle.hx_reuse.specs.declared.rule.ReuseRule.{ReuseRule}
 use Rattle.hx_target.specs.declared.keys.Key.{Key}
 use Rattle.hx_target.specs.Keys.{same_key}
-use Rattle.proxy_core.specs.declared.steps.condition.Condition.{Condition}
 use Rattle.proxy_core.specs.declared.open.exchange.Exchange.{Exchange}
 use Rattle.proxy_core.specs.declared.open.arrivals_by_key.ArrivalsByKey.{ArrivalsByKey}
 use Rattle.proxy_core.specs.declared.open.key_index.KeyIndex.{KeyIndex}
 use Rattle.hx_hop.specs.declared.request_view.Asked.{Asked}
-use Rattle.proxy_core.specs.declared.open.stage.Stage.TheVariants.{Released}
+use Rattle.proxy_core.specs.declared.open.stage.Stage.{Stage}
+use Rattle.proxy_core.specs.declared.open.stage.Stage.TheVariants.{Forwarded, Waiting, Released}
 use Rattle.proxy_core.specs.Leading.{is_get, is_forwarded, waits_for, asks_for, may_serve, leads_waiters, leader}
 use Rattle.proxy_core.specs.declared.open.awaited.Awaited.{Awaited}
-use Rattle.proxy_core.specs.State.{released_exchange, overtaken_exchange, exchange_gone_forward, exchange_forwarded_again, exchange_sent_forward}
+use Rattle.proxy_core.specs.State.{released_exchange, overtaken_exchange}
 use Rattle.proxy_core.specs.Arrivals.{HaveDistinctArrivalsAndIds, SelectedArrivalsPass, IsExactIndexOfSelected, map_exchanges}
-use Rattle.proxy_core.specs.ByKey.{is_get_for_key, is_other_for_key, is_in_key_index, GetArrivalsPass, ArrivalIsPutWhere, ArrivalIsTakenOutWhere, AreSameKeyIndex, IsNotInKeyIndex, ArrivalIsEntered, ArrivalHasLeft, AreSameArrivals, IsInNeitherIndex, TellsAllByKey}
-use Rattle.proxy_core.proofs.Indexed.{lookup-removed, not_indexed, indexes-entered, indexes-left, indexes-on_all}
-use Rattle.proxy_core.proofs.Waiters.{pass-but, none_has, none_behind, not_at, at_is}
+use Rattle.proxy_core.specs.ByKey.{is_get_at_origin_for_key, is_get_not_at_origin_for_key, is_other_for_key, ArrivalIsMovedToOrigin, is_in_key_index, GetArrivalsPass, ArrivalIsPutWhere, ArrivalIsTakenOutWhere, AreSameKeyIndex, IsNotInKeyIndex, ArrivalIsEntered, ArrivalHasLeft, AreSameArrivals, IsInNeitherIndex, TellsAllByKey}
+use Rattle.proxy_core.proofs.Indexed.{lookup-removed, not_indexed, indexes-entered, indexes-left, indexes-written, indexes-on_all}
+use Rattle.proxy_core.proofs.Waiters.{pass-but, none_has, none_behind, not_at, at_is, overtake-stage}
 
 abbrev Numbered : Type 0
 Numbered = List (ℕ × Exchange)
@@ -35,59 +34,192 @@ abbrev at : ℕ → ℕ → Bool
 at n k = is_at (nat_cmp n) k
 
 -- one index, of the exchanges that ask so
-abbrev TellsAll : (Key → Asked → Bool) → KeyIndex → Numbered → Type 0
-TellsAll which index es = (key : Key) → IsExactIndexOfSelected (λ x. which key x.asked) (is_in_key_index index key) es
+abbrev TellsAll : (Key → Exchange → Bool) → KeyIndex → Numbered → Type 0
+TellsAll which index es = (key : Key) → IsExactIndexOfSelected (which key) (is_in_key_index index key) es
 
-not_told : (which : Key → Asked → Bool) (n : ℕ) (es : Numbered) (index : KeyIndex) → All (λ k. k < n) (keys_of es) → TellsAll which index es → IsNotInKeyIndex n index
-not_told which n es index l h key = not_indexed (λ x. which key x.asked) (is_in_key_index index key) n es (none_has n es l) (h key)
+not_told : (which : Key → Exchange → Bool) (n : ℕ) (es : Numbered) (index : KeyIndex) → All (λ k. k < n) (keys_of es) → TellsAll which index es → IsNotInKeyIndex n index
+not_told which n es index l h key = not_indexed (which key) (is_in_key_index index key) n es (none_has n es l) (h key)
 
-told-entered : (which : Key → Asked → Bool) (n : ℕ) (x : Exchange) (es : Numbered) (old new : KeyIndex) → All (λ k. k < n) (keys_of es) → ArrivalIsPutWhere which x.asked n old new →
+told-entered : (which : Key → Exchange → Bool) (n : ℕ) (x : Exchange) (es : Numbered) (old new : KeyIndex) → All (λ k. k < n) (keys_of es) → ArrivalIsPutWhere which x n old new →
     TellsAll which old es → TellsAll which new (es ++ (n, x) ∷ [])
-told-entered which n x es old new l k h key = indexes-entered (λ y. which key y.asked) n x (is_in_key_index old key) (is_in_key_index new key) es (none_has n es l) (k key) (h key)
+told-entered which n x es old new l k h key = indexes-entered (which key) n x (is_in_key_index old key) (is_in_key_index new key) es (none_has n es l) (k key) (h key)
 
-told-again : (which : Key → Asked → Bool) (es : Numbered) (old new : KeyIndex) → AreSameKeyIndex old new → TellsAll which old es → TellsAll which new es
+told-again : (which : Key → Exchange → Bool) (es : Numbered) (old new : KeyIndex) → AreSameKeyIndex old new → TellsAll which old es → TellsAll which new es
 told-again which es old new k h key m = k key m ∙ h key m
 
-told-closed : (which : Key → Asked → Bool) (n : ℕ) (x : Exchange) (es : Numbered) (old new : KeyIndex) → HaveDistinctArrivalsAndIds es → lookup (at n) es ≡ Some x → ArrivalIsTakenOutWhere which x.asked n old new →
+told-closed : (which : Key → Exchange → Bool) (n : ℕ) (x : Exchange) (es : Numbered) (old new : KeyIndex) → HaveDistinctArrivalsAndIds es → lookup (at n) es ≡ Some x → ArrivalIsTakenOutWhere which x n old new →
     TellsAll which old es → TellsAll which new (remove_entry (at n) es)
 told-closed which n x es old new a there k h key =
-    indexes-left (λ y. which key y.asked) n x None (is_in_key_index old key) (is_in_key_index new key) es (remove_entry (at n) es) there refl (λ m. lookup-removed m n es a) (k key) (h key)
+    indexes-left (which key) n x None (is_in_key_index old key) (is_in_key_index new key) es (remove_entry (at n) es) there refl (λ m. lookup-removed m n es a) (k key) (h key)
 
-told-on_all : (which : Key → Asked → Bool) (f : Exchange → Exchange) → ((x : Exchange) → (f x).asked ≡ x.asked) → (es : Numbered) (index : KeyIndex) → TellsAll which index es → TellsAll which index (map_exchanges f es)
+told-on_all : (which : Key → Exchange → Bool) (f : Exchange → Exchange) → ((key : Key) (x : Exchange) → which key (f x) ≡ which key x) → (es : Numbered) (index : KeyIndex) → TellsAll which index es → TellsAll which index (map_exchanges f es)
 told-on_all which f k es index h key =
-    indexes-on_all (λ x. which key x.asked) f (λ b. b) (is_in_key_index index key) (is_in_key_index index key) es refl (λ x. ap (which key) (k x)) (λ m. refl) (h key)
+    indexes-on_all (which key) f (λ b. b) (is_in_key_index index key) (is_in_key_index index key) es refl (k key) (λ m. refl) (h key)
+
+-- what was put in and taken out again leaves what was there
+again-nothing : (which : Key → Exchange → Bool) (n : ℕ) (x : Exchange) (old mid new : KeyIndex) → IsNotInKeyIndex n old → ArrivalIsPutWhere which x n old mid → ArrivalIsTakenOutWhere which x n mid new → AreSameKeyIndex old new
+again-nothing which n x old mid new not_there put out key m = elim (cases_Bool (eqb n m)) [
+  | inl t ↦ (
+      let none : is_in_key_index old key m ≡ false = ap (is_in_key_index old key) (sym (eqb-true n m t)) ∙ not_there key in
+      out key m ∙ ap (λ b. not (which key x && eqb n m) && b) (put key m)
+      ∙ ap (λ b. not (which key x && b) && ((which key x && b) || is_in_key_index old key m)) t
+      ∙ ap (λ b. not (which key x && true) && ((which key x && true) || b)) none ∙ gone (which key x) ∙ sym none
+      )
+  | inr f ↦ (
+      out key m ∙ ap (λ b. not (which key x && eqb n m) && b) (put key m)
+      ∙ ap (λ b. not (which key x && b) && ((which key x && b) || is_in_key_index old key m)) f
+      ∙ stays (which key x) (is_in_key_index old key m)
+      )
+]
+  where
+    gone : (a : Bool) → (not (a && true) && ((a && true) || false)) ≡ false
+    gone true = refl
+    gone false = refl
+
+    stays : (a b : Bool) → (not (a && false) && ((a && false) || b)) ≡ b
+    stays true b = refl
+    stays false b = refl
 
 -- both
-pub asked-not : (n : ℕ) (es : Numbered) (by_key : ArrivalsByKey) → All (λ k. k < n) (keys_of es) → TellsAllByKey by_key es → IsInNeitherIndex n by_key
-asked-not n es by_key l h = (not_told is_get_for_key n es by_key.gets l h.0, not_told is_other_for_key n es by_key.others l h.1)
+pub asked-nothing : (n : ℕ) (x : Exchange) (old mid new : ArrivalsByKey) → IsInNeitherIndex n old → ArrivalIsEntered x n old mid → ArrivalHasLeft x n mid new → AreSameArrivals old new
+asked-nothing n x old mid new not_there put out = (
+  again-nothing is_get_at_origin_for_key n x old.gets mid.gets new.gets not_there.0 put.0 out.0,
+  again-nothing is_other_for_key n x old.others mid.others new.others not_there.1 put.1 out.1,
+)
 
-pub asked-entered : (n : ℕ) (x : Exchange) (es : Numbered) (old new : ArrivalsByKey) → All (λ k. k < n) (keys_of es) → ArrivalIsEntered x.asked n old new →
+pub asked-not : (n : ℕ) (es : Numbered) (by_key : ArrivalsByKey) → All (λ k. k < n) (keys_of es) → TellsAllByKey by_key es → IsInNeitherIndex n by_key
+asked-not n es by_key l h = (not_told is_get_at_origin_for_key n es by_key.gets l h.0, not_told is_other_for_key n es by_key.others l h.1)
+
+pub asked-entered : (n : ℕ) (x : Exchange) (es : Numbered) (old new : ArrivalsByKey) → All (λ k. k < n) (keys_of es) → ArrivalIsEntered x n old new →
     TellsAllByKey old es → TellsAllByKey new (es ++ (n, x) ∷ [])
 asked-entered n x es old new l k h =
-    (told-entered is_get_for_key n x es old.gets new.gets l k.0 h.0, told-entered is_other_for_key n x es old.others new.others l k.1 h.1)
+    (told-entered is_get_at_origin_for_key n x es old.gets new.gets l k.0 h.0, told-entered is_other_for_key n x es old.others new.others l k.1 h.1)
 
 pub asked-again : (es : Numbered) (old new : ArrivalsByKey) → AreSameArrivals old new → TellsAllByKey old es → TellsAllByKey new es
-asked-again es old new k h = (told-again is_get_for_key es old.gets new.gets k.0 h.0, told-again is_other_for_key es old.others new.others k.1 h.1)
+asked-again es old new k h = (told-again is_get_at_origin_for_key es old.gets new.gets k.0 h.0, told-again is_other_for_key es old.others new.others k.1 h.1)
 
-pub asked-closed : (n : ℕ) (x : Exchange) (es : Numbered) (old new : ArrivalsByKey) → HaveDistinctArrivalsAndIds es → lookup (at n) es ≡ Some x → ArrivalHasLeft x.asked n old new →
+pub asked-closed : (n : ℕ) (x : Exchange) (es : Numbered) (old new : ArrivalsByKey) → HaveDistinctArrivalsAndIds es → lookup (at n) es ≡ Some x → ArrivalHasLeft x n old new →
     TellsAllByKey old es → TellsAllByKey new (remove_entry (at n) es)
 asked-closed n x es old new a there k h =
-    (told-closed is_get_for_key n x es old.gets new.gets a there k.0 h.0, told-closed is_other_for_key n x es old.others new.others a there k.1 h.1)
+    (told-closed is_get_at_origin_for_key n x es old.gets new.gets a there k.0 h.0, told-closed is_other_for_key n x es old.others new.others a there k.1 h.1)
 
-pub asked-on_all : (f : Exchange → Exchange) → ((x : Exchange) → (f x).asked ≡ x.asked) → (es : Numbered) (by_key : ArrivalsByKey) → TellsAllByKey by_key es → TellsAllByKey by_key (map_exchanges f es)
-asked-on_all f k es by_key h = (told-on_all is_get_for_key f k es by_key.gets h.0, told-on_all is_other_for_key f k es by_key.others h.1)
+-- a change that leaves what each asks for, and whether it is at the origin
+abbrev pub KeepsItsPlace : (Exchange → Exchange) → Type 0
+KeepsItsPlace f = (x : Exchange) → ((f x).asked ≡ x.asked) × (is_forwarded (f x).stage ≡ is_forwarded x.stage)
 
-pub sent_out-asked : (id now : ℕ) (rule : ReuseRule) (named : Option ℕ) (condition : Option Condition) (x : Exchange) → (exchange_sent_forward id now rule named condition x).asked ≡ x.asked
-sent_out-asked id now rule named condition x = elim (eqb x.id id) as (λ b. (cond b (exchange_gone_forward now rule named condition x) x).asked ≡ x.asked) [ true ↦ refl | false ↦ refl ]
+pub asked-on_all : (f : Exchange → Exchange) → KeepsItsPlace f → (es : Numbered) (by_key : ArrivalsByKey) → TellsAllByKey by_key es → TellsAllByKey by_key (map_exchanges f es)
+asked-on_all f k es by_key h = (
+  told-on_all is_get_at_origin_for_key f at_origin es by_key.gets h.0,
+  told-on_all is_other_for_key f other_place es by_key.others h.1,
+)
+  where
+    at_origin : (key : Key) (x : Exchange) → is_get_at_origin_for_key key (f x) ≡ is_get_at_origin_for_key key x
+    at_origin key x =
+        ap (λ (a : Asked). same_key a.target.key key && (is_get a && is_forwarded (f x).stage)) (k x).0
+        ∙ ap (λ b. same_key x.asked.target.key key && (is_get x.asked && b)) (k x).1
 
-pub gone_out-asked : (id now : ℕ) (x : Exchange) → (exchange_forwarded_again id now x).asked ≡ x.asked
-gone_out-asked id now x = elim (eqb x.id id) as (λ b. (cond b (exchange_gone_forward now x.rule x.named None x) x).asked ≡ x.asked) [ true ↦ refl | false ↦ refl ]
+    other_place : (key : Key) (x : Exchange) → is_other_for_key key (f x) ≡ is_other_for_key key x
+    other_place key x =
+        ap (λ (a : Asked). same_key a.target.key key && not (is_get a && is_forwarded (f x).stage)) (k x).0
+        ∙ ap (λ b. same_key x.asked.target.key key && not (is_get x.asked && b)) (k x).1
 
-pub release-asked : (q : ℕ) (x : Exchange) → (released_exchange q x).asked ≡ x.asked
-release-asked q x = elim (waits_for q x.stage) as (λ b. (cond b (record x { stage = Released }) x).asked ≡ x.asked) [ true ↦ refl | false ↦ refl ]
+-- whoever is released waited, and so wasn't at the origin
+pub release-place : (q : ℕ) → KeepsItsPlace (released_exchange q)
+release-place q x = (
+  elim (waits_for q x.stage) as (λ b. (cond b (record x { stage = Released }) x).asked ≡ x.asked) [ true ↦ refl | false ↦ refl ],
+  elim (cases_Bool (waits_for q x.stage)) [
+    | inl t ↦ ap (λ b. is_forwarded (cond b (record x { stage = Released }) x).stage) t ∙ sym (not_yet x.stage t)
+    | inr f ↦ ap (λ b. is_forwarded (cond b (record x { stage = Released }) x).stage) f
+  ],
+)
+  where
+    not_yet : (s : Stage) → waits_for q s ≡ true → is_forwarded s ≡ false
+    not_yet Forwarded h = absurd (false≢true h)
+    not_yet (Waiting leader) h = refl
+    not_yet Released h = refl
 
-pub overtake-asked : (key : Key) (x : Exchange) → (overtaken_exchange key x).asked ≡ x.asked
-overtake-asked key x = elim (same_key x.asked.target.key key) as (λ b. (cond b (record x { overtaken = true }) x).asked ≡ x.asked) [ true ↦ refl | false ↦ refl ]
+pub overtake-place : (key : Key) → KeepsItsPlace (overtaken_exchange key)
+overtake-place key x = (
+  elim (same_key x.asked.target.key key) as (λ b. (cond b (record x { overtaken = true }) x).asked ≡ x.asked) [ true ↦ refl | false ↦ refl ],
+  ap is_forwarded (overtake-stage key x),
+)
+
+-- ---- going forward
+
+-- one exchange was written at its number: the index tells of it what holds now, and of the others what it told
+told-written : (which : Key → Exchange → Bool) (n : ℕ) (x y : Exchange) (es : Numbered) (old new : KeyIndex) → lookup (at n) es ≡ Some x →
+    ((key : Key) (m : ℕ) → eqb n m ≡ false → is_in_key_index new key m ≡ is_in_key_index old key m) →
+    ((key : Key) → is_in_key_index old key n ≡ which key x → is_in_key_index new key n ≡ which key y) →
+    TellsAll which old es → TellsAll which new (set_value (at n) es y)
+told-written which n x y es old new there beside here h key =
+    indexes-written (which key) n x y (is_in_key_index old key) (is_in_key_index new key) es there (beside key) (here key) (h key)
+
+pub asked-moved : (n : ℕ) (x y : Exchange) (es : Numbered) (old new : ArrivalsByKey) → lookup (at n) es ≡ Some x → y.asked ≡ x.asked → is_forwarded y.stage ≡ true →
+    ArrivalIsMovedToOrigin x n old new → TellsAllByKey old es → TellsAllByKey new (set_value (at n) es y)
+asked-moved n x y es old new there asks out k h = (
+  told-written is_get_at_origin_for_key n x y es old.gets new.gets there gets_beside gets_here h.0,
+  told-written is_other_for_key n x y es old.others new.others there others_beside others_here h.1,
+)
+  where
+    itself : eqb n n ≡ true
+    itself = eq-eqb n n refl
+
+    put_beside : (a b : Bool) → ((a && false) || b) ≡ b
+    put_beside true b = refl
+    put_beside false b = refl
+
+    out_beside : (a b : Bool) → (not (a && false) && b) ≡ b
+    out_beside true b = refl
+    out_beside false b = refl
+
+    gets_beside : (key : Key) (m : ℕ) → eqb n m ≡ false → is_in_key_index new.gets key m ≡ is_in_key_index old.gets key m
+    gets_beside key m o = k.0 key m ∙ ap (λ b. (is_get_not_at_origin_for_key key x && b) || is_in_key_index old.gets key m) o ∙ put_beside (is_get_not_at_origin_for_key key x) (is_in_key_index old.gets key m)
+
+    others_beside : (key : Key) (m : ℕ) → eqb n m ≡ false → is_in_key_index new.others key m ≡ is_in_key_index old.others key m
+    others_beside key m o = k.1 key m ∙ ap (λ b. not (is_get_not_at_origin_for_key key x && b) && is_in_key_index old.others key m) o ∙ out_beside (is_get_not_at_origin_for_key key x) (is_in_key_index old.others key m)
+
+    -- by the key, the method, and whether it was at the origin
+    put_here : (s g f : Bool) → (((s && (g && not f)) && true) || (s && (g && f))) ≡ (s && (g && true))
+    put_here true true true = refl
+    put_here true true false = refl
+    put_here true false f = refl
+    put_here false g f = refl
+
+    out_here : (s g f : Bool) → (not ((s && (g && not f)) && true) && (s && not (g && f))) ≡ (s && not (g && true))
+    out_here true true true = refl
+    out_here true true false = refl
+    out_here true false f = refl
+    out_here false g f = refl
+
+    gets_here : (key : Key) → is_in_key_index old.gets key n ≡ is_get_at_origin_for_key key x → is_in_key_index new.gets key n ≡ is_get_at_origin_for_key key y
+    gets_here key was =
+        k.0 key n ∙ ap (λ b. (is_get_not_at_origin_for_key key x && b) || is_in_key_index old.gets key n) itself
+        ∙ ap (λ b. (is_get_not_at_origin_for_key key x && true) || b) was
+        ∙ put_here (same_key x.asked.target.key key) (is_get x.asked) (is_forwarded x.stage)
+        ∙ ap (λ (a : Asked). same_key a.target.key key && (is_get a && true)) (sym asks)
+        ∙ ap (λ b. same_key y.asked.target.key key && (is_get y.asked && b)) (sym out)
+
+    others_here : (key : Key) → is_in_key_index old.others key n ≡ is_other_for_key key x → is_in_key_index new.others key n ≡ is_other_for_key key y
+    others_here key was =
+        k.1 key n ∙ ap (λ b. not (is_get_not_at_origin_for_key key x && b) && is_in_key_index old.others key n) itself
+        ∙ ap (λ b. not (is_get_not_at_origin_for_key key x && true) && b) was
+        ∙ out_here (same_key x.asked.target.key key) (is_get x.asked) (is_forwarded x.stage)
+        ∙ ap (λ (a : Asked). same_key a.target.key key && not (is_get a && true)) (sym asks)
+        ∙ ap (λ b. same_key y.asked.target.key key && not (is_get y.asked && b)) (sym out)
+
+-- what is written as it was is nothing new
+pub written_again : (n : ℕ) (x : Exchange) (es : Numbered) → lookup (at n) es ≡ Some x → set_value (at n) es x ≡ es
+written_again n x [] h = absurd (cc)
+written_again n x (e ∷ es) h = elim (cases_Bool (at n e.0)) [
+  | inl t ↦ (
+      ap (λ b. cond b ((e.0, x) ∷ es) (e ∷ set_value (at n) es x)) t
+      ∙ ap (λ (y : Exchange). (e.0, y) ∷ es) (sym (same_Some e.1 x (sym (ap (λ b. cond b (Some e.1) (lookup (at n) es)) t) ∙ h)))
+      )
+  | inr f ↦ (
+      ap (λ b. cond b ((e.0, x) ∷ es) (e ∷ set_value (at n) es x)) f
+      ∙ ap (λ (zs : Numbered). e ∷ zs) (written_again n x es (sym (ap (λ b. cond b (Some e.1) (lookup (at n) es)) f) ∙ h))
+      )
+]
 
 -- ---- the first that leads
 
@@ -95,15 +227,16 @@ overtake-asked key x = elim (same_key x.asked.target.key key) as (λ b. (cond b 
 abbrev pub LeadersLeft : Policy → Awaited → Asked → List ℕ → Numbered → Type 0
 LeadersLeft policy awaited asked ns es = SelectedArrivalsPass (leads_waiters policy awaited asked) (λ k. list_any (λ n. at k n) ns) es × IsStrictlySortedBy nat_cmp ns
 
-parts : (a b c : Bool) → (a && (b && c)) ≡ true → (a && b) ≡ true
-parts true true c h = refl
-parts true false c h = absurd (false≢true h)
-parts false b c h = absurd (false≢true h)
+parts : (a b c d : Bool) → (a && (b && (c && d))) ≡ true → (a && (b && c)) ≡ true
+parts true true true d h = refl
+parts true true false d h = absurd (false≢true h)
+parts true false c d h = absurd (false≢true h)
+parts false b c d h = absurd (false≢true h)
 
 gets_lead : (policy : Policy) (awaited : Awaited) (asked : Asked) (p : ℕ → Bool) (es : Numbered) → GetArrivalsPass asked.target.key p es → SelectedArrivalsPass (leads_waiters policy awaited asked) p es
 gets_lead policy awaited asked p [] h = tt
 gets_lead policy awaited asked p (e ∷ es) h =
-    (λ w. h.0 (parts (same_key e.1.asked.target.key asked.target.key) (is_get e.1.asked) (is_forwarded e.1.stage && (asks_for awaited e.1 && (not policy.waits_for_stale || may_serve asked e.1))) w), gets_lead policy awaited asked p es h.1)
+    (λ w. h.0 (parts (same_key e.1.asked.target.key asked.target.key) (is_get e.1.asked) (is_forwarded e.1.stage) (asks_for awaited e.1 && (not policy.waits_for_stale || may_serve asked e.1)) w), gets_lead policy awaited asked p es h.1)
 
 pub leaders : (policy : Policy) (awaited : Awaited) (asked : Asked) (ns : List ℕ) (es : Numbered) → IsStrictlySortedBy nat_cmp ns → GetArrivalsPass asked.target.key (λ k. list_any (λ n. at k n) ns) es → LeadersLeft policy awaited asked ns es
 leaders policy awaited asked ns es s h = (gets_lead policy awaited asked (λ k. list_any (λ n. at k n) ns) es h, s)

@@ -160,6 +160,20 @@ indexes-left which n x w old new es after there none l k h m = elim (cases_Bool 
     stays true b = refl
     stays false b = refl
 
+-- one was written at its number: the index tells of it what holds now, and of the others what it told
+pub indexes-written : (which : Exchange → Bool) (n : ℕ) (x y : Exchange) (old new : ℕ → Bool) (es : Numbered) → lookup (at n) es ≡ Some x →
+    ((m : ℕ) → eqb n m ≡ false → new m ≡ old m) → (old n ≡ which x → new n ≡ which y) → IsExactIndexOfSelected which old es → IsExactIndexOfSelected which new (set_value (at n) es y)
+indexes-written which n x y old new es there beside here h m = elim (cases_Bool (eqb n m)) [
+  | inl t ↦ (
+      ap new (sym (eqb-true n m t)) ∙ here (h n ∙ ap (is_one which) there)
+      ∙ sym (ap (is_one which) (lookup-set m n x y es there ∙ ap (λ b. cond b (Some y) (lookup (at m) es)) t))
+      )
+  | inr f ↦ (
+      beside m f ∙ h m
+      ∙ sym (ap (is_one which) (lookup-set m n x y es there ∙ ap (λ b. cond b (Some y) (lookup (at m) es)) f))
+      )
+]
+
 pub indexes-on_all : (which : Exchange → Bool) (f : Exchange → Exchange) (g : Bool → Bool) (old new : ℕ → Bool) (es : Numbered) → g false ≡ false →
     ((x : Exchange) → which (f x) ≡ g (which x)) → ((m : ℕ) → new m ≡ g (old m)) → IsExactIndexOfSelected which old es → IsExactIndexOfSelected which new (map_exchanges f es)
 indexes-on_all which f g old new es z c k h m =

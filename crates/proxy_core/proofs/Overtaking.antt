@@ -12,10 +12,9 @@ use Rattle.hx_target.specs.declared.keys.Key.{Key}
 use Rattle.hx_target.specs.Keys.{same_key}
 use Rattle.proxy_core.specs.declared.open.arrivals_by_key.ArrivalsByKey.{ArrivalsByKey}
 use Rattle.proxy_core.specs.declared.open.exchange.Exchange.{Exchange}
-use Rattle.proxy_core.specs.Leading.{is_get}
 use Rattle.proxy_core.specs.State.{overtaken_exchange}
 use Rattle.proxy_core.specs.Arrivals.{HaveDistinctArrivalsAndIds, map_exchanges, map_passing}
-use Rattle.proxy_core.specs.ByKey.{is_get_for_key, is_other_for_key, is_in_key_index, GetArrivalsPass, OtherArrivalsPass, TellsAllByKey}
+use Rattle.proxy_core.specs.ByKey.{is_get_at_origin, is_get_at_origin_for_key, is_other_for_key, is_in_key_index, GetArrivalsPass, OtherArrivalsPass, TellsAllByKey}
 use Rattle.proxy_core.proofs.ExchangeLists.{cond_none}
 use Rattle.proxy_core.proofs.Indexed.{passes}
 use Rattle.proxy_core.proofs.Waiters.{at_is, not_at, none_behind}
@@ -97,8 +96,8 @@ of_another_key : (key : Key) (x : Exchange) → same_key x.asked.target.key key 
 of_another_key key x f = ap (λ b. cond b (record x { overtaken = true }) x) f
 
 -- what both indexes do to one exchange
-one_by_both : (key : Key) (x : Exchange) (p q : Bool) → ((same_key x.asked.target.key key && is_get x.asked) ≡ true → p ≡ true) →
-    ((same_key x.asked.target.key key && not (is_get x.asked)) ≡ true → q ≡ true) →
+one_by_both : (key : Key) (x : Exchange) (p q : Bool) → ((same_key x.asked.target.key key && is_get_at_origin x) ≡ true → p ≡ true) →
+    ((same_key x.asked.target.key key && not (is_get_at_origin x)) ≡ true → q ≡ true) →
     cond q (overtaken_exchange key (cond p (overtaken_exchange key x) x)) (cond p (overtaken_exchange key x) x) ≡ overtaken_exchange key x
 one_by_both key x p q gets others = elim (cases_Bool (same_key x.asked.target.key key)) [
   | inr f ↦ (
@@ -108,15 +107,15 @@ one_by_both key x p q gets others = elim (cases_Bool (same_key x.asked.target.ke
       ∙ (ap (λ (z : Exchange). cond q z x) same
       ∙ (either_way q x ∙ sym same)))
       )
-  | inl t ↦ elim (cases_Bool (is_get x.asked)) [
+  | inl t ↦ elim (cases_Bool (is_get_at_origin x)) [
     | inl g ↦ (
         let y = overtaken_exchange key x in
-        ap (λ b. cond q (overtaken_exchange key (cond b y x)) (cond b y x)) (gets (ap (λ b. b && is_get x.asked) t ∙ g))
+        ap (λ b. cond q (overtaken_exchange key (cond b y x)) (cond b y x)) (gets (ap (λ b. b && is_get_at_origin x) t ∙ g))
         ∙ (ap (λ (z : Exchange). cond q z y) (overtaken_twice key x) ∙ either_way q y)
         )
     | inr o ↦ (
         let y = overtaken_exchange key x in
-        ap (λ b. cond b (overtaken_exchange key (cond p y x)) (cond p y x)) (others (ap (λ b. b && not (is_get x.asked)) t ∙ ap not o))
+        ap (λ b. cond b (overtaken_exchange key (cond p y x)) (cond p y x)) (others (ap (λ b. b && not (is_get_at_origin x)) t ∙ ap not o))
         ∙ marked p
         )
   ]
@@ -139,5 +138,5 @@ pub all_overtaken : (key : Key) (by_key : ArrivalsByKey) (es mid new : Numbered)
 all_overtaken key by_key es mid new apart told first second =
     second ∙ (ap (map_passing (is_in_key_index by_key.others key) (overtaken_exchange key)) first
     ∙ all_by_both key (is_in_key_index by_key.gets key) (is_in_key_index by_key.others key) es
-    (passes (λ x. is_get_for_key key x.asked) (is_in_key_index by_key.gets key) es apart (told.0 key))
-    (passes (λ x. is_other_for_key key x.asked) (is_in_key_index by_key.others key) es apart (told.1 key)))
+    (passes (is_get_at_origin_for_key key) (is_in_key_index by_key.gets key) es apart (told.0 key))
+    (passes (is_other_for_key key) (is_in_key_index by_key.others key) es apart (told.1 key)))

@@ -1,26 +1,37 @@
--- The open exchanges by the key that they ask for: an index of the GETs, and one of all others.
+-- The open exchanges by the key that they ask for: an index of the GETs that are at the origin, and one of all others.
 --
--- is_get_for_key: a request is a GET for a key     is_other_for_key: it asks for that key by another method
+-- is_get_at_origin_for_key: a GET for a key is at the origin
+-- is_other_for_key: any other exchange for that key: of another method, or a GET that waits or was released
 -- is_in_key_index: the arrival is in the index at that key
+-- ArrivalIsMovedToOrigin: what changes where an exchange goes forward
 use Rattle.std.specs.Prelude.{◌≡◌, ℕ, ◌==◌, ◌&&◌, ◌||◌, not, Bool, true, false, List}
 use Rattle.std.specs.Option.{ForSome}
 use Rattle.std.specs.BTreeMap.{get}
 use Rattle.hx_target.specs.declared.keys.Key.{Key}
 use Rattle.hx_target.specs.Keys.{same_key}
 use Rattle.hx_target.specs.KeyOrder.{key_cmp}
-use Rattle.hx_hop.specs.declared.request_view.Asked.{Asked}
 use Rattle.proxy_core.specs.declared.open.exchange.Exchange.{Exchange}
 use Rattle.proxy_core.specs.declared.open.arrivals_by_key.ArrivalsByKey.{ArrivalsByKey}
 use Rattle.proxy_core.specs.declared.open.key_index.KeyIndex.{KeyIndex}
-use Rattle.proxy_core.specs.Leading.{is_get}
+use Rattle.proxy_core.specs.Leading.{is_get, is_forwarded}
 use Rattle.proxy_core.specs.Waiters.{set_contains, SetHasMembers}
 use Rattle.proxy_core.specs.Arrivals.{SelectedArrivalsPass, IsExactIndexOfSelected}
 
-abbrev pub is_get_for_key : Key → Asked → Bool
-is_get_for_key key asked = same_key asked.target.key key && is_get asked
+abbrev pub is_get_at_origin : Exchange → Bool
+is_get_at_origin x = is_get x.asked && is_forwarded x.stage
 
-abbrev pub is_other_for_key : Key → Asked → Bool
-is_other_for_key key asked = same_key asked.target.key key && not (is_get asked)
+-- a GET that waits, or was released
+abbrev pub is_get_not_at_origin : Exchange → Bool
+is_get_not_at_origin x = is_get x.asked && not (is_forwarded x.stage)
+
+abbrev pub is_get_at_origin_for_key : Key → Exchange → Bool
+is_get_at_origin_for_key key x = same_key x.asked.target.key key && is_get_at_origin x
+
+abbrev pub is_get_not_at_origin_for_key : Key → Exchange → Bool
+is_get_not_at_origin_for_key key x = same_key x.asked.target.key key && is_get_not_at_origin x
+
+abbrev pub is_other_for_key : Key → Exchange → Bool
+is_other_for_key key x = same_key x.asked.target.key key && not (is_get_at_origin x)
 
 abbrev pub is_in_key_index : KeyIndex → Key → ℕ → Bool
 is_in_key_index index key n = set_contains (get key_cmp index.arrivals key) n
@@ -45,14 +56,14 @@ abbrev pub ArrivalIsPutIf : Bool → Key → ℕ → KeyIndex → KeyIndex → T
 ArrivalIsPutIf true key n old new = ArrivalIsPut key n old new
 ArrivalIsPutIf false key n old new = AreSameKeyIndex old new × ((m : ℕ) → is_in_key_index old key m ≡ false)
 
--- the arrival of such a request was put in, and taken out
-abbrev pub ArrivalIsPutWhere : (Key → Asked → Bool) → Asked → ℕ → KeyIndex → KeyIndex → Type 0
-ArrivalIsPutWhere which asked n old new = (q : Key) (m : ℕ) → is_in_key_index new q m ≡ ((which q asked && n == m)
+-- the arrival of such an exchange was put in, and taken out
+abbrev pub ArrivalIsPutWhere : (Key → Exchange → Bool) → Exchange → ℕ → KeyIndex → KeyIndex → Type 0
+ArrivalIsPutWhere which x n old new = (q : Key) (m : ℕ) → is_in_key_index new q m ≡ ((which q x && n == m)
     || is_in_key_index old q m)
 
-abbrev pub ArrivalIsTakenOutWhere : (Key → Asked → Bool) → Asked → ℕ → KeyIndex → KeyIndex → Type 0
-ArrivalIsTakenOutWhere which asked n old new = (q : Key) (m : ℕ) → is_in_key_index new q m ≡
-    (not (which q asked && n == m) && is_in_key_index old q m)
+abbrev pub ArrivalIsTakenOutWhere : (Key → Exchange → Bool) → Exchange → ℕ → KeyIndex → KeyIndex → Type 0
+ArrivalIsTakenOutWhere which x n old new = (q : Key) (m : ℕ) → is_in_key_index new q m ≡
+    (not (which q x && n == m) && is_in_key_index old q m)
 
 -- the arrival isn't in the index
 abbrev pub IsNotInKeyIndex : ℕ → KeyIndex → Type 0
@@ -68,14 +79,20 @@ HasNoOtherEmptyKeys key index = (q : Key) → same_key key q ≡ false → ForSo
 
 -- ---- both indexes
 
--- an arrival was entered as that of such a request, and left
-abbrev pub ArrivalIsEntered : Asked → ℕ → ArrivalsByKey → ArrivalsByKey → Type 0
-ArrivalIsEntered asked n old new = ArrivalIsPutWhere is_get_for_key asked n old.gets new.gets
-    × ArrivalIsPutWhere is_other_for_key asked n old.others new.others
+-- an arrival was entered as that of such an exchange, and left
+abbrev pub ArrivalIsEntered : Exchange → ℕ → ArrivalsByKey → ArrivalsByKey → Type 0
+ArrivalIsEntered x n old new = ArrivalIsPutWhere is_get_at_origin_for_key x n old.gets new.gets
+    × ArrivalIsPutWhere is_other_for_key x n old.others new.others
 
-abbrev pub ArrivalHasLeft : Asked → ℕ → ArrivalsByKey → ArrivalsByKey → Type 0
-ArrivalHasLeft asked n old new = ArrivalIsTakenOutWhere is_get_for_key asked n old.gets new.gets
-    × ArrivalIsTakenOutWhere is_other_for_key asked n old.others new.others
+abbrev pub ArrivalHasLeft : Exchange → ℕ → ArrivalsByKey → ArrivalsByKey → Type 0
+ArrivalHasLeft x n old new = ArrivalIsTakenOutWhere is_get_at_origin_for_key x n old.gets new.gets
+    × ArrivalIsTakenOutWhere is_other_for_key x n old.others new.others
+
+-- the exchange goes forward: the arrival of a GET that wasn't at the origin is no longer among the others, but among
+-- those that are, and else nothing was done
+abbrev pub ArrivalIsMovedToOrigin : Exchange → ℕ → ArrivalsByKey → ArrivalsByKey → Type 0
+ArrivalIsMovedToOrigin x n old new = ArrivalIsPutWhere is_get_not_at_origin_for_key x n old.gets new.gets
+    × ArrivalIsTakenOutWhere is_get_not_at_origin_for_key x n old.others new.others
 
 abbrev pub AreSameArrivals : ArrivalsByKey → ArrivalsByKey → Type 0
 AreSameArrivals old new = AreSameKeyIndex old.gets new.gets × AreSameKeyIndex old.others new.others
@@ -89,13 +106,13 @@ HasNoEmptyKeysInEither by_key = HasNoEmptyKeys by_key.gets × HasNoEmptyKeys by_
 -- each tells just those of the open exchanges that belong there
 abbrev pub TellsAllByKey : ArrivalsByKey → List (ℕ × Exchange) → Type 0
 TellsAllByKey by_key es =
-    ((key : Key) → IsExactIndexOfSelected (λ x. is_get_for_key key x.asked) (is_in_key_index by_key.gets key) es)
-    × ((key : Key) → IsExactIndexOfSelected (λ x. is_other_for_key key x.asked)
-    (is_in_key_index by_key.others key) es)
+    ((key : Key) → IsExactIndexOfSelected (is_get_at_origin_for_key key) (is_in_key_index by_key.gets key) es)
+    × ((key : Key) → IsExactIndexOfSelected (is_other_for_key key) (is_in_key_index by_key.others key) es)
 
--- the GETs for a key have numbers that pass, and so those have that lead; and the others for that key have
+-- the GETs for a key that are at the origin have numbers that pass, and so those have that lead; and the others for
+-- that key have
 abbrev pub GetArrivalsPass : Key → (ℕ → Bool) → List (ℕ × Exchange) → Type 0
-GetArrivalsPass key test es = SelectedArrivalsPass (λ x. is_get_for_key key x.asked) test es
+GetArrivalsPass key test es = SelectedArrivalsPass (is_get_at_origin_for_key key) test es
 
 abbrev pub OtherArrivalsPass : Key → (ℕ → Bool) → List (ℕ × Exchange) → Type 0
-OtherArrivalsPass key test es = SelectedArrivalsPass (λ x. is_other_for_key key x.asked) test es
+OtherArrivalsPass key test es = SelectedArrivalsPass (is_other_for_key key) test es

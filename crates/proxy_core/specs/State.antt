@@ -160,19 +160,8 @@ line_of_verdict verdict.NoLine = 0
 
 -- the same of a request that waits for another's answer
 abbrev pub waiting_exchange : Table → List Stored → ℕ → ℕ → Asked → ℕ → ℕ → Exchange
-waiting_exchange table es now id asked line leader = record {
-  id = id;
-  asked = asked;
-  line = line;
-  rule = rule_of_decision (decision_of (policy_of table.lines line) es asked now);
-  named = serial_named_by_decision (decision_of (policy_of table.lines line) es asked now);
-  request_time = now;
-  condition = condition_about_serial es
-      (serial_named_by_decision (decision_of (policy_of table.lines line) es asked now));
-  overtaken = false;
-  no_store = has_no_store asked;
-  stage = Waiting leader;
-}
+waiting_exchange table es now id asked line leader =
+    record (forwarded_exchange table es now id asked line) { stage = Waiting leader }
 
 -- an exchange that opens, by the one that leads
 abbrev pub exchange_with_leader : Option ℕ → Exchange → Exchange

@@ -1,21 +1,38 @@
 -- The request of each open exchange was read, where each that arrived was.
-use Rattle.std.proofs.Common.{◌≡◌, ℕ, ◌==◌, Bool, true, false, not, cond, List, [], ◌∷◌, ◌++◌, sym, subst}
+use Rattle.std.proofs.Common.{◌≡◌, ℕ, eqb, ◌==◌, Bool, true, false, not, cond, List, [], ◌∷◌, ◌++◌, refl, sym, subst}
 use Rattle.std.specs.Prelude.{All, Option, None, Some, filter, map}
 use Rattle.std.proofs.lemmas.List.Elements.{All-nil, All-cons, All-append, All-filter, All-head, All-map, All-tail, All-weaker}
 use Rattle.hx_allow.specs.TableLines.{Table}
+use Rattle.hx_reuse.specs.declared.rule.ReuseRule.{ReuseRule}
 use Rattle.hx_target.specs.declared.keys.Key.{Key}
+use Rattle.hx_target.specs.Keys.{same_key}
 use Rattle.hx_store.specs.Stored.{Stored}
 use Rattle.proxy_core.specs.declared.open.exchange.Exchange.{Exchange}
+use Rattle.proxy_core.specs.declared.open.stage.Stage.TheVariants.{Released}
+use Rattle.proxy_core.specs.declared.steps.condition.Condition.{Condition}
+use Rattle.proxy_core.specs.Leading.{waits_for}
 use Rattle.proxy_core.specs.declared.event.Event.{Event}
 use Rattle.proxy_core.specs.declared.event.Event.TheVariants.{Arrive, Answer, Fail, Wake, Abandon}
 use Rattle.proxy_core.specs.declared.outcome.Outcome.{Outcome}
 use Rattle.proxy_core.specs.declared.outcome.Outcome.TheVariants.{Reply, Forward, Waits, Ended}
 use Rattle.proxy_core.specs.Histories.{held_entries, open_exchanges}
 use Rattle.proxy_core.specs.Outcomes.{find_exchange}
-use Rattle.proxy_core.specs.State.{exchanges_after_close, exchanges_after_end, exchange_forwarded_again, open_exchanges_after, forwarded_exchange, overtaken_exchange, waiting_exchange, released_exchange, exchange_sent_forward, exchanges_after_wake, key_invalidated_by_response}
+use Rattle.proxy_core.specs.State.{exchanges_after_close, exchanges_after_end, exchange_forwarded_again, open_exchanges_after, forwarded_exchange, overtaken_exchange, waiting_exchange, released_exchange, exchange_gone_forward, exchange_sent_forward, exchanges_after_wake, key_invalidated_by_response}
 use Rattle.proxy_core.specs.Traces.{Item}
-use Rattle.proxy_core.proofs.AskedArrivals.{gone_out-asked, overtake-asked, release-asked, sent_out-asked}
 use Rattle.proxy_core_laws.specs.SentMessages.{EventsWereRead, EventWasRead, RequestWasRead, OpenRequestsWereRead}
+
+-- no change of an open exchange is one of what it asks for
+sent_out-asked : (id now : ℕ) (rule : ReuseRule) (named : Option ℕ) (condition : Option Condition) (x : Exchange) → (exchange_sent_forward id now rule named condition x).asked ≡ x.asked
+sent_out-asked id now rule named condition x = elim (eqb x.id id) as (λ b. (cond b (exchange_gone_forward now rule named condition x) x).asked ≡ x.asked) [ true ↦ refl | false ↦ refl ]
+
+gone_out-asked : (id now : ℕ) (x : Exchange) → (exchange_forwarded_again id now x).asked ≡ x.asked
+gone_out-asked id now x = elim (eqb x.id id) as (λ b. (cond b (exchange_gone_forward now x.rule x.named None x) x).asked ≡ x.asked) [ true ↦ refl | false ↦ refl ]
+
+release-asked : (q : ℕ) (x : Exchange) → (released_exchange q x).asked ≡ x.asked
+release-asked q x = elim (waits_for q x.stage) as (λ b. (cond b (record x { stage = Released }) x).asked ≡ x.asked) [ true ↦ refl | false ↦ refl ]
+
+overtake-asked : (key : Key) (x : Exchange) → (overtaken_exchange key x).asked ≡ x.asked
+overtake-asked key x = elim (same_key x.asked.target.key key) as (λ b. (cond b (record x { overtaken = true }) x).asked ≡ x.asked) [ true ↦ refl | false ↦ refl ]
 
 -- (a record, so that what it is of can be read off it)
 record HasReadRequest (x : Exchange) : Type 0 where

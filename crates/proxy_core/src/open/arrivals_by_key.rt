@@ -1,19 +1,22 @@
-//! Which arrivals ask for which key: GETs, among which is whatever may come to lead, apart from all others.
+//! Which arrivals ask for which key: the GETs at the origin, of which one may lead, apart from all others.
 //!
-//! So no crowd of other requests stands between a GET and its leader. A call costs the logarithm of how many are open.
+//! So no crowd of those that wait, or of other requests, stands between a GET and its leader. A call costs the
+//! logarithm of how many are open.
 ghost use Rattle.std.specs.Prelude.{◌≡◌, OnOk, OnErr};
 ghost use Rattle.proxy_core.specs.ByKey.{ArrivalIsEntered, ArrivalHasLeft, AreSameArrivals, HasNoEmptyKeysInEither};
-ghost use Rattle.proxy_core.specs.ByKey.{IsEmptyKeyIndex};
+ghost use Rattle.proxy_core.specs.ByKey.{IsEmptyKeyIndex, ArrivalIsMovedToOrigin};
+ghost use Rattle.proxy_core.specs.ByKey.{is_get_at_origin, is_get_not_at_origin};
 
+use crate::open::exchange::Exchange;
 use crate::open::key_index::KeyIndex;
-use crate::open::leading::is_get;
-use hx_hop::Asked;
+use crate::open::leading::{is_forwarded, is_get};
 use std::alloc::{AllocError, Global};
 
 /// The numbers of the arrivals, by the key that they ask for.
 pub(crate) struct ArrivalsByKey {
+    /// Those of the GETs that are at the origin.
     pub(crate) gets: KeyIndex,
-    /// Those by any other method.
+    /// Those of other methods, and of the GETs that wait or were released.
     pub(crate) others: KeyIndex,
 }
 
@@ -37,28 +40,59 @@ impl ArrivalsByKey {
         }
     }
 
-    /// Enters an arrival. Out of memory changes nothing.
-    pub(crate) fn enter(&mut self, asked: &Asked, arrival: u64) -> Result<(), AllocError>
-        ensures ok { OnOk result (ArrivalIsEntered asked.now arrival self.old self.new) }
+    /// Enters the arrival of an exchange. Out of memory changes nothing.
+    pub(crate) fn enter(&mut self, exchange: &Exchange, arrival: u64) -> Result<(), AllocError>
+        ensures ok { OnOk result (ArrivalIsEntered exchange.now arrival self.old self.new) }
         ensures err { OnErr result (AreSameArrivals self.old self.new) }
         ensures trim { HasNoEmptyKeysInEither self.old → HasNoEmptyKeysInEither self.new }
     {
-        if is_get(asked) {
-            self.gets.insert(&asked.target.key, arrival)
+        if is_get_at_origin(exchange) {
+            self.gets.insert(&exchange.asked.target.key, arrival)
         } else {
-            self.others.insert(&asked.target.key, arrival)
+            self.others.insert(&exchange.asked.target.key, arrival)
         }
     }
 
-    /// Takes an arrival out. No memory is taken.
-    pub(crate) fn leave(&mut self, asked: &Asked, arrival: u64)
-        ensures left { ArrivalHasLeft asked.now arrival self.old self.new }
+    /// The exchange of an arrival is about to go forward. Out of memory changes nothing.
+    pub(crate) fn move_to_origin(
+        &mut self,
+        exchange: &Exchange,
+        arrival: u64,
+    ) -> Result<(), AllocError>
+        ensures ok { OnOk result (ArrivalIsMovedToOrigin exchange.now arrival self.old self.new) }
+        ensures err { OnErr result (AreSameArrivals self.old self.new) }
         ensures trim { HasNoEmptyKeysInEither self.old → HasNoEmptyKeysInEither self.new }
     {
-        if is_get(asked) {
-            self.gets.remove(&asked.target.key, arrival);
+        if !is_get_not_at_origin(exchange) {
+            return Ok(());
+        }
+        let key = &exchange.asked.target.key;
+        self.gets.insert(key, arrival)?;
+        self.others.remove(key, arrival);
+        Ok(())
+    }
+
+    /// Takes the arrival of an exchange out. No memory is taken.
+    pub(crate) fn leave(&mut self, exchange: &Exchange, arrival: u64)
+        ensures left { ArrivalHasLeft exchange.now arrival self.old self.new }
+        ensures trim { HasNoEmptyKeysInEither self.old → HasNoEmptyKeysInEither self.new }
+    {
+        if is_get_at_origin(exchange) {
+            self.gets.remove(&exchange.asked.target.key, arrival);
         } else {
-            self.others.remove(&asked.target.key, arrival);
+            self.others.remove(&exchange.asked.target.key, arrival);
         }
     }
+}
+
+fn is_get_at_origin(exchange: &Exchange) -> bool
+    ensures { result ≡ is_get_at_origin exchange.now }
+{
+    is_get(&exchange.asked) && is_forwarded(exchange.stage)
+}
+
+fn is_get_not_at_origin(exchange: &Exchange) -> bool
+    ensures { result ≡ is_get_not_at_origin exchange.now }
+{
+    is_get(&exchange.asked) && !is_forwarded(exchange.stage)
 }

@@ -4,8 +4,8 @@
 //! opened and closed in the logarithm of how many are open, and each that a close releases costs
 //! that too. The first that may be woken is known: `first_ready` costs that logarithm where there
 //! is one, and nothing where there is none (see `released`). `leader` looks through the GETs of its
-//! key up to the one that leads, and an invalidation goes through the exchanges of its key.
-//! `ready` goes through all of them.
+//! key that are at the origin, up to the one that leads, and an invalidation goes through all
+//! exchanges of its key. `ready` goes through all of them.
 ghost use Rattle.std.specs.Prelude.{◌≡◌, ◌<◌, ◌++◌, ◌∷◌, [], map, filter, not, ◌==◌, None, IfOk, OnOk, OnErr};
 ghost use Rattle.std.specs.Prelude.{option_copied, slice_get, IfSome};
 ghost use Rattle.proxy_core.specs.Waiting.{ExchangeMayBeWoken};
@@ -16,6 +16,7 @@ ghost use Rattle.std.specs.Option.{ForNone, ForSome};
 ghost use Rattle.std.specs.BTreeMap.{get, keys, values, is_at};
 ghost use Rattle.proxy_core.specs.ByKey.{GetArrivalsPass, ArrivalIsEntered, ArrivalHasLeft, AreSameArrivals};
 ghost use Rattle.proxy_core.specs.ByKey.{IsInNeitherIndex, HasNoEmptyKeysInEither, is_in_key_index};
+ghost use Rattle.proxy_core.specs.ByKey.{ArrivalIsMovedToOrigin};
 ghost use Rattle.std.specs.BTreeSet.{contains};
 ghost use Rattle.proxy_core.specs.Arrivals.{WaitingArrivalsPass, map_exchanges, map_passing};
 ghost use Rattle.proxy_core.specs.Waiters.{WaiterIsEntered, WaiterHasLeft, IsSameWaitIndex, IsNotInWaitIndex};
@@ -52,7 +53,7 @@ pub(crate) struct Exchanges {
     waiting: WaitIndex,
     /// Where the released ones stand.
     released: Released,
-    /// All of them, by the key that they ask for.
+    /// All of them, by the key that they ask for: those that may lead apart from the rest.
     by_key: ArrivalsByKey,
 }
 
@@ -133,8 +134,8 @@ impl Exchanges {
     }
 
     /// The first exchange to arrive for whose answer a GET waits that could be sent this, over a
-    /// line of this policy. It looks through the open GETs of its key up to that one, which mostly
-    /// is the first of them.
+    /// line of this policy. It looks through the GETs of its key that are at the origin, up to that
+    /// one, which mostly is the first of them.
     pub(crate) fn leader(&self, policy: Policy, awaited: Awaited, asked: &Asked) -> Option<u64>
         ensures { result ≡ leader policy awaited asked.now self.now }
     {
@@ -198,22 +199,26 @@ impl Exchanges {
         }
     }
 
-    /// The exchange of an id goes forward once more, in its place. No memory is taken.
-    pub(crate) fn go_forward(&mut self, id: u64, now: u64)
-        ensures { self.new ≡ map (exchange_forwarded_again id now) self.old }
+    /// The exchange of an id goes forward once more, in its place. Where memory runs out nothing has changed.
+    pub(crate) fn go_forward(&mut self, id: u64, now: u64) -> Result<(), AllocError>
+        ensures ok { OnOk result (self.new ≡ map (exchange_forwarded_again id now) self.old) }
+        ensures err { OnErr result (self.new ≡ self.old) }
     {
-        if let Some(arrival) = self.arrivals.get(&id) {
-            if let Some(x) = self.by_arrival.get_mut(arrival) {
-                self.waiting.leave(x.stage, *arrival);
-                let (rule, named) = (x.rule, x.named);
-                x.go_forward(now, rule, named, None);
-                self.released.settle(&self.by_arrival);
-            }
-        }
+        let Some(arrival) = self.arrivals.get(&id) else {
+            return Ok(());
+        };
+        let Some(x) = self.by_arrival.get_mut(arrival) else {
+            return Ok(());
+        };
+        leave_for_origin(&mut self.waiting, &mut self.by_key, *arrival, x)?;
+        let (rule, named) = (x.rule, x.named);
+        x.go_forward(now, rule, named, None);
+        self.released.settle(&self.by_arrival);
+        Ok(())
     }
 
     /// The exchange of an id goes forward in its place, with this rule, the held response that it names, and these
-    /// conditions. No memory is taken.
+    /// conditions. Where memory runs out nothing has changed.
     pub(crate) fn send_forward(
         &mut self,
         id: u64,
@@ -221,16 +226,20 @@ impl Exchanges {
         rule: ReuseRule,
         named: Option<u64>,
         condition: Option<Condition>,
-    )
-        ensures { self.new ≡ map (exchange_sent_forward id now rule named condition) self.old }
+    ) -> Result<(), AllocError>
+        ensures ok { OnOk result (self.new ≡ map (exchange_sent_forward id now rule named condition) self.old) }
+        ensures err { OnErr result (self.new ≡ self.old) }
     {
-        if let Some(arrival) = self.arrivals.get(&id) {
-            if let Some(x) = self.by_arrival.get_mut(arrival) {
-                self.waiting.leave(x.stage, *arrival);
-                x.go_forward(now, rule, named, condition);
-                self.released.settle(&self.by_arrival);
-            }
-        }
+        let Some(arrival) = self.arrivals.get(&id) else {
+            return Ok(());
+        };
+        let Some(x) = self.by_arrival.get_mut(arrival) else {
+            return Ok(());
+        };
+        leave_for_origin(&mut self.waiting, &mut self.by_key, *arrival, x)?;
+        x.go_forward(now, rule, named, condition);
+        self.released.settle(&self.by_arrival);
+        Ok(())
     }
 
     /// The exchange of an id ends, and the others of an invalidated key are overtaken. No memory is taken.
@@ -275,17 +284,17 @@ fn push(
     requires last { All (λ k. k < arrival) (keys by_arrival.old) }
     requires asks_not { IsInNeitherIndex arrival by_key.old }
     ensures ok { OnOk result (by_arrival.new.entries ≡ by_arrival.old.entries ++ (arrival, exchange) ∷ []) }
-    ensures entered { OnOk result (ArrivalIsEntered exchange.asked arrival by_key.old by_key.new) }
+    ensures entered { OnOk result (ArrivalIsEntered exchange arrival by_key.old by_key.new) }
     ensures err { OnErr result (by_arrival.new.entries ≡ by_arrival.old.entries) }
     ensures left { OnErr result (AreSameArrivals by_key.old by_key.new) }
     ensures trim { HasNoEmptyKeysInEither by_key.old → HasNoEmptyKeysInEither by_key.new }
 {
-    by_key.enter(&exchange.asked, arrival)?;
+    by_key.enter(&exchange, arrival)?;
     match by_arrival.insert(arrival, exchange) {
         Ok(_) => Ok(()),
         Err(refused) => {
             let (_, exchange) = refused.value;
-            by_key.leave(&exchange.asked, arrival);
+            by_key.leave(&exchange, arrival);
             Err(AllocError)
         }
     }
@@ -305,7 +314,7 @@ fn enter(
     requires asks_not { IsInNeitherIndex arrival by_key.old }
     ensures ok { OnOk result (by_arrival.new.entries ≡ by_arrival.old.entries ++ (arrival, exchange) ∷ []) }
     ensures entered { OnOk result (WaiterIsEntered exchange.stage arrival waiting.old waiting.new) }
-    ensures asks { OnOk result (ArrivalIsEntered exchange.asked arrival by_key.old by_key.new) }
+    ensures asks { OnOk result (ArrivalIsEntered exchange arrival by_key.old by_key.new) }
     ensures err { OnErr result (by_arrival.new.entries ≡ by_arrival.old.entries) }
     ensures left { OnErr result (IsSameWaitIndex waiting.old waiting.new) }
     ensures asks_no_more { OnErr result (AreSameArrivals by_key.old by_key.new) }
@@ -323,6 +332,26 @@ fn enter(
     }
 }
 
+/// The exchange of an arrival is about to go forward: it leaves those that wait, and comes among those at the origin.
+/// Out of memory changes nothing.
+fn leave_for_origin(
+    waiting: &mut WaitIndex,
+    by_key: &mut ArrivalsByKey,
+    arrival: u64,
+    exchange: &Exchange,
+) -> Result<(), AllocError>
+    ensures left { OnOk result (WaiterHasLeft exchange.now.stage arrival waiting.old waiting.new) }
+    ensures asks { OnOk result (ArrivalIsMovedToOrigin exchange.now arrival by_key.old by_key.new) }
+    ensures waits_still { OnErr result (IsSameWaitIndex waiting.old waiting.new) }
+    ensures asks_still { OnErr result (AreSameArrivals by_key.old by_key.new) }
+    ensures trim_waits { HasNoEmptyWaiterSets waiting.old → HasNoEmptyWaiterSets waiting.new }
+    ensures trim_keys { HasNoEmptyKeysInEither by_key.old → HasNoEmptyKeysInEither by_key.new }
+{
+    by_key.move_to_origin(exchange, arrival)?;
+    waiting.leave(exchange.stage, arrival);
+    Ok(())
+}
+
 /// Takes the exchange of an arrival out, also of the indexes of keys and of those that wait.
 fn remove(
     by_arrival: &mut BTreeMap<u64, Exchange>,
@@ -334,7 +363,7 @@ fn remove(
     ensures left { ForSome (get nat_cmp by_arrival.old arrival)
         (λ x. WaiterHasLeft x.stage arrival waiting.old waiting.new) }
     ensures asks_no_more { ForSome (get nat_cmp by_arrival.old arrival)
-        (λ x. ArrivalHasLeft x.asked arrival by_key.old by_key.new) }
+        (λ x. ArrivalHasLeft x arrival by_key.old by_key.new) }
     ensures waits_still { ForNone (get nat_cmp by_arrival.old arrival) (IsSameWaitIndex waiting.old waiting.new) }
     ensures asks_still { ForNone (get nat_cmp by_arrival.old arrival) (AreSameArrivals by_key.old by_key.new) }
     ensures trim_waits { HasNoEmptyWaiterSets waiting.old → HasNoEmptyWaiterSets waiting.new }
@@ -342,11 +371,11 @@ fn remove(
 {
     if let Some(x) = by_arrival.remove(&arrival) {
         waiting.leave(x.stage, arrival);
-        by_key.leave(&x.asked, arrival);
+        by_key.leave(&x, arrival);
     }
 }
 
-/// The first of these arrivals, among which all GETs of a key are, that others wait for.
+/// The first of these arrivals, among which all GETs of a key are that are at the origin, that others wait for.
 fn first_to_lead(
     by_arrival: &BTreeMap<u64, Exchange>,
     arrivals: &BTreeSet<u64>,

@@ -233,7 +233,7 @@ impl<S: Shelf> Core<S> {
         let line = x.line;
         match self.follow_answer(alloc, &answer)? {
             AfterAnswer::Ends(pending) => Ok(self.finish(id, pending, invalidated)?),
-            AfterAnswer::GoesOn(bytes) => Ok(self.go_on(id, now, line, bytes)),
+            AfterAnswer::GoesOn(bytes) => Ok(self.go_on(id, now, line, bytes)?),
         }
     }
 }

@@ -34,6 +34,14 @@ use hx_status::{Cause, How};
 use hx_store::Shelf;
 use std::alloc::{AllocError, Global};
 
+/// Why a request isn't sent what is held: over a line of this policy this rule stands, which names that held response.
+#[derive(Clone, Copy)]
+struct Judged {
+    policy: Policy,
+    rule: ReuseRule,
+    named: Option<u64>,
+}
+
 /// A stored response that no rule keeps back.
 fn hit_status_info(policy: Policy) -> CacheStatusInfo
     ensures { result ≡ hit_status_info policy }
@@ -123,7 +131,12 @@ impl<S: Shelf> Core<S> {
                     let pending = refuse(alloc, now, Cause::OnlyIfCached(rule), asked)?;
                     return Ok(pending.into_outcome());
                 }
-                let awaited = self.awaited(alloc, now, asked, &directives, policy, rule, named)?;
+                let judged = Judged {
+                    policy,
+                    rule,
+                    named,
+                };
+                let awaited = self.awaited(alloc, now, asked, &directives, judged)?;
                 let exchange = Exchange {
                     id,
                     asked: asked.copy(alloc)?,
@@ -148,19 +161,18 @@ impl<S: Shelf> Core<S> {
         now: u64,
         asked: &Asked,
         directives: &Directives,
-        policy: Policy,
-        rule: ReuseRule,
-        named: Option<u64>,
+        judged: Judged,
     ) -> Result<Option<Awaited>, AllocError>
         requires directives { directives.now ≡ occurrences_of asked.now.fields }
-        requires decided { decision_of policy self.now.entries asked.now now ≡ decision.Forward rule named }
-        ensures { IfOk result (λ awaited. awaited ≡ awaited_of policy self.now.entries asked.now rule) }
+        requires decided { decision_of judged.policy self.now.entries asked.now now
+            ≡ decision.Forward judged.rule judged.named }
+        ensures { IfOk result (λ awaited. awaited ≡ awaited_of judged.policy self.now.entries asked.now judged.rule) }
     {
-        let chosen = match named {
+        let chosen = match judged.named {
             Some(serial) => self.shelf.peek(serial),
             None => None,
         };
-        awaited_of(alloc, policy, asked, directives, rule, chosen)
+        awaited_of(alloc, judged.policy, asked, directives, judged.rule, chosen)
     }
 
     /// The open exchange for whose answer a request waits.

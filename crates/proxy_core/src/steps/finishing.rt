@@ -84,15 +84,22 @@ fn next_serial_after(next: Option<u64>, stored: Option<u64>) -> Option<u64>
 
 impl<S: Shelf> Core<S> {
     /// The exchange of an id goes forward once more, with the client's own request.
-    pub(crate) fn go_on(&mut self, id: u64, now: u64, line: u16, bytes: Bytes) -> Outcome
-        ensures outcome { result ≡ Outcome.Forward line bytes }
-        ensures after { self.new ≡ record self.old {
+    pub(crate) fn go_on(
+        &mut self,
+        id: u64,
+        now: u64,
+        line: u16,
+        bytes: Bytes,
+    ) -> Result<Outcome, AllocError>
+        ensures outcome { IfOk result (λ outcome. outcome ≡ Outcome.Forward line bytes) }
+        ensures after { OnOk result (self.new ≡ record self.old {
           exchanges = map
               (exchange_forwarded_again id now) self.old.exchanges;
-        } }
+        }) }
+        ensures unchanged { OnErr result (self.new ≡ self.old) }
     {
-        self.exchanges.go_forward(id, now);
-        Outcome::Forward(line, bytes)
+        self.exchanges.go_forward(id, now)?;
+        Ok(Outcome::Forward(line, bytes))
     }
 
     /// Does what a pending reply says, and ends the exchange of an id. Where a key was invalidated,

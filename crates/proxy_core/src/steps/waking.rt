@@ -73,7 +73,8 @@ impl<S: Shelf> Core<S> {
         match self.follow_wake(alloc, x, now)? {
             AfterWake::Ends(pending) => Ok(self.finish(id, pending, None)?),
             AfterWake::GoesOut(rule, named, condition, bytes) => {
-                self.exchanges.send_forward(id, now, rule, named, condition);
+                self.exchanges
+                    .send_forward(id, now, rule, named, condition)?;
                 Ok(Outcome::Forward(line, bytes))
             }
         }

@@ -11,17 +11,17 @@ use Rattle.proxy_core.proofs.core_state.Core.awaited.Goals.{in-Some, in-None}
 pub returns : goal.returns
 returns g c =
     let s : State = c.args.self.now in
-    elim c.match-named.branch [
+    elim c.match-judged.branch [
       | in-Some w ↦ (
           let found = ap option_copied w.chosen-is
           ∙ (w.peek-chosen.ensures ∙ (ap (λ (s : State). find_entry w.in-Some.serial s.entries) c.self.view_is
           ∙ sym (ap (λ (n : Option ℕ). option_and_then (λ k. find_entry k s.entries) n) w.in-Some.is))) in
           subst (λ (o : Option Awaited). IfOk c.awaited_of.result (λ a. a ≡ o))
-          (awaited_where c.args.policy s.entries c.args.asked.now c.args.now c.args.rule c.args.named (option_copied c.match-named.chosen) c.requires.decided found) c.awaited_of.ensures
+          (awaited_where c.args.judged.policy s.entries c.args.asked.now c.args.now c.args.judged.rule c.args.judged.named (option_copied c.match-judged.chosen) c.requires.decided found) c.awaited_of.ensures
           )
       | in-None w ↦ (
           let found = ap option_copied w.chosen-is ∙ sym (ap (λ (n : Option ℕ). option_and_then (λ k. find_entry k s.entries) n) w.in-None.is) in
           subst (λ (o : Option Awaited). IfOk c.awaited_of.result (λ a. a ≡ o))
-          (awaited_where c.args.policy s.entries c.args.asked.now c.args.now c.args.rule c.args.named (option_copied c.match-named.chosen) c.requires.decided found) c.awaited_of.ensures
+          (awaited_where c.args.judged.policy s.entries c.args.asked.now c.args.now c.args.judged.rule c.args.judged.named (option_copied c.match-judged.chosen) c.requires.decided found) c.awaited_of.ensures
           )
     ]

@@ -1,7 +1,7 @@
 use Rattle.proxy_core.proofs.open.arrivals_by_key.ArrivalsByKey.enter.Goals as goal
 
-pub returns-then-is_get-clause-trim : goal.returns-then-is_get-clause-trim
-returns-then-is_get-clause-trim c o = (c.insert.ensures.trim o.0, o.1)
+pub returns-then-is_get_at_origin-clause-trim : goal.returns-then-is_get_at_origin-clause-trim
+returns-then-is_get_at_origin-clause-trim c o = (c.insert.ensures.trim o.0, o.1)
 
-pub returns-else-is_get-clause-trim : goal.returns-else-is_get-clause-trim
-returns-else-is_get-clause-trim c o = (o.0, c.insert-else-is_get.ensures.trim o.1)
+pub returns-else-is_get_at_origin-clause-trim : goal.returns-else-is_get_at_origin-clause-trim
+returns-else-is_get_at_origin-clause-trim c o = (o.0, c.insert-else-is_get_at_origin.ensures.trim o.1)

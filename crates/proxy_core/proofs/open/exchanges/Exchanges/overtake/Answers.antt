@@ -5,7 +5,7 @@ use Rattle.std.specs.Map.{values_of}
 use Rattle.proxy_core.specs.declared.open.exchange.Exchange.{Exchange}
 use Rattle.proxy_core.specs.State.{overtaken_exchange}
 use Rattle.proxy_core.specs.ByKey.{TellsAllByKey}
-use Rattle.proxy_core.proofs.AskedArrivals.{asked-on_all, overtake-asked}
+use Rattle.proxy_core.proofs.AskedArrivals.{asked-on_all, overtake-place}
 use Rattle.proxy_core.specs.Waiters.{is_in_wait_index}
 use Rattle.proxy_core.specs.Releases.{may_be_released, ReleasedArrivalsPass}
 use Rattle.proxy_core.proofs.Overtaking.{all_overtaken}
@@ -35,7 +35,7 @@ invariant_of-self c =
           });
       releases = c.settle.ensures.settled;
       asking = subst (TellsAllByKey s.by_key) (sym is)
-          (asked-on_all (overtaken_exchange c.args.key.now) (overtake-asked c.args.key.now) s.by_arrival.entries s.by_key c.self.invariant.asking);
+          (asked-on_all (overtaken_exchange c.args.key.now) (overtake-place c.args.key.now) s.by_arrival.entries s.by_key c.self.invariant.asking);
       trim_waits = c.self.invariant.trim_waits;
       trim_keys = c.self.invariant.trim_keys;
     }

@@ -8,7 +8,7 @@ use Rattle.proxy_core.specs.State.{released_exchange}
 use Rattle.proxy_core.specs.Arrivals.{map_exchanges, IndexesMatchExchanges}
 use Rattle.std.specs.BTreeSet.{contains}
 use Rattle.proxy_core.specs.ByKey.{TellsAllByKey}
-use Rattle.proxy_core.proofs.AskedArrivals.{asked-on_all, release-asked}
+use Rattle.proxy_core.proofs.AskedArrivals.{asked-on_all, release-place}
 use Rattle.proxy_core.specs.Waiters.{is_in_wait_index}
 use Rattle.proxy_core.specs.Releases.{may_be_released, ReleasedArrivalsPass}
 use Rattle.proxy_core.proofs.Releases.{pass-freed}
@@ -45,7 +45,7 @@ invariant_of-self c =
             waiters = waiters-released q s.by_arrival.entries s.waiting c.take.new.self c.take.ensures.emptied c.self.invariant.indexes.waiters;
           });
       releases = c.settle.ensures.settled;
-      asking = subst (TellsAllByKey s.by_key) (sym c.release_each.ensures) (asked-on_all (released_exchange q) (release-asked q) s.by_arrival.entries s.by_key c.self.invariant.asking);
+      asking = subst (TellsAllByKey s.by_key) (sym c.release_each.ensures) (asked-on_all (released_exchange q) (release-place q) s.by_arrival.entries s.by_key c.self.invariant.asking);
       trim_waits = c.take.ensures.trim c.self.invariant.trim_waits;
       trim_keys = c.self.invariant.trim_keys;
     }
