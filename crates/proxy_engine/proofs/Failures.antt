@@ -1,5 +1,5 @@
 -- A search over marked places alone finds what a search over all would.
-use Rattle.std.proofs.Common.{◌≡◌, inl, inr, ℕ, zero, suc, ◌+◌, ◌-◌, ◌<◌, ◌≤◌, nat_lt, List, [], ◌∷◌, ◌++◌, length, map, get_or, refl, sym, ap, ◌∙◌, arith, Bool, true, false, cond, ◌||◌, Some, None, Option, is_some, Contains, append-nil}
+use Rattle.std.proofs.Common.{◌≡◌, inl, inr, ℕ, zero, suc, ◌+◌, ◌-◌, ◌<◌, ◌≤◌, List, [], ◌∷◌, ◌++◌, length, map, get_or, refl, sym, ap, ◌∙◌, arith, Bool, true, false, cond, ◌||◌, Some, None, Option, is_some, Contains, append-nil}
 use Rattle.std.specs.List.{range_with_len}
 use Rattle.std.proofs.lemmas.List.FromFn.{length-map-range_with_len, get_or-map-range_with_len, map-range_with_len_more}
 use Rattle.std.proofs.lemmas.List.{ext_get_or}
@@ -8,12 +8,11 @@ use Rattle.std.proofs.lemmas.List.{append_assoc, map-append, length-append}
 use Rattle.proxy_engine.specs.Held.{has_flag, link_failed}
 use Rattle.proxy_engine.specs.Lookahead.{lookahead_may_be_due}
 use Rattle.proxy_engine.specs.Marked.{link_may_be_due, item_at}
-use Rattle.proxy_engine.specs.ReadyList.{PlacesDescend, PlacesAreBelow}
+use Rattle.proxy_engine.specs.ReadyList.{PlacesAscend, PlacesAreBelow}
 use Rattle.proxy_engine.specs.Reading.{places_with_flag}
 use Rattle.proxy_engine.specs.declared.endpoints.ends.Link.{Link}
 use Rattle.proxy_engine.specs.declared.work.End.{End}
-use Rattle.proxy_engine.proofs.Falling.{at_any}
-use Rattle.proxy_engine.proofs.Readable.{below, not_below}
+use Rattle.proxy_engine.proofs.Rising.{at_any}
 
 flagged_push : {A : Type 0} (flag : A → Bool) (xs : List A) (i : ℕ) (x : A) → places_with_flag flag i (xs ++ x ∷ []) ≡ places_with_flag flag i xs ++ cond (flag x) ((i + length xs) ∷ []) []
 flagged_push flag [] i x = let same : i ≡ i + 0 = omega arith in ap (λ (n : ℕ). cond (flag x) (n ∷ []) []) same
@@ -24,9 +23,10 @@ flagged_push {A} flag (y ∷ xs) i x = by_flag (flag y) (let same : i + 1 + leng
     by_flag true rest = ap (λ (ns : List ℕ). i ∷ ns) rest
     by_flag false rest = rest
 
--- what is passed where so many of the places, the greatest, are left: those behind the next
+-- behind so many of the places: the next of all, after the last of them
 abbrev pub bound : List ℕ → ℕ → ℕ
-bound places left = cond (nat_lt left (length places)) (get_or places left 0 + 1) 0
+bound places zero = 0
+bound places (suc k) = get_or places k 0 + 1
 
 module _ {A : Type 0} (flag : A → Bool) (at : ℕ → Option A) where
   -- at the places below a bound
@@ -50,26 +50,26 @@ module _ {A : Type 0} (flag : A → Bool) (at : ℕ → Option A) where
       ∙ (ap (λ (b : Bool). found_below (n + k) ++ cond b ((n + k) ∷ []) []) (none (n + k) (omega arith) (omega arith))
       ∙ (append-nil (found_below (n + k)) ∙ found_none k n (λ q l less. none q l (omega (arith, less))))))
 
-  module _ (places : List ℕ) (falls : PlacesDescend places) (marked : (j : ℕ) (x : A) → at j ≡ Some x → flag x ≡ true → Contains places j) where
-    -- between one of the places and the next
-    between : (left p q : ℕ) → ((k : ℕ) → k < left → k < length places → p ≤ get_or places k 0) → bound places left ≤ q → q < p → has_flag flag (at q) ≡ false
-    between left p q greater from less = by_kept (at q) refl
-      where
-        passed : (k : ℕ) → k < length places → left ≤ k → get_or places k 0 < bound places left
-        passed k within behind =
-            let is = ap (λ (b : Bool). cond b (get_or places left 0 + 1) 0) (below left (length places) (omega (arith, within, behind))) in
-            elim (cases_order left k) [
-              | inl same ↦ let here = ap (λ (i : ℕ). get_or places i 0) same in omega (arith, is, here)
-              | inr (inl more) ↦ let falling = falls.falls left k more within in omega (arith, is, falling)
-              | inr (inr less) ↦ absurd (omega (arith, less, behind))
-            ]
+  module _ (places : List ℕ) (rises : PlacesAscend places) (marked : (j : ℕ) (x : A) → at j ≡ Some x → flag x ≡ true → Contains places j) where
+    -- those before are passed
+    passed : (seen k : ℕ) → k < seen → seen ≤ length places → get_or places k 0 < bound places seen
+    passed zero k before within = absurd (omega (arith, before))
+    passed (suc last) k before within = elim (cases_order k last) [
+      | inl same ↦ let here = ap (λ (i : ℕ). get_or places i 0) same in omega (arith, here)
+      | inr (inl less) ↦ let rising = rises.rises k last less (omega (arith, within)) in omega (arith, rising)
+      | inr (inr more) ↦ absurd (omega (arith, more, before))
+    ]
 
+    -- between one of the places and the next
+    between : (seen p q : ℕ) → seen ≤ length places → ((k : ℕ) → seen ≤ k → k < length places → p ≤ get_or places k 0) → bound places seen ≤ q → q < p → has_flag flag (at q) ≡ false
+    between seen p q most greater from less = by_kept (at q) refl
+      where
         not_there : Contains places q → ⊥
         not_there c =
             let here : get_or places c.0 0 ≡ q = at_any places c.0 q c.1 ∙ c.2 in
-            elim (cases_lt c.0 left) [
-              | inl before ↦ let most = greater c.0 before c.1 in omega (arith, most, here, less)
-              | inr behind ↦ let low = passed c.0 c.1 behind in omega (arith, low, here, from)
+            elim (cases_lt c.0 seen) [
+              | inl before ↦ let low = passed seen c.0 before most in omega (arith, low, here, from)
+              | inr behind ↦ let high = greater c.0 behind c.1 in omega (arith, high, here, less)
             ]
 
         by_kept : (o : Option A) → at q ≡ o → has_flag flag o ≡ false
@@ -79,46 +79,37 @@ module _ {A : Type 0} (flag : A → Bool) (at : ℕ → Option A) where
           | inr hidden ↦ hidden
         ]
 
-    bound_least : (left : ℕ) → length places ≤ left → bound places left ≡ 0
-    bound_least left l = ap (λ (b : Bool). cond b (get_or places left 0 + 1) 0) (not_below left (length places) l)
-
-    bound_here : (left : ℕ) → left < length places → bound places left ≡ get_or places left 0 + 1
-    bound_here left l = ap (λ (b : Bool). cond b (get_or places left 0 + 1) 0) (below left (length places) l)
-
     -- up to a greater bound, where nothing between has the flag
     found_up_to : (n p : ℕ) → n ≤ p → ((q : ℕ) → n ≤ q → q < p → has_flag flag (at q) ≡ false) → found_below p ≡ found_below n
     found_up_to n p l none =
         let same : n + (p - n) ≡ p = omega (arith, l) in
         sym (ap found_below same) ∙ found_none (p - n) n (λ q from less. none q from (omega (arith, less, l)))
 
-    -- nothing is passed at first
-    pub found_first : (left : ℕ) → left ≡ length places → found_below (bound places left) ≡ []
-    found_first left e = ap found_below (bound_least left (omega (arith, e)))
+    low : (seen : ℕ) → seen < length places → bound places seen ≤ get_or places seen 0
+    low zero within = omega arith
+    low (suc last) within = let rising = rises.rises last (suc last) (omega arith) within in omega (arith, rising)
 
     -- the next place
-    pub found_next : (left next : ℕ) → next + 1 ≡ left → left ≤ length places → found_below (bound places next) ≡ found_below (bound places left) ++ cond (has_flag flag (at (get_or places next 0))) (get_or places next 0 ∷ []) []
-    found_next left next e l =
-        let p = get_or places next 0 in
-        let within : next < length places = omega (arith, e, l) in
-        let low : bound places left ≤ p = elim (cases_lt left (length places)) [
-          | inl more ↦ let falling = falls.falls next left (omega (arith, e)) more in omega (arith, falling, bound_here left more)
-          | inr last ↦ omega (arith, bound_least left last)
-        ] in
-        let greater : (k : ℕ) → k < left → k < length places → p ≤ get_or places k 0 = λ k before inside. elim (cases_order k next) [
+    pub found_next : (seen next : ℕ) → next ≡ seen + 1 → seen < length places → found_below (bound places next) ≡ found_below (bound places seen) ++ cond (has_flag flag (at (get_or places seen 0))) (get_or places seen 0 ∷ []) []
+    found_next seen next e within =
+        let p = get_or places seen 0 in
+        let is : next ≡ suc seen = omega (arith, e) in
+        let greater : (k : ℕ) → seen ≤ k → k < length places → p ≤ get_or places k 0 = λ k from inside. elim (cases_order seen k) [
           | inl same ↦ let here = ap (λ (i : ℕ). get_or places i 0) same in omega (arith, here)
-          | inr (inl less) ↦ let falling = falls.falls k next less within in omega (arith, falling)
-          | inr (inr more) ↦ absurd (omega (arith, more, before, e))
+          | inr (inl more) ↦ let rising = rises.rises seen k more inside in omega (arith, rising)
+          | inr (inr less) ↦ absurd (omega (arith, less, from))
         ] in
-        ap found_below (bound_here next within) ∙ (found_more p ∙ ap (λ (ns : List ℕ). ns ++ cond (has_flag flag (at p)) (p ∷ []) []) (found_up_to (bound places left) p low (λ q from less. between left p q greater from less)))
+        ap (λ (k : ℕ). found_below (bound places k)) is
+        ∙ (found_more p ∙ ap (λ (ns : List ℕ). ns ++ cond (has_flag flag (at p)) (p ∷ []) []) (found_up_to (bound places seen) p (low seen within) (λ q from less. between seen p q (omega (arith, within)) greater from less)))
 
     -- all are passed
-    pub found_all : (count : ℕ) → PlacesAreBelow count places → found_below count ≡ found_below (bound places 0)
+    pub found_all : (count : ℕ) → PlacesAreBelow count places → found_below count ≡ found_below (bound places (length places))
     found_all count fits =
-        let low : bound places 0 ≤ count = elim (cases_lt 0 (length places)) [
-          | inl some ↦ let here = fits (get_or places 0 0) (0, some, sym (at_any places 0 (get_or places 0 0) some)) in omega (arith, here, bound_here 0 some)
-          | inr none ↦ omega (arith, bound_least 0 none)
-        ] in
-        found_up_to (bound places 0) count low (λ q from less. between 0 count q (λ k before inside. absurd (omega (arith, before))) from less)
+        found_up_to (bound places (length places)) count (up_to (length places) (omega arith)) (λ q from less. between (length places) count q (omega arith) (λ k behind inside. absurd (omega (arith, behind, inside))) from less)
+      where
+        up_to : (seen : ℕ) → seen ≤ length places → bound places seen ≤ count
+        up_to zero within = omega arith
+        up_to (suc last) within = let inside : last < length places = omega (arith, within) in let here = fits (get_or places last 0) (last, inside, sym (at_any places last (get_or places last 0) inside)) in omega (arith, here)
 
 -- a link that has failed may be due
 pub shown_failed : (k : Link) → link_failed k ≡ true → link_may_be_due k ≡ true

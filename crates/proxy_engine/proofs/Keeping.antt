@@ -1,5 +1,5 @@
 -- What a map has at each place below a count.
-use Rattle.std.proofs.Common.{◌≡◌, ◌≢◌, inl, inr, ℕ, zero, suc, ◌+◌, ◌<◌, ◌≤◌, List, [], ◌∷◌, ◌++◌, length, get_or, set, map, refl, sym, ap, ◌∙◌, subst, arith, Bool, true, false, cond, Option, None, Some, is_some, Bor, MutBor, Contains, Result, Ok, Err, IfOk, OnOk, OnErr}
+use Rattle.std.proofs.Common.{◌≡◌, ◌≢◌, inl, inr, ℕ, zero, suc, ◌+◌, ◌<◌, ◌≤◌, List, [], ◌∷◌, ◌++◌, length, get_or, set, map, refl, sym, ap, ◌∙◌, subst, arith, Bool, true, false, cond, Option, None, Some, is_some, Bor, MutBor, Contains}
 use Rattle.std.proofs.Math.Path.{fun_ext}
 use Rattle.std.specs.Option.{ghost_name_of, option_copied}
 use Rattle.std.specs.Ordering.{nat_cmp, is_eq}
@@ -13,7 +13,7 @@ use Rattle.std.proofs.lemmas.List.FromFn.{length-map-range_with_len, get_or-map-
 use Rattle.std.specs.List.{range_with_len}
 use Rattle.std.proofs.Math.ListN.{length-set}
 use borrow.Follows.Closed.{read_of}
-use Rattle.proxy_engine.proofs.Falling.{at_any}
+use Rattle.proxy_engine.proofs.Rising.{at_any}
 use Rattle.proxy_engine.specs.ReadyList.{entries_below}
 use Rattle.proxy_engine.specs.Marked.{kept_count}
 
@@ -168,19 +168,9 @@ pub one_less : {A : Type 0} (o : Option A) (n m : ℕ) → n + cond (is_some o) 
 one_less None n m e = omega (arith, e)
 one_less (Some x) n m e = omega (arith, e)
 
-none_some : {A : Type 0} (o : Option A) → o ≡ None → is_some o ≡ true → ⊥
+pub none_some : {A : Type 0} (o : Option A) → o ≡ None → is_some o ≡ true → ⊥
 none_some None e h = absurd (cc)
 none_some (Some x) e h = absurd (cc)
-
--- where the key is there already, no memory is taken
-pub surely : {A B E : Type 0} (r : Result B E) (o : Option A) (P : Type 0) → OnOk r P → OnErr r (o ≡ None) → is_some o ≡ true → P
-surely (Ok b) o P p none there = p
-surely (Err e) o P p none there = absurd (none_some o none there)
-
-pub surely_size : {A E : Type 0} (r : Result (Option A) E) (o : Option A) (n m : ℕ) → IfOk r (λ p. p ≡ o) → IfOk r (λ p. n ≡ m + cond (is_some p) 0 1) → OnErr r (o ≡ None) → is_some o ≡ true → n ≡ m
-surely_size (Ok (Some x)) o n m same size none there = omega (arith, size)
-surely_size (Ok None) o n m same size none there = absurd (none_some o (sym same) there)
-surely_size (Err e) o n m same size none there = absurd (none_some o none there)
 
 -- ---- what is lent
 

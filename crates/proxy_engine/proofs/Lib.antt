@@ -7,7 +7,7 @@ pub mod Changes
 pub mod Feeding
 pub mod Taking
 pub mod Searching
-pub mod Falling
+pub mod Rising
 pub mod Marking
 pub mod Losing
 pub mod Finding

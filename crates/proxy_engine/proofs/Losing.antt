@@ -5,10 +5,10 @@ use Rattle.std.proofs.lemmas.List.{get_or-set_same, get_or-set_other, get_or-app
 use Rattle.std.proofs.lemmas.List.Sums.{sum_by-set, sum_by_push}
 use Rattle.std.proofs.Math.ListN.{get_or-append}
 use Rattle.std.proofs.Math.Seq.{get_or-append_seam}
-use Rattle.proxy_engine.specs.ReadyList.{ReadyPlaces, PlacesDescend}
+use Rattle.proxy_engine.specs.ReadyList.{ReadyPlaces, PlacesAscend}
 use Rattle.proxy_engine.specs.Marked.{EndList, item_at, kept_count, may_be_lost, LostAreMarked, ConnectionAfterLook, RelatesAtEachPlace}
 use Rattle.proxy_engine.specs.declared.endpoints.ends.Connection.{Connection}
-use Rattle.proxy_engine.proofs.Falling.{falls_none}
+use Rattle.proxy_engine.proofs.Rising.{rises_none}
 use Rattle.proxy_engine.proofs.Keeping.{inside, one_if_some}
 use Rattle.proxy_engine.proofs.Searching.{sum_alike}
 use Rattle.proxy_engine.proofs.Readable.{beyond}
@@ -21,7 +21,7 @@ lost_none e kept empty roomless none = record {
     marked = λ i c here lost. absurd (let within = subst (λ (xs : List (Option Connection)). i < length xs) empty (inside e.items i (ap is_some here)) in omega (arith, within));
     filled = λ i c. absurd (let within = subst (λ (ps : List ℕ). Contains ps i) none c in omega (arith, within.1));
     room = let no_more = ap kept_count empty in omega (arith, no_more);
-    falls = falls_none kept.places none;
+    rises = rises_none kept.places none;
   };
   next = λ has. absurd (let both : true ≡ false = sym has ∙ roomless in cc);
 }
@@ -42,11 +42,11 @@ module _ (e : EndList Connection) (old new : ReadyPlaces) (h : LostAreMarked e o
   }
 
   -- a place is marked
-  module _ (i : ℕ) (there : Contains new.places i) (others : (q : ℕ) → Contains old.places q → Contains new.places q) (only : (q : ℕ) → q ≢ i → Contains new.places q → Contains old.places q) (room : new.room ≡ old.room) (falls : PlacesDescend new.places) where
+  module _ (i : ℕ) (there : Contains new.places i) (others : (q : ℕ) → Contains old.places q → Contains new.places q) (only : (q : ℕ) → q ≢ i → Contains new.places q → Contains old.places q) (room : new.room ≡ old.room) (rises : PlacesAscend new.places) where
     -- what is there stays
     pub lost_kept : is_some (item_at e.items i) ≡ true → LostAreMarked e new
     lost_kept here = record {
-      marked = marked_put may_be_lost (item_at e.items) (item_at e.items) (kept_count e.items) (kept_count e.items) old new i h.marked (λ q other. refl) here (let fits = h.marked.room in omega (arith, fits, room)) there others only falls;
+      marked = marked_put may_be_lost (item_at e.items) (item_at e.items) (kept_count e.items) (kept_count e.items) old new i h.marked (λ q other. refl) here (let fits = h.marked.room in omega (arith, fits, room)) there others only rises;
       next = λ has. let more = h.next has in omega (arith, more, room);
     }
 
@@ -58,7 +58,7 @@ module _ (e : EndList Connection) (old new : ReadyPlaces) (h : LostAreMarked e o
         let count = sum_by-set one_if_some e.items i (Some c) None within in
         let as_many : kept_count (set e.items i (Some c)) ≡ kept_count e.items = omega (arith, one, count) in record {
           marked = marked_put may_be_lost (item_at e.items) (item_at (set e.items i (Some c))) (kept_count e.items) (kept_count (set e.items i (Some c))) old new i h.marked (λ q other. get_or-set_other e.items i q (Some c) None other) (ap is_some (get_or-set_same e.items i (Some c) None within))
-              (let fits = h.marked.room in omega (arith, fits, room, as_many)) there others only falls;
+              (let fits = h.marked.room in omega (arith, fits, room, as_many)) there others only rises;
           next = λ has. let more = h.next has in omega (arith, more, room, as_many);
         }
 
@@ -67,7 +67,7 @@ module _ (e : EndList Connection) (old new : ReadyPlaces) (h : LostAreMarked e o
     lost_more c f count has items roomless =
         let as_many = ap kept_count items ∙ sum_by_push one_if_some e.items (Some c) in record {
           marked = marked_put may_be_lost (item_at e.items) (item_at f.items) (kept_count e.items) (kept_count f.items) old new i h.marked (λ q other. ap (λ (xs : List (Option Connection)). item_at xs q) items ∙ beside q other (cases_order q i))
-              (ap is_some (ap (λ (xs : List (Option Connection)). item_at xs i) items ∙ here)) (let more = h.next has in omega (arith, more, room, as_many)) there others only falls;
+              (ap is_some (ap (λ (xs : List (Option Connection)). item_at xs i) items ∙ here)) (let more = h.next has in omega (arith, more, room, as_many)) there others only rises;
           next = λ again. absurd (let both : true ≡ false = sym again ∙ roomless in cc);
         }
       where
@@ -85,14 +85,14 @@ module _ (e : EndList Connection) (old new : ReadyPlaces) (h : LostAreMarked e o
             past (suc k) l = refl
 
   -- one is let go
-  pub lost_gone : (f : EndList Connection) (i : ℕ) → i < length e.items → f.items ≡ set e.items i None → f.has_room ≡ e.has_room → ((q : ℕ) → q ≢ i → Contains old.places q → Contains new.places q) → ((q : ℕ) → Contains new.places q → (q ≢ i) × Contains old.places q) → new.room ≡ old.room → PlacesDescend new.places
+  pub lost_gone : (f : EndList Connection) (i : ℕ) → i < length e.items → f.items ≡ set e.items i None → f.has_room ≡ e.has_room → ((q : ℕ) → q ≢ i → Contains old.places q → Contains new.places q) → ((q : ℕ) → Contains new.places q → (q ≢ i) × Contains old.places q) → new.room ≡ old.room → PlacesAscend new.places
       → LostAreMarked f new
-  lost_gone f i within items has others only room falls =
+  lost_gone f i within items has others only room rises =
       let count = sum_by-set one_if_some e.items i None None within in
       let is = ap kept_count items in
       let fewer : kept_count f.items ≤ kept_count e.items = omega (arith, count, is) in record {
         marked = marked_gone may_be_lost (item_at e.items) (item_at f.items) (kept_count e.items) (kept_count f.items) old new i h.marked (λ q other. ap (λ (xs : List (Option Connection)). item_at xs q) items ∙ get_or-set_other e.items i q None None other)
-            (ap (λ (xs : List (Option Connection)). item_at xs i) items ∙ get_or-set_same e.items i None None within) fewer others only room falls;
+            (ap (λ (xs : List (Option Connection)). item_at xs i) items ∙ get_or-set_same e.items i None None within) fewer others only room rises;
         next = λ again. let more = h.next (sym has ∙ again) in omega (arith, more, fewer, room);
       }
 

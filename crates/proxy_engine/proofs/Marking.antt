@@ -1,5 +1,5 @@
 -- Ends that have a flag are at marked places.
-use Rattle.std.proofs.Common.{◌≡◌, ◌≢◌, ◌⊎◌, inl, inr, ℕ, zero, suc, ◌+◌, ◌-◌, ◌<◌, ◌≤◌, List, [], ◌∷◌, length, get_or, set, refl, sym, ap, ◌∙◌, subst, arith, Bool, true, false, not, cond, ◌&&◌, ◌||◌, Contains, Option, None, Some, is_some}
+use Rattle.std.proofs.Common.{◌≡◌, ◌≢◌, ◌⊎◌, inl, inr, ℕ, zero, suc, ◌+◌, ◌<◌, ◌≤◌, List, [], ◌∷◌, length, get_or, set, refl, sym, ap, ◌∙◌, subst, arith, Bool, true, false, not, cond, ◌&&◌, ◌||◌, Contains, Option, None, Some, is_some}
 use Rattle.std.specs.Option.{option_map}
 use Rattle.std.specs.Ordering.{nat_cmp}
 use Rattle.std.specs.Map.{lookup}
@@ -17,20 +17,20 @@ use Rattle.proxy_engine.specs.Lookahead.{LookaheadShows, lookahead_is_due, looka
 use Rattle.proxy_engine.specs.EngineModel.{ConnectionModel, LinkModel}
 use Rattle.proxy_engine.specs.Due.{Breaks, IsLostConnection, IsDueOnLink, IsDueOnConnection, ConnectionActionUnlessBusy, LinkResultUnlessDropped, takes_no_request}
 use Rattle.proxy_engine.specs.State.{ConnectionRepresents, LinkRepresents, due_request_seen}
-use Rattle.proxy_engine.specs.ReadyList.{ReadyPlaces, PlacesDescend, PlacesAreBelow, PlaceIsLeast, FlaggedPlacesAreMarked}
+use Rattle.proxy_engine.specs.ReadyList.{ReadyPlaces, PlacesAscend, PlacesAreBelow, PlaceIsLeast, FlaggedPlacesAreMarked}
 use Rattle.proxy_engine.specs.Marked.{EndList, item_at, kept_count, ConnectionAfterLook, may_be_lost, connection_may_be_due, link_may_be_due, RelatesOptions, RelatesAtEachPlace, NoneHasFlagBelow, NoneHasFlag, NoneIsBeyond, lost_connection_at}
 use Rattle.proxy_engine.specs.declared.endpoints.activities.Activity.{Activity}
 use Rattle.proxy_engine.specs.declared.endpoints.ends.Connection.{Connection}
 use Rattle.proxy_engine.specs.declared.endpoints.ends.Link.{Link}
 use Rattle.proxy_engine.proofs.Keeping.{fits, inside, one_if_some}
-use Rattle.proxy_engine.proofs.Falling.{at_any}
+use Rattle.proxy_engine.proofs.Rising.{at_any}
 use Rattle.proxy_engine.proofs.Shown.{finish_due, wanted, wanted_busy, finish_by, action_of_fault}
 
 pub some_same : {B : Type 0} {a b : B} → Some a ≡ Some b → a ≡ b
 some_same h = cc
 
 pub least_there : (places : List ℕ) (i : ℕ) → PlaceIsLeast places i → Contains places i
-least_there places i h = (length places - 1, omega (arith, h.some), h.last i)
+least_there places i h = (0, h.some, h.first i)
 
 -- no more places than this are told apart at which something is open
 abbrev pub FillsAtMost : {A : Type 0} → (ℕ → Option A) → ℕ → Type 0
@@ -94,7 +94,7 @@ module _ {A : Type 0} (flag : A → Bool) where
           apart : (Contains kept.places i → ⊥) → (j k : ℕ) → j < k → k < length (i ∷ kept.places) → get_or (i ∷ kept.places) k 0 ≢ get_or (i ∷ kept.places) j 0
           apart none j zero l within = absurd (omega (arith, l))
           apart none zero (suc k) l within = λ e. none (k, omega (arith, within), sym (at_any kept.places k i (omega (arith, within))) ∙ e)
-          apart none (suc j) (suc k) l within = λ e. absurd (let falling = h.falls.falls j k (omega (arith, l)) (omega (arith, within)) in omega (arith, falling, e))
+          apart none (suc j) (suc k) l within = λ e. absurd (let rising = h.rises.rises j k (omega (arith, l)) (omega (arith, within)) in omega (arith, rising, e))
 
           filled : (p : ℕ) → Contains (i ∷ kept.places) p → is_some (m p) ≡ true
           filled p (zero, l, e) = subst (λ (q : ℕ). is_some (m q) ≡ true) e here
@@ -103,14 +103,14 @@ module _ {A : Type 0} (flag : A → Bool) where
   -- so there is for one that is yet to come, where the room is greater
   pub has_room_beyond : (m : ℕ → Option A) (a : ℕ) (kept : ReadyPlaces) (i : ℕ) → FillsAtMost m a → FlaggedPlacesAreMarked flag m a kept → a < kept.room → Contains kept.places i ⊎ (length kept.places < kept.room)
   has_room_beyond m a kept i fills h more =
-      let few = fills kept.places (λ i j l within e. absurd (let falling = h.falls.falls i j l within in omega (arith, falling, e))) h.filled in
+      let few = fills kept.places (λ i j l within e. absurd (let rising = h.rises.rises i j l within in omega (arith, rising, e))) h.filled in
       inr (omega (arith, few, more))
 
   -- what is open changes at one place, and so do the marks
-  pub marked_by : (m k : ℕ → Option A) (a b : ℕ) (old new : ReadyPlaces) (i : ℕ) → FlaggedPlacesAreMarked flag m a old → ((q : ℕ) → q ≢ i → k q ≡ m q) → b ≤ new.room → PlacesDescend new.places
+  pub marked_by : (m k : ℕ → Option A) (a b : ℕ) (old new : ReadyPlaces) (i : ℕ) → FlaggedPlacesAreMarked flag m a old → ((q : ℕ) → q ≢ i → k q ≡ m q) → b ≤ new.room → PlacesAscend new.places
       → ((q : ℕ) → q ≢ i → Contains old.places q → Contains new.places q) → ((q : ℕ) → q ≢ i → Contains new.places q → Contains old.places q)
       → ((x : A) → k i ≡ Some x → flag x ≡ true → Contains new.places i) → (Contains new.places i → is_some (k i) ≡ true) → FlaggedPlacesAreMarked flag k b new
-  marked_by m k a b old new i h same room falls others only here there = record {
+  marked_by m k a b old new i h same room rises others only here there = record {
     marked = λ j x e f. elim (cases_eq j i) [
       | inl is ↦ subst (λ (p : ℕ). Contains new.places p) (sym is) (here x (sym (ap k is) ∙ e) f)
       | inr other ↦ others j other (h.marked j x (sym (same j other) ∙ e) f)
@@ -120,26 +120,26 @@ module _ {A : Type 0} (flag : A → Bool) where
       | inr other ↦ ap is_some (same j other) ∙ h.filled j (only j other c)
     ];
     room = room;
-    falls = falls;
+    rises = rises;
   }
 
   -- one that is open changes, or comes, and its place is marked
   pub marked_put : (m k : ℕ → Option A) (a b : ℕ) (old new : ReadyPlaces) (i : ℕ) → FlaggedPlacesAreMarked flag m a old → ((q : ℕ) → q ≢ i → k q ≡ m q) → is_some (k i) ≡ true → b ≤ new.room
-      → Contains new.places i → ((q : ℕ) → Contains old.places q → Contains new.places q) → ((q : ℕ) → q ≢ i → Contains new.places q → Contains old.places q) → PlacesDescend new.places → FlaggedPlacesAreMarked flag k b new
-  marked_put m k a b old new i h same some room there others only falls = marked_by m k a b old new i h same room falls (λ q other c. others q c) only (λ x e f. there) (λ c. some)
+      → Contains new.places i → ((q : ℕ) → Contains old.places q → Contains new.places q) → ((q : ℕ) → q ≢ i → Contains new.places q → Contains old.places q) → PlacesAscend new.places → FlaggedPlacesAreMarked flag k b new
+  marked_put m k a b old new i h same some room there others only rises = marked_by m k a b old new i h same room rises (λ q other c. others q c) only (λ x e f. there) (λ c. some)
 
   -- one more is there that has no flag
   pub marked_spare : (m k : ℕ → Option A) (a b : ℕ) (old new : ReadyPlaces) (i : ℕ) (x : A) → FlaggedPlacesAreMarked flag m a old → ((q : ℕ) → q ≢ i → k q ≡ m q) → k i ≡ Some x → flag x ≡ false → b ≤ new.room → new.places ≡ old.places
       → FlaggedPlacesAreMarked flag k b new
   marked_spare m k a b old new i x h same here none room places =
-      marked_by m k a b old new i h same room (subst PlacesDescend (sym places) h.falls) (λ q other c. subst (λ (ps : List ℕ). Contains ps q) (sym places) c) (λ q other c. subst (λ (ps : List ℕ). Contains ps q) places c)
+      marked_by m k a b old new i h same room (subst PlacesAscend (sym places) h.rises) (λ q other c. subst (λ (ps : List ℕ). Contains ps q) (sym places) c) (λ q other c. subst (λ (ps : List ℕ). Contains ps q) places c)
       (λ y e f. absurd (let both : true ≡ false = sym f ∙ (ap flag (some_same (sym e ∙ here)) ∙ none) in absurd (cc))) (λ c. ap is_some here)
 
   -- one is let go, and its place isn't marked
   pub marked_gone : (m k : ℕ → Option A) (a b : ℕ) (old new : ReadyPlaces) (i : ℕ) → FlaggedPlacesAreMarked flag m a old → ((q : ℕ) → q ≢ i → k q ≡ m q) → k i ≡ None → b ≤ a
-      → ((q : ℕ) → q ≢ i → Contains old.places q → Contains new.places q) → ((q : ℕ) → Contains new.places q → (q ≢ i) × Contains old.places q) → new.room ≡ old.room → PlacesDescend new.places → FlaggedPlacesAreMarked flag k b new
-  marked_gone m k a b old new i h same none size others only room falls =
-      marked_by m k a b old new i h same (omega (arith, h.room, size, room)) falls others (λ q other c. (only q c).1) (λ x e f. absurd (let both : None ≡ Some x = sym none ∙ e in absurd (cc))) (λ c. absurd ((only i c).0 refl))
+      → ((q : ℕ) → q ≢ i → Contains old.places q → Contains new.places q) → ((q : ℕ) → Contains new.places q → (q ≢ i) × Contains old.places q) → new.room ≡ old.room → PlacesAscend new.places → FlaggedPlacesAreMarked flag k b new
+  marked_gone m k a b old new i h same none size others only room rises =
+      marked_by m k a b old new i h same (omega (arith, h.room, size, room)) rises others (λ q other c. (only q c).1) (λ x e f. absurd (let both : None ≡ Some x = sym none ∙ e in absurd (cc))) (λ c. absurd ((only i c).0 refl))
 
   -- room is made
   pub marked_room : (m k : ℕ → Option A) (a b : ℕ) (old new : ReadyPlaces) → FlaggedPlacesAreMarked flag m a old → ((q : ℕ) → k q ≡ m q) → b ≡ a → new.places ≡ old.places → old.room ≤ new.room → FlaggedPlacesAreMarked flag k b new
@@ -147,7 +147,7 @@ module _ {A : Type 0} (flag : A → Bool) where
     marked = λ j x e f. subst (λ (ps : List ℕ). Contains ps j) (sym same) (h.marked j x (sym (is j) ∙ e) f);
     filled = λ j c. ap is_some (is j) ∙ h.filled j (subst (λ (ps : List ℕ). Contains ps j) same c);
     room = omega (arith, h.room, more, size);
-    falls = subst PlacesDescend (sym same) h.falls;
+    rises = subst PlacesAscend (sym same) h.rises;
   }
 
   -- a look at each place leaves the flags
@@ -156,7 +156,7 @@ module _ {A : Type 0} (flag : A → Bool) where
     marked = λ j y e f. by_old j y (m j) refl (subst (λ (o : Option A). RelatesOptions R (m j) o) e (alike j)) f;
     filled = λ j c. alike_some R m k alike j (h.filled j c);
     room = omega (arith, h.room, size);
-    falls = h.falls;
+    rises = h.rises;
   }
     where
       by_old : (j : ℕ) (y : A) (o : Option A) → m j ≡ o → RelatesOptions R (m j) (Some y) → flag y ≡ true → Contains kept.places j
@@ -166,13 +166,13 @@ module _ {A : Type 0} (flag : A → Bool) where
   -- a look at the least place
   pub marked_look : (R : A → A → Type 0) (m k : ℕ → Option A) (a b : ℕ) (kept : ReadyPlaces) (i : ℕ) → FlaggedPlacesAreMarked flag m a kept → PlaceIsLeast kept.places i → ((q : ℕ) → q ≢ i → k q ≡ m q) → RelatesAtEachPlace R m k → b ≡ a → FlaggedPlacesAreMarked flag k b kept
   marked_look R m k a b kept i h first others alike size =
-      marked_by m k a b kept kept i h others (omega (arith, h.room, size)) h.falls (λ q other c. c) (λ q other c. c) (λ x e f. least_there kept.places i first) (λ c. alike_some R m k alike i (h.filled i c))
+      marked_by m k a b kept kept i h others (omega (arith, h.room, size)) h.rises (λ q other c. c) (λ q other c. c) (λ x e f. least_there kept.places i first) (λ c. alike_some R m k alike i (h.filled i c))
 
   -- the least place is dropped, since what is open there has no flag
   pub marked_dropped : (m : ℕ → Option A) (a : ℕ) (old new : ReadyPlaces) (i : ℕ) → FlaggedPlacesAreMarked flag m a old → PlaceIsLeast old.places i → ((x : A) → m i ≡ Some x → flag x ≡ false) → ((p q : ℕ) → PlaceIsLeast old.places p → q ≢ p → Contains old.places q → Contains new.places q)
-      → ((p q : ℕ) → PlaceIsLeast old.places p → Contains new.places q → (q ≢ p) × Contains old.places q) → new.room ≡ old.room → PlacesDescend new.places → FlaggedPlacesAreMarked flag m a new
-  marked_dropped m a old new i h first none others only room falls =
-      marked_by m m a a old new i h (λ q other. refl) (omega (arith, h.room, room)) falls (λ q other c. others i q first other c) (λ q other c. (only i q first c).1)
+      → ((p q : ℕ) → PlaceIsLeast old.places p → Contains new.places q → (q ≢ p) × Contains old.places q) → new.room ≡ old.room → PlacesAscend new.places → FlaggedPlacesAreMarked flag m a new
+  marked_dropped m a old new i h first none others only room rises =
+      marked_by m m a a old new i h (λ q other. refl) (omega (arith, h.room, room)) rises (λ q other c. others i q first other c) (λ q other c. (only i q first c).1)
       (λ x e f. absurd (let both : true ≡ false = sym f ∙ none x e in absurd (cc))) (λ c. absurd ((only i i first c).0 refl))
 
   -- nothing that is open before the least place has the flag

@@ -26,3 +26,4 @@ pub mod Executions
 pub mod FinalAnswers
 pub mod OneRun
 pub mod ModelCases
+pub mod EndCases

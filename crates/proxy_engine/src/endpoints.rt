@@ -1,6 +1,7 @@
 //! Ends that are open: connections of clients and links to origins, with their readers and marks.
 
 pub(crate) mod activities;
+pub(crate) mod boxed;
 pub(crate) mod connections;
 pub(crate) mod endpoint;
 pub(crate) mod ends;

@@ -11,6 +11,7 @@ ghost use Rattle.proxy_engine.specs.Orderly.{HappeningKeepsEnded, ActKeepsEnded}
 ghost use Rattle.proxy_engine.specs.SendingEnds.{SendingEndHasNumber, ReadableEndsMaySend, SendingEndIsReadable};
 ghost use Rattle.proxy_engine.specs.SendingEnds.{AcceptAddsReadableEnd, AcceptKeepsSending};
 
+pub(crate) mod end_cases;
 pub(crate) mod model_cases;
 pub(crate) mod run_laws;
 

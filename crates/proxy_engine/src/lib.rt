@@ -17,6 +17,10 @@ pub use crate::endpoints::lookahead::Lookahead;
 pub use crate::endpoints::peeked::Peeked;
 pub use crate::endpoints::readers::Reader;
 pub use crate::engine::Engine;
+pub use crate::laws::end_cases::{
+    worked_actions, worked_activities, worked_loads, worked_lookaheads, worked_marks,
+    worked_numbers, worked_open_connections, worked_readable_ends,
+};
 pub use crate::laws::model_cases::{
     worked_addresses_of_outcomes, worked_due_acts, worked_effects_of_acts, worked_effects_of_steps,
     worked_faults_of_happenings, worked_happenings,

@@ -1,17 +1,19 @@
 //! The ends that are open, one after another: from which of them bytes may come, and which have failed.
 ghost use Rattle.std.specs.Prelude.{◌≡◌, ◌≢◌, ℕ, ◌+◌, ◌≤◌, ◌^◌, ◌++◌, length, map, true, OnOk, OnErr};
-ghost use Rattle.std.specs.Prelude.{Contains, Some};
+ghost use Rattle.std.specs.Prelude.{Contains, Some, is_some};
+ghost use Rattle.std.specs.Option.{option_copied};
 ghost use Rattle.std.specs.Ordering.{nat_cmp};
 ghost use Rattle.std.specs.BTreeMap.{get};
 ghost use Rattle.proxy_engine.specs.Held.{has_flag, is_kept, connection_may_send, connection_is_open, link_may_send};
 ghost use Rattle.proxy_engine.specs.Held.{link_failed};
 ghost use Rattle.proxy_engine.specs.Marked.{DiffersInRoom, RelatesAtEachPlace, NoneIsBeyond};
-ghost use Rattle.proxy_engine.specs.ReadyList.{entries_below, PlacesDescend, PlacesAreBelow};
+ghost use Rattle.proxy_engine.specs.ReadyList.{entries_below, PlacesAscend, PlacesAreBelow};
 ghost use Rattle.proxy_engine.specs.Reading.{places_with_flag, client_end_at, link_end_at, IsBetweenRequests};
 ghost use Rattle.proxy_engine.specs.State.{ConnectionHolds};
 ghost use Rattle.proxy_engine.specs.EngineModel.{ConnectionModel};
 ghost use Rattle.proxy_engine.specs.Room.{HasSpareBytes, RoomIsGivenBack, most_bytes_of_read};
 
+use crate::endpoints::boxed::Boxed;
 use crate::endpoints::endpoint::Endpoint;
 use crate::endpoints::ends::{Connection, Link};
 use crate::endpoints::numbers::{connection_number, link_number};
@@ -44,12 +46,12 @@ pub(crate) fn answers(link: &Link) -> bool
 }
 
 /// How many of the connections at places below a count aren't gone.
-pub(crate) fn open_count(ends: &BTreeMap<u64, Connection>, count: u64) -> usize
+pub(crate) fn open_count(ends: &BTreeMap<u64, Boxed<Connection>>, count: u64) -> usize
     ensures { result ≡ length (places_with_flag (has_flag connection_is_open) 0 (entries_below ends.now count)) }
 {
     let mut open = 0;
     for (i, connection) in ends {
-        if *i < count && !connection.gone {
+        if *i < count && !connection.get().gone {
             open += 1;
         }
     }
@@ -57,7 +59,7 @@ pub(crate) fn open_count(ends: &BTreeMap<u64, Connection>, count: u64) -> usize
 }
 
 /// How many ends are at places below a count, where none is beyond: one may be at the count, where the next will be.
-pub(crate) fn kept_count(ends: &BTreeMap<u64, Connection>, count: u64) -> usize
+pub(crate) fn kept_count(ends: &BTreeMap<u64, Boxed<Connection>>, count: u64) -> usize
     requires { NoneIsBeyond count (get nat_cmp ends.now) }
     ensures { result ≡ length (places_with_flag (has_flag is_kept) 0 (entries_below ends.now count)) }
 {
@@ -67,7 +69,7 @@ pub(crate) fn kept_count(ends: &BTreeMap<u64, Connection>, count: u64) -> usize
 
 /// Adds the clients from which bytes may come, of those at places below a count.
 pub(crate) fn push_clients(
-    ends: &BTreeMap<u64, Connection>,
+    ends: &BTreeMap<u64, Boxed<Connection>>,
     count: u64,
     list: &mut Vec<End>,
 ) -> Result<(), AllocError>
@@ -75,7 +77,7 @@ pub(crate) fn push_clients(
         ++ map client_end_at (places_with_flag (has_flag connection_may_send) 0 (entries_below ends.now count))) }
 {
     for (i, connection) in ends {
-        if *i < count && reads(connection) {
+        if *i < count && reads(connection.get()) {
             list.push(End::Client(connection_number(*i)))?;
         }
     }
@@ -84,7 +86,7 @@ pub(crate) fn push_clients(
 
 /// Adds the links from which bytes may come, of those at places below a count. The first link has this number.
 pub(crate) fn push_links(
-    ends: &BTreeMap<u64, Link>,
+    ends: &BTreeMap<u64, Boxed<Link>>,
     count: u64,
     first: u64,
     list: &mut Vec<End>,
@@ -93,7 +95,7 @@ pub(crate) fn push_links(
         ++ map (link_end_at first) (places_with_flag (has_flag link_may_send) 0 (entries_below ends.now count))) }
 {
     for (j, link) in ends {
-        if *j < count && answers(link) {
+        if *j < count && answers(link.get()) {
             list.push(End::Link(link_number(first, *j)))?;
         }
     }
@@ -101,45 +103,64 @@ pub(crate) fn push_links(
 }
 
 /// Whether a link is at a place that has failed.
-fn has_failed_at(ends: &BTreeMap<u64, Link>, place: u64) -> bool
+fn has_failed_at(ends: &BTreeMap<u64, Boxed<Link>>, place: u64) -> bool
     ensures { result ≡ has_flag link_failed (get nat_cmp ends.now place) }
 {
-    match ends.get(&place) {
+    match end_at(ends, place) {
         Some(link) => link.failed.is_some(),
         None => false,
     }
 }
 
-/// Adds the links that have failed, of those at places below a count. Each is at one of the given places, the greatest
+/// Adds the links that have failed, of those at places below a count. Each is at one of the given places, the least
 /// first, and no other is looked at. The first link has this number.
 pub(crate) fn push_failed(
-    ends: &BTreeMap<u64, Link>,
+    ends: &BTreeMap<u64, Boxed<Link>>,
     places: &[u64],
     count: u64,
     first: u64,
     list: &mut Vec<End>,
 ) -> Result<(), AllocError>
-    requires falls { PlacesDescend places.now }
+    requires rises { PlacesAscend places.now }
     requires below { PlacesAreBelow count places.now }
     requires marked { (j : ℕ) (link : Link) → get nat_cmp ends.now j ≡ Some link → link_failed link ≡ true
         → Contains places.now j }
     ensures { OnOk result (first + count ≤ 2 ^ 64 → list.new.items ≡ list.old.items
         ++ map (link_end_at first) (places_with_flag (has_flag link_failed) 0 (entries_below ends.now count))) }
 {
-    let mut left = places.len();
-    while left > 0 {
-        left -= 1;
-        let place = places[left];
-        if has_failed_at(ends, place) {
-            list.push(End::Link(link_number(first, place)))?;
+    for place in places {
+        if has_failed_at(ends, *place) {
+            list.push(End::Link(link_number(first, *place)))?;
         }
     }
     Ok(())
 }
 
+/// The end at a place, if one is there.
+pub(crate) fn end_at<E>(ends: &BTreeMap<u64, Boxed<E>>, place: u64) -> Option<&E>
+    ensures { option_copied result ≡ get nat_cmp ends.now place }
+{
+    match ends.get(&place) {
+        Some(end) => Some(end.get()),
+        None => None,
+    }
+}
+
+/// Puts an end into the box at a place.
+pub(crate) fn put_at<E: Drop>(ends: &mut BTreeMap<u64, Boxed<E>>, place: u64, end: E)
+    requires { is_some (get nat_cmp ends.old place) ≡ true }
+    ensures here { get nat_cmp ends.new place ≡ Some end }
+    ensures others { (q : ℕ) → q ≢ place → get nat_cmp ends.new q ≡ get nat_cmp ends.old q }
+    ensures size { length ends.new.entries ≡ length ends.old.entries }
+{
+    if let Some(boxed) = ends.get_mut(&place) {
+        boxed.set(end);
+    }
+}
+
 /// Makes room for one piece at a place, if an end is there.
 pub(crate) fn reserve_at<E: Endpoint>(
-    ends: &mut BTreeMap<u64, E>,
+    ends: &mut BTreeMap<u64, Boxed<E>>,
     place: u64,
 ) -> Result<(), AllocError>
     ensures grows { RelatesAtEachPlace (DiffersInRoom E.LooksLike E.may_show) (get nat_cmp ends.old)
@@ -150,13 +171,13 @@ pub(crate) fn reserve_at<E: Endpoint>(
     ensures err { OnErr result (get nat_cmp ends.new place ≡ get nat_cmp ends.old place) }
 {
     match ends.get_mut(&place) {
-        Some(end) => end.reserve(PIECE),
+        Some(end) => end.get_mut().reserve(PIECE),
         None => Ok(()),
     }
 }
 
 /// Gives back the room of the end at a place, if one is there and no byte waits.
-pub(crate) fn release_at<E: Endpoint>(ends: &mut BTreeMap<u64, E>, place: u64, alloc: Global)
+pub(crate) fn release_at<E: Endpoint>(ends: &mut BTreeMap<u64, Boxed<E>>, place: u64, alloc: Global)
     ensures alike { RelatesAtEachPlace (DiffersInRoom E.LooksLike E.may_show) (get nat_cmp ends.old)
         (get nat_cmp ends.new) }
     ensures others { (q : ℕ) → q ≢ place → get nat_cmp ends.new q ≡ get nat_cmp ends.old q }
@@ -164,6 +185,6 @@ pub(crate) fn release_at<E: Endpoint>(ends: &mut BTreeMap<u64, E>, place: u64, a
     ensures given { RoomIsGivenBack E.unread E.spare (get nat_cmp ends.new place) }
 {
     if let Some(end) = ends.get_mut(&place) {
-        end.release_room(alloc);
+        end.get_mut().release_room(alloc);
     }
 }

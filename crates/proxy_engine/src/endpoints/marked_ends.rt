@@ -8,6 +8,7 @@ ghost use Rattle.proxy_engine.specs.Marked.{item_at, kept_count, DiffersInRoom, 
 ghost use Rattle.proxy_engine.specs.Marked.{NoneHasFlagBelow, NoneHasFlag};
 ghost use Rattle.proxy_engine.specs.Room.{HasSpareBytes, RoomIsGivenBack, most_bytes_of_read};
 
+use crate::endpoints::boxed::Boxed;
 use crate::endpoints::endpoint::Endpoint;
 use crate::endpoints::numbers::Place;
 use crate::endpoints::ready_list::ReadyList;
@@ -19,10 +20,10 @@ use std::marker::Model;
 
 /// The ends of one kind that aren't over, and how many there ever were. Where something may be due at one, its place is
 /// marked; whatever changes one marks it. So a search looks at marked places alone. Behind the last stands an empty one
-/// where there is room for one more.
+/// where there is room for one more. Each is in a box of its own, since a tree whose keys ascend is half empty.
 #[derive(Drop)]
 pub(crate) struct MarkedEnds<E: Endpoint> {
-    pub(crate) ends: BTreeMap<u64, E>,
+    pub(crate) ends: BTreeMap<u64, Boxed<E>>,
     pub(crate) count: u64,
     spare: bool,
     pub(crate) marked: ReadyList,
@@ -82,7 +83,7 @@ impl<E: Endpoint> MarkedEnds<E> {
         if key >= self.count {
             return None;
         }
-        self.ends.get(&key)
+        readable_ends::end_at(&self.ends, key)
     }
 
     /// The end at a place, which isn't over.
@@ -91,7 +92,7 @@ impl<E: Endpoint> MarkedEnds<E> {
         ensures { slice_index_or self.now.items place None ≡ Some result.now }
     {
         let key = place.key();
-        &self.ends[&key]
+        self.ends[&key].get()
     }
 
     /// The end at a place, to be changed, if it isn't over. Something may be due there afterwards.
@@ -116,7 +117,10 @@ impl<E: Endpoint> MarkedEnds<E> {
     {
         let key = place.key();
         self.marked.put(key);
-        self.ends.get_mut(&key)
+        match self.ends.get_mut(&key) {
+            Some(end) => Some(end.get_mut()),
+            None => None,
+        }
     }
 
     /// Whether an empty one stands behind the last.
@@ -140,8 +144,9 @@ impl<E: Endpoint> MarkedEnds<E> {
         if next == u64::MAX {
             return Err(AllocError);
         }
+        let end = Boxed::new(alloc, E::empty(alloc))?;
         self.marked.reserve_beside(&self.ends)?;
-        self.ends.insert(next, E::empty(alloc))?;
+        self.ends.insert(next, end)?;
         self.spare = true;
         Ok(())
     }
@@ -155,7 +160,7 @@ impl<E: Endpoint> MarkedEnds<E> {
         marks.reserve_beside(&self.ends)
     }
 
-    /// Puts an end at the place behind the last. There is room, so no memory is taken.
+    /// Puts an end into the box behind the last. There is one, so no memory is taken.
     pub(crate) fn put(&mut self, end: E)
         requires { self.old.has_room ≡ true }
         ensures items { self.new.items ≡ self.old.items ++ Some end ∷ [] }
@@ -163,7 +168,7 @@ impl<E: Endpoint> MarkedEnds<E> {
     {
         let next = self.count;
         self.marked.put(next);
-        let _ = self.ends.insert(next, end);
+        readable_ends::put_at(&mut self.ends, next, end);
         self.count = next + 1;
         self.spare = false;
     }

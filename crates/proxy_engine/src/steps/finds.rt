@@ -10,6 +10,7 @@ ghost use Rattle.proxy_engine.specs.Reading.{places_with_flag};
 ghost use Rattle.proxy_engine.specs.Marked.{may_be_lost, RelatesAtEachPlace, NoneHasFlagBelow, NoneHasFlag};
 ghost use Rattle.proxy_engine.specs.Marked.{lost_connection_at, item_at, LostAreMarked};
 
+use crate::endpoints::boxed::Boxed;
 use crate::endpoints::endpoint::Endpoint;
 use crate::endpoints::ends::Connection;
 use crate::endpoints::marked_ends::MarkedEnds;
@@ -72,11 +73,9 @@ pub(crate) fn lost_count(ends: &MarkedEnds<Connection>, lost: &ReadyList) -> usi
     ensures { result ≡ length (places_with_flag (has_flag may_be_lost) 0 ends.now.items) }
 {
     let places = lost.places();
-    let mut left = places.len();
     let mut count = 0;
-    while left > 0 {
-        left -= 1;
-        if is_lost(ends, ConnectionPlace::at(places[left])) {
+    for place in places {
+        if is_lost(ends, ConnectionPlace::at(*place)) {
             count += 1;
         }
     }
@@ -85,7 +84,7 @@ pub(crate) fn lost_count(ends: &MarkedEnds<Connection>, lost: &ReadyList) -> usi
 
 /// Whether something is due at a place.
 fn poll_at<E: Endpoint>(
-    ends: &mut BTreeMap<u64, E>,
+    ends: &mut BTreeMap<u64, Boxed<E>>,
     place: u64,
     alloc: Global,
 ) -> Result<bool, AllocError>
@@ -97,14 +96,14 @@ fn poll_at<E: Endpoint>(
     ensures failed { OnErr result (IsKeptWithFlag E.is_unknown (get nat_cmp ends.new place)) }
 {
     match ends.get_mut(&place) {
-        Some(end) => end.poll(alloc),
+        Some(end) => end.get_mut().poll(alloc),
         None => Ok(false),
     }
 }
 
 /// The first end at which something is due. Places are dropped where nothing is.
 pub(crate) fn first_due<E: Endpoint>(
-    ends: &mut BTreeMap<u64, E>,
+    ends: &mut BTreeMap<u64, Boxed<E>>,
     marked: &mut ReadyList,
     alloc: Global,
 ) -> Result<Option<Place<E::Kind>>, AllocError>

@@ -22,7 +22,7 @@ loop-place-preserved g c =
     let drops = c.drop_least.ensures in
     let marked = marked_look g.E.Endpoint.may_show g.E.Endpoint.LooksLike (get nat_cmp c.loop-place.ends) (get nat_cmp c.poll_at.new.ends) _ _ c.loop-place.marked c.in-Some.place c.loop-place.invariant.marked first c.poll_at.ensures.others c.poll_at.ensures.alike c.poll_at.ensures.size in
     record {
-      marked = marked_dropped g.E.Endpoint.may_show (get nat_cmp c.poll_at.new.ends) _ c.loop-place.marked c.drop_least.new.self c.in-Some.place marked first (c.in_ok-poll_at.ensures.no c.if-branch.false) drops.others drops.only drops.room drops.falls;
+      marked = marked_dropped g.E.Endpoint.may_show (get nat_cmp c.poll_at.new.ends) _ c.loop-place.marked c.drop_least.new.self c.in-Some.place marked first (c.in_ok-poll_at.ensures.no c.if-branch.false) drops.others drops.only drops.room drops.rises;
       fewer = λ q there. c.loop-place.invariant.fewer q (drops.only c.in-Some.place q first there).1;
       alike = alike_trans g.E.Endpoint.LooksLike g.met.E.Endpoint.looks_on (get nat_cmp c.args.ends.now) (get nat_cmp c.loop-place.ends) (get nat_cmp c.poll_at.new.ends) c.loop-place.invariant.alike c.poll_at.ensures.alike;
       size = c.poll_at.ensures.size ∙ c.loop-place.invariant.size;

@@ -16,6 +16,6 @@ loop-i-preserved c =
     let drops = c.drop_least.ensures in
     record {
       marked = marked_dropped may_be_lost (item_at items) (kept_count items) c.loop-i.lost c.drop_least.new.self c.in-Some.i c.loop-i.invariant.marked c.in-Some.ensures.some (λ x e. no_mark x (sym c.in_default-lost_link.is ∙ (c.lost_link.ensures ∙ ap lost_connection_at (ap (item_at items) c.at-place.ensures ∙ e))))
-          drops.others drops.only drops.room drops.falls;
+          drops.others drops.only drops.room drops.rises;
       next = λ room. let fits = c.loop-i.invariant.next room in omega (arith, fits, drops.room);
     }

@@ -18,6 +18,6 @@ invariant_of-self-lent c =
     let there : is_some (item_at c.self.inside.ends.items c.args.i) ≡ true = copied_some c.get.result _ c.get.ensures c.if-is_none.ensures in
     let here : is_some (item_at c.self.inside.ends.items c.key.result) ≡ true = rw c.key.ensures there in
     rw (← c.key.ensures) (λ r. (
-      (λ w. lost_put c.self.inside.ends c.self.inside.lost c.put.new.self c.self.invariant c.key.result puts.there puts.others puts.only puts.room puts.falls w here),
-      lost_kept c.self.inside.ends c.self.inside.lost c.put.new.self c.self.invariant c.key.result puts.there puts.others puts.only puts.room puts.falls here,
+      (λ w. lost_put c.self.inside.ends c.self.inside.lost c.put.new.self c.self.invariant c.key.result puts.there puts.others puts.only puts.room puts.rises w here),
+      lost_kept c.self.inside.ends c.self.inside.lost c.put.new.self c.self.invariant c.key.result puts.there puts.others puts.only puts.room puts.rises here,
     ))

@@ -9,4 +9,4 @@ invariant_of-self c =
     let within : c.args.i < length c.self.inside.ends.items = subst (λ (e : EndList Connection). c.args.i < length e.items) (sym c.self.view_is) c.requires in
     let here : c.key.result < length c.self.inside.ends.items = rw c.key.ensures within in
     let items : c.release.new.self.items ≡ set c.self.inside.ends.items c.key.result None = rw c.key.ensures c.release.ensures.items in
-    lost_gone c.self.inside.ends c.self.inside.lost c.remove.new.self c.self.invariant c.release.new.self c.key.result here items c.release.ensures.room c.remove.ensures.others c.remove.ensures.only c.remove.ensures.room c.remove.ensures.falls
+    lost_gone c.self.inside.ends c.self.inside.lost c.remove.new.self c.self.invariant c.release.new.self c.key.result here items c.release.ensures.room c.remove.ensures.others c.remove.ensures.only c.remove.ensures.room c.remove.ensures.rises

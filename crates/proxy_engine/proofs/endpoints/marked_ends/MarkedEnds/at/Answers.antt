@@ -15,4 +15,4 @@ returns g c =
     let xs = c.args.self.now.items in
     let requires : is_some (item_at xs c.key-key.result) ≡ true = rw c.key-key.ensures c.requires in
     let seen = seen_at c.self.inside.ends c.self.inside.count c.key-key.result xs (ap (λ (v : EndList g.row.E.Denot). v.items) c.self.view_is) (inside xs c.key-key.result requires) in
-    rw (← c.key-key.ensures) (sym seen.1 ∙ c.index.ensures)
+    rw (← c.key-key.ensures) (sym seen.1 ∙ rw c.get.ensures c.index.ensures)

@@ -12,4 +12,4 @@ returns-then-key-self g c =
 
 pub returns : goal.returns
 returns g c =
-    rw (← c.key-key.ensures) (c.get.ensures.value ∙ (sym (listed_at c.self.inside.ends c.self.inside.count c.key-key.result _ c.if-key-self.false) ∙ ap (λ (v : EndList g.row.E.Denot). item_at v.items c.key-key.result) c.self.view_is))
+    rw (← c.key-key.ensures) (c.end_at.ensures ∙ (sym (listed_at c.self.inside.ends c.self.inside.count c.key-key.result _ c.if-key-self.false) ∙ ap (λ (v : EndList g.row.E.Denot). item_at v.items c.key-key.result) c.self.view_is))

@@ -17,7 +17,7 @@ invariant_of-self g c =
     let within = seen.0 in
     let apart : n ≢ i = λ e. absurd (omega (arith, e, within)) in (
       marked_gone g.E.Endpoint.may_show (get nat_cmp m) (get nat_cmp k) (length m.entries) (length k.entries) c.self.inside.marked c.remove-2.new.self i c.self.invariant.0 (λ q other. updates.2 q (elsewhere i q other)) updates.1 (one_less _ _ _ c.remove.ensures.len) c.remove-2.ensures.others c.remove-2.ensures.only
-          c.remove-2.ensures.room c.remove-2.ensures.falls,
+          c.remove-2.ensures.room c.remove-2.ensures.rises,
       (λ q there. c.self.invariant.1 q (c.remove-2.ensures.only q there).1),
       (λ spare. (ap is_some (updates.2 n (elsewhere i n apart)) ∙ (c.self.invariant.2 spare).0, (c.self.invariant.2 spare).1)),
       none_changed (get nat_cmp m) (get nat_cmp k) n c.self.invariant.3 i (omega (arith, within)) (λ q other. updates.2 q (elsewhere i q other)),

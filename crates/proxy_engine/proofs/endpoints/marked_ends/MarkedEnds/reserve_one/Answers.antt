@@ -32,7 +32,7 @@ invariant_of-self-2 g c =
     let n = c.self.inside.count in
     let updates = c.in_ok-insert.ensures.updates in
     let size = one_more _ _ _ c.in_ok-insert.ensures.len in (
-      marked_spare g.E.Endpoint.may_show (get nat_cmp m) (get nat_cmp k) (length m.entries) (length k.entries) c.self.inside.marked c.reserve_beside.new.self n _ c.self.invariant.0 (λ q other. updates.2 q (elsewhere n q other)) updates.1 c.empty.ensures
+      marked_spare g.E.Endpoint.may_show (get nat_cmp m) (get nat_cmp k) (length m.entries) (length k.entries) c.self.inside.marked c.reserve_beside.new.self n _ c.self.invariant.0 (λ q other. updates.2 q (elsewhere n q other)) updates.1 (ap g.E.Endpoint.may_show c.in_ok-end.ensures ∙ c.empty.ensures)
           (omega (arith, size, c.in_ok-reserve_beside.ensures.ok)) c.reserve_beside.ensures.places,
       below_same n _ _ c.self.invariant.1 c.reserve_beside.ensures.places,
       (λ spare. (ap is_some updates.1, search arith)),

@@ -1,0 +1,77 @@
+-- The ends, as an engine keeps them and as its models have them, that the laws of worked cases speak of.
+use Rattle.std.specs.Prelude.{ℕ, List, [], ◌∷◌, codes, Bool, true, false, Option, None, Some}
+use Rattle.hx_framing.specs.declared.messages.Request.{Request}
+use Rattle.hx_framing.specs.declared.messages.Response.{Response}
+use Rattle.hx_framing.specs.declared.readers.progress.ReaderPhase.TheVariants as phase
+use Rattle.hx_framing.specs.RequestState.{State as RequestState}
+use Rattle.hx_framing.specs.ResponseState.{State as ResponseState}
+use Rattle.hx_status.specs.declared.cause.FailKind.{FailKind}
+use Rattle.hx_status.specs.declared.cause.FailKind.TheVariants as kinds
+use Rattle.proxy_engine.specs.Happenings.{Accepts, Leaves, Shuts, Fails}
+use Rattle.proxy_engine.specs.EngineModel.{EngineModel, model_after_happening, with_connection}
+use Rattle.proxy_engine.specs.Acts.{with_activity, with_closed, with_opened_link}
+use Rattle.proxy_engine.specs.ModelCases.{model_with_connection, model_with_link}
+use Rattle.proxy_engine.specs.declared.endpoints.activities.Activity.{Activity}
+use Rattle.proxy_engine.specs.declared.endpoints.activities.Activity.TheVariants.{Forwarded, Free, Waiting}
+use Rattle.proxy_engine.specs.declared.endpoints.ends.Connection.{Connection}
+use Rattle.proxy_engine.specs.declared.endpoints.ends.Link.{Link}
+use Rattle.proxy_engine.specs.declared.endpoints.lookahead.Lookahead.{Lookahead}
+
+-- ---- models
+
+-- three clients: the first has a link, the second waits, the third is between two requests
+abbrev pub model_with_three_clients : EngineModel
+model_with_three_clients = with_connection (model_after_happening (model_after_happening model_with_link (Accepts 2))
+    (Accepts 3)) 1 (with_activity Waiting)
+
+-- of these the third has gone, or was closed
+abbrev pub model_without_the_third : EngineModel
+model_without_the_third = model_after_happening model_with_three_clients (Leaves 3)
+
+abbrev pub model_with_the_third_closed : EngineModel
+model_with_the_third_closed = with_connection model_with_three_clients 2 (with_closed true)
+
+-- the third client's request went forward too: a second link
+abbrev pub model_with_two_links : EngineModel
+model_with_two_links = with_opened_link model_with_three_clients 2 false
+
+-- ---- what is kept of them
+
+-- the reader of a client's stream of which these bytes wait to be read, with room for 4,096 more
+abbrev pub reader_with : List ℕ → RequestState
+reader_with bytes = record {
+  max_body = 10;
+  to_head = false;
+  unread = bytes;
+  spare = 4096;
+  ended = false;
+  phase = phase.BeforeHead;
+}
+
+abbrev pub answer_reader : ResponseState
+answer_reader = record {
+  max_body = 10;
+  to_head = false;
+  unread = [];
+  spare = 0;
+  ended = false;
+  phase = phase.BeforeHead;
+}
+
+-- a client that has sent nothing, or these bytes, and of which this is known
+abbrev pub kept_client : List ℕ → Lookahead Request → Bool → Activity → Connection
+kept_client bytes ahead gone activity = record {
+  reader = record { inner = reader_with bytes; ahead = ahead };
+  ended = false;
+  gone = gone;
+  activity = activity;
+}
+
+-- a link of the first client
+abbrev pub kept_link : Lookahead Response → Option FailKind → Bool → Link
+kept_link ahead failed ended = record {
+  reader = record { inner = answer_reader; ahead = ahead };
+  ended = ended;
+  failed = failed;
+  connection = 0;
+}

@@ -1,0 +1,258 @@
+//! What the definitions of ends, of what is known of them and of what is still to come give on worked cases, computed
+//! from them: each function's contract is the cases, and its body is empty.
+
+ghost use Rattle.std.specs.Prelude.{◌≡◌, ℕ, ◌∷◌, [], map, Some, None, true, false, codes};
+ghost use Rattle.hx_framing.specs.declared.messages.Next.TheVariants as next;
+ghost use Rattle.hx_framing.specs.declared.frame_fault.FrameFault.TheVariants as frame;
+ghost use Rattle.hx_framing.specs.declared.messages.Request.{Request};
+ghost use Rattle.hx_status.specs.declared.cause.Cause.TheVariants as cause;
+ghost use Rattle.hx_status.specs.declared.cause.FailKind.TheVariants as kinds;
+ghost use Rattle.proxy_core.specs.declared.outcome.Outcome.TheVariants as outcomes;
+ghost use Rattle.proxy_engine.specs.Activities.{forwarded_or_waiting, has_exchange, link_place_of_activity};
+ghost use Rattle.proxy_engine.specs.Actions.{IsActionForNext, IsFaultOfFinishing, action_of_fault};
+ghost use Rattle.proxy_engine.specs.Actions.{acts_due_after_outcome, is_whole_answer, outcome_needs_link};
+ghost use Rattle.proxy_engine.specs.ConnectionNumbers.{connection_number, connection_place, link_number, link_place};
+ghost use Rattle.proxy_engine.specs.Due.{Breaks, Gives};
+ghost use Rattle.proxy_engine.specs.EndCases.{kept_client, kept_link, model_with_the_third_closed};
+ghost use Rattle.proxy_engine.specs.EndCases.{model_with_three_clients, model_with_two_links};
+ghost use Rattle.proxy_engine.specs.EndCases.{model_without_the_third};
+ghost use Rattle.proxy_engine.specs.EngineModel.{connection_at, link_at, model_after_happening};
+ghost use Rattle.proxy_engine.specs.Exhausted.{IsKeptWithFlag, connection_unknown, link_unknown, lookahead_is_unknown};
+ghost use Rattle.proxy_engine.specs.Happenings.{Ends, Fails, Shuts, happening_takes_memory, Accepts, Sends, Hears};
+ghost use Rattle.proxy_engine.specs.Happenings.{Leaves};
+ghost use Rattle.proxy_engine.specs.Held.{connection_is_open, connection_may_send, flagged_places, has_flag};
+ghost use Rattle.proxy_engine.specs.Held.{is_kept, link_failed, link_may_send};
+ghost use Rattle.proxy_engine.specs.Lookahead.{lookahead_after_input, lookahead_is_due, lookahead_may_be_due};
+ghost use Rattle.proxy_engine.specs.Lookahead.{lookahead_of_next, one_if_maybe_due, one_if_message_or_continue};
+ghost use Rattle.proxy_engine.specs.Marked.{connection_may_be_due, item_at, kept_count, link_may_be_due};
+ghost use Rattle.proxy_engine.specs.Marked.{lost_connection_at, may_be_lost};
+ghost use Rattle.proxy_engine.specs.ModelCases.{answer_200, empty_model, model_with_connection, request_of_a};
+ghost use Rattle.proxy_engine.specs.ModelCases.{model_with_dropped_link, model_with_link};
+ghost use Rattle.proxy_engine.specs.Pairing.{activities_after, activity_at, activity_of, owner_at, owner_of};
+ghost use Rattle.proxy_engine.specs.Pairing.{owners_after};
+ghost use Rattle.proxy_engine.specs.Reading.{connection_is_open_in_model, connection_may_send_request, end_may_send};
+ghost use Rattle.proxy_engine.specs.Reading.{failed_links, link_has_failed, next_connection_number};
+ghost use Rattle.proxy_engine.specs.Reading.{open_connection_count, places_with_flag, readable_ends_of};
+ghost use Rattle.proxy_engine.specs.Room.{most_bytes_of_read};
+ghost use Rattle.proxy_engine.specs.State.{connection_load, due_request_at, engine_load, link_load, link_result_at};
+ghost use Rattle.proxy_engine.specs.State.{engine_state};
+ghost use Rattle.proxy_engine.specs.State.{connection_is_free_at, is_gone_at, load_of_due_request, load_of_waiting};
+ghost use Rattle.proxy_engine.specs.declared.endpoints.activities.Activity.TheVariants.{Forwarded, Free, Waiting};
+ghost use Rattle.proxy_engine.specs.declared.endpoints.lookahead.Lookahead.{Lookahead};
+ghost use Rattle.proxy_engine.specs.declared.endpoints.lookahead.Lookahead.TheVariants.{Unknown, Quiet, Due};
+ghost use Rattle.proxy_engine.specs.declared.steps.actions.Action.{Action};
+ghost use Rattle.proxy_engine.specs.declared.steps.actions.Action.TheVariants as action;
+ghost use Rattle.proxy_engine.specs.declared.work.End.TheVariants as ends;
+ghost use Rattle.proxy_engine.specs.declared.work.EngineFault.TheVariants.{NotAccepted, OutOfMemory, Spent};
+ghost use Rattle.proxy_engine.specs.declared.work.EngineFault.TheVariants.{WrongNumber};
+
+/// Connections are numbered from 1, links from the first number on; places begin at 0.
+pub fn worked_numbers()
+    ensures first_connection { connection_number 0 ≡ 1 }
+    ensures third_connection { connection_number 2 ≡ 3 }
+    ensures place_of_third { connection_place 3 ≡ 2 }
+    ensures first_link { link_number 5 0 ≡ 5 }
+    ensures third_link { link_number 5 2 ≡ 7 }
+    ensures place_of_link { link_place 5 7 ≡ 2 }
+    ensures next_of_none { next_connection_number empty_model ≡ Some 1 }
+    ensures next_of_three { next_connection_number model_with_three_clients ≡ Some 4 }
+    ensures read { most_bytes_of_read ≡ 4096 }
+{}
+
+/// From whom bytes may come: from links that aren't dropped, failed or shut, and from clients that are open, have no
+/// open exchange and whose input hasn't ended.
+pub fn worked_readable_ends()
+    ensures none { readable_ends_of empty_model ≡ [] }
+    ensures client { readable_ends_of model_with_connection ≡ ends.Client 1 ∷ [] }
+    ensures link { readable_ends_of model_with_link ≡ ends.Link 5 ∷ [] }
+    ensures links_first { readable_ends_of model_with_three_clients ≡ ends.Link 5 ∷ ends.Client 3 ∷ [] }
+    ensures two_links { readable_ends_of model_with_two_links ≡ ends.Link 5 ∷ ends.Link 6 ∷ [] }
+    ensures dropped { readable_ends_of model_with_dropped_link ≡ [] }
+    ensures failed { readable_ends_of (model_after_happening model_with_two_links (Fails 5 kinds.Closed))
+        ≡ ends.Link 6 ∷ [] }
+    ensures shut { readable_ends_of (model_after_happening model_with_two_links (Shuts 6)) ≡ ends.Link 5 ∷ [] }
+    ensures gone { readable_ends_of model_without_the_third ≡ ends.Link 5 ∷ [] }
+    ensures closed { readable_ends_of model_with_the_third_closed ≡ ends.Link 5 ∷ [] }
+    ensures ended { readable_ends_of (model_after_happening model_with_three_clients (Ends 3)) ≡ ends.Link 5 ∷ [] }
+    ensures listener { end_may_send model_with_three_clients ends.Listener ≡ false }
+    ensures number_0 { end_may_send model_with_connection (ends.Client 0) ≡ false }
+    ensures of_client { end_may_send model_with_connection (ends.Client 1) ≡ true }
+    ensures of_no_client { end_may_send model_with_connection (ends.Client 2) ≡ false }
+    ensures who_has_a_link { end_may_send model_with_three_clients (ends.Client 1) ≡ false }
+    ensures who_waits { end_may_send model_with_three_clients (ends.Client 2) ≡ false }
+    ensures before_the_first { end_may_send model_with_link (ends.Link 4) ≡ false }
+    ensures of_link { end_may_send model_with_link (ends.Link 5) ≡ true }
+    ensures behind_the_last { end_may_send model_with_link (ends.Link 6) ≡ false }
+    ensures failed_link { failed_links (model_after_happening model_with_two_links (Fails 6 kinds.Closed))
+        ≡ ends.Link 6 ∷ [] }
+    ensures none_failed { failed_links model_with_two_links ≡ [] }
+    ensures dropped_has_not { link_has_failed (link_at model_with_dropped_link 0) ≡ false }
+    ensures places { places_with_flag (λ b. b) 3 (true ∷ false ∷ true ∷ []) ≡ 3 ∷ 5 ∷ [] }
+{}
+
+/// Who is open: neither closed nor gone, whatever its request does.
+pub fn worked_open_connections()
+    ensures none { open_connection_count empty_model ≡ 0 }
+    ensures three { open_connection_count model_with_three_clients ≡ 3 }
+    ensures without_gone { open_connection_count model_without_the_third ≡ 2 }
+    ensures without_closed { open_connection_count model_with_the_third_closed ≡ 2 }
+    ensures forwarded { connection_is_open_in_model (connection_at model_with_link 0) ≡ true }
+    ensures may_not { connection_may_send_request (connection_at model_with_link 0) ≡ false }
+    ensures may { connection_may_send_request (connection_at model_with_connection 0) ≡ true }
+    ensures is_kept_open { connection_is_open (kept_client [] Quiet false Waiting) ≡ true }
+    ensures is_kept_gone { connection_is_open (kept_client [] Quiet true Waiting) ≡ false }
+    ensures sends { connection_may_send (kept_client [] Quiet false Free) ≡ true }
+    ensures gone_sends { connection_may_send (kept_client [] Quiet true Free) ≡ false }
+    ensures busy_sends { connection_may_send (kept_client [] Quiet false (Forwarded 0)) ≡ false }
+    ensures link_sends { link_may_send (kept_link Quiet None false) ≡ true }
+    ensures shut_link_sends { link_may_send (kept_link Quiet None true) ≡ false }
+    ensures failed_link_sends { link_may_send (kept_link Quiet (Some kinds.Closed) false) ≡ false }
+    ensures link_fails { link_failed (kept_link Quiet (Some kinds.Closed) false) ≡ true }
+    ensures link_stands { link_failed (kept_link Quiet None true) ≡ false }
+    ensures flagged { flagged_places (λ b. b) 6 ((1, true) ∷ (4, false) ∷ (5, true) ∷ (6, true) ∷ []) ≡ 1 ∷ 5 ∷ [] }
+    ensures flag { has_flag (λ b. b) (Some true) ≡ true }
+    ensures no_flag { has_flag (λ b. b) (Some false) ≡ false }
+    ensures nothing_has_it { has_flag (λ b. b) None ≡ false }
+    ensures without_room { (engine_state [] [] empty_model.core 5).room ≡ false }
+    ensures all { flagged_places is_kept 6 ((1, true) ∷ (4, false) ∷ []) ≡ 1 ∷ 4 ∷ [] }
+{}
+
+/// What is known of the next answer of a reader: nothing, that nothing is due, or what is due. Input makes unknown that
+/// nothing is due, and leaves what is due.
+pub fn worked_lookaheads()
+    ensures quiet { lookahead_of_next {M = Request} next.More ≡ Quiet }
+    ensures due { lookahead_of_next {M = Request} next.End ≡ Due next.End }
+    ensures continues { lookahead_of_next {M = Request} next.NeedsContinue ≡ Due next.NeedsContinue }
+    ensures message { lookahead_of_next (next.Message request_of_a) ≡ Due (next.Message request_of_a) }
+    ensures refused { lookahead_of_next {M = Request} (next.Refused frame.Head) ≡ Due (next.Refused frame.Head) }
+    ensures unknown_stays { lookahead_after_input {M = Request} Unknown ≡ Unknown }
+    ensures quiet_is_asked { lookahead_after_input {M = Request} Quiet ≡ Unknown }
+    ensures due_stays { lookahead_after_input {M = Request} (Due next.End) ≡ Due next.End }
+    ensures is_due { map (lookahead_is_due {M = Request}) (Due next.End ∷ Due next.NeedsContinue
+        ∷ Due (next.Refused frame.Head) ∷ Due (next.Message request_of_a) ∷ []) ≡ true ∷ true ∷ true ∷ true ∷ [] }
+    ensures is_not_due { map (lookahead_is_due {M = Request}) (Unknown ∷ Quiet ∷ Due next.More ∷ [])
+        ≡ false ∷ false ∷ false ∷ [] }
+    ensures may_be { map (lookahead_may_be_due {M = Request}) (Unknown ∷ Due next.End ∷ []) ≡ true ∷ true ∷ [] }
+    ensures may_not_be { map (lookahead_may_be_due {M = Request}) (Quiet ∷ Due next.More ∷ []) ≡ false ∷ false ∷ [] }
+    ensures unknown { map (lookahead_is_unknown {M = Request}) (Unknown ∷ Quiet ∷ Due next.End ∷ [])
+        ≡ true ∷ false ∷ false ∷ [] }
+    ensures maybe_one { map (one_if_maybe_due {M = Request}) (Unknown ∷ Quiet ∷ Due next.End ∷ [])
+        ≡ 1 ∷ 0 ∷ 1 ∷ [] }
+    ensures one_each { map one_if_message_or_continue (Due next.NeedsContinue ∷ Due (next.Message request_of_a) ∷ [])
+        ≡ 1 ∷ 1 ∷ [] }
+    ensures none_each { map (one_if_message_or_continue {M = Request}) (Unknown ∷ Quiet ∷ Due next.More
+        ∷ Due (next.Refused frame.Head) ∷ Due next.End ∷ []) ≡ 0 ∷ 0 ∷ 0 ∷ 0 ∷ 0 ∷ [] }
+{}
+
+/// Where something may be due: at a client that takes requests, unless a look has found nothing; at a link also where
+/// it has failed. And what a look has found.
+pub fn worked_marks()
+    ensures due { connection_may_be_due (kept_client [] Unknown false Free) ≡ true }
+    ensures quiet { connection_may_be_due (kept_client [] Quiet false Free) ≡ false }
+    ensures gone { connection_may_be_due (kept_client [] Unknown true Free) ≡ false }
+    ensures busy { connection_may_be_due (kept_client [] Unknown false Waiting) ≡ false }
+    ensures answers { link_may_be_due (kept_link Unknown None false) ≡ true }
+    ensures failed { link_may_be_due (kept_link Quiet (Some kinds.Closed) false) ≡ true }
+    ensures silent { link_may_be_due (kept_link Quiet None false) ≡ false }
+    ensures lost { may_be_lost (kept_client [] Quiet true (Forwarded 3)) ≡ true }
+    ensures there { may_be_lost (kept_client [] Quiet false (Forwarded 3)) ≡ false }
+    ensures has_none { may_be_lost (kept_client [] Quiet true Free) ≡ false }
+    ensures its_link { lost_connection_at (Some (kept_client [] Quiet true (Forwarded 3))) ≡ Some (Some 3) }
+    ensures without_link { lost_connection_at (Some (kept_client [] Quiet true Waiting)) ≡ Some None }
+    ensures not_lost { lost_connection_at (Some (kept_client [] Quiet false Waiting)) ≡ None }
+    ensures over { lost_connection_at None ≡ None }
+    ensures request { due_request_at (Some (kept_client [] (Due next.End) false Free)) ≡ Some next.End }
+    ensures no_request { due_request_at (Some (kept_client [] Quiet false Free)) ≡ None }
+    ensures of_busy { due_request_at (Some (kept_client [] (Due next.End) false Waiting)) ≡ None }
+    ensures of_gone { due_request_at (Some (kept_client [] (Due next.End) true Free)) ≡ None }
+    ensures answer { link_result_at (Some (kept_link (Due (next.Message answer_200)) (Some kinds.Closed) false))
+        ≡ Some (Gives answer_200) }
+    ensures failure { link_result_at (Some (kept_link Quiet (Some kinds.Closed) false)) ≡ Some (Breaks kinds.Closed) }
+    ensures unknown_failure { link_result_at (Some (kept_link Unknown (Some kinds.Closed) false))
+        ≡ Some (Breaks kinds.Closed) }
+    ensures no_answer { link_result_at (Some (kept_link Unknown None false)) ≡ None }
+    ensures kept { kept_count (Some true ∷ None ∷ Some false ∷ []) ≡ 2 }
+    ensures item { item_at (Some true ∷ None ∷ []) 0 ≡ Some true }
+    ensures no_item { item_at (Some true ∷ None ∷ []) 2 ≡ None }
+    ensures free { connection_is_free_at (Some (kept_client [] Quiet false Free)) ≡ true }
+    ensures not_free { connection_is_free_at (Some (kept_client [] Quiet false Waiting)) ≡ false }
+    ensures gone_is_not_free { connection_is_free_at (Some (kept_client [] Quiet true Free)) ≡ false }
+    ensures is_gone { is_gone_at (Some (kept_client [] Quiet true Free)) ≡ Some true }
+    ensures is_there { is_gone_at (Some (kept_client [] Quiet false Free)) ≡ Some false }
+    ensures is_over { is_gone_at None ≡ None }
+    ensures unknown_client { connection_unknown (kept_client [] Unknown false Free) ≡ true }
+    ensures known_link { link_unknown (kept_link Quiet None false) ≡ false }
+{}
+
+/// How much is still to come: of a client 1, 3 for each message or continue that may come of its bytes, of which each
+/// counts twice, or that is due, and 2 where it waits; of a link 1, and 1 for its answer or failure.
+pub fn worked_loads()
+    ensures idle { connection_load (Some (kept_client [] Quiet false Free)) ≡ 1 }
+    ensures over { connection_load None ≡ 0 }
+    ensures waits { connection_load (Some (kept_client [] Quiet false Waiting)) ≡ 3 }
+    ensures due { connection_load (Some (kept_client [] (Due (next.Message request_of_a)) false Free)) ≡ 4 }
+    ensures bytes { connection_load (Some (kept_client (codes "ab") Unknown false Free)) ≡ 13 }
+    ensures link { link_load (Some (kept_link Quiet None false)) ≡ 1 }
+    ensures unknown_link { link_load (Some (kept_link Unknown None false)) ≡ 2 }
+    ensures failed_link { link_load (Some (kept_link Quiet (Some kinds.Closed) false)) ≡ 2 }
+    ensures no_link { link_load None ≡ 0 }
+    ensures together { engine_load (Some (kept_client [] Quiet false Waiting) ∷ None ∷ [])
+        (Some (kept_link Unknown None false) ∷ []) ≡ 5 }
+    ensures of_requests { map load_of_due_request (Some next.NeedsContinue ∷ Some (next.Message request_of_a) ∷ [])
+        ≡ 1 ∷ 1 ∷ [] }
+    ensures of_none { map load_of_due_request (None ∷ Some next.More ∷ Some (next.Refused frame.Head) ∷ Some next.End
+        ∷ []) ≡ 0 ∷ 0 ∷ 0 ∷ 0 ∷ [] }
+    ensures of_waiting { map load_of_waiting (Free ∷ Forwarded 2 ∷ Waiting ∷ []) ≡ 0 ∷ 0 ∷ 2 ∷ [] }
+    ensures after_outcomes { map acts_due_after_outcome (outcomes.Forward 1 [] ∷ outcomes.Waits 1 ∷ outcomes.Ended
+        ∷ []) ≡ 1 ∷ 2 ∷ 0 ∷ [] }
+{}
+
+/// What is done where something is due: a cut stream is closed without an answer, any other fault is refused; only what
+/// goes forward needs a link, and only a whole answer may go forward once more.
+pub fn worked_actions()
+    ensures cut { action_of_fault frame.Truncated ≡ action.Close }
+    ensures refused { map action_of_fault (frame.Head ∷ frame.Version ∷ frame.BothLengths ∷ frame.Length ∷ frame.Coding
+        ∷ frame.Chunk ∷ frame.TooLarge ∷ frame.Expect ∷ frame.Status ∷ [])
+        ≡ map (λ f. action.Refuse (cause.Frame f) false) (frame.Head ∷ frame.Version ∷ frame.BothLengths
+        ∷ frame.Length ∷ frame.Coding ∷ frame.Chunk ∷ frame.TooLarge ∷ frame.Expect ∷ frame.Status ∷ []) }
+    ensures nothing { (w : Action) → IsActionForNext next.More w → ⊥ }
+    ensures continues { (w : Action) → IsActionForNext next.NeedsContinue w → w ≡ action.Continue }
+    ensures ended { (w : Action) → IsActionForNext next.End w → w ≡ action.Close }
+    ensures asks { IsActionForNext (next.Message request_of_a) action.Close → ⊥ }
+    ensures needs { map outcome_needs_link (outcomes.Forward 1 [] ∷ outcomes.Waits 1 ∷ outcomes.Ended ∷ [])
+        ≡ true ∷ false ∷ false ∷ [] }
+    ensures whole { is_whole_answer (Gives answer_200) ≡ true }
+    ensures broken { is_whole_answer (Breaks kinds.Closed) ≡ false }
+    ensures no_number { IsFaultOfFinishing true (Gives answer_200) OutOfMemory → ⊥ }
+    ensures a_number { IsFaultOfFinishing false (Gives answer_200) Spent → ⊥ }
+    ensures breaks { IsFaultOfFinishing true (Breaks kinds.Closed) Spent → ⊥ }
+    ensures wrong { IsFaultOfFinishing true (Gives answer_200) WrongNumber → ⊥ }
+    ensures not_accepted { IsFaultOfFinishing true (Gives answer_200) NotAccepted → ⊥ }
+{}
+
+/// What a connection does with its request, and what an outcome adds to that.
+pub fn worked_activities()
+    ensures exchange { map has_exchange (Free ∷ Forwarded 2 ∷ Waiting ∷ []) ≡ false ∷ true ∷ true ∷ [] }
+    ensures link { map link_place_of_activity (Free ∷ Forwarded 2 ∷ Waiting ∷ []) ≡ None ∷ Some 2 ∷ None ∷ [] }
+    ensures at_origin { map forwarded_or_waiting (Free ∷ Forwarded 2 ∷ Waiting ∷ [])
+        ≡ None ∷ Some true ∷ Some false ∷ [] }
+    ensures over { activity_of None ≡ Free }
+    ensures kept { activity_of (Some (kept_client [] Quiet false Waiting)) ≡ Waiting }
+    ensures at { activity_at (Waiting ∷ []) 0 ≡ Waiting }
+    ensures beyond { activity_at (Waiting ∷ []) 1 ≡ Free }
+    ensures owner { owner_of (Some (kept_link Quiet None false)) ≡ Some 0 }
+    ensures dropped { owner_of None ≡ None }
+    ensures owner_there { owner_at (Some 4 ∷ []) 0 ≡ Some 4 }
+    ensures owner_beyond { owner_at (Some 4 ∷ []) 1 ≡ None }
+    ensures forward { activities_after 1 7 (outcomes.Forward 1 []) (Waiting ∷ Free ∷ []) ≡ Waiting ∷ Forwarded 7 ∷ [] }
+    ensures waits { activities_after 0 7 (outcomes.Waits 1) (Free ∷ Free ∷ []) ≡ Waiting ∷ Free ∷ [] }
+    ensures ended { activities_after 0 7 outcomes.Ended (Waiting ∷ []) ≡ Waiting ∷ [] }
+    ensures opens { owners_after 3 (outcomes.Forward 1 []) (Some 1 ∷ []) ≡ Some 1 ∷ Some 3 ∷ [] }
+    ensures opens_none { owners_after 3 (outcomes.Waits 1) (Some 1 ∷ []) ≡ Some 1 ∷ [] }
+    ensures takes_memory { map happening_takes_memory (Accepts 1 ∷ Sends 1 [] ∷ Hears 1 [] ∷ [])
+        ≡ true ∷ true ∷ true ∷ [] }
+    ensures takes_none { map happening_takes_memory (Ends 1 ∷ Leaves 1 ∷ Shuts 1 ∷ Fails 1 kinds.Closed ∷ [])
+        ≡ false ∷ false ∷ false ∷ false ∷ [] }
+    ensures none_is_kept { IsKeptWithFlag (λ b. b) None → ⊥ }
+    ensures without_flag { IsKeptWithFlag (λ b. b) (Some false) → ⊥ }
+{}
