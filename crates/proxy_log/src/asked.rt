@@ -1,10 +1,11 @@
 //! What a client asked for, read from its bytes a second time.
-ghost use Rattle.std.specs.Prelude.{◌≡◌, ◌≤◌, ◌<◌, [], length, drop, IfOk, IfSome};
-ghost use Rattle.std.specs.Prelude.{MatchOption, IsOk, OnErr, OnOk, None, Some, false, true};
+ghost use Rattle.std.specs.Prelude.{◌≡◌, ◌⊎◌, ◌≤◌, ◌<◌, ◌-◌, [], length, drop, IfOk, IfSome};
+ghost use Rattle.std.specs.Prelude.{MatchOption, IsOk, OnErr, OnOk, None, Some, false, true, is_some};
 ghost use Rattle.std.specs.Option.{option_or};
 ghost use Rattle.hx_framing.specs.declared.messages.Request.{Request};
 ghost use Rattle.hx_framing.specs.Progress.{Progress, stream_with_piece, no_stream};
 ghost use Rattle.hx_framing.specs.RequestState.{RepresentsStream, weight};
+ghost use Rattle.hx_framing.specs.ReaderState.{kept};
 ghost use Rattle.proxy_log.specs.Asked.{QuestionIsOfRequest, QuestionIsKept, TextNamesTarget, begun_after_reply};
 ghost use Rattle.proxy_log.specs.Asked.{next_question, no_question_read, question_of_head};
 ghost use Rattle.proxy_log.specs.Asked.{uri_text};
@@ -215,6 +216,8 @@ impl UnansweredRequests {
             self.old.begun self.new.begun)) }
         ensures goes_on { IfOk result (λ place. IfSome place (λ at. self.new.over ≡ self.old.over)) }
         ensures less { IfOk result (λ place. IfSome place (λ at. weight self.new.reader < weight self.old.reader)) }
+        ensures behind { IfOk result (λ place. IfSome place (λ at. (at ≡ from)
+            ⊎ (at ≡ length text.now - length (kept self.new.reader)))) }
     {
         match self.reader.next(alloc)? {
             Next::Message(request) => {
@@ -250,6 +253,7 @@ impl UnansweredRequests {
             → StreamIsReadOn p self.new.reader self.old.questions.items self.new.questions.items
             self.old.begun self.new.begun self.new.over) }
         ensures within { IfOk result (λ from. from ≤ length text.now) }
+        ensures content { IfOk result (λ from. is_some self.new.begun ≡ true → from ≡ length text.now) }
     {
         let mut from = 0usize;
         while let Some(next) = self.read_one(alloc, text, from)? {
