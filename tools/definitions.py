@@ -27,6 +27,8 @@ AT_ONCE = 40
 WRITING = threading.Lock()
 # The laws are asked in these steps: those on no file of lemmas, first the nearest to the change, on at most so many, and on any number.
 NEAREST, COMPUTED, ON_FEW, ON_MANY = STEPS = range(4)
+# the beginning of what is said where the prover can't read a set
+UNREAD = "the prover can't read the changed definition"
 # a module that a file of laws declares
 MOD = r"^(?:pub(?:\(crate\))? )?mod \w+;\n"
 LAYERS, FEW = 2, 1
@@ -244,7 +246,7 @@ def judged(mutant, number, laws, said):
     """The functions that aren't proved of the set with that number."""
     unread = re.search(rf"^(?:\./)?specs/\S*_m{number}\.antt:\d+:\d+: error.*", said, re.M)
     if unread:
-        return Tried(mutant, [], f"the prover can't read the changed definition: {unread[0][:300]}")
+        return Tried(mutant, [], f"{UNREAD}: {unread[0][:300]}")
     found = [it for law in laws for it in re.findall(rf"^fn \w+::({law.replace('/', '::')}): (.*)", said, re.M)]
     if laws and not found:
         return Tried(mutant, [], f"the prover says nothing of its laws: {said.rstrip()[-300:]}")
@@ -274,9 +276,28 @@ def try_by(step, rt, crate, mutants, kept):
     with WRITING, open(f"{crate.folder}/out/mutants/definitions.txt", "a", encoding="utf-8") as it:
         it.write(said)
     unchanged = judged(None, 0, sets[0][1], said)
+    if unchanged.fault.startswith(UNREAD):
+        return [try_alone(rt, copy, it, kept) for it in mutants]
     if unchanged.fault or unchanged.refused_by:
         return [Tried(it, [], f"its crate's laws aren't proved as they are: {unchanged.fault or unchanged.refused_by}") for it in mutants]
     return [judged(it, at + 1, sets[at + 1][1], said) for at, it in enumerate(mutants)]
+
+
+def try_alone(rt, copy, mutant, kept):
+    """Tries a mutant by all laws of its crate, in a copy of its own. So it is where a definition builds a value of a type of the program
+    that holds one which contracts see otherwise: only the crate's own modules can, and no set beside them."""
+    laws = [f"{law}/{name}" for law in copy.laws for name in re.findall(r"^pub fn (\w+)", copy.files[f"src/{law}.rt"], re.M)]
+    with tempfile.TemporaryDirectory(prefix="definitions-") as room:
+        copy.write(room, [])
+        for path, text in mutant.texts.items():
+            with open(f"{room}/{path}", "w", encoding="utf-8") as it:
+                it.write(text)
+        said = said_of(rt, copy.crate, room, laws, kept)
+    unread = re.search(r"^(?:\./)?specs/\S*\.antt:\d+:\d+: error.*", said, re.M)
+    found = [it for law in copy.laws for it in re.findall(rf"^fn \w+::({law.replace('/', '::')}::\w+): (.*)", said, re.M)]
+    if unread or not found:
+        return Tried(mutant, [], f"{UNREAD}: {(unread[0] if unread else said.rstrip())[-300:]}")
+    return Tried(mutant, [it.rpartition("::")[2] for it, outcome in found if outcome != "proved"])
 
 
 class Batches:

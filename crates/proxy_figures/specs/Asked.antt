@@ -1,10 +1,14 @@
 -- Which origin was asked for a reply, as far as the order of links tells. An origin is named by its place.
 use Rattle.std.specs.Prelude.{◌≡◌, ◌⊎◌, ◌<◌, ◌≤◌, ◌-◌, length, take, vec_capacity, insert, slice_get, slice_index_or}
 use Rattle.std.specs.Prelude.{option_map, ℕ, ◌==◌, Bool, true, false, if◌then◌else◌, List, [], ◌∷◌, Option, Some, None}
+use Rattle.proxy_figures.specs.Sorts.{source_of, is_answered}
 use Rattle.proxy_figures.specs.declared.limits.TheConstants.{MOST_FAILED_KEPT}
 use Rattle.proxy_figures.specs.declared.asked.Asked.{Asked}
 use Rattle.proxy_figures.specs.declared.asked.FailedOrigins.{FailedOrigins}
 use Rattle.proxy_figures.specs.declared.asked.FailedOrigins.TheVariants.{Nowhere, One, Several}
+use Rattle.proxy_figures.specs.declared.sorts.ReplySort.{ReplySort}
+use Rattle.proxy_figures.specs.declared.sorts.Source.{Source}
+use Rattle.proxy_figures.specs.declared.sorts.Source.TheVariants as source
 
 -- the origins of links that have failed, with one more
 abbrev pub failed_origins_with : FailedOrigins → ℕ → FailedOrigins
@@ -51,6 +55,23 @@ abbrev pub failed_links_after : Asked → Bool → List (ℕ × ℕ)
 failed_links_after asked true = asked.failed.items
 failed_links_after asked false = if asked.is_unsure then asked.failed.items
     else failed_links_after_reply asked.failed.items asked.shut
+
+-- the origin of a reply that comes from one; of any other reply there is none, and no link that has failed is its
+abbrev pub origin_by_source : Asked → Source → Bool → Option ℕ
+origin_by_source asked source.Origin answered = origin_of_next_reply asked answered
+origin_by_source asked other answered = None
+
+abbrev pub origin_of_reply : Asked → Option ReplySort → Option ℕ
+origin_of_reply asked None = None
+origin_of_reply asked (Some sort) = origin_by_source asked (source_of sort) (is_answered sort)
+
+abbrev pub failed_links_by_source : Asked → Source → Bool → List (ℕ × ℕ)
+failed_links_by_source asked source.Origin answered = failed_links_after asked answered
+failed_links_by_source asked other answered = asked.failed.items
+
+abbrev pub failed_links_behind : Asked → Option ReplySort → List (ℕ × ℕ)
+failed_links_behind asked None = asked.failed.items
+failed_links_behind asked (Some sort) = failed_links_by_source asked (source_of sort) (is_answered sort)
 
 -- the number of a link among those that have failed
 abbrev pub failed_link_number_at : List (ℕ × ℕ) → ℕ → ℕ

@@ -2,8 +2,10 @@ pub mod AcceptCounts
 pub mod Asked
 pub mod Counts
 pub mod EndingCounts
+pub mod KnownOrigins
 pub mod Origins
 pub mod Page
+pub mod ReplyCounts
 pub mod Sorts
 pub mod Times
 pub mod TurnCounts

@@ -111,3 +111,7 @@ is_sent_after_failure _ = false
 
 abbrev pub is_covered : ReplySort → Bool
 is_covered sort = is_sent_after_failure sort.detail && not (is_some sort.fwd_status)
+
+-- the origin that was asked for a reply answered, and didn't fail
+abbrev pub is_answered : ReplySort → Bool
+is_answered sort = not (is_some sort.cause) && not (is_covered sort)

@@ -8,10 +8,11 @@ ghost use Rattle.std.specs.Prelude.{IfErr};
 ghost use Rattle.std.specs.Bool.{OnFalse, OnTrue};
 ghost use Rattle.proxy_figures.specs.Asked.{failed_origins_with, only_failed_origin, origin_of_next_reply};
 ghost use Rattle.proxy_figures.specs.Asked.{failed_links_after, FailedLinkNumbersFall, HasRoomForFailedLink};
-ghost use Rattle.proxy_figures.specs.Asked.{IsAmongFailedLinks};
+ghost use Rattle.proxy_figures.specs.Asked.{IsAmongFailedLinks, origin_of_reply, failed_links_behind};
 ghost use Rattle.proxy_figures.specs.Asked.{IsGapForLink, FailedLinkIsKept, FailedLinkIsKeptOrOrderIsLost};
 
 use crate::limits::MOST_FAILED_KEPT;
+use crate::sorts::{ReplySort, Source};
 use std::alloc::Global;
 
 /// The origins of links that have failed, by their places.
@@ -151,10 +152,29 @@ impl Asked {
         self.is_unsure = false;
     }
 
+    /// The place of the origin that was asked for the reply that goes out, of this sort, where that is sure: what an
+    /// engine makes of an answer goes out right behind the end of its link.
+    pub fn origin_of(&mut self, sort: Option<ReplySort>) -> Option<usize>
+        ensures place { result ≡ origin_of_reply self.old sort }
+        ensures shut { self.new.shut ≡ None }
+        ensures left { self.new.failed.items ≡ failed_links_behind self.old sort }
+        ensures places { self.new.places ≡ self.old.places }
+        ensures unsure { self.new.is_unsure ≡ self.old.is_unsure }
+        ensures falls { FailedLinkNumbersFall self.old.failed.items → FailedLinkNumbersFall self.new.failed.items }
+    {
+        match sort {
+            Some(sort) if sort.source() == Source::Origin => self.next(sort.is_answered()),
+            _ => {
+                self.shut(None);
+                None
+            }
+        }
+    }
+
     /// The place of the origin that was asked for the reply that goes out, where that is sure. `answered` tells whether
     /// that origin answered, or failed.
     #[tactic(auto, using(crate::proofs::AskedLemmas::least_place_append))]
-    pub fn next(&mut self, answered: bool) -> Option<usize>
+    fn next(&mut self, answered: bool) -> Option<usize>
         ensures place { result ≡ origin_of_next_reply self.old answered }
         ensures shut { self.new.shut ≡ None }
         ensures left { self.new.failed.items ≡ failed_links_after self.old answered }

@@ -1,15 +1,22 @@
 //! What was counted of each origin. Those of the operator's table are the only ones.
-ghost use Rattle.std.specs.Prelude.{◌≡◌, ◌≢◌, [], nat_lt, slice_get, string_bytes};
+ghost use Rattle.std.specs.Prelude.{◌≡◌, ◌≢◌, ◌<◌, ◌+◌, true, if◌then◌else◌, [], slice_get, string_bytes, IfOk};
+ghost use Rattle.std.specs.Prelude.{OnErr, IfSome, IfNone};
 ghost use Rattle.std.specs.Option.{option_and_then};
+ghost use Rattle.proxy_figures.specs.Counts.{count_plus_one_if};
 ghost use Rattle.proxy_figures.specs.Origins.{is_silent, is_crowded, admission_of, origin_with_admission};
-ghost use Rattle.proxy_figures.specs.Origins.{origin_with_answer, name_of_origin, admission_where_known};
-ghost use Rattle.proxy_figures.specs.Origins.{origin_with_written, origin_heard, origin_with_link};
+ghost use Rattle.proxy_figures.specs.Origins.{origin_with_answer, origin_with_failure, origin_with_covered};
+ghost use Rattle.proxy_figures.specs.Origins.{origin_with_reply, name_of_origin, admission_where_known};
+ghost use Rattle.proxy_figures.specs.Origins.{origin_with_written, origin_heard, origin_with_link, IsNewOrigin};
 ghost use Rattle.proxy_figures.specs.Origins.{origin_without_link, origin_silent_once_more, origin_changed_at};
+ghost use Rattle.proxy_figures.specs.Origins.{falls_silent, falls_silent_where_known};
+ghost use Rattle.proxy_figures.specs.KnownOrigins.{some_is_crowded, addresses, AddressIsNew, AddressIsPlaced};
+ghost use Rattle.proxy_figures.specs.KnownOrigins.{refused_beyond_bound};
 
-use crate::counts::{count, count_plus, count_plus_one};
+use crate::counts::{count, count_plus, count_plus_one, count_plus_one_if};
 use crate::limits::SILENT_EXCHANGES;
 use crate::sorts::{Cause, ReplySort};
 use std::alloc::{AllocError, Global};
+use std::marker::Model;
 use std::net::SocketAddrV4;
 
 /// An origin, and what was counted of it.
@@ -64,7 +71,9 @@ pub(crate) const FAILURE_KINDS: [&str; 6] = [
 pub(crate) const COVERED_FAILURES: usize = 5;
 
 impl Origin {
-    fn new(alloc: Global, address: SocketAddrV4) -> Result<Origin, AllocError> {
+    fn new(alloc: Global, address: SocketAddrV4) -> Result<Origin, AllocError>
+        ensures { IfOk result (IsNewOrigin address) }
+    {
         Ok(Origin {
             address,
             name: format!(in alloc; "{address}")?,
@@ -148,23 +157,64 @@ impl Origin {
         self.lasted = count_plus(self.lasted, milliseconds);
     }
 
+    /// So many bytes came from it: it isn't silent.
+    fn hear(&mut self, count: usize)
+        ensures { self.new ≡ origin_heard count self.old }
+    {
+        self.silences = 0;
+        self.received = count_plus(self.received, count as u64);
+    }
+
+    /// An exchange with it was timed out, or couldn't connect. Whether it became silent by this.
+    fn note_silence(&mut self) -> bool
+        ensures once_more { self.new ≡ origin_silent_once_more self.old }
+        ensures falls { result ≡ falls_silent self.old }
+    {
+        let was_silent = self.is_silent();
+        self.silences = count_plus_one(self.silences);
+        !was_silent && self.is_silent()
+    }
+
+    /// The system has taken so many bytes for it.
+    fn add_written(&mut self, written: u64)
+        ensures { self.new ≡ origin_with_written written self.old }
+    {
+        self.written = count_plus(self.written, written);
+    }
+
     fn count_answer(&mut self, status: u16)
         ensures { self.new ≡ origin_with_answer status self.old }
     {
         count(&mut self.answers, (status / 100).saturating_sub(2) as usize);
     }
 
-    fn count_failure(&mut self, cause: Cause) {
-        let at = (cause as usize).saturating_sub(Cause::OriginRefused as usize);
-        count(&mut self.failures, at);
+    fn count_failure(&mut self, cause: Cause)
+        ensures { self.new ≡ origin_with_failure cause self.old }
+    {
+        match cause {
+            Cause::OriginRefused => count(&mut self.failures, 0),
+            Cause::OriginTimedOut => count(&mut self.failures, 1),
+            Cause::OriginClosed => count(&mut self.failures, 2),
+            Cause::OriginBadAnswer => count(&mut self.failures, 3),
+            Cause::OriginTooLarge => count(&mut self.failures, 4),
+            _ => {}
+        }
+    }
+
+    fn count_covered(&mut self)
+        ensures { self.new ≡ origin_with_covered self.old }
+    {
+        count(&mut self.failures, COVERED_FAILURES);
     }
 
     /// Counts what the origin said or did, by the reply that was made of it.
-    fn answered(&mut self, status: u16, sort: &ReplySort) {
+    fn answered(&mut self, status: u16, sort: &ReplySort)
+        ensures { self.new ≡ origin_with_reply status sort.now self.old }
+    {
         if let Some(cause) = sort.cause {
             self.count_failure(cause);
         } else if sort.is_covered() {
-            count(&mut self.failures, COVERED_FAILURES);
+            self.count_covered();
         } else {
             self.count_answer(sort.fwd_status.unwrap_or(status));
         }
@@ -179,16 +229,28 @@ pub struct Origins {
     most: u64,
     items: Vec<Origin>,
     /// How often an origin became silent.
-    pub fallen_silent: u64,
+    fallen_silent: u64,
     /// Origins to which nearly as many links are open as may be.
     crowded: usize,
 }
 
+impl Model for Origins {
+    ghost use Rattle.proxy_figures.specs.KnownOrigins.{KnownOrigins, OriginsAreCounted};
+
+    ghost Value = { KnownOrigins };
+
+    ghost view = { λ o. record {
+      items = o.items.items;
+      most = o.most;
+      fallen_silent = o.fallen_silent;
+    } };
+
+    ghost invariant = { λ o. OriginsAreCounted o.most o.crowded o.items.items };
+}
+
 impl Origins {
     pub fn new(alloc: Global, most: u64) -> Origins
-        ensures items { result.items.items ≡ [] }
-        ensures most { result.most ≡ most }
-        ensures counts { (result.fallen_silent ≡ 0) × (result.crowded ≡ 0) }
+        ensures { result ≡ record { items = []; most = most; fallen_silent = 0 } }
     {
         Origins {
             alloc,
@@ -200,25 +262,37 @@ impl Origins {
     }
 
     /// The place of an address, which is added where it is new.
-    pub fn place(&mut self, address: SocketAddrV4) -> Result<usize, AllocError> {
-        for i in 0..self.items.len() {
-            if self.items[i].address == address {
-                return Ok(i);
-            }
+    pub fn place(&mut self, address: SocketAddrV4) -> Result<usize, AllocError>
+        ensures placed { IfOk result (λ place. AddressIsPlaced address self.old place self.new) }
+        ensures err { OnErr result (self.new ≡ self.old) }
+    {
+        if let Some(place) = place_of(self.items.as_slice(), address) {
+            return Ok(place);
         }
-        self.items.push(Origin::new(self.alloc, address)?)?;
-        Ok(self.items.len().saturating_sub(1))
+        let origin = Origin::new(self.alloc, address)?;
+        let crowded = crowded_after(self.crowded, false, origin.is_crowded(self.most));
+        let place = self.items.len();
+        self.items.push(origin)?;
+        self.crowded = crowded;
+        Ok(place)
+    }
+
+    /// How often an origin became silent.
+    pub fn fallen_silent(&self) -> u64
+        ensures { result ≡ self.now.fallen_silent }
+    {
+        self.fallen_silent
     }
 
     pub fn as_slice(&self) -> &[Origin]
-        ensures { result.now ≡ self.now.items.items }
+        ensures { result.now ≡ self.now.items }
     {
         self.items.as_slice()
     }
 
     /// The name of the origin at a place; empty where there is none.
     pub fn name(&self, place: Option<usize>) -> &str
-        ensures { result.now ≡ name_of_origin (option_and_then (slice_get self.now.items.items) place) }
+        ensures { result.now ≡ name_of_origin (option_and_then (slice_get self.now.items) place) }
     {
         match place {
             Some(place) => match self.items.get(place) {
@@ -231,7 +305,7 @@ impl Origins {
 
     /// Whether nearly as many links to some origin are open as may be.
     pub fn some_is_crowded(&self) -> bool
-        ensures { result ≡ nat_lt 0 self.now.crowded }
+        ensures { result ≡ some_is_crowded self.now }
     {
         self.crowded > 0
     }
@@ -239,10 +313,10 @@ impl Origins {
     /// Whether a further link to an origin may be begun; where not, that is counted.
     pub fn admit(&mut self, place: usize, probes: bool) -> Admission
         ensures admission { result ≡ admission_where_known self.old.most probes
-            (slice_get self.old.items.items place) }
-        ensures counted { self.new.items.items ≡ origin_changed_at place
+            (slice_get self.old.items place) }
+        ensures counted { self.new.items ≡ origin_changed_at place
             (λ origin. origin_with_admission (admission_of self.old.most probes origin) self.old.most origin)
-            self.old.items.items }
+            self.old.items }
         ensures rest { self.new ≡ record self.old { items = self.new.items } }
     {
         let most = self.most;
@@ -254,8 +328,9 @@ impl Origins {
 
     /// A link is begun; one that isn't admitted is none.
     pub fn begin(&mut self, place: usize, admission: Admission)
-        ensures at { admission ≢ Admission.No → self.new.items.items
-            ≡ origin_changed_at place (origin_with_link admission) self.old.items.items }
+        ensures at { admission ≢ Admission.No → self.new.items
+            ≡ origin_changed_at place (origin_with_link admission) self.old.items }
+        ensures rest { self.new ≡ record self.old { items = self.new.items } }
         ensures refused { admission ≡ Admission.No → self.new ≡ self.old }
     {
         if admission == Admission::No {
@@ -265,16 +340,15 @@ impl Origins {
         if let Some(origin) = self.items.get_mut(place) {
             let was_crowded = origin.is_crowded(most);
             origin.begin(admission);
-            if origin.is_crowded(most) && !was_crowded {
-                self.crowded = self.crowded.saturating_add(1);
-            }
+            self.crowded = crowded_after(self.crowded, was_crowded, origin.is_crowded(most));
         }
     }
 
     /// A link has ended, so many milliseconds after it began.
     pub fn end(&mut self, place: usize, admission: Admission, milliseconds: u64)
-        ensures at { admission ≢ Admission.No → self.new.items.items
-            ≡ origin_changed_at place (origin_without_link admission milliseconds) self.old.items.items }
+        ensures at { admission ≢ Admission.No → self.new.items
+            ≡ origin_changed_at place (origin_without_link admission milliseconds) self.old.items }
+        ensures rest { self.new ≡ record self.old { items = self.new.items } }
         ensures refused { admission ≡ Admission.No → self.new ≡ self.old }
     {
         if admission == Admission::No {
@@ -284,38 +358,37 @@ impl Origins {
         if let Some(origin) = self.items.get_mut(place) {
             let was_crowded = origin.is_crowded(most);
             origin.end(admission, milliseconds);
-            if was_crowded && !origin.is_crowded(most) {
-                self.crowded = self.crowded.saturating_sub(1);
-            }
+            self.crowded = crowded_after(self.crowded, was_crowded, origin.is_crowded(most));
         }
     }
 
     /// So many bytes came from an origin.
     pub fn note_answer(&mut self, place: usize, count: usize)
-        ensures at { self.new.items.items ≡ origin_changed_at place (origin_heard count) self.old.items.items }
+        ensures at { self.new.items ≡ origin_changed_at place (origin_heard count) self.old.items }
         ensures rest { self.new ≡ record self.old { items = self.new.items } }
     {
         if let Some(origin) = self.items.get_mut(place) {
-            origin.silences = 0;
-            origin.received = count_plus(origin.received, count as u64);
+            origin.hear(count);
         }
     }
 
     /// An exchange with an origin was timed out, or couldn't connect.
     pub fn note_silence(&mut self, place: usize)
-        ensures at { self.new.items.items ≡ origin_changed_at place origin_silent_once_more self.old.items.items }
-        ensures crowded { self.new.crowded ≡ self.old.crowded }
+        ensures at { self.new.items ≡ origin_changed_at place origin_silent_once_more self.old.items }
+        ensures fallen { self.new.fallen_silent ≡ count_plus_one_if
+            (falls_silent_where_known (slice_get self.old.items place)) self.old.fallen_silent }
+        ensures most { self.new.most ≡ self.old.most }
     {
         if let Some(origin) = self.items.get_mut(place) {
-            origin.silences = count_plus_one(origin.silences);
-            if origin.silences == SILENT_EXCHANGES {
-                self.fallen_silent = count_plus_one(self.fallen_silent);
-            }
+            let falls_silent = origin.note_silence();
+            self.fallen_silent = count_plus_one_if(falls_silent, self.fallen_silent);
         }
     }
 
     /// How often connects were refused at once since as many links were open as may be.
-    pub fn beyond_bound(&self) -> u64 {
+    pub fn beyond_bound(&self) -> u64
+        ensures { result ≡ refused_beyond_bound self.now.items }
+    {
         let mut count = 0u64;
         for origin in &self.items {
             count = count.saturating_add(origin.beyond_bound);
@@ -325,21 +398,48 @@ impl Origins {
 
     /// The system has taken so many bytes for an origin.
     pub fn add_written(&mut self, place: usize, written: u64)
-        ensures at { self.new.items.items
-            ≡ origin_changed_at place (origin_with_written written) self.old.items.items }
+        ensures at { self.new.items
+            ≡ origin_changed_at place (origin_with_written written) self.old.items }
         ensures rest { self.new ≡ record self.old { items = self.new.items } }
     {
         if let Some(origin) = self.items.get_mut(place) {
-            origin.written = count_plus(origin.written, written);
+            origin.add_written(written);
         }
     }
 
     /// Counts what an origin said or did, by the reply that was made of it.
     pub fn answered(&mut self, place: usize, status: u16, sort: &ReplySort)
-        ensures { self.new ≡ record self.old { items = self.new.items } }
+        ensures at { self.new.items ≡ origin_changed_at place (origin_with_reply status sort.now) self.old.items }
+        ensures rest { self.new ≡ record self.old { items = self.new.items } }
     {
         if let Some(origin) = self.items.get_mut(place) {
             origin.answered(status, sort);
         }
+    }
+}
+
+/// The place of an address, if an origin has it.
+fn place_of(origins: &[Origin], address: SocketAddrV4) -> Option<usize>
+    ensures known { IfSome result (λ place. slice_get (addresses origins.now) place ≡ Some address) }
+    ensures unknown { IfNone result (AddressIsNew address origins.now) }
+{
+    for (place, origin) in origins.iter().enumerate() {
+        if origin.address == address {
+            return Some(place);
+        }
+    }
+    None
+}
+
+/// How many origins are crowded where one was so or not, and is so now or not.
+fn crowded_after(crowded: usize, was: bool, is: bool) -> usize
+    requires counted { was ≡ true → 0 < crowded }
+    requires room { crowded < usize.MAX }
+    ensures { result + (if was then 1 else 0) ≡ crowded + (if is then 1 else 0) }
+{
+    match (was, is) {
+        (false, true) => crowded + 1,
+        (true, false) => crowded - 1,
+        _ => crowded,
     }
 }

@@ -1,6 +1,9 @@
 //! Counts of replies: by reason, status and cause, and how long they took.
-ghost use Rattle.std.specs.Prelude.{◌≡◌, ◌-◌, unwrap_or, slice_get};
+ghost use Rattle.std.specs.Prelude.{◌≡◌, ◌-◌, unwrap_or, slice_get, replicate};
 ghost use Rattle.proxy_figures.specs.Counts.{counts_with_one_more, count_plus_one_if};
+ghost use Rattle.proxy_figures.specs.ReplyCounts.{reply_place, cause_place, causes_with, no_times, times_with};
+ghost use Rattle.proxy_figures.specs.ReplyCounts.{store_times_with, origin_times_with, proxy_times_with};
+ghost use Rattle.proxy_figures.specs.Sorts.{source_of};
 ghost use Rattle.proxy_figures.specs.Times.{time_bucket_of};
 
 use crate::counts::{count, count_at, count_plus_one_if};
@@ -59,28 +62,42 @@ fn time_bucket_of(milliseconds: u64) -> usize
     }
 }
 
-fn place_of(reason: Reason, detail: Detail) -> usize {
+fn place_of(reason: Reason, detail: Detail) -> usize
+    ensures { result ≡ reply_place reason detail }
+{
     (reason as usize)
         .saturating_mul(DETAIL_COUNT)
         .saturating_add(detail as usize)
 }
 
 impl ReplyTimes {
-    fn new() -> ReplyTimes {
+    fn new() -> ReplyTimes
+        ensures { result ≡ no_times }
+    {
         ReplyTimes {
             buckets: [0; 12],
             sum: 0,
         }
     }
 
-    fn add(&mut self, milliseconds: u64) {
+    fn add(&mut self, milliseconds: u64)
+        ensures { self.new ≡ times_with milliseconds self.old }
+    {
         count(&mut self.buckets, time_bucket_of(milliseconds));
         self.sum = self.sum.saturating_add(milliseconds);
     }
 }
 
 impl ReplyCounts {
-    pub fn new() -> ReplyCounts {
+    pub fn new() -> ReplyCounts
+        ensures reasons { result.reasons ≡ replicate 176 0 }
+        ensures causes { result.causes ≡ replicate 24 0 }
+        ensures statuses { result.statuses ≡ replicate 400 0 }
+        ensures words { (result.stored ≡ 0) × (result.collapsed ≡ 0) }
+        ensures from_store { result.from_store ≡ no_times }
+        ensures from_origin { result.from_origin ≡ no_times }
+        ensures from_proxy { result.from_proxy ≡ no_times }
+    {
         ReplyCounts {
             reasons: [0; 176],
             causes: [0; 24],
@@ -95,9 +112,18 @@ impl ReplyCounts {
 
     /// Counts a reply that took so many milliseconds.
     pub fn add(&mut self, status: u16, sort: &ReplySort, milliseconds: u64)
+        ensures reasons { self.new.reasons ≡ counts_with_one_more self.old.reasons
+            (reply_place sort.now.reason sort.now.detail) }
+        ensures causes { self.new.causes ≡ causes_with sort.now.cause self.old.causes }
         ensures statuses { self.new.statuses ≡ counts_with_one_more self.old.statuses (status - 200) }
         ensures stored { self.new.stored ≡ count_plus_one_if sort.now.stored self.old.stored }
         ensures collapsed { self.new.collapsed ≡ count_plus_one_if sort.now.collapsed self.old.collapsed }
+        ensures from_store { self.new.from_store ≡ store_times_with (source_of sort.now) milliseconds
+            self.old.from_store }
+        ensures from_origin { self.new.from_origin ≡ origin_times_with (source_of sort.now) milliseconds
+            self.old.from_origin }
+        ensures from_proxy { self.new.from_proxy ≡ proxy_times_with (source_of sort.now) milliseconds
+            self.old.from_proxy }
     {
         count(&mut self.reasons, place_of(sort.reason, sort.detail));
         count(
@@ -116,11 +142,15 @@ impl ReplyCounts {
         }
     }
 
-    pub(crate) fn with_reason(&self, reason: Reason, detail: Detail) -> u64 {
+    pub(crate) fn with_reason(&self, reason: Reason, detail: Detail) -> u64
+        ensures { result ≡ unwrap_or (slice_get self.now.reasons (reply_place reason detail)) 0 }
+    {
         count_at(&self.reasons, place_of(reason, detail))
     }
 
-    pub(crate) fn with_cause(&self, cause: Cause) -> u64 {
+    pub(crate) fn with_cause(&self, cause: Cause) -> u64
+        ensures { result ≡ unwrap_or (slice_get self.now.causes (cause_place cause)) 0 }
+    {
         count_at(&self.causes, cause as usize)
     }
 

@@ -1,9 +1,9 @@
 //! What a reply counts as, by the words that it says of itself in Cache-Status or Refusal.
 //!
 //! Each count has its place in a closed list: so nothing that a client or an origin sends makes a new one.
-ghost use Rattle.std.specs.Prelude.{◌≡◌, ◌&&◌, not, is_some, find, bytes_eq};
+ghost use Rattle.std.specs.Prelude.{◌≡◌, find, bytes_eq};
 ghost use Rattle.proxy_figures.specs.Sorts.{reason_name, detail_name, cause_name, forward_reasons, origin_failures};
-ghost use Rattle.proxy_figures.specs.Sorts.{failure_name, source_of, is_covered};
+ghost use Rattle.proxy_figures.specs.Sorts.{failure_name, source_of, is_covered, is_answered};
 
 use std::str;
 
@@ -351,7 +351,7 @@ impl ReplySort {
 
     /// Whether an answer of the origin came, where it was asked; else it failed.
     pub fn is_answered(&self) -> bool
-        ensures { result ≡ (not (is_some self.now.cause) && not (is_covered self.now)) }
+        ensures { result ≡ is_answered self.now }
     {
         self.cause.is_none() && !self.is_covered()
     }

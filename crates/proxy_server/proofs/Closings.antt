@@ -15,11 +15,11 @@ none_goes key old new stay = record { other = key; gone = λ other. absurd (othe
 pub goes_behind : {A : Type 0} (key : ℕ) (old mid new : Slab A) → OtherSlabKeysStay key old mid → AtMostOneOtherStreamGoes key mid new → AtMostOneOtherStreamGoes key old new
 goes_behind key old mid new stay goes = record { other = goes.other; gone = goes.gone; others = λ k not_key not_other. goes.others k not_key not_other ∙ stay k not_key }
 
-pub gives_way : {S : Type 0} (key : ℕ) (first : Option ℕ) (old new : Slab (Client S)) → FirstGivesWay first old new → AtMostOneOtherStreamGoes key old new
+pub gives_way : {A : Type 0} (key : ℕ) (first : Option ℕ) (old new : Slab A) → FirstGivesWay first old new → AtMostOneOtherStreamGoes key old new
 gives_way key None old new same = none_goes key old new (λ k not_key. ap (λ s. slab.get s k) same)
 gives_way key (Some first) old new gives = record { other = first; gone = λ other. gives.0; others = λ k not_key not_other. gives.1 k not_other }
 
-pub bounded_goes : {S : Type 0} (key : ℕ) (closed : BTreeMap ℕ ℕ) (old new : Slab (Client S)) → ClosedStreamsAreBounded closed old new → AtMostOneOtherStreamGoes key old new
+pub bounded_goes : {A : Type 0} (key : ℕ) (closed : BTreeMap ℕ ℕ) (old new : Slab A) → ClosedStreamsAreBounded closed old new → AtMostOneOtherStreamGoes key old new
 bounded_goes key closed old new bounded =
     elim (leb_tells (btree_map_len closed) 256) [
       | inl few ↦ none_goes key old new (λ k not_key. ap (λ s. slab.get s k) (bounded.0 few.1))

@@ -54,7 +54,7 @@ pub answered_on : EngineGoesOnByNothing → EngineGoesOnByTurn → (a b : Server
 answered_on stays turns a b (Ok turned) did = settled_on turns a b turned.reported did.1.0
 answered_on stays turns a b (Err fault.Socket) same = subst (λ (x : ServerState). EngineGoesOn a.engine x.engine) (sym same) (stays a.engine)
 answered_on stays turns a b (Err fault.Clock) same = subst (λ (x : ServerState). EngineGoesOn a.engine x.engine) (sym same) (stays a.engine)
-answered_on stays turns a b (Err (fault.Record why)) did = served_on turns a b did.0 did.1
+answered_on stays turns a b (Err (fault.Record why)) did = served_on turns a b did.1.0 did.1.1
 answered_on stays turns a b (Err fault.Spent) did = settled_on turns a b (Err faults.Spent) did
 
 -- what a turn leaves to the next

@@ -27,12 +27,12 @@ queue_of_streams Lingering queues = queues.lingering
 abbrev pub longest_waiting_in_queue : BTreeMap ℕ ℕ → Option ℕ
 longest_waiting_in_queue line = option_map (λ e. e.1) (slice_get line.entries 0)
 
-abbrev pub FirstGivesWay : {S : Type 0} → Option ℕ → Slab (Client S) → Slab (Client S) → Type 0
+abbrev pub FirstGivesWay : {A : Type 0} → Option ℕ → Slab A → Slab A → Type 0
 FirstGivesWay None old new = new ≡ old
 FirstGivesWay (Some key) old new = (slab.get new key ≡ None) × OtherSlabKeysStay key old new
 
 -- Connections that were closed, and whose clients may still send.
-abbrev pub ClosedStreamsAreBounded : {S : Type 0} → BTreeMap ℕ ℕ → Slab (Client S) → Slab (Client S) → Type 0
+abbrev pub ClosedStreamsAreBounded : {A : Type 0} → BTreeMap ℕ ℕ → Slab A → Slab A → Type 0
 ClosedStreamsAreBounded closed old new =
     (btree_map_len closed ≤ 256 → new ≡ old) × (256 < btree_map_len closed → FirstGivesWay
     (longest_waiting_in_queue closed) old new)

@@ -1,3 +1,4 @@
+pub mod Cases
 pub mod Closing
 pub mod Connecting
 pub mod FaultTexts

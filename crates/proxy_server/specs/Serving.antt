@@ -3,7 +3,7 @@
 -- server_bounds: how many connections it serves
 -- ServerTurn, ServerServesTurn: what was lost and one turn, over the sockets of the server itself
 -- ServeTurnAnswers: what it answers
-use Rattle.std.specs.Prelude.{◌≡◌, ℕ, ◌<◌, nat_lt, List, Bool, false, Result, Ok, Err}
+use Rattle.std.specs.Prelude.{◌≡◌, ℕ, ◌<◌, nat_lt, List, Bool, false, true, Result, Ok, Err}
 use Rattle.hx_fields.specs.declared.limits.TheConstants.{END_OF_TIME}
 use Rattle.proxy_engine.specs.State.{EngineRepresents}
 use Rattle.proxy_engine.specs.EngineModel.{EngineModel}
@@ -76,5 +76,6 @@ ServeTurnAnswers a b (Ok turned) = TurnHadLinkNumbersLeft turned.reported
     × (turned.moment ≡ (turn_begun served.served.now a).moment))
 ServeTurnAnswers a b (Err Socket) = b ≡ a
 ServeTurnAnswers a b (Err Clock) = b ≡ a
-ServeTurnAnswers a b (Err (Record fault)) = (reported : Result Report TurnFault) × TurnIsServed a b reported
+ServeTurnAnswers a b (Err (Record fault)) = (b.failed ≡ true)
+    × ((reported : Result Report TurnFault) × TurnIsServed a b reported)
 ServeTurnAnswers a b (Err Spent) = TurnIsServedAndSettled a b (Err faults.Spent)

@@ -4,7 +4,8 @@
 -- IsDoneToClientsPeer: it was done to the peer of a client
 -- IsDoneToLinksPeer: to the stream of a link, where it has one
 -- peer_of_link: of a link
--- stream_at_number: who stands at the key of a number
+-- client_at, stream_at_number: who stands at a key, and at that of a number
+-- unsent_of_client, handed_of_client, unsent_where_changed: what is held for a client, and for all
 -- client_may_give: a read of a client would give something, or may
 -- ClientIsRead: what a read of a client hands in
 -- number_to_list, link_is_to_be_listed: who is to be put among the ends that are read next
@@ -12,12 +13,14 @@
 -- unlisted_client, unlisted_link: who is taken from there is not
 -- new_peer, new_client: one with which nothing was done
 -- client_is_idle: a client is between two requests      bytes_held_of_peer: what is held for a peer
-use Rattle.std.specs.Prelude.{◌≡◌, ◌<◌, ℕ, Bool, true, false, not, ◌&&◌, ◌||◌, ◌==◌, if◌then◌else◌, nat_lt}
+use Rattle.std.specs.Prelude.{◌≡◌, ◌<◌, ◌+◌, ◌-◌, ◌^◌, ℕ, min, Bool, true, false, not, ◌&&◌, ◌||◌, ◌==◌}
+use Rattle.std.specs.Prelude.{if◌then◌else◌, nat_lt}
 use Rattle.std.specs.Prelude.{List, [], ◌∷◌, ◌++◌, length}
-use Rattle.std.specs.Prelude.{take, Option, Some, None, IsSomeAnd, Result, Ok}
+use Rattle.std.specs.Prelude.{take, Option, Some, None, option_map, IsSomeAnd, Result, Ok}
 use Rattle.std.specs.Option.{option_and_then}
 use Rattle.std.specs.Ordering.{nat_cmp}
 use Rattle.std.specs.BTreeMap.{get, BTreeMap}
+use Rattle.std.specs.Global.{Box}
 use Rattle.std.specs.declared.alloc.Global.{Global}
 use Rattle.std.specs.declared.io.Error.{Error}
 use Rattle.slab.specs.Slab as slab
@@ -50,8 +53,26 @@ pub record PeerIsRead {S : Type 0} (Passed : S → List ℕ → List PeerReadOut
   pub left : old.readable ≡ true → MoreMayBeLeft old.hung room result new.readable
   pub unread : old.readable ≡ false → (new ≡ old) × (result ≡ Ok received.Nothing)
 
-abbrev pub stream_at_number : {A : Type 0} → BTreeMap ℕ ℕ → Slab A → ℕ → Option A
-stream_at_number keys streams n = option_and_then (slab.get streams) (get nat_cmp keys n)
+-- the client of a key, each of which stands in memory of its own; and of a number
+abbrev pub client_at : {S : Type 0} → Slab (Box (Client S)) → ℕ → Option (Client S)
+client_at streams key = option_map (λ b. b.value) (slab.get streams key)
+
+abbrev pub stream_at_number : {S : Type 0} → BTreeMap ℕ ℕ → Slab (Box (Client S)) → ℕ → Option (Client S)
+stream_at_number keys streams n = option_and_then (client_at streams) (get nat_cmp keys n)
+
+-- bytes that are held for a client, since it hasn't taken them yet, and of its request; of nobody none are
+abbrev pub unsent_of_client : {S : Type 0} → Option (Client S) → ℕ
+unsent_of_client None = 0
+unsent_of_client (Some client) = client.peer.unsent.held
+
+abbrev pub handed_of_client : {S : Type 0} → Option (Client S) → ℕ
+handed_of_client None = 0
+handed_of_client (Some client) = client.handed
+
+-- those that are held for all clients, where one of them has changed to this one
+abbrev pub unsent_where_changed : {S : Type 0} → ℕ → Option (Client S) → Option (Client S) → ℕ
+unsent_where_changed all None new = all
+unsent_where_changed all (Some client) new = min (all - client.peer.unsent.held + unsent_of_client new) (2 ^ 64 - 1)
 
 abbrev pub IsDoneToClientsPeer : {S : Type 0} → (Peer S → Peer S → Type 0) → Option (Client S) → Option (Client S)
     → Type 0

@@ -13,6 +13,7 @@ ghost use Rattle.slab.specs.Slab.{slab_len};
 ghost use Rattle.proxy_turn.specs.Received.{FitsTheBuffer};
 ghost use Rattle.proxy_server.specs.OtherEntries.{OtherEntriesStay, OtherSlabKeysStay, ChangesOnlyAtNumber};
 ghost use Rattle.proxy_server.specs.Streams.{PeerIsWritten, IsDoneToClientsPeer, stream_at_number, client_is_cut};
+ghost use Rattle.proxy_server.specs.Streams.{client_at, unsent_of_client, handed_of_client, unsent_where_changed};
 ghost use Rattle.proxy_server.specs.Streams.{ClientIsRead, IsDoneToClient, number_to_list, listed_client};
 ghost use Rattle.proxy_server.specs.Closing.{ClientStandsInQueue, ClientLeavesItsPlace};
 ghost use Rattle.proxy_server.specs.Streams.{unlisted_client, looked_at_next};
@@ -30,7 +31,7 @@ use crate::clients::client::{Client, Place};
 use crate::clients::stream_queues::{StreamQueue, StreamQueues};
 use crate::limits::Limits;
 use crate::moments::Moments;
-use crate::sockets::peer::Peer;
+use crate::sockets::peer::{Peer, held_after};
 use crate::sockets::stream::Stream;
 use mio::event::Event;
 use mio::net::TcpStream;
@@ -44,7 +45,8 @@ use std::io;
 #[derive(Drop)]
 pub(crate) struct Clients<S: Stream + Drop = TcpStream> {
     alloc: Global,
-    pub(crate) streams: Slab<Client<S>>,
+    /// Each in memory of its own: the list keeps places for as many again.
+    pub(crate) streams: Slab<Box<Client<S>>>,
     /// The keys of those that the engine knows, by their numbers.
     pub(crate) open: BTreeMap<u64, usize>,
     /// Those that were closed.
@@ -127,26 +129,28 @@ impl<S: Stream + Drop> Clients<S> {
     pub(crate) fn get(&self, n: u64) -> Option<&Client<S>>
         ensures { option_copied result ≡ stream_at_number self.now.open self.now.streams n }
     {
-        self.streams.get(self.key_of(n)?)
+        self.stream(self.key_of(n)?)
     }
 
     pub(crate) fn get_mut(&mut self, n: u64) -> Option<&mut Client<S>>
         ensures { option_copied_mut result ≡ stream_at_number self.old.open self.old.streams n }
     {
         let key = self.key_of(n)?;
-        self.streams.get_mut(key)
+        self.stream_mut(key)
     }
 
     pub(crate) fn stream(&self, key: usize) -> Option<&Client<S>>
-        ensures { option_copied result ≡ slab.get self.now.streams key }
+        ensures { option_copied result ≡ client_at self.now.streams key }
     {
-        self.streams.get(key)
+        let client = self.streams.get(key)?;
+        Some(&**client)
     }
 
     pub(crate) fn stream_mut(&mut self, key: usize) -> Option<&mut Client<S>>
-        ensures { option_copied_mut result ≡ slab.get self.old.streams key }
+        ensures { option_copied_mut result ≡ client_at self.old.streams key }
     {
-        self.streams.get_mut(key)
+        let client = self.streams.get_mut(key)?;
+        Some(&mut **client)
     }
 
     /// Reads from the client of a number; from one that isn't there nothing comes.
@@ -183,6 +187,8 @@ impl<S: Stream + Drop> Clients<S> {
         ensures others { OtherEntriesStay n self.old.open self.new.open }
         ensures streams { self.new.streams ≡ self.old.streams }
         ensures counts { self.new.endings ≡ self.old.endings }
+        ensures unsent { self.new.unsent ≡ self.old.unsent }
+        ensures handed { self.new.handed ≡ self.old.handed }
     {
         self.open.remove(&n)
     }
@@ -192,9 +198,8 @@ impl<S: Stream + Drop> Clients<S> {
         ensures { IfSome result (λ key. get nat_cmp self.new.open n ≡ Some key) }
     {
         let client = Client::new(self.alloc, peer, n, now);
-        let Ok(key) = self.streams.insert(client) else {
-            return None;
-        };
+        let client = Box::new(self.alloc, client).ok()?;
+        let key = self.streams.insert(client).ok()?;
         if self.open.insert(n, key).is_ok() && self.mark_idle(key) && self.look_at(key, now) {
             return Some(key);
         }
@@ -222,8 +227,8 @@ impl<S: Stream + Drop> Clients<S> {
 
     /// A client is looked at next at this moment. Whether there was memory for it.
     pub(crate) fn look_at(&mut self, key: usize, moment: u64) -> bool
-        ensures look { slab.get self.new.streams key
-            ≡ option_map (looked_at_next moment) (slab.get self.old.streams key) }
+        ensures look { client_at self.new.streams key
+            ≡ option_map (looked_at_next moment) (client_at self.old.streams key) }
         ensures open { self.new.open ≡ self.old.open }
         ensures others { OtherSlabKeysStay key self.old.streams self.new.streams }
     {
@@ -236,10 +241,12 @@ impl<S: Stream + Drop> Clients<S> {
     }
 
     /// Takes a stream out, and what stands of it elsewhere but its number.
-    fn take_stream(&mut self, key: usize) -> Option<Client<S>>
+    fn take_stream(&mut self, key: usize) -> Option<Box<Client<S>>>
         ensures value { result ≡ slab.get self.old.streams key }
         ensures gone { slab.get self.new.streams key ≡ None }
         ensures open { self.new.open ≡ self.old.open }
+        ensures unsent { self.new.unsent ≡ self.old.unsent - unsent_of_client (client_at self.old.streams key) }
+        ensures handed { self.new.handed ≡ self.old.handed - handed_of_client (client_at self.old.streams key) }
         ensures counts { self.new.endings ≡ self.old.endings }
         ensures others { OtherSlabKeysStay key self.old.streams self.new.streams }
     {
@@ -260,7 +267,9 @@ impl<S: Stream + Drop> Clients<S> {
     pub(crate) fn drop_stream(&mut self, key: usize)
         ensures counts { self.new.endings ≡ self.old.endings }
         ensures gone { slab.get self.new.streams key ≡ None }
-        ensures open { ClientLeavesItsPlace (slab.get self.old.streams key) self.old.open self.new.open }
+        ensures open { ClientLeavesItsPlace (client_at self.old.streams key) self.old.open self.new.open }
+        ensures unsent { self.new.unsent ≡ self.old.unsent - unsent_of_client (client_at self.old.streams key) }
+        ensures handed { self.new.handed ≡ self.old.handed - handed_of_client (client_at self.old.streams key) }
         ensures others { OtherSlabKeysStay key self.old.streams self.new.streams }
     {
         let Some(client) = self.take_stream(key) else {
@@ -280,6 +289,10 @@ impl<S: Stream + Drop> Clients<S> {
     pub(crate) fn forget(&mut self, n: u64)
         ensures gone { get nat_cmp self.new.open n ≡ None }
         ensures dropped { stream_at_number self.old.open self.new.streams n ≡ None }
+        ensures unsent { self.new.unsent ≡ self.old.unsent
+            - unsent_of_client (stream_at_number self.old.open self.old.streams n) }
+        ensures handed { self.new.handed ≡ self.old.handed
+            - handed_of_client (stream_at_number self.old.open self.old.streams n) }
         ensures open { OtherEntriesStay n self.old.open self.new.open }
         ensures others { ChangesOnlyAtNumber self.old.open n self.old.streams self.new.streams }
     {
@@ -292,7 +305,9 @@ impl<S: Stream + Drop> Clients<S> {
     pub(crate) fn cut_stream(&mut self, key: usize, cut: CutReason)
         ensures counted { self.new.endings ≡ endings_with_cut self.old.endings cut }
         ensures gone { slab.get self.new.streams key ≡ None }
-        ensures open { ClientLeavesItsPlace (slab.get self.old.streams key) self.old.open self.new.open }
+        ensures open { ClientLeavesItsPlace (client_at self.old.streams key) self.old.open self.new.open }
+        ensures unsent { self.new.unsent ≡ self.old.unsent - unsent_of_client (client_at self.old.streams key) }
+        ensures handed { self.new.handed ≡ self.old.handed - handed_of_client (client_at self.old.streams key) }
         ensures others { OtherSlabKeysStay key self.old.streams self.new.streams }
     {
         self.endings.count_cut(cut);
@@ -354,7 +369,7 @@ impl<S: Stream + Drop> Clients<S> {
 
     /// Puts a stream into another queue, where it stands by the stamp that it has.
     pub(crate) fn move_to_queue(&mut self, key: usize, queue: StreamQueue)
-        ensures still { ClientStandsInQueue queue (slab.get self.old.streams key) → self.new ≡ self.old }
+        ensures still { ClientStandsInQueue queue (client_at self.old.streams key) → self.new ≡ self.old }
         ensures others { OtherSlabKeysStay key self.old.streams self.new.streams }
     {
         if let Some(client) = self.streams.get(key) {
@@ -368,6 +383,8 @@ impl<S: Stream + Drop> Clients<S> {
 
     /// Writes what is kept for a client, as far as the system takes it. Whether that could be done.
     pub(crate) fn flush(&mut self, key: usize, now: u64) -> bool
+        ensures unsent { self.new.unsent ≡ unsent_where_changed self.old.unsent (client_at self.old.streams key)
+            (client_at self.new.streams key) }
         ensures open { self.new.open ≡ self.old.open }
         ensures others { OtherSlabKeysStay key self.old.streams self.new.streams }
     {
@@ -376,10 +393,7 @@ impl<S: Stream + Drop> Clients<S> {
         };
         let (unsent, written) = (client.peer.unsent(), client.peer.written);
         let flushed = client.peer.flush(now);
-        self.unsent = self
-            .unsent
-            .saturating_sub(unsent)
-            .saturating_add(client.peer.unsent());
+        self.unsent = held_after(self.unsent, unsent, client.peer.unsent());
         self.endings
             .add_written(client.peer.written.saturating_sub(written));
         flushed.is_ok()
@@ -387,12 +401,14 @@ impl<S: Stream + Drop> Clients<S> {
 
     /// Writes to a client, and keeps what the system doesn't take. Whether that could be done.
     pub(crate) fn write(&mut self, key: usize, bytes: &[u8], now: u64) -> bool
-        ensures written { IsDoneToClientsPeer (PeerIsWritten S.Passed bytes.now) (slab.get self.old.streams key)
-            (slab.get self.new.streams key) }
-        ensures there { OnTrue result (IsSome (slab.get self.old.streams key)) }
-        ensures going { OnTrue result (client_is_cut (slab.get self.new.streams key)
-            ≡ client_is_cut (slab.get self.old.streams key)) }
-        ensures failed { OnFalse result (client_is_cut (slab.get self.new.streams key) ≡ true) }
+        ensures written { IsDoneToClientsPeer (PeerIsWritten S.Passed bytes.now) (client_at self.old.streams key)
+            (client_at self.new.streams key) }
+        ensures there { OnTrue result (IsSome (client_at self.old.streams key)) }
+        ensures going { OnTrue result (client_is_cut (client_at self.new.streams key)
+            ≡ client_is_cut (client_at self.old.streams key)) }
+        ensures failed { OnFalse result (client_is_cut (client_at self.new.streams key) ≡ true) }
+        ensures unsent { self.new.unsent ≡ unsent_where_changed self.old.unsent (client_at self.old.streams key)
+            (client_at self.new.streams key) }
         ensures open { self.new.open ≡ self.old.open }
         ensures others { OtherSlabKeysStay key self.old.streams self.new.streams }
     {
@@ -401,10 +417,7 @@ impl<S: Stream + Drop> Clients<S> {
         };
         let (unsent, before) = (client.peer.unsent(), client.peer.written);
         let written = client.peer.write(bytes, now);
-        self.unsent = self
-            .unsent
-            .saturating_sub(unsent)
-            .saturating_add(client.peer.unsent());
+        self.unsent = held_after(self.unsent, unsent, client.peer.unsent());
         self.endings
             .add_written(client.peer.written.saturating_sub(before));
         written.is_ok()
@@ -437,7 +450,7 @@ impl<S: Stream + Drop> Clients<S> {
     /// keep that it is between two requests, it is cut off.
     pub(crate) fn answered(&mut self, key: usize, now: u64) -> u64
         ensures took { result ≡ milliseconds_since now
-            (option_and_then (λ client. client.asked) (slab.get self.old.streams key)) }
+            (option_and_then (λ client. client.asked) (client_at self.old.streams key)) }
         ensures others { OtherSlabKeysStay key self.old.streams self.new.streams }
     {
         let Some(client) = self.streams.get_mut(key) else {
@@ -547,23 +560,17 @@ impl<S: Stream + Drop> Clients<S> {
 
     /// The client for which the most is held, and how much.
     pub(crate) fn largest(&self) -> Option<(usize, usize)> {
-        let mut largest = None;
-        let mut most = 0usize;
-        for (key, client) in self.streams.iter() {
-            let held = client.peer.unsent().saturating_add(client.handed);
-            if held > most {
-                most = held;
-                largest = Some((key, held));
-            }
-        }
-        largest
+        self.streams
+            .iter()
+            .map(|(key, client)| (key, client.peer.unsent().saturating_add(client.handed)))
+            .max_by_key(|(_, held)| *held)
     }
 
     /// Puts a client among the ends that are read next, where it may give something and doesn't stand there. Its number
     /// is to be added then.
     pub(crate) fn begin_listing(&mut self, key: usize) -> Option<u64>
-        ensures number { result ≡ number_to_list (slab.get self.old.streams key) }
-        ensures marked { slab.get self.new.streams key ≡ option_map listed_client (slab.get self.old.streams key) }
+        ensures number { result ≡ number_to_list (client_at self.old.streams key) }
+        ensures marked { client_at self.new.streams key ≡ option_map listed_client (client_at self.old.streams key) }
         ensures open { self.new.open ≡ self.old.open }
         ensures others { OtherSlabKeysStay key self.old.streams self.new.streams }
     {

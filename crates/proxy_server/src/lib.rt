@@ -15,11 +15,15 @@ mod links;
 mod moments;
 mod pace;
 mod server;
+mod server_cases;
 mod sockets;
 mod stats;
 
 pub use crate::limits::Limits;
 pub use crate::server::{ServeFault, Server, Turned};
+pub use crate::server_cases::{
+    worked_streams, worked_times_of_clients, worked_times_of_links, worked_turns,
+};
 pub use crate::sockets::live_sockets::LiveSockets;
 pub use proxy_figures::{CountedShelf, ServerFacts, StoreCounts, Troubles};
 pub use proxy_record::{RecordFault, Recorder, Recording};

@@ -17,6 +17,7 @@ pub(crate) mod link;
 use crate::limits::{Limits, SECOND};
 use crate::links::link::{Link, mark_peer_ready};
 use crate::moments::Moments;
+use crate::sockets::peer::held_after;
 use crate::sockets::stream::Stream;
 use mio::event::Event;
 use mio::net::TcpStream;
@@ -48,10 +49,7 @@ impl Links {
             if let Some(peer) = &mut link.peer {
                 let (unsent, written) = (peer.unsent(), peer.written);
                 let marked = mark_peer_ready(peer, event, now);
-                self.held = self
-                    .held
-                    .saturating_sub(unsent)
-                    .saturating_add(peer.unsent());
+                self.held = held_after(self.held, unsent, peer.unsent());
                 let more = peer.written.saturating_sub(written);
                 self.origins.add_written(link.origin, more);
                 return marked;
@@ -131,10 +129,7 @@ impl<S: Stream + Drop> Links<S> {
         };
         let (unsent, written) = (peer.unsent(), peer.written);
         let is_written = peer.write(bytes, now).is_ok() || !peer.connecting;
-        self.held = self
-            .held
-            .saturating_sub(unsent)
-            .saturating_add(peer.unsent());
+        self.held = held_after(self.held, unsent, peer.unsent());
         let more = peer.written.saturating_sub(written);
         self.origins.add_written(link.origin, more);
         is_written
@@ -233,16 +228,10 @@ impl<S: Stream + Drop> Links<S> {
 
     /// The link for which the most is held, and how much.
     pub(crate) fn largest(&self) -> Option<(u64, usize)> {
-        let mut largest = None;
-        let mut most = 0usize;
-        for (number, link) in &self.items {
-            let held = link.held();
-            if held > most {
-                most = held;
-                largest = Some((*number, held));
-            }
-        }
-        largest
+        self.items
+            .iter()
+            .map(|(number, link)| (*number, link.held()))
+            .max_by_key(|(_, held)| *held)
     }
 
     /// Drops the stream of a link. Its number stays until it is taken out.

@@ -44,10 +44,8 @@ impl Moments {
 
     /// The earliest, and whose it is.
     pub(crate) fn first(&self) -> Option<(u64, u64)> {
-        match self.items.first() {
-            Some(moment) => Some((moment.at, moment.id)),
-            None => None,
-        }
+        let moment = self.items.first()?;
+        Some((moment.at, moment.id))
     }
 
     /// Takes out the earliest, where its moment has come. Whose it was.

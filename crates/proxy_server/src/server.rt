@@ -1,5 +1,6 @@
 //! A server: a wait, what failed or was silent since the last turn, and a turn, again and again.
 ghost use Rattle.std.specs.Prelude.{◌≡◌, ◌<◌, ◌||◌, Bool, true, false, [], Some, IfOk, IfSome};
+ghost use Rattle.hx_allow.specs.Tables.{TableWasRead};
 ghost use Rattle.hx_fields.specs.declared.limits.TheConstants.{END_OF_TIME};
 ghost use Rattle.proxy_engine.specs.State.{EngineRepresents, new_engine_model};
 ghost use Rattle.proxy_turn.specs.Served.{EngineIsServing, EngineGoesOn};
@@ -137,6 +138,7 @@ impl<'a, S: Shelf + Drop, R: Net, W: Write + Drop> Server<'a, S, R, W> {
         requires empty { S.entries shelf ≡ [] }
         requires capacity { S.limit shelf ≡ config.capacity }
         ensures table { result.engine.core.table ≡ config }
+        ensures read { TableWasRead result.engine.core.table }
         ensures record { result.recorder ≡ recorder }
         ensures free { (result.failed ≡ false) × (result.taken ≡ false) × (result.settled ≡ true) }
         ensures begins { EngineRepresents result.engine
@@ -149,6 +151,7 @@ impl<'a, S: Shelf + Drop, R: Net, W: Write + Drop> Server<'a, S, R, W> {
             }) 1) }
     {
         engines_go_on();
+        config.was_read();
         Server {
             alloc,
             engine: Engine::new(alloc, config, shelf, 1, 1),
@@ -218,12 +221,8 @@ impl<'a, S: Shelf + Drop, R: Net, W: Write + Drop> Server<'a, S, R, W> {
     fn serve_next<C: Clock>(&mut self, clock: &C) -> Result<Turned, ServeFault>
         ensures { ServeTurnAnswers self.old self.new result }
     {
-        if self
-            .ends
-            .sockets
-            .wait(self.pace.busy, self.pace.starved)
-            .is_err()
-        {
+        let waited = self.ends.sockets.wait(self.pace.busy, self.pace.starved);
+        if waited.is_err() {
             return Err(ServeFault::Socket);
         }
         let Ok(elapsed) = elapsed(clock) else {

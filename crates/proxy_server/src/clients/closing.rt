@@ -5,9 +5,9 @@
 ghost use Rattle.std.specs.Prelude.{◌≡◌, ◌<◌, length};
 ghost use Rattle.std.specs.Ordering.{nat_cmp};
 ghost use Rattle.std.specs.BTreeMap.{get};
-ghost use Rattle.slab.specs.Slab as slab;
 ghost use Rattle.proxy_server.specs.Closing.{ClosedStreamsAreBounded, ClientStandsInQueue, AtMostOneOtherStreamGoes};
 ghost use Rattle.proxy_server.specs.Closing.{StreamIsClosedByNumber};
+ghost use Rattle.proxy_server.specs.Streams.{client_at};
 
 use crate::clients::Clients;
 use crate::clients::client::Client;
@@ -90,7 +90,7 @@ impl<S: Stream + Drop> Clients<S> {
         let Some(client) = self.streams.get_mut(key) else {
             return;
         };
-        if advance(client, now) == StillToWait::No {
+        if advance(&mut **client, now) == StillToWait::No {
             self.drop_stream(key);
             return;
         }
@@ -105,7 +105,7 @@ impl<S: Stream + Drop> Clients<S> {
 
     /// A closed connection whose client has taken everything. Beyond the most of these the first is closed whole.
     fn linger_after_close(&mut self, key: usize)
-        ensures bound { ClientStandsInQueue StreamQueue.Lingering (slab.get self.old.streams key)
+        ensures bound { ClientStandsInQueue StreamQueue.Lingering (client_at self.old.streams key)
             → ClosedStreamsAreBounded self.old.queues.lingering self.old.streams self.new.streams }
         ensures others { AtMostOneOtherStreamGoes key self.old.streams self.new.streams }
     {

@@ -177,7 +177,7 @@ impl Clients {
             return true;
         };
         match self.streams.get_mut(key) {
-            Some(client) => is_late(client, &limits, now),
+            Some(client) => is_late(&mut **client, &limits, now),
             None => true,
         }
     }

@@ -90,9 +90,7 @@ impl StreamQueues {
 
     /// The first in a queue from a stamp on.
     pub(crate) fn next_from(&self, queue: StreamQueue, from: u64) -> Option<(u64, usize)> {
-        match self.queue(queue).range(from..).next() {
-            Some((stamp, key)) => Some((*stamp, *key)),
-            None => None,
-        }
+        let (stamp, key) = self.queue(queue).range(from..).next()?;
+        Some((*stamp, *key))
     }
 }

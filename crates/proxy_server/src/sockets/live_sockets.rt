@@ -1,10 +1,10 @@
 //! TCP sockets of the system, under the numbers of the engine.
 ghost use Rattle.std.specs.Prelude.{◌≡◌, ◌≤◌, ◌+◌, ◌-◌, ◌/◌, ◌^◌, ◌==◌, if◌then◌else◌, min, length, vec_len};
 ghost use Rattle.std.specs.Prelude.{true, false, option_copied, is_some, IfOk, IsOk, None};
-ghost use Rattle.proxy_turn.specs.Counts.{CountRisesBy, failed};
 ghost use Rattle.proxy_turn.specs.Received.{FitsTheBuffer};
 ghost use Rattle.std.specs.Ordering.{nat_cmp};
 ghost use Rattle.std.specs.BTreeMap.{get};
+ghost use Rattle.proxy_figures.specs.KnownOrigins.{some_is_crowded};
 ghost use Rattle.proxy_server.specs.Connecting.{link_is_connecting};
 ghost use Rattle.proxy_server.specs.OtherEntries.{OtherEntriesStay, ChangesOnlyAtNumber};
 ghost use Rattle.proxy_server.specs.Forgetting.{ClientIsForgotten, LinkIsForgotten};
@@ -17,6 +17,7 @@ use crate::clients::Clients;
 use crate::limits::{LONGEST_WAIT, Limits, MOST_EVENTS, MOST_READ, SECOND};
 use crate::links::Links;
 use crate::links::link::Link;
+use crate::sockets::call_counts::CallCounts;
 use crate::sockets::peer::Peer;
 use crate::sockets::send_buffer::bound_send_buffers;
 use crate::sockets::socket_tokens::Holder;
@@ -73,14 +74,6 @@ pub struct LiveSockets<'a, R: Net> {
     /// Milliseconds of the clock that never goes back, at the last wait.
     pub(crate) now: u64,
     pub(crate) calls: CallCounts,
-}
-
-/// How many accepts and reads were asked for, and how many calls failed.
-#[derive(Clone, Copy, Debug)]
-pub(crate) struct CallCounts {
-    accepts: u64,
-    reads: u64,
-    failures: u64,
 }
 
 /// Begins a connection to an origin. A refusal near by is known at once.
@@ -204,11 +197,7 @@ impl<'a, R: Net> LiveSockets<'a, R> {
             asked: Asked::new(alloc),
             moment: 0,
             now: 0,
-            calls: CallCounts {
-                accepts: 0,
-                reads: 0,
-                failures: 0,
-            },
+            calls: CallCounts::new(),
         })
     }
 
@@ -508,7 +497,7 @@ impl<'a, R: Net> LiveSockets<'a, R> {
     /// A client that has sent its end, where nearly as many links to an origin are open as may be: if it waits for an
     /// answer, that is given up for those who still listen.
     pub fn next_departed(&mut self) -> Option<u64>
-        ensures crowded { self.old.links.origins.crowded ≡ 0 → result ≡ None }
+        ensures crowded { some_is_crowded self.old.links.origins ≡ false → result ≡ None }
         ensures rest { self.new ≡ record self.old { clients = self.new.clients } }
     {
         if !self.links.origins.some_is_crowded() {
@@ -566,7 +555,7 @@ impl<'a, R: Net> LiveSockets<'a, R> {
             no_link: self.accept_counts.no_link,
             beyond_bound: origins.beyond_bound(),
             silent: if self.limits.origin_probe {
-                origins.fallen_silent
+                origins.fallen_silent()
             } else {
                 0
             },
@@ -720,13 +709,11 @@ impl<'a, R: Net> LiveSockets<'a, R> {
         ensures length { length buf.new ≡ length buf.old }
         ensures calls { self.new.calls ≡ self.old.calls }
     {
-        match read_link(&mut self.links, l, buf, self.now) {
-            Ok(received) => Ok(received),
-            Err(_) => match self.disconnect_link(l, FailKind::Closed) {
-                Ok(()) => Ok(Received::Nothing),
-                Err(failed) => Err(failed),
-            },
+        if let Ok(received) = read_link(&mut self.links, l, buf, self.now) {
+            return Ok(received);
         }
+        self.disconnect_link(l, FailKind::Closed)?;
+        Ok(Received::Nothing)
     }
 }
 
@@ -760,9 +747,7 @@ impl<'a, R: Net> Sockets for LiveSockets<'a, R> {
             read_piece(&mut self.clients, end, &received, buf);
         }
         self.keep_within();
-        if received.is_err() {
-            self.calls.failures = self.calls.failures.saturating_add(1);
-        }
+        self.calls.count_failure(&received);
         received
     }
 
@@ -775,17 +760,13 @@ impl<'a, R: Net> Sockets for LiveSockets<'a, R> {
             }
             End::Link(l) => self.write_link(l, bytes),
         };
-        if written.is_err() {
-            self.calls.failures = self.calls.failures.saturating_add(1);
-        }
+        self.calls.count_failure(&written);
         written
     }
 
     fn connect(&mut self, link: u64, address: SocketAddrV4) -> Result<(), SocketFailed> {
         let connected = self.connect_link(link, address);
-        if connected.is_err() {
-            self.calls.failures = self.calls.failures.saturating_add(1);
-        }
+        self.calls.count_failure(&connected);
         connected
     }
 

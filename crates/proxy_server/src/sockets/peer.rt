@@ -1,6 +1,6 @@
 //! A stream of the system, and what is known of it. No call waits.
 ghost use Rattle.std.specs.Prelude.{◌≡◌, ◌<◌, ◌≤◌, ◌-◌, ◌||◌, true, false, not, [], ◌∷◌, ◌++◌, length, IfOk, OnOk};
-ghost use Rattle.std.specs.Prelude.{OnErr};
+ghost use Rattle.std.specs.Prelude.{OnErr, min, ◌+◌, ◌^◌};
 ghost use Rattle.proxy_turn.specs.Received.{FitsTheBuffer};
 ghost use Rattle.proxy_server.specs.Patience.{end_is_silent};
 ghost use Rattle.proxy_server.specs.Peers.{peer_read_outcome, BytesAreHandedOn, BytesAreHandedOnInPart, MoreMayBeLeft};
@@ -42,6 +42,13 @@ pub(crate) struct Peer<S: Stream + Drop> {
     /// Bytes that have come, and that the system has taken.
     pub(crate) received: u64,
     pub(crate) written: u64,
+}
+
+/// Bytes that are held of all ends, where so many of one were, and so many are now.
+pub(crate) fn held_after(all: usize, before: usize, after: usize) -> usize
+    ensures { result ≡ min (all - before + after) (2 ^ 64 - 1) }
+{
+    all.saturating_sub(before).saturating_add(after)
 }
 
 impl Peer<TcpStream> {

@@ -5,7 +5,7 @@ ghost use Rattle.proxy_server.specs.Logging.{LineAboutReplyIsAdded};
 use crate::clients::Clients;
 use crate::clients::client::Client;
 use crate::sockets::live_sockets::LiveSockets;
-use proxy_figures::{ReplySort, Source, sort_of};
+use proxy_figures::sort_of;
 use proxy_log::{Lines, ReplyFacts, read_reply};
 use std::net::Net;
 
@@ -41,7 +41,7 @@ fn log_reply(log: &mut Option<Lines>, clients: &mut Clients, n: u64, reply: &Rep
         return;
     };
     if let Some(client) = clients.streams.get_mut(key) {
-        log_line(lines, client, reply);
+        log_line(lines, &mut **client, reply);
     }
 }
 
@@ -54,8 +54,13 @@ impl<'a, R: Net> LiveSockets<'a, R> {
             return;
         };
         let sort = sort_of(facts.reason);
-        let origin = self.origin_of(sort);
-        self.count_reply(facts.status, sort, took, origin);
+        let origin = self.asked.origin_of(sort);
+        if let (Some(replies), Some(sort)) = (&mut self.replies, sort) {
+            replies.add(facts.status, &sort, took);
+            if let Some(place) = origin {
+                self.links.origins.answered(place, facts.status, &sort);
+            }
+        }
         let reply = Reply {
             moment: self.moment,
             facts,
@@ -63,43 +68,5 @@ impl<'a, R: Net> LiveSockets<'a, R> {
             origin: self.links.origins.name(origin).as_bytes(),
         };
         log_reply(&mut self.log, &mut self.clients, n, &reply);
-    }
-
-    /// The place of the origin that was asked for a reply: what an engine makes of an answer goes out right behind the
-    /// end of its link.
-    fn origin_of(&mut self, sort: Option<ReplySort>) -> Option<usize>
-        ensures log { self.new.log ≡ self.old.log }
-        ensures clients { self.new.clients ≡ self.old.clients }
-        ensures moment { self.new.moment ≡ self.old.moment }
-        ensures calls { self.new.calls ≡ self.old.calls }
-    {
-        match sort {
-            Some(sort) if sort.source() == Source::Origin => self.asked.next(sort.is_answered()),
-            _ => {
-                self.asked.shut(None);
-                None
-            }
-        }
-    }
-
-    fn count_reply(
-        &mut self,
-        status: u16,
-        sort: Option<ReplySort>,
-        took: u64,
-        origin: Option<usize>,
-    )
-        ensures log { self.new.log ≡ self.old.log }
-        ensures clients { self.new.clients ≡ self.old.clients }
-        ensures moment { self.new.moment ≡ self.old.moment }
-        ensures calls { self.new.calls ≡ self.old.calls }
-    {
-        let (Some(replies), Some(sort)) = (&mut self.replies, sort) else {
-            return;
-        };
-        replies.add(status, &sort, took);
-        if let Some(place) = origin {
-            self.links.origins.answered(place, status, &sort);
-        }
     }
 }

@@ -85,4 +85,4 @@ returns-in-Some g c =
     let begun = begun_from c.args.now _ _ c.args.self.now first
     (ap (λ r. server_state c.if-refresh.self-inside.engine r.recorder (is_some r.fault) r.moment r.taken c.if-refresh.self-inside.pace.settled (calls r.accepts r.reads r.failures)) c.begin-moment.ensures.begun) in
     let before = subst (λ (a : ServerState). a.moment < END_OF_TIME) c.self.view_is c.self.invariant.1 in
-    (c.turn_at-reported.result, served_behind c.args.now _ c.args.self.now c.turn_at-reported.new.self c.turn_at-reported.result begun c.requires before c.turn_at-reported.ensures)
+    (search rules, (c.turn_at-reported.result, served_behind c.args.now _ c.args.self.now c.turn_at-reported.new.self c.turn_at-reported.result begun c.requires before c.turn_at-reported.ensures))
