@@ -163,6 +163,19 @@ def an_idle_server_is_drained_at_once(stage):
 
 
 @scenario
+def a_drain_file_out_of_sight_ends_nothing(stage):
+    """Where the file system can't tell whether the file of `--drain` is there, the server goes on."""
+    stage.origin(Origin({"/a": whole(200, KEPT, content=b"hello")}))
+    file = f"{stage.room.name}/no-folder"
+    put(file)
+    proxy = stage.proxy(options=["--drain", f"{file}/drain"])
+    expect_answer(proxy.client().ask("/a"), 200, STORED, b"hello")
+    # It looks each second.
+    time.sleep(2.5)
+    expect_answer(proxy.client().ask("/a"), 200, HIT, b"hello")
+
+
+@scenario
 def a_log_is_opened_anew(stage):
     """The log is moved away: soon lines go to a new file of its name, and none is lost meanwhile. The same where it is removed."""
     stage.origin(Origin({"/a": whole(200, KEPT, content=b"hello")}))

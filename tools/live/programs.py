@@ -50,18 +50,19 @@ PLACES = {
 }
 # Lines of which some are never reached, and what is told of a table with them.
 CROSSED = [
-    ("/a", ["GET"], "127.0.0.1:1"),
-    ("/", ["*"], "127.0.0.1:2", {"lifetime": 60, "wait": "missing-or-stale", "explain": "storing"}),
+    ("/a", ["GET"], "127.0.0.1:1", {"errors": "not-stored"}),
+    ("/", ["*"], "127.0.0.1:2", {"lifetime": 60, "set-cookie": "not-stored", "wait": "missing-or-stale", "explain": "storing"}),
     ("/a/b", ["GET"], "deny"),
     ("/c", ["POST"], "127.0.0.1:3"),
     ("/", ["TRACEROUTE"], "deny"),
 ]
 IDLE = "".join(f"line {n} is never reached: line {first} takes all of it\n" for n, first in ((3, 1), (4, 2), (5, 2)))
 IDLE += "max_stored is above max_body: what is larger than max_body isn't stored either\n"
-SECOND_LINE = "is allowed by line 2, origin 127.0.0.1:2", ['cache = "on"', "lifetime = 60", 'wait = "missing-or-stale"', 'explain = "storing"']
+SECOND_WORDS = ['cache = "on"', "lifetime = 60", 'set-cookie = "not-stored"', 'wait = "missing-or-stale"', 'explain = "storing"']
+SECOND_LINE = "is allowed by line 2, origin 127.0.0.1:2", SECOND_WORDS
 # What requests meet there.
 MET = [
-    ("GET http://h.example/a/b", "is allowed by line 1, origin 127.0.0.1:1", ['cache = "on"']),
+    ("GET http://h.example/a/b", "is allowed by line 1, origin 127.0.0.1:1", ['cache = "on"', 'errors = "not-stored"']),
     ("GET https://h.example", *SECOND_LINE),
     ("DELETE http://h.example/%61?x=/", *SECOND_LINE),
     ("OPTIONS http://h.example/a", "is denied: no line allows it", []),

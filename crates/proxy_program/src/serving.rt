@@ -1,4 +1,6 @@
 //! Serving: the table, the listener, the record and the log, and then turn after turn.
+ghost use Rattle.std.specs.Prelude.{IfOk};
+ghost use Rattle.proxy_program.specs.Seeds.{SeedIsOfKeys};
 
 use crate::command_line::Service;
 use crate::commit::commit_of;
@@ -194,7 +196,9 @@ fn figures_of<'a, 'n, R: Net + Clock + Files + AllocGlobal>(
 }
 
 /// A number that nobody can foresee, for what tells variants apart before they are looked at.
-fn seed_of<R: RandomSource + AllocGlobal>(rt: &R) -> Result<u64, Fault> {
+fn seed_of<R: RandomSource + AllocGlobal>(rt: &R) -> Result<u64, Fault>
+    ensures { IfOk result SeedIsOfKeys }
+{
     match RandomState::new(rt) {
         Ok(state) => Ok(state.build_hasher().finish()),
         Err(e) => {
