@@ -2,6 +2,9 @@ pub mod EntryLists
 pub mod FoundSerials
 pub mod Recency
 pub mod RecencyOrder
+pub mod WeightedRecency
+pub mod Fronts
+pub mod EntryWeights
 mod KeyedEntries
 mod Indices
 mod MarkLists
