@@ -58,7 +58,7 @@ front_is_taken front rest xs e =
     ∙ ap (take (length front)) e
 
 -- and no longer front than n is one of the first n
-front_of_taken : {A : Type 0} (n : ℕ) (other rest xs : List A) → other ++ rest ≡ xs → length other ≤ n →
+pub front_of_taken : {A : Type 0} (n : ℕ) (other rest xs : List A) → other ++ rest ≡ xs → length other ≤ n →
     (more : List A) × (other ++ more ≡ take n xs)
 front_of_taken n [] rest xs e h = (take n xs, refl)
 front_of_taken zero (y ∷ ys) rest xs e h = absurd (omega arith)

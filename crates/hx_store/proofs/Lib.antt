@@ -5,6 +5,8 @@ pub mod RecencyOrder
 pub mod WeightedRecency
 pub mod Fronts
 pub mod EntryWeights
+mod CountedWeights
+pub mod Shedding
 mod KeyedEntries
 mod Indices
 mod MarkLists

@@ -4,8 +4,9 @@
 -- StoreBounds: the most entries, and the most bytes where they are bounded        IsWithin: a list keeps to both
 -- IsLongestFrontWithin: the longest front of a list that does        front_within, cut_to_bounds: it, computed
 -- AreWeightsOf: what each serial weighs is what its entry does
-use Rattle.std.specs.Prelude.{◌≡◌, ℕ, ◌+◌, ◌-◌, ◌≤◌, nat_le, Option, None, Some, List, [], ◌∷◌, ◌++◌}
-use Rattle.std.specs.Prelude.{length, take, if◌then◌else◌, IfSome}
+-- shed_entry, after_shedding: the last one goes where a list weighs too much        counted_weight: what a sum counts
+use Rattle.std.specs.Prelude.{◌≡◌, ℕ, ◌+◌, ◌-◌, ◌^◌, ◌≤◌, min, nat_le, nat_lt, Option, None, Some, List, [], ◌∷◌, ◌++◌}
+use Rattle.std.specs.Prelude.{length, take, slice_get, if◌then◌else◌, IfSome}
 use Rattle.std.specs.List.{sum_by}
 use Rattle.hx_fields.specs.declared.field_line.Field.{Field}
 use Rattle.hx_target.specs.declared.keys.Key.{Key}
@@ -35,7 +36,8 @@ weight_of_nominated values = sum_by weight_of_nominated_value values
 
 -- What an entry takes beside its bytes: its node, its places in two hash tables, its directives, its mark, what the C
 -- library keeps of each block, and 64 for each of some six lines. Of such an entry 1,091 bytes were measured, its key
--- among them (docs/PERFORMANCE.md), which is rounded up. own: DECISIONS, "What an entry weighs"
+-- among them (docs/PERFORMANCE.md).
+-- own: that number rounded up, whatever the system gave ("What an entry weighs")
 abbrev pub bytes_of_an_entry : ℕ
 bytes_of_an_entry = 1200
 
@@ -79,7 +81,7 @@ abbrev pub front_within : {A : Type 0} → StoreBounds → (A → ℕ) → List 
 front_within bounds weight xs = front_of_weight_if_any weight bounds.bytes (take bounds.entries xs)
 
 -- The entries that stay: the least recently used, which stand last, go until both bounds hold.
--- own: DECISIONS, "The last go until both bounds hold"
+-- own: whatever each of them weighs ("The last go until both bounds hold")
 abbrev pub cut_to_bounds : StoreBounds → List Stored → List Stored
 cut_to_bounds bounds es = front_within bounds weight_of es
 
@@ -87,3 +89,17 @@ cut_to_bounds bounds es = front_within bounds weight_of es
 abbrev pub AreWeightsOf : (ℕ → ℕ) → List Stored → Type 0
 AreWeightsOf weights [] = Unit {0}
 AreWeightsOf weights (e ∷ es) = (weights e.serial ≡ weight_of e) × AreWeightsOf weights es
+
+-- where a list weighs more than so much the last one goes: that one, and what is left
+abbrev pub shed_entry : ℕ → List Stored → Option Stored
+shed_entry most es = if nat_lt most (total_weight es) then slice_get es (length es - 1) else None
+
+abbrev pub after_shedding : ℕ → List Stored → List Stored
+after_shedding most es = if nat_lt most (total_weight es) then take (length es - 1) es else es
+
+-- what a sum counts of an entry: its weight, of which no more fits a number of 64 bits
+abbrev pub counted_weight : Stored → ℕ
+counted_weight e = min (weight_of e) (2 ^ 64 - 1)
+
+abbrev pub counted_total : List Stored → ℕ
+counted_total es = sum_by counted_weight es

@@ -1,7 +1,7 @@
 //! What the definitions of weights and bounds say of worked cases, computed, and of every list.
 
 ghost use Rattle.std.specs.Prelude.{◌≡◌, ◌+◌, ◌<◌, ◌≤◌, ◌↔◌, ◌∷◌, ◌++◌, [], ℕ, Bool, List, None, true, length, take};
-ghost use Rattle.std.specs.Prelude.{Decides};
+ghost use Rattle.std.specs.Prelude.{Decides, Some};
 ghost use Rattle.std.specs.List.{filter};
 ghost use Rattle.hx_fields.specs.declared.field_line.Field.{Field as Line};
 ghost use Rattle.hx_target.specs.declared.keys.Key.{Key as StoreKey};
@@ -15,7 +15,7 @@ ghost use Rattle.hx_store.specs.Recency.{held_of, recent_after_change, recent_of
 ghost use Rattle.hx_store.specs.Serials.{serial_is_in};
 ghost use Rattle.hx_store.specs.Stored.{Stored};
 ghost use Rattle.hx_store.specs.Weights.{AreWeightsOf, cut_to_bounds, weight_of, IsLongestFrontWithin, IsWithin};
-ghost use Rattle.hx_store.specs.Weights.{length_if_any, total_weight};
+ghost use Rattle.hx_store.specs.Weights.{after_shedding, counted_total, length_if_any, shed_entry, total_weight};
 ghost use Rattle.hx_store.specs.Weights.{StoreBounds as Bounds, front_within};
 ghost use Rattle.hx_store.specs.WeightedRecency.{WeighedChange as Change, WeighedHeld, changes_of, weighed_bounded_of};
 ghost use Rattle.hx_store.specs.WeightedRecency.{weighed_held_of};
@@ -92,6 +92,33 @@ pub fn only_storing_and_freshening_break_a_bound()
         → IsWithin bounds weight_of entries → IsWithin bounds weight_of (filter stays entries) }
     ensures used { (bounds : Bounds) (serial : ℕ) (entries : List Stored)
         → IsWithin bounds weight_of entries → IsWithin bounds weight_of (with_promoted serial entries) }
+{}
+
+/// The last one goes where a list weighs too much, and only there. Whatever goes so, what stays within the bounds is the
+/// same; and once nothing more goes, that is the list itself. The bound of entries may be kept first.
+pub fn shedding_leaves_what_stays_within_the_bounds()
+    ensures last { (most : ℕ) (entries : List Stored) (e : Stored) → shed_entry most entries ≡ Some e
+        → after_shedding most entries ++ e ∷ [] ≡ entries }
+    ensures light { (most : ℕ) (entries : List Stored) → shed_entry most entries ≡ None
+        → total_weight entries ≤ most }
+    ensures same { (number most : ℕ) (entries : List Stored)
+        → cut_to_bounds (record { entries = number; bytes = Some most }) (after_shedding most entries)
+        ≡ cut_to_bounds (record { entries = number; bytes = Some most }) entries }
+    ensures end { (number most : ℕ) (entries : List Stored) → length entries ≤ number
+        → shed_entry most entries ≡ None
+        → cut_to_bounds (record { entries = number; bytes = Some most }) entries ≡ entries }
+    ensures numbers_first { (bounds : Bounds) (entries : List Stored)
+        → cut_to_bounds bounds (take bounds.entries entries) ≡ cut_to_bounds bounds entries }
+{}
+
+/// Three entries of 1,206 bytes each, the third first: 3,618 bytes.
+pub fn entries_are_shed()
+    ensures light { shed_entry 3618 (third ∷ second ∷ first ∷ []) ≡ None }
+    ensures stays { after_shedding 3618 (third ∷ second ∷ first ∷ []) ≡ third ∷ second ∷ first ∷ [] }
+    ensures heavy { shed_entry 3617 (third ∷ second ∷ first ∷ []) ≡ Some first }
+    ensures less { after_shedding 3617 (third ∷ second ∷ first ∷ []) ≡ third ∷ second ∷ [] }
+    ensures none { shed_entry 0 [] ≡ None }
+    ensures counted { counted_total (third ∷ second ∷ first ∷ []) ≡ 3618 }
 {}
 
 /// By weights that are those of the entries, their serials are cut where the entries are.

@@ -4,7 +4,7 @@
 
 ghost use Rattle.std.specs.Prelude.{◌≡◌, ◌+◌, ◌-◌, ◌^◌, min, option_copied};
 ghost use Rattle.hx_store.specs.Weights.{weight_of, weight_of_key, weight_of_line, weight_of_lines, length_if_any};
-ghost use Rattle.hx_store.specs.Weights.{weight_of_nominated, weight_of_nominated_value};
+ghost use Rattle.hx_store.specs.Weights.{total_weight, weight_of_nominated, weight_of_nominated_value};
 
 use crate::entries::Entry;
 use hx_fields::{Bytes, Field};
@@ -77,6 +77,17 @@ fn weight_of_nominated(values: &[NominatedValue]) -> u64
     let mut weight: u64 = 0;
     for kept in values {
         weight = weight.saturating_add(weight_of_nominated_value(kept));
+    }
+    weight
+}
+
+/// The bytes that some entries weigh together, 2^64 - 1 where they are more.
+pub(crate) fn total_weight(entries: &[Entry]) -> u64
+    ensures { result ≡ min (total_weight entries.now) (2 ^ 64 - 1) }
+{
+    let mut weight: u64 = 0;
+    for entry in entries {
+        weight = weight.saturating_add(entry.weight());
     }
     weight
 }
