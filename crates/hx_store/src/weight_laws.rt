@@ -1,7 +1,7 @@
 //! What the definitions of weights and bounds say of worked cases, computed, and of every list.
 
 ghost use Rattle.std.specs.Prelude.{◌≡◌, ◌+◌, ◌<◌, ◌≤◌, ◌↔◌, ◌∷◌, ◌++◌, [], ℕ, Bool, List, None, true, length, take};
-ghost use Rattle.std.specs.Prelude.{Decides, Some};
+ghost use Rattle.std.specs.Prelude.{◌-◌, ◌^◌, min, Decides, Some};
 ghost use Rattle.std.specs.List.{filter};
 ghost use Rattle.hx_fields.specs.declared.field_line.Field.{Field as Line};
 ghost use Rattle.hx_target.specs.declared.keys.Key.{Key as StoreKey};
@@ -94,8 +94,9 @@ pub fn only_storing_and_freshening_break_a_bound()
         → IsWithin bounds weight_of entries → IsWithin bounds weight_of (with_promoted serial entries) }
 {}
 
-/// The last one goes where a list weighs too much, and only there. Whatever goes so, what stays within the bounds is the
-/// same; and once nothing more goes, that is the list itself. The bound of entries may be kept first.
+/// The last one goes where a list weighs too much, and only there. Whatever goes so, what stays within the bounds is
+/// the same; and once nothing more goes, that is the list itself. The bound of entries may be kept first. What is
+/// counted of the weights shows what they are together, as far as 64 bits do, and fits 128.
 pub fn shedding_leaves_what_stays_within_the_bounds()
     ensures last { (most : ℕ) (entries : List Stored) (e : Stored) → shed_entry most entries ≡ Some e
         → after_shedding most entries ++ e ∷ [] ≡ entries }
@@ -109,6 +110,9 @@ pub fn shedding_leaves_what_stays_within_the_bounds()
         → cut_to_bounds (record { entries = number; bytes = Some most }) entries ≡ entries }
     ensures numbers_first { (bounds : Bounds) (entries : List Stored)
         → cut_to_bounds bounds (take bounds.entries entries) ≡ cut_to_bounds bounds entries }
+    ensures counted { (entries : List Stored) → min (counted_total entries) (2 ^ 64 - 1)
+        ≡ min (total_weight entries) (2 ^ 64 - 1) }
+    ensures fits { (entries : List Stored) → length entries < 2 ^ 64 → counted_total entries < 2 ^ 128 }
 {}
 
 /// Three entries of 1,206 bytes each, the third first: 3,618 bytes.
