@@ -23,7 +23,7 @@ WRONG = [
     ("scale-out/nginx.conf", "hash $host$request_uri consistent;      # (the same ring)", "hash $request_uri consistent;", "scale_out_nginx"),
     ("origins/haproxy.cfg", "    option redispatch 1 ", "    #", "origins_by_haproxy"),
     ("origins/haproxy.cfg", "http-reuse always", "http-reuse never", "origins_by_haproxy"),
-    ("origins/haproxy.cfg", " verifyhost app.example", "", "origins_by_haproxy"),
+    ("origins/haproxy.cfg", "verify required", "verify none", "origins_by_haproxy"),
     ("origins/nginx.conf", "#proxy_ssl_verify on;", "#proxy_ssl_verify off;", "origins_by_nginx"),
     ("origins/nginx.conf", "proxy_set_header Host $http_host;", "", "origins_by_nginx"),
     ("origins/nginx.conf", "proxy_next_upstream error timeout;", "proxy_next_upstream off;", "origins_by_nginx"),
