@@ -203,11 +203,12 @@ def times_table(title, rows, hundredths, note=""):
             name_cell(name),
             cell(f"{it.number():,}"),
             *(cell(seconds(n)) for n in (*map(it.least, hundredths), it.longest)),
+            "<td></td>",
         ]
         for name, it in rows
     ]
     named = ["median" if it == 50 else f"{it} in 100 took no longer" for it in hundredths]
-    return table(title, ["", "answers", *named, "longest"], cells, note) if cells else ""
+    return table(title, ["", "answers", *named, "longest", ""], cells, note) if cells else ""
 
 
 def origins_table(figures, most):
