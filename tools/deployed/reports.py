@@ -225,6 +225,7 @@ def report(stand):
     yield "a_log_with_times_and_origins", a_log_with_times_and_origins
     yield "a_log_of_who_asks_and_what_a_word_would_change", lambda: a_log_of_who_asks(stand)
     yield "a_crawl_with_a_query_of_its_own_each", lambda: a_crawl_with_queries(stand)
+    yield "what_was_born_old", lambda: what_was_born_old(stand)
     yield "queries_and_times_are_bounded", queries_and_times_are_bounded
     yield "forms_of_a_line", forms_of_a_line
     yield "origins_by_the_table", lambda: origins_by_the_table(stand)
@@ -286,6 +287,15 @@ def a_crawl_with_queries(stand):
     told = words_of(run(stand.file("crawl", text)).stdout)
     expect("the row of the page", True, "http://h.example/page/1 200 100.0 % 200" in told)
     expect("the clients", True, "10.0.0.0 29 14.5 % 0 261" in told and "10.0.0.6 28 14.0 % 0 252" in told)
+
+
+def what_was_born_old(stand):
+    """Responses whose lifetime was over when they were stored are told, and aren't taken for others that expired."""
+    line = "179569440%d 10.0.0.1:1 GET http://h.example/ 200 9 %s 0.010 127.0.0.1:81\n"
+    reasons = ["fwd=uri-miss;ttl=-60;stored", *["fwd=stale;ttl=-60;stored"] * 3, "fwd=uri-miss;ttl=0;stored"]
+    told = words_of(run(stand.file("old", "".join(line % it for it in enumerate(reasons)))).stdout)
+    expect("how many", 1, len([it for it in told if it.startswith("4 stored when they were over already (ttl below 0)")]))
+    expect("what they aren't taken for", [], [it for it in told if it.startswith("wait =")])
 
 
 def queries_and_times_are_bounded():

@@ -8,7 +8,7 @@ Cache-Control, so all but one of these is a guess."""
 LIFETIME, MOST = 60, 100000
 # Statuses to which `lifetime` gives one; behind a validation the client may have got 304.
 HEURISTIC = frozenset(b"200 203 204 300 301 308 404 405 410 414 501 304".split())
-REQUEST, NO_LIFETIME, STALE, TOO_LARGE, NO_DIRECTIVE, OWN_WORD, OTHER_RULE, UNTOLD = range(8)
+REQUEST, NO_LIFETIME, STALE, TOO_LARGE, NO_DIRECTIVE, OWN_WORD, OTHER_RULE, UNTOLD, BORN_OLD = range(9)
 # What stale responses are named by for which others wait by `wait`.
 OVER = {None, "must-revalidate", "max-stale", "max-age", "min-fresh"}
 NOT_STORED = {"not-stored-no-lifetime": NO_LIFETIME, "not-stored-too-large": TOO_LARGE}
@@ -44,6 +44,7 @@ WORDS = [
     ),
 ]
 NOT_HITS = [
+    (BORN_OLD, "stored when they were over already (ttl below 0): a clock that is behind, an Age, or no lifetime to speak of"),
     (OWN_WORD, "kept out by the line's own set-cookie or errors: detail=not-stored-set-cookie, not-stored-error-status"),
     (OTHER_RULE, "kept out by the origin or the client, and no word helps: another detail=not-stored-.. (tools/why)"),
     (UNTOLD, 'not stored, and nothing says why: explain = "storing" in the line has the answer say it'),
@@ -57,6 +58,8 @@ def hint_of(words, is_refusal, is_stored):
     if is_refusal:
         told = parameters.get("stale-if-error")
         return NO_DIRECTIVE if words[0].startswith("origin ") and told in ("no-directive", "too-stale") else None
+    if is_stored and parameters.get("ttl", "").startswith("-"):
+        return BORN_OLD
     if "collapsed" in parameters or words[0] in ("hit", "fwd=bypass", "fwd=method"):
         return None
     if words[0] == "fwd=request":
@@ -94,7 +97,7 @@ class Hints:
     """How many answers each word is about, and how many of them would have been hits."""
 
     def __init__(self):
-        self.asked, self.hits = [0] * 8, [0] * 8
+        self.asked, self.hits = [0] * 9, [0] * 9
         self.with_lifetime, self.over, self.large = Ends(), Ends(), Ends()
 
     def take(self, hint, target, status, moment, digits, took):
