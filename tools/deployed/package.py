@@ -154,7 +154,7 @@ def its_log_is_rotated(stand, path):
     patterns = re.search(r"^(/.*) \{$", text, re.M)[1].split()
     for name, as_name in (("revcache.service", "revcache"), ("revcache@.service", "revcache@8101")):
         with open(f"{tree}/lib/systemd/system/{name}", encoding="utf-8") as it:
-            logs = re.findall(r"^ExecStart=.* --log (\S+) --stats (\S+)$", it.read(), re.M)
+            logs = re.findall(r"^ExecStart=.* --log (\S+) --stats (\S+) ", it.read(), re.M)
         log, stats = (it.replace("%L", "/var/log").replace("%t", "/run").replace("%N", as_name) for it in logs[0])
         expect(f"of {name} its log among those that are rotated", True, any(fnmatch.fnmatchcase(log, it) for it in patterns))
         expect(f"of {name} the folder of its figures", f"/run/{as_name}", os.path.dirname(stats))

@@ -105,9 +105,10 @@ seconds by origin, cut to three digits: median, 95 in 100 took no longer, 99 in 
 127.0.0.1:9001 4 0.120 60.000 60.000 60.000
 127.0.0.1:9002 4 0.080 5.000 5.000 5.001
 slowest targets, whatever the query: on the average, the longest, and how often an origin answered
-http://a.example/x 1.663 5.001 4
 POST http://a.example/x 0.250 0.250 1
 http://a.example/y 0.080 0.080 1
+http://a.example/x 0.075 0.120 2
+http://a.example/x 0.150 0.120 2
 """
 # Of a log that has who asked, queries, and an answer of each kind that tells of a word of the table.
 COUNTED_ASKED = """

@@ -156,7 +156,7 @@ class Figures:
         self.took[reason.lane, name, took] += 1
         if len(self.took) > MOST_COUNTS:
             self.fold_times()
-        if reason.lane == FORWARDED:
+        if reason.lane == FORWARDED and not reason.is_covered:
             path = target.partition(b"?")[0]
             self.slow.take(short(path if method == b"GET" else method + b" " + path), microseconds_of(took))
 
