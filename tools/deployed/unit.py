@@ -1,8 +1,12 @@
 """The unit for systemd, as far as it can be tried without a running systemd."""
+import http.client
+import os
 import re
+import shlex
+import stat
 import subprocess
 
-from deployed.stand import deployed, need, part
+from deployed.stand import deployed, free_port, need, part, wait_until
 from live.expect import Unexpected, expect, expect_within
 
 
@@ -12,6 +16,7 @@ def unit(stand):
     yield "systemd_reads_it", lambda: systemd_reads_it(stand)
     yield "it_gives_few_privileges", lambda: it_gives_few_privileges(stand)
     yield "a_table_with_a_mistake_fails_the_start", lambda: a_table_with_a_mistake_fails_the_start(stand)
+    yield "its_commands_serve_and_stop", lambda: its_commands_serve_and_stop(stand)
 
 
 def unit_file(stand, name="revcache.service", words=()):
@@ -52,3 +57,40 @@ def a_table_with_a_mistake_fails_the_start(stand):
         ran = subprocess.run(command, stdin=subprocess.DEVNULL, capture_output=True, text=True, timeout=20)
         said = ran.stdout[: len(ended[1])]
         expect(f"from `{' '.join(command)}` status and lines", ended, (ran.returncode, said, ran.stderr))
+
+
+def its_commands_serve_and_stop(stand):
+    """ExecStart and ExecStop as they stand but for their folders: it writes its log and its figures, others may read the
+    figures, and it ends by its drain file."""
+    port, table = free_port(), stand.file("table.toml", deployed("table.toml", {}))
+    folders = {"%t/%N": f"{stand.folder}/run", "%L/%N": f"{stand.folder}/log"}
+    for it in folders.values():
+        os.makedirs(it, exist_ok=True)
+    words = [("127.0.0.1:8080", f"127.0.0.1:{port}"), ("/etc/revcache/table.toml", table), *folders.items()]
+    with open(unit_file(stand, words=words), encoding="utf-8") as it:
+        lines = dict(line.rstrip("\n").split("=", 1) for line in it if re.match(r"(ExecStart|ExecStop|UMask|RuntimeDirectoryMode)=", line))
+    expect("who may go into the folder of the figures", "0755", lines["RuntimeDirectoryMode"])
+    with subprocess.Popen(lines["ExecStart"].split(), stderr=subprocess.PIPE, umask=int(lines["UMask"], 8), stdin=subprocess.DEVNULL) as served:
+        try:
+            expect("on standard error", f"listening on 127.0.0.1:{port}\n", served.stderr.readline().decode())
+            asked = http.client.HTTPConnection("127.0.0.1", port, timeout=20)
+            asked.request("HEAD", "/admin")
+            expect("the answer", 403, asked.getresponse().status)
+            asked.close()
+            wait_until(lambda: "denied by line 1" in text_of(f"{folders['%L/%N']}/access.log"), "a line in the log")
+            wait_until(lambda: 'code="403"} 1' in text_of(f"{folders['%t/%N']}/revcache.prom"), "the answer in the figures")
+            mode = stat.S_IMODE(os.stat(f"{folders['%t/%N']}/revcache.prom").st_mode)
+            expect("who may read the figures", 0o644, mode)
+            stop = shlex.split(lines["ExecStop"].replace("$MAINPID", str(served.pid)))
+            with subprocess.Popen(stop, stdin=subprocess.DEVNULL) as stops:
+                expect("the program's end", (0, b"draining\n"), (served.wait(40), served.stderr.read()))
+                expect("from ExecStop", 0, stops.wait(10))
+        finally:
+            served.kill()
+
+
+def text_of(path):
+    if not os.path.exists(path):
+        return ""
+    with open(path, encoding="ascii") as it:
+        return it.read()
