@@ -84,8 +84,8 @@ impl fmt::Display for Met {
         match self {
             Met::Allowed(line) => write!(f, "allowed by line {line}"),
             Met::DeniedBy(line) => write!(f, "denied by line {line}"),
-            Met::NoLine => f.write_str("denied: no line allows it"),
-            Met::Refused => f.write_str("refused before the table is asked"),
+            Met::NoLine => write!(f, "denied: no line allows it"),
+            Met::Refused => write!(f, "refused before the table is asked"),
         }
     }
 }
