@@ -66,8 +66,8 @@ pub fn entries_are_cut_to_their_bounds()
 {}
 
 /// What stays of a list is the longest front of it within the bounds, of which there is one; what goes is its tail,
-/// and with the first that goes a bound would be broken. A list within its bounds stays whole. Without a bound of
-/// bytes so many stay as there is room for.
+/// and with the first that goes a bound would be broken. An entry that alone is within them stays where it comes
+/// first, and a list within its bounds stays whole. Without a bound of bytes so many stay as there is room for.
 pub fn the_longest_front_within_its_bounds_stays()
     ensures longest { (bounds : Bounds) (entries : List Stored)
         → IsLongestFrontWithin bounds weight_of entries (cut_to_bounds bounds entries) }
@@ -80,6 +80,8 @@ pub fn the_longest_front_within_its_bounds_stays()
         → IsWithin bounds weight_of (cut_to_bounds bounds entries ++ e ∷ []) → ⊥ }
     ensures front { (bounds : Bounds) (front behind : List Stored) → IsWithin bounds weight_of (front ++ behind)
         → IsWithin bounds weight_of front }
+    ensures first { (bounds : Bounds) (e : Stored) (behind : List Stored) → IsWithin bounds weight_of (e ∷ [])
+        → (rest : List Stored) × (cut_to_bounds bounds (e ∷ behind) ≡ e ∷ rest) }
     ensures whole { (bounds : Bounds) (entries : List Stored) → IsWithin bounds weight_of entries
         → cut_to_bounds bounds entries ≡ entries }
     ensures by_number { (most : ℕ) (entries : List Stored)
