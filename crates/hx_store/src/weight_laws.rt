@@ -127,15 +127,19 @@ pub fn entries_are_shed()
     ensures counted { counted_total (third ∷ second ∷ first ∷ []) ≡ 3618 }
 {}
 
-/// By weights that are those of the entries, their serials are cut where the entries are.
+/// By weights that are those of the entries, their serials are cut where the entries are; so they stay where the
+/// entries are within the bounds.
 pub fn serials_are_cut_with_their_entries()
-    ensures { (bounds : Bounds) (weights : ℕ → ℕ) (entries : List Stored) → AreWeightsOf weights entries
+    ensures cut { (bounds : Bounds) (weights : ℕ → ℕ) (entries : List Stored) → AreWeightsOf weights entries
         → serials (cut_to_bounds bounds entries) ≡ front_within bounds weights (serials entries) }
+    ensures whole { (bounds : Bounds) (weights : ℕ → ℕ) (entries : List Stored) → AreWeightsOf weights entries
+        → IsWithin bounds weight_of entries → front_within bounds weights (serials entries) ≡ serials entries }
 {}
 
 /// A list that is cut to its bounds has exactly what is held by the counts over its history, in the order of the latest
 /// storing or use. Listed is what was stored or used and not removed since; the held are the front of the listed, and
-/// what was crowded out doesn't come back when a removal leaves room.
+/// what was crowded out doesn't come back when a removal leaves room. After each step what is held is within its
+/// bounds.
 pub fn the_list_within_its_bounds_is_what_is_held()
     ensures listed { (past : List Change) (serial : ℕ) → Decides (serial_is_in serial (recent_of (changes_of past)))
         (IsStoredAndNotRemoved (changes_of past) serial) }
@@ -151,6 +155,8 @@ pub fn the_list_within_its_bounds_is_what_is_held()
     ensures more { (bounds : Bounds) (item : Change) (past : List Change)
         → weighed_held_of bounds (item ∷ past)
         ≡ front_within bounds item.weights (recent_after_change item.change (weighed_held_of bounds past)) }
+    ensures within { (bounds : Bounds) (item : Change) (past : List Change)
+        → IsWithin bounds item.weights (weighed_held_of bounds (item ∷ past)) }
 {}
 
 /// Without a bound of bytes what is held is what is held by number alone.
