@@ -10,6 +10,7 @@ use Rattle.hx_store.specs.Serials.{serial_is_in}
 use Rattle.hx_store.specs.Stored.{Stored}
 use Rattle.hx_store.specs.Shelf.{serials, find_entry, without_serials, with_promoted, with_in_front}
 use Rattle.hx_store.specs.Weights.{weight_of, StoreBounds, IsWithin, AreWeightsOf, front_of_weight, front_of_weight_if_any, front_within, cut_to_bounds}
+use Rattle.hx_store.proofs.Fronts.{within_stays}
 use Rattle.hx_store.proofs.EntryLists.{eqb_comm, not_only, length-filter_le, length-without, held_is_found}
 
 -- one more of a list adds what it weighs, wherever it stands
@@ -88,3 +89,8 @@ serials_are_cut bounds weights es h =
     let q = serials_of_taken weights bounds.entries es h in
     serials_of_front_if_any weights bounds.bytes (take bounds.entries es) q.1
     ∙ ap (front_of_weight_if_any weights bounds.bytes) q.0
+
+-- and so those of entries within the bounds all stay
+pub serials_stay : (bounds : StoreBounds) (weights : ℕ → ℕ) (es : List Stored) → AreWeightsOf weights es → IsWithin bounds weight_of es →
+    front_within bounds weights (serials es) ≡ serials es
+serials_stay bounds weights es h k = sym (serials_are_cut bounds weights es h) ∙ ap serials (within_stays bounds weight_of es k)

@@ -136,3 +136,14 @@ one_more bounds w xs rest x e h =
     let longer : length (front ++ x ∷ []) ≤ length front =
     (cut_is_longest bounds w xs).longest (front ++ x ∷ []) rest (append_assoc front (x ∷ []) rest ∙ e) h in
     absurd (omega (arith, length-append front (x ∷ [])))
+
+-- what fits alone is never cut from the front
+pub first_stays : {A : Type 0} (bounds : StoreBounds) (w : A → ℕ) (x : A) (xs : List A) → IsWithin bounds w (x ∷ []) →
+    (rest : List A) × (front_within bounds w (x ∷ xs) ≡ x ∷ rest)
+first_stays {A} bounds w x xs h =
+    let q = front_of_within bounds w (x ∷ xs) in
+    begins (front_within bounds w (x ∷ xs)) q.0 q.1 ((cut_is_longest bounds w (x ∷ xs)).longest (x ∷ []) xs refl h)
+  where
+    begins : (front rest : List A) → front ++ rest ≡ x ∷ xs → 1 ≤ length front → (behind : List A) × (front ≡ x ∷ behind)
+    begins [] rest e l = absurd (omega arith)
+    begins (y ∷ ys) rest e l = let same : y ≡ x = cc in (ys, ap (λ z. z ∷ ys) same)

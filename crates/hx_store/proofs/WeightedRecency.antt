@@ -7,10 +7,10 @@ use Rattle.std.proofs.lemmas.Bool.{cases_Bool, and_parts, or_cases, and_from, or
 use Rattle.std.proofs.lemmas.List.{take-append-drop}
 use Rattle.hx_store.specs.Serials.{serial_is_in, Distinct}
 use Rattle.hx_store.specs.Recency.{stores_or_uses, recent_after_change, recent_of, count_before, NoChangeTouches, Held, is_held, is_held_by_count, held_of, bounded_of}
-use Rattle.hx_store.specs.Weights.{StoreBounds, front_of_weight, front_of_weight_if_any, front_within}
+use Rattle.hx_store.specs.Weights.{StoreBounds, IsWithin, front_of_weight, front_of_weight_if_any, front_within}
 use Rattle.hx_store.specs.WeightedRecency.{WeighedChange, changes_of, weight_before, StandsWithin, WeighedHeld, fits_into, stands_within, stood_within, is_weighed_held, weighed_held_of, weighed_bounded_of}
 use Rattle.hx_store.proofs.Recency.{and_false, is_in-take, is_in-after, after-append, place-append, held_step, Distinct-recent, filter_front, in_before, Decides-held, law}
-use Rattle.hx_store.proofs.Fronts.{front_of_within}
+use Rattle.hx_store.proofs.Fronts.{cut_is_longest, front_of_within}
 
 -- fits n into what is left behind x, or x and n into all of it
 fits_behind : (x n most : ℕ) → x ≤ most → leb n (most - x) ≡ leb (x + n) most
@@ -225,6 +225,12 @@ pub weighed_held_more : (bounds : StoreBounds) (i : WeighedChange) (past : List 
     weighed_held_of bounds (i ∷ past) ≡ front_within bounds i.weights (recent_after_change i.change (weighed_held_of bounds past))
 weighed_held_more bounds i past =
     sym (weighed_law bounds (i ∷ past)) ∙ ap (λ xs. front_within bounds i.weights (recent_after_change i.change xs)) (weighed_law bounds past)
+
+-- after each step what is held is within its bounds
+pub weighed_held_within : (bounds : StoreBounds) (i : WeighedChange) (past : List WeighedChange) → IsWithin bounds i.weights (weighed_held_of bounds (i ∷ past))
+weighed_held_within bounds i past =
+    subst (IsWithin bounds i.weights) (sym (weighed_held_more bounds i past))
+    (cut_is_longest bounds i.weights (recent_after_change i.change (weighed_held_of bounds past))).is_within
 
 pub weighed_held_front : (bounds : StoreBounds) (past : List WeighedChange) → (rest : List ℕ) × (weighed_held_of bounds past ++ rest ≡ recent_of (changes_of past))
 weighed_held_front bounds past =

@@ -66,8 +66,8 @@ pub fn entries_are_cut_to_their_bounds()
 {}
 
 /// What stays of a list is the longest front of it within the bounds, of which there is one; what goes is its tail,
-/// and with the first that goes a bound would be broken. A list within its bounds stays whole. Without a bound of
-/// bytes so many stay as there is room for.
+/// and with the first that goes a bound would be broken. An entry that alone is within them stays where it comes
+/// first, and a list within its bounds stays whole. Without a bound of bytes so many stay as there is room for.
 pub fn the_longest_front_within_its_bounds_stays()
     ensures longest { (bounds : Bounds) (entries : List Stored)
         → IsLongestFrontWithin bounds weight_of entries (cut_to_bounds bounds entries) }
@@ -80,6 +80,8 @@ pub fn the_longest_front_within_its_bounds_stays()
         → IsWithin bounds weight_of (cut_to_bounds bounds entries ++ e ∷ []) → ⊥ }
     ensures front { (bounds : Bounds) (front behind : List Stored) → IsWithin bounds weight_of (front ++ behind)
         → IsWithin bounds weight_of front }
+    ensures first { (bounds : Bounds) (e : Stored) (behind : List Stored) → IsWithin bounds weight_of (e ∷ [])
+        → (rest : List Stored) × (cut_to_bounds bounds (e ∷ behind) ≡ e ∷ rest) }
     ensures whole { (bounds : Bounds) (entries : List Stored) → IsWithin bounds weight_of entries
         → cut_to_bounds bounds entries ≡ entries }
     ensures by_number { (most : ℕ) (entries : List Stored)
@@ -125,15 +127,19 @@ pub fn entries_are_shed()
     ensures counted { counted_total (third ∷ second ∷ first ∷ []) ≡ 3618 }
 {}
 
-/// By weights that are those of the entries, their serials are cut where the entries are.
+/// By weights that are those of the entries, their serials are cut where the entries are; so they stay where the
+/// entries are within the bounds.
 pub fn serials_are_cut_with_their_entries()
-    ensures { (bounds : Bounds) (weights : ℕ → ℕ) (entries : List Stored) → AreWeightsOf weights entries
+    ensures cut { (bounds : Bounds) (weights : ℕ → ℕ) (entries : List Stored) → AreWeightsOf weights entries
         → serials (cut_to_bounds bounds entries) ≡ front_within bounds weights (serials entries) }
+    ensures whole { (bounds : Bounds) (weights : ℕ → ℕ) (entries : List Stored) → AreWeightsOf weights entries
+        → IsWithin bounds weight_of entries → front_within bounds weights (serials entries) ≡ serials entries }
 {}
 
 /// A list that is cut to its bounds has exactly what is held by the counts over its history, in the order of the latest
 /// storing or use. Listed is what was stored or used and not removed since; the held are the front of the listed, and
-/// what was crowded out doesn't come back when a removal leaves room.
+/// what was crowded out doesn't come back when a removal leaves room. After each step what is held is within its
+/// bounds.
 pub fn the_list_within_its_bounds_is_what_is_held()
     ensures listed { (past : List Change) (serial : ℕ) → Decides (serial_is_in serial (recent_of (changes_of past)))
         (IsStoredAndNotRemoved (changes_of past) serial) }
@@ -149,6 +155,8 @@ pub fn the_list_within_its_bounds_is_what_is_held()
     ensures more { (bounds : Bounds) (item : Change) (past : List Change)
         → weighed_held_of bounds (item ∷ past)
         ≡ front_within bounds item.weights (recent_after_change item.change (weighed_held_of bounds past)) }
+    ensures within { (bounds : Bounds) (item : Change) (past : List Change)
+        → IsWithin bounds item.weights (weighed_held_of bounds (item ∷ past)) }
 {}
 
 /// Without a bound of bytes what is held is what is held by number alone.
