@@ -6,7 +6,7 @@ pub mod WeightedRecency
 pub mod Fronts
 pub mod EntryWeights
 mod CountedWeights
-pub mod Shedding
+pub mod ShedEntries
 mod KeyedEntries
 mod Indices
 mod MarkLists

@@ -15,6 +15,7 @@ mod key_marks;
 mod laws;
 mod list_shelf;
 mod serial_list;
+mod shedding;
 mod shelves;
 mod weight_laws;
 mod weights;
@@ -28,6 +29,7 @@ pub use laws::{
 };
 pub use list_shelf::ListShelf;
 pub use serial_list::Serials;
+pub use shedding::shed_to;
 pub use shelves::Shelf;
 pub use weight_laws::{
     an_entry_weighs_what_it_keeps, entries_are_cut_to_their_bounds, entries_are_shed,

@@ -1,6 +1,6 @@
 use Rattle.std.proofs.Common.{arith}
 use Rattle.hx_store.proofs.CountedWeights.{counted_bound, counted_shows}
-use Rattle.hx_store.proofs.Shedding.{numbers_first, nothing_shed, shed_is_last, shed_until_within, shedding_keeps_the_cut}
+use Rattle.hx_store.proofs.ShedEntries.{numbers_first, nothing_shed, shed_is_last, shed_until_within, shedding_keeps_the_cut}
 use Rattle.hx_store.proofs.weight_laws.shedding_leaves_what_stays_within_the_bounds.Goals as goal
 
 pub returns : goal.returns

@@ -1,12 +1,13 @@
 -- Taking the last one out as long as a list weighs too much leaves its longest front within the bounds.
 use Rattle.std.proofs.Common.{◌≡◌, ℕ, ◌+◌, ◌-◌, ◌<◌, ◌≤◌, cond, ltb, None, Some, List, [], ◌∷◌, ◌++◌, length, take, drop, refl, sym, ◌∙◌, ap, subst, arith, inl, inr, append_assoc, slice_get}
 use Rattle.std.specs.List.{sum_by}
-use Rattle.std.proofs.lemmas.Bool.{cases_Bool, ltb-true, ltb-false, cases_lt}
+use Rattle.std.proofs.lemmas.Bool.{cases_Bool, ltb-true, ltb-false, le-ltb, cases_lt}
 use Rattle.std.proofs.lemmas.List.{take-append-drop, length-append, length-take, take_all}
 use Rattle.std.proofs.lemmas.List.Sums.{sum_by-append}
 use Rattle.std.proofs.lemmas.Option.{same_Some}
 use Rattle.hx_store.specs.Stored.{Stored}
-use Rattle.hx_store.specs.Weights.{StoreBounds, IsLongestFrontWithin, front_of_weight_if_any, weight_of, total_weight, cut_to_bounds, shed_entry, after_shedding}
+use Rattle.hx_store.specs.Weights.{StoreBounds, IsLongestFrontWithin, front_of_weight, front_of_weight_if_any, weight_of, total_weight, cut_to_bounds, shed_entry, after_shedding}
+use Rattle.hx_store.proofs.CountedWeights.{length-after_shedding}
 use Rattle.hx_store.proofs.Fronts.{front_of_within, front_of_taken, cut_is_longest, one_longest, within_stays}
 
 nothing_left : (rest : List Stored) → length rest ≤ 0 → rest ≡ []
@@ -103,3 +104,28 @@ shed_until_within number most es l h =
 pub numbers_first : (bounds : StoreBounds) (es : List Stored) → cut_to_bounds bounds (take bounds.entries es) ≡ cut_to_bounds bounds es
 numbers_first bounds es =
     ap (front_of_weight_if_any weight_of bounds.bytes) (take_all bounds.entries (take bounds.entries es) (omega (arith, length-take bounds.entries es)))
+
+-- the same of a bound of bytes alone
+by_number : (most : ℕ) (number : ℕ) (es : List Stored) → length es ≤ number →
+    cut_to_bounds (record { entries = number; bytes = Some most }) es ≡ front_of_weight weight_of most es
+by_number most number es l = ap (front_of_weight weight_of most) (take_all number es l)
+
+pub shedding_keeps_the_front : (most : ℕ) (es : List Stored) → front_of_weight weight_of most (after_shedding most es) ≡ front_of_weight weight_of most es
+shedding_keeps_the_front most es =
+    sym (by_number most (length es) (after_shedding most es) (length-after_shedding most es))
+    ∙ shedding_keeps_the_cut (length es) most es
+    ∙ by_number most (length es) es (omega arith)
+
+pub nothing_shed_is_the_front : (most : ℕ) (es : List Stored) → shed_entry most es ≡ None → front_of_weight weight_of most es ≡ es
+nothing_shed_is_the_front most es h =
+    sym (by_number most (length es) es (omega arith)) ∙ shed_until_within (length es) most es (omega arith) h
+
+-- what was shed is no longer there
+pub shed_is_shorter : (most : ℕ) (es : List Stored) (e : Stored) → shed_entry most es ≡ Some e → length (after_shedding most es) < length es
+shed_is_shorter most es e h =
+    omega (arith, ap length (shed_is_last most es e h), length-append (after_shedding most es) (e ∷ []))
+
+pub nothing_shed_stays : (most : ℕ) (es : List Stored) → shed_entry most es ≡ None → after_shedding most es ≡ es
+nothing_shed_stays most es h =
+    let l = nothing_shed most es h in
+    ap (λ b. cond b (take (length es - 1) es) es) (le-ltb most (total_weight es) l)
