@@ -82,7 +82,7 @@ def man_reads_the_pages(stand, path):
 def systemd_reads_its_units(stand, path):
     """As installed, but for the program's path: `systemd-analyze verify` has nothing to say of the unit, and of one of the template."""
     tree = unpacked(stand, path, "units")
-    for name, as_name in (("revcache.service", "revcache.service"), ("revcache@.service", "revcache@8101.service")):
+    for name, as_name in (("revcache.service", "revcache.service"), ("revcache@.service", "revcache@8101.service"), ("revcache.socket", "revcache.socket")):
         with open(f"{tree}/lib/systemd/system/{name}", encoding="utf-8") as it:
             text = it.read().replace("/usr/bin/revcache", stand.program)
         status, out, err = analyze("verify", "--man=no", stand.file(as_name, text))
@@ -236,6 +236,7 @@ def it_is_installed_upgraded_removed_and_purged(stand, first, later):
     expect("from revcache check of the installed table", f"ok 3 lines\n{told_of_store(1000, 100000)}", run(f"{scratch.root}/usr/bin/revcache", "check", f"{scratch.root}/{TABLE}"))
     for it in ("revcache.service", "revcache@.service"):
         expect(f"the program of {it}", True, "ExecStart=/usr/bin/revcache serve /etc/revcache/table.toml" in scratch.text(f"lib/systemd/system/{it}"))
+    expect("the program of socket.conf", True, "ExecStart=/usr/bin/revcache serve /etc/revcache/table.toml --listen fd:3 " in scratch.text("usr/share/revcache/socket.conf"))
     scratch.dpkg("--install", later)
     expect("the state behind an upgrade", ("ii", NEXT), scratch.state())
     scratch.dpkg("--remove", "revcache")

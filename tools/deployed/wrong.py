@@ -29,6 +29,8 @@ WRONG = [
     ("origins/nginx.conf", "proxy_next_upstream error timeout;", "proxy_next_upstream off;", "origins_by_nginx"),
     ("origins/nginx.conf", "        keepalive 32;", "", "origins_by_nginx"),
     ("revcache.service", "UMask=0022", "UMask=0077", "unit"),
+    ("socket.conf", "--listen fd:3", "--listen 127.0.0.1:8080", "unit"),
+    ("socket.conf", "check /etc/revcache/table.toml && touch", "check /etc/revcache/table.toml; touch", "unit"),
     ("revcache.service", " --stats %t/%N/revcache.prom", "", "unit"),
 ]
 
