@@ -10,6 +10,7 @@ from deployed.stand import DEPLOY, need, part
 from deployed.unit import analyze
 from deployed.whys import SAID
 from live.expect import Skipped, Unexpected, expect
+from live.memory_bounds import told_of_store
 from packaged.pages import options_of_help, options_of_table
 
 ROOT = os.path.dirname(DEPLOY)
@@ -232,7 +233,7 @@ def it_is_installed_upgraded_removed_and_purged(stand, first, later):
     scratch = Scratch(stand, "whole")
     scratch.dpkg("--install", first)
     expect("the state", ("ii", FIRST), scratch.state())
-    expect("from revcache check of the installed table", "ok 3 lines\n", run(f"{scratch.root}/usr/bin/revcache", "check", f"{scratch.root}/{TABLE}"))
+    expect("from revcache check of the installed table", f"ok 3 lines\n{told_of_store(1000, 100000)}", run(f"{scratch.root}/usr/bin/revcache", "check", f"{scratch.root}/{TABLE}"))
     for it in ("revcache.service", "revcache@.service"):
         expect(f"the program of {it}", True, "ExecStart=/usr/bin/revcache serve /etc/revcache/table.toml" in scratch.text(f"lib/systemd/system/{it}"))
     scratch.dpkg("--install", later)

@@ -102,6 +102,10 @@ impl<'a, S: Shelf + Drop> Shelf for CountedShelf<'a, S> {
         self.shelf.len()
     }
 
+    fn weight(&self) -> u64 {
+        self.shelf.weight()
+    }
+
     fn contains(&self, serial: u64) -> bool {
         self.shelf.contains(serial)
     }
@@ -152,5 +156,12 @@ impl<'a, S: Shelf + Drop> Shelf for CountedShelf<'a, S> {
         let count = self.shelf.invalidate(key);
         self.count_out(count);
         count
+    }
+
+    fn shed(&mut self, most: u64) -> Option<Entry> {
+        let out = self.shelf.shed(most);
+        add(&self.counts.evicted, usize::from(out.is_some()));
+        self.count_held();
+        out
     }
 }

@@ -1,0 +1,18 @@
+-- What the bounds of a table and of a server come to in memory, in bytes, as docs/LIMITS.md has it.
+use Rattle.std.specs.Prelude.{ℕ, ◌+◌, ◌-◌, ◌*◌, ◌/◌, ◌%◌, ◌^◌, ◌==◌, min, if◌then◌else◌}
+
+-- the greatest number that is told
+abbrev pub greatest : ℕ
+greatest = 2 ^ 64 - 1
+
+-- each response with the most content, and 80,000 bytes for its head, its target twice and its nominated values
+abbrev pub most_stored : ℕ → ℕ → ℕ
+most_stored capacity max_stored = min ((max_stored + 80000) * capacity) greatest
+
+-- contents and heads in progress, whose room grows by doubling, and 16 KiB a connection
+abbrev pub most_held : ℕ → ℕ → ℕ
+most_held content connections = min (min (content * 2) greatest + min (connections * 16384) greatest) greatest
+
+-- rounded up
+abbrev pub megabytes : ℕ → ℕ
+megabytes bytes = if bytes % 1000000 == 0 then bytes / 1000000 else bytes / 1000000 + 1
