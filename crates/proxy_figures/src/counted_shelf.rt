@@ -13,6 +13,7 @@ use std::cell::Cell;
 #[derive(Drop)]
 pub struct StoreCounts {
     held: Cell<u64>,
+    weight: Cell<u64>,
     evicted: Cell<u64>,
     removed: Cell<u64>,
 }
@@ -25,6 +26,7 @@ impl StoreCounts {
     pub fn new() -> StoreCounts {
         StoreCounts {
             held: Cell::new(0),
+            weight: Cell::new(0),
             evicted: Cell::new(0),
             removed: Cell::new(0),
         }
@@ -33,6 +35,11 @@ impl StoreCounts {
     /// Responses that are held.
     pub fn held(&self) -> u64 {
         self.held.get()
+    }
+
+    /// Bytes that they weigh together.
+    pub fn weight(&self) -> u64 {
+        self.weight.get()
     }
 
     /// Responses that went since the store was full.
@@ -60,9 +67,10 @@ impl<'a, S: Shelf + Drop> CountedShelf<'a, S> {
         CountedShelf { shelf, counts }
     }
 
-    /// Counts how many are held.
+    /// Counts how many are held, and what they weigh.
     fn count_held(&self) {
         self.counts.held.set(self.shelf.len() as u64);
+        self.counts.weight.set(self.shelf.weight());
     }
 
     /// Counts what went out where a response was stored; so many were held before.
@@ -139,7 +147,9 @@ impl<'a, S: Shelf + Drop> Shelf for CountedShelf<'a, S> {
     }
 
     fn freshen(&mut self, entry: Entry) -> Entry {
-        self.shelf.freshen(entry)
+        let old = self.shelf.freshen(entry);
+        self.count_held();
+        old
     }
 
     fn promote(&mut self, serial: u64) -> bool {

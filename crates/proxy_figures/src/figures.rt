@@ -142,6 +142,12 @@ fn push_store(page: &mut Page<'_>, about: &ServerFacts<'_>) -> Result<(), AllocE
         about.store.held(),
     )?;
     page.single_sample_family(
+        "revcache_store_bytes",
+        Kind::Gauge,
+        "Bytes that they weigh together: contents, heads, targets, and 1200 each.",
+        about.store.weight(),
+    )?;
+    page.single_sample_family(
         "revcache_store_evictions_total",
         Kind::Counter,
         "Stored responses that went since the store was full.",

@@ -1,5 +1,5 @@
 -- What the bounds of a table and of a server come to in memory, in bytes, as docs/LIMITS.md has it.
-use Rattle.std.specs.Prelude.{ℕ, ◌+◌, ◌-◌, ◌*◌, ◌/◌, ◌%◌, ◌^◌, ◌==◌, min, if◌then◌else◌}
+use Rattle.std.specs.Prelude.{ℕ, Bool, ◌+◌, ◌-◌, ◌*◌, ◌/◌, ◌%◌, ◌^◌, ◌==◌, min, if◌then◌else◌}
 
 -- the greatest number that is told
 abbrev pub greatest : ℕ
@@ -9,9 +9,14 @@ greatest = 2 ^ 64 - 1
 abbrev pub most_stored : ℕ → ℕ → ℕ
 most_stored capacity max_stored = min ((max_stored + 80000) * capacity) greatest
 
--- contents and heads in progress, whose room grows by doubling, and 16 KiB a connection
-abbrev pub most_held : ℕ → ℕ → ℕ
-most_held content connections = min (min (content * 2) greatest + min (connections * 16384) greatest) greatest
+-- contents and heads in progress, whose room grows by doubling, held once more where a log is kept; and 16 KiB a
+-- connection
+abbrev pub most_in_progress : ℕ → Bool → ℕ
+most_in_progress content has_log = min (content * (if has_log then 4 else 2)) greatest
+
+abbrev pub most_held : ℕ → Bool → ℕ → ℕ
+most_held content has_log connections =
+    min (most_in_progress content has_log + min (connections * 16384) greatest) greatest
 
 -- rounded up
 abbrev pub megabytes : ℕ → ℕ

@@ -35,7 +35,8 @@ const MOST_QUESTION_BYTES: u64 = 16_777_216;
 fn read_text<R: Files + AllocGlobal>(rt: &R, path: &str) -> io::Result<String> {
     let mut text = String::new(rt.alloc());
     let file = fs::open(rt, path)?;
-    file.take(MOST_QUESTION_BYTES + 1).read_to_string(&mut text)?;
+    file.take(MOST_QUESTION_BYTES + 1)
+        .read_to_string(&mut text)?;
     if text.len() as u64 > MOST_QUESTION_BYTES {
         return Err(io::Error::from(ErrorKind::InvalidData));
     }

@@ -41,12 +41,13 @@ pub(crate) fn most_stored(config: &Config) -> u64
     each.saturating_mul(config.capacity() as u64)
 }
 
-/// Bytes that are held beside the store, at most: what is in progress, whose room is up to twice its size, and
-/// connections.
-pub(crate) fn most_held(limits: &Limits) -> u64
-    ensures { result ≡ most_held limits.now.content limits.now.connections }
+/// Bytes that are held beside the store, at most: what is in progress, whose room is up to twice its size and which a
+/// log holds once more, and connections.
+pub(crate) fn most_held(limits: &Limits, has_log: bool) -> u64
+    ensures { result ≡ most_held limits.now.content has_log limits.now.connections }
 {
-    let contents = (limits.content as u64).saturating_mul(2);
+    let times = if has_log { 4 } else { 2 };
+    let contents = (limits.content as u64).saturating_mul(times);
     contents.saturating_add((limits.connections as u64).saturating_mul(CONNECTION))
 }
 

@@ -103,8 +103,7 @@ fn announce<R: Eprint>(rt: &R, address: SocketAddr, asked: &Limits, allows: Opti
 }
 
 /// Tells how much its bounds allow to be held, and where that is more than there is.
-fn announce_memory<R: Files + Eprint + AllocGlobal>(rt: &R, stored: u64, limits: &Limits) {
-    let held = most_held(limits);
+fn announce_memory<R: Files + Eprint + AllocGlobal>(rt: &R, stored: u64, held: u64) {
     let most = stored.saturating_add(held);
     let (all, stored, held) = (megabytes(most), megabytes(stored), megabytes(held));
     let _ = eprintln!(rt;
@@ -335,7 +334,7 @@ pub(crate) fn serve<R: Net + Clock + Files + Print + Eprint + AllocGlobal + Rand
     let stored = most_stored(&config);
     let mut server = Server::new(rt.alloc(), config, shelf, sockets, record);
     begin_figures(rt, &figures, &server)?;
-    announce_memory(rt, stored, &limits);
+    announce_memory(rt, stored, most_held(&limits, service.log.is_some()));
     announce(rt, address, &service.limits, allows);
     let turns = service.turns.map_or(u64::MAX, u64::from);
     let watch = Watch::new(service.drain, service.drain_timeout, service.log);
