@@ -137,14 +137,16 @@ def its_tools_say_what_those_here_say(stand, path):
         page, said = page_of(tree, f"man1/revcache-{it}.1.gz"), run(f"{tree}/usr/bin/revcache-{it}", "--help")
         options = set(re.findall(r"^  (?:-h, )?(--[a-z-]+)", said, re.M))
         expect(f"options of revcache-{it} that its page lacks", set(), {one for one in options if not re.search(rf"^ +(?:-h, )?{one}\b", page, re.M)})
-    expect("files of the package that name what isn't installed", [], unnamed(tree))
+    expect("files of the package that name what isn't installed", [], list(unnamed(tree)))
     return f"{len(SAID)} texts"
 
 
 def unnamed(tree):
-    """Where the documents that go with the package name a tool as it is called in the repository."""
-    words = ["grep", "-rlE", rf"tools/({'|'.join(TOOLS)})\b", f"{tree}/usr/share/revcache/docs", f"{tree}/usr/share/revcache/tools"]
-    return subprocess.run(words, capture_output=True, text=True, timeout=60).stdout.split()
+    """Where the documents that go with the package name a tool as it is called in the repository, or a file of deploy/ another
+    path of the program."""
+    share = f"{tree}/usr/share"
+    for words in (["-E", rf"tools/({'|'.join(TOOLS)})\b", f"{share}/revcache/docs", f"{share}/revcache/tools"], ["-F", "/usr/local/bin/revcache", f"{share}/doc/revcache/deploy"]):
+        yield from subprocess.run(["grep", "-rl", *words], capture_output=True, text=True, timeout=60).stdout.split()
 
 
 def its_log_is_rotated(stand, path):

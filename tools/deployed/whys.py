@@ -223,6 +223,7 @@ def answers_of_strangers():
 # An answer that isn't stored, to a request with a cookie; and of what is said a part.
 UNSTORED = b"HTTP/1.1 200 OK\r\nCache-Control: max-age=60\r\nSet-Cookie: a=b\r\nContent-Length: 2000000\r\nCache-Status: edge;fwd=uri-miss\r\n\r\n"
 OLD = b"HTTP/1.1 200 OK\r\nDate: Sun, 06 Nov 1994 08:49:37 GMT\r\nAge: 7\r\nContent-Length: 0\r\nCache-Status: edge;fwd=uri-miss;ttl=-9;stored\r\n\r\n"
+VARIED = b"HTTP/1.1 200 OK\r\nVary: Accept-Encoding, Cookie, X-Shop\r\nContent-Length: 0\r\nCache-Status: edge;fwd=vary-miss;ttl=60;stored\r\n\r\n"
 BROWSER = ["--header", "Accept-Encoding: gzip, br", "--header", "Cookie: sid=1"]
 
 
@@ -233,6 +234,7 @@ def a_request_of_a_browser():
         (UNSTORED, BROWSER, ["with Accept-Encoding, Cookie", "2000000 bytes: compare that with max_stored", 'if the line has set-cookie = "not-stored"']),
         (UNSTORED, [*BROWSER, "--table", f"{ROOT}/deploy/site.toml"], ["not stored: rule 13 of storing, TooLarge", "max_stored of the table is 1048576"]),
         (UNSTORED, ["--header", "Authorization: Basic eDp5"], ["not stored: rule 8 of storing, Authorization", "RFC 9111, section 3.5"]),
+        (VARIED, BROWSER, ["Vary names Accept-Encoding: this request had gzip, br Vary names Cookie: this request had sid=1 Vary names X-Shop: this request had none"]),
         (OLD, [], ["s behind this machine's clock it came with an Age of 7 s", "born old", "compare the clocks of origin and proxy"]),
     ):
         seen = []

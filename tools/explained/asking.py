@@ -4,6 +4,8 @@ import http.client
 import re
 import urllib.parse
 
+from explained.deciding import members, values_of
+
 PATIENCE = 150
 # The fields that the rules go by, beside the two that name them.
 FIELDS = ["Cache-Control", "Expires", "Date", "Age", "Vary", "ETag", "Last-Modified", "Set-Cookie", "Content-Length"]
@@ -47,6 +49,15 @@ class Answer:
             yield f"its Date is {abs(behind)} s {way} this machine's clock" if date else "its Date can't be read"
         for value in self.values("Age")[:1]:
             yield f"it came with an Age of {value} s"
+
+
+    def varied(self, reason, asked):
+        """Of an answer for which another variant is stored: what this request had of each field that Vary names."""
+        if not re.search(r"fwd=vary-miss(;|$)", reason):
+            return
+        for name in members(self.values("Vary")):
+            values = values_of(asked, name)
+            yield f"Vary names {name}: this request had {', '.join(values) if values else 'none'}"
 
 
 def is_date(text):

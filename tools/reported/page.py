@@ -65,6 +65,8 @@ class Reasons:
     def links(self, word):
         """The entries of a reason, as links to their words."""
         found = self.texts.of_reason(word) if self.texts else []
+        # (a word of a list lacks ttl: what had something stored may have been sent, or stored anew)
+        found = [it for it in found if it.key != "not-stored" or not word.startswith(("fwd=stale", "fwd=request"))]
         self.entries |= {it.key: it for it in found}
         names = [(it.key, it.title.rpartition(", ")[2].partition(":")[0]) for it in found]
         links = ", ".join(f'<a href="#{escape(key)}">{escape(name)}</a>' for key, name in names)
