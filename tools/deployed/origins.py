@@ -6,7 +6,7 @@ from deployed.stand import curl, deployed, free_port, need, part
 from live.expect import Unexpected, expect
 
 TEXT = "".join(f"line {i} of a text that a packer makes much smaller\n" for i in range(400))
-# The origin of docs/FRONTS.md, "nginx as origin".
+# The origin of docs/ORIGINS.md, "nginx as origin".
 ORIGIN = """
     server {
         listen 127.0.0.1:%d;

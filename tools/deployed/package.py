@@ -1,18 +1,23 @@
 """The Debian package of tools/package: held to lintian, installed, upgraded, removed and purged in a root of its own, and its pages."""
+import fnmatch
 import gzip
 import os
 import re
+import shutil
 import subprocess
 
 from deployed.stand import DEPLOY, need, part
 from deployed.unit import analyze
+from deployed.whys import SAID
 from live.expect import Skipped, Unexpected, expect
+from live.memory_bounds import told_of_store
 from packaged.pages import options_of_help, options_of_table
 
 ROOT = os.path.dirname(DEPLOY)
 FIRST, NEXT = "0.2.0", "0.2.1"
 BY = "An Operator <operator@revcache.org>"
-TABLE = "etc/revcache/table.toml"
+TABLE, ROTATED = "etc/revcache/table.toml", "etc/logrotate.d/revcache"
+TOOLS = ["report", "why", "warm"]
 
 
 @part
@@ -26,6 +31,10 @@ def package(stand):
     yield "man_reads_the_pages", lambda: man_reads_the_pages(stand, first)
     yield "systemd_reads_its_units", lambda: systemd_reads_its_units(stand, first)
     yield "the_pages_have_what_help_has", lambda: the_pages_have_what_help_has(stand, first)
+    yield "the_tables_page_has_each_word", lambda: the_tables_page_has_each_word(stand, first)
+    yield "its_tools_say_what_those_here_say", lambda: its_tools_say_what_those_here_say(stand, first)
+    yield "its_log_is_rotated", lambda: its_log_is_rotated(stand, first)
+    yield "an_upgrade_restarts_the_second_cache_first", lambda: an_upgrade_restarts_the_second_cache_first(stand)
     yield "it_is_installed_upgraded_removed_and_purged", lambda: it_is_installed_upgraded_removed_and_purged(stand, first, later)
     yield "a_table_of_the_operator_stays", lambda: a_table_of_the_operator_stays(stand, first, later)
     yield "what_was_written_goes_by_a_purge", lambda: what_was_written_goes_by_a_purge(stand, first)
@@ -64,7 +73,7 @@ def its_program_names_its_commit(stand, path):
 def man_reads_the_pages(stand, path):
     """Without a warning, and each of them has its name as `whatis` wants it."""
     tree = unpacked(stand, path, "pages")
-    for it in ("man1/revcache.1.gz", "man5/revcache-table.5.gz"):
+    for it in ("man1/revcache.1.gz", "man5/revcache-table.5.gz", *(f"man1/revcache-{tool}.1.gz" for tool in TOOLS)):
         ran = subprocess.run(["man", "--warnings", "-l", f"{tree}/usr/share/man/{it}"], capture_output=True, text=True, timeout=60)
         expect(f"from man {it} status and warnings", (0, ""), (ran.returncode, ran.stderr))
         expect(f"a line of NAME in {it}", True, re.search(r"NAME\n +revcache[a-z-]* +- ", ran.stdout) is not None)
@@ -90,6 +99,96 @@ def the_pages_have_what_help_has(stand, path):
         named = set(re.findall(r"^\\fB\\fC--([a-z-]+)", it.read(), re.M))
     expect("options of revcache(1)", set(options_of_help(said)), named)
     return f"{len(named)} options"
+
+
+def page_of(tree, name):
+    """A manual page as it is read."""
+    ran = subprocess.run(["man", "-l", f"{tree}/usr/share/man/{name}"], capture_output=True, text=True, timeout=60, env={**os.environ, "MANWIDTH": "1000"})
+    return re.sub(r".\x08", "", ran.stdout)
+
+
+def the_tables_page_has_each_word(stand, path):
+    """Each word that a line of version 3 may have, by its definition, with its values, and a section of its own."""
+    with open(f"{ROOT}/crates/hx_allow/specs/Rows.antt", encoding="utf-8") as it:
+        words = {row[1]: re.findall(r'codes "([^"]+)"', row[0])[1:] for row in re.finditer(r'^word_row \w+ = \w+ \(codes "([^"]+)"\).*', it.read(), re.M)}
+    page = page_of(unpacked(stand, path, "words"), "man5/revcache-table.5.gz")
+    expect("words without a section of their own", [], [it for it in words if not re.search(rf"^ *{it}$", page, re.M)])
+    values = [f'{word} = "{value}"' for word, values in words.items() for value in values[1:]]
+    expect("values that aren't shown", [], [it for it in values if not re.search(re.sub(" = ", " += +", re.escape(it).replace("\\ ", " ")), page)])
+    expect("a section on which line's words count", True, "Which line's words count" in page)
+    return f"{len(words)} words"
+
+
+def its_tools_say_what_those_here_say(stand, path):
+    """The same of logs and of texts, but for their own names; each option of --help stands in its page. They need nothing
+    of the repository: they are run from a copy of the package, in another folder."""
+    tree, renamed = unpacked(stand, path, "tools"), lambda text: re.sub(rf"tools/({'|'.join(TOOLS)})\b", r"revcache-\1", text)
+    for it in ("by_hand.log", "by_hand_timed.log", "by_hand_asked.log"):
+        log = f"{ROOT}/tools/deployed/{it}"
+        expect(f"of revcache-report {it}", renamed(run(f"{ROOT}/tools/report", log)), run(f"{tree}/usr/bin/revcache-report", log, cwd="/"))
+        expect(f"of revcache-warm --list {it}", run(f"{ROOT}/tools/warm", log, "--list"), run(f"{tree}/usr/bin/revcache-warm", log, "--list", cwd="/"))
+    for text, _ in SAID:
+        expect(f"of revcache-why {text}", renamed(run(f"{ROOT}/tools/why", text)), run(f"{tree}/usr/bin/revcache-why", text, cwd="/"))
+    run(f"{tree}/usr/bin/revcache-why", "--self-test", cwd="/")
+    run(f"{tree}/usr/bin/revcache-report", f"{ROOT}/tools/deployed/by_hand.log", "--html", f"{stand.folder}/installed.html", cwd="/")
+    with open(f"{stand.folder}/installed.html", encoding="utf-8") as it:
+        expect("words for the reasons in the page", True, "What the reasons mean" in it.read())
+    for it in TOOLS:
+        page, said = page_of(tree, f"man1/revcache-{it}.1.gz"), run(f"{tree}/usr/bin/revcache-{it}", "--help")
+        options = set(re.findall(r"^  (?:-h, )?(--[a-z-]+)", said, re.M))
+        expect(f"options of revcache-{it} that its page lacks", set(), {one for one in options if not re.search(rf"^ +(?:-h, )?{one}\b", page, re.M)})
+    expect("files of the package that name what isn't installed", [], unnamed(tree))
+    return f"{len(SAID)} texts"
+
+
+def unnamed(tree):
+    """Where the documents that go with the package name a tool as it is called in the repository."""
+    words = ["grep", "-rlE", rf"tools/({'|'.join(TOOLS)})\b", f"{tree}/usr/share/revcache/docs", f"{tree}/usr/share/revcache/tools"]
+    return subprocess.run(words, capture_output=True, text=True, timeout=60).stdout.split()
+
+
+def its_log_is_rotated(stand, path):
+    """The unit's log is one that the file for logrotate names, of the unit and of one of several; where it is there, logrotate reads it."""
+    tree = unpacked(stand, path, "rotated")
+    with open(f"{tree}/etc/logrotate.d/revcache", encoding="ascii") as it:
+        text = it.read()
+    patterns = re.search(r"^(/.*) \{$", text, re.M)[1].split()
+    for name, as_name in (("revcache.service", "revcache"), ("revcache@.service", "revcache@8101")):
+        with open(f"{tree}/lib/systemd/system/{name}", encoding="utf-8") as it:
+            logs = re.findall(r"^ExecStart=.* --log (\S+) --stats (\S+) ", it.read(), re.M)
+        log, stats = (it.replace("%L", "/var/log").replace("%t", "/run").replace("%N", as_name) for it in logs[0])
+        expect(f"of {name} its log among those that are rotated", True, any(fnmatch.fnmatchcase(log, it) for it in patterns))
+        expect(f"of {name} the folder of its figures", f"/run/{as_name}", os.path.dirname(stats))
+    if not shutil.which("logrotate"):
+        return "logrotate isn't here"
+    file, log = stand.file("rotate", re.sub(r"^/.* \{$", f"{stand.folder}/access.log {{", text, flags=re.M)), stand.file("access.log", "a line\n")
+    os.chmod(file, 0o644)
+    run("logrotate", "--force", "--state", f"{stand.folder}/state", file)
+    expect("the log once it is rotated", (False, True), (os.path.exists(log), os.path.exists(f"{log}.1")))
+
+
+# What stands in for systemd: which units run, in the order in which systemctl lists them; what is done is written down.
+STAND_INS = {
+    "systemctl": 'echo "systemctl $*" >> "$DONE"\ncase "$*" in\n'
+    "*list-units*'revcache@*.service'*) echo 'revcache@8101.service x'; echo 'revcache@8180.service x' ;;\n"
+    "*list-units*revcache.service*) echo 'revcache.service x' ;;\nesac\n",
+    "deb-systemd-invoke": 'echo "$*" >> "$DONE"\n',
+}
+
+
+def an_upgrade_restarts_the_second_cache_first(stand):
+    """The one that stands in for revcache.service has to have the new program and an empty store when it does."""
+    with open(f"{ROOT}/tools/packaged/debian/postinst", encoding="utf-8") as it:
+        script = stand.file("postinst", it.read().replace("/run/systemd/system", stand.folder))
+    for name, text in STAND_INS.items():
+        os.chmod(stand.file(name, f"#!/bin/sh\n{text}"), 0o755)
+    for words, wanted in ((("configure", "0.2.0"), ["restart revcache@8101.service", "restart revcache@8180.service", "restart revcache.service"]), (("configure", ""), [])):
+        done = stand.file("done", "")
+        env = {**os.environ, "PATH": f"{stand.folder}:{os.environ['PATH']}", "DONE": done}
+        env.pop("DPKG_ROOT", None)
+        run("sh", script, *words, env=env)
+        with open(done, encoding="utf-8") as it:
+            expect(f"of {words} what is restarted", wanted, [line for line in it.read().splitlines() if line.startswith("restart")])
 
 
 class Scratch:
@@ -134,13 +233,13 @@ def it_is_installed_upgraded_removed_and_purged(stand, first, later):
     scratch = Scratch(stand, "whole")
     scratch.dpkg("--install", first)
     expect("the state", ("ii", FIRST), scratch.state())
-    expect("from revcache check of the installed table", "ok 3 lines\n", run(f"{scratch.root}/usr/bin/revcache", "check", f"{scratch.root}/{TABLE}"))
+    expect("from revcache check of the installed table", f"ok 3 lines\n{told_of_store(1000, 100000)}", run(f"{scratch.root}/usr/bin/revcache", "check", f"{scratch.root}/{TABLE}"))
     for it in ("revcache.service", "revcache@.service"):
         expect(f"the program of {it}", True, "ExecStart=/usr/bin/revcache serve /etc/revcache/table.toml" in scratch.text(f"lib/systemd/system/{it}"))
     scratch.dpkg("--install", later)
     expect("the state behind an upgrade", ("ii", NEXT), scratch.state())
     scratch.dpkg("--remove", "revcache")
-    expect("what a removal leaves", {TABLE}, scratch.files())
+    expect("what a removal leaves", {TABLE, ROTATED}, scratch.files())
     scratch.dpkg("--purge", "revcache")
     expect("what a purge leaves", (set(), None, False), (scratch.files(), scratch.state(), os.path.exists(f"{scratch.root}/etc/revcache")))
 
@@ -174,6 +273,6 @@ def what_was_written_goes_by_a_purge(stand, first):
     for it in [*written, "etc/revcache/front.key"]:
         scratch.write(it, "x")
     scratch.dpkg("--remove", "revcache")
-    expect("what a removal leaves", {TABLE, "etc/revcache/front.key", *written}, scratch.files())
+    expect("what a removal leaves", {TABLE, ROTATED, "etc/revcache/front.key", *written}, scratch.files())
     scratch.dpkg("--purge", "revcache")
     expect("what a purge leaves", {"etc/revcache/front.key"}, scratch.files())

@@ -14,15 +14,19 @@ import sys
 from deployed.stand import DEPLOY, part
 from live.changes import changed
 from live.expect import Unexpected, expect, expect_within
-from reported import lines
+from reported import lines, times
+from reported.queries import Queries
+from reported.times import Origins
 
 TOOLS = os.path.dirname(os.path.dirname(os.path.realpath(__file__)))
 LOG, TIMED = f"{TOOLS}/deployed/by_hand.log", f"{TOOLS}/deployed/by_hand_timed.log"
+ASKED = f"{TOOLS}/deployed/by_hand_asked.log"
 # What the log comes to, counted by hand: the words of each line but its bar.
 COUNTED = """
 22 answers, 5,831 bytes of content, from 2025-11-25 05:53:20 to 2025-11-25 05:55:01 UTC
 a minute: 12.9 asked, 20 at most (2025-11-25 05:53); 2.9 stored, 3 at most (2025-11-25 05:53)
 hit ratio: 41.7 % of 12; left out 8 refused or failed, 1 of lines without cache, 1 by other methods than GET and HEAD
+byte hit ratio: 45.3 % of 5,589 bytes of content
 stored again while the last would have been fresh: 1 of 4 that were stored for want of any
 2xx 13 59.1 %
 200 12 54.5 %
@@ -54,7 +58,16 @@ http://a.example/img/2.png?x=/y 2 28.6 %
 http://a.example/ 1 14.3 %
 http://a.example/img/3.png 1 14.3 %
 http://b.example:8080/api/b 1 14.3 %
+most missed paths: misses, and with how many different queries
+http://a.example/img/1.png 2 28.6 % 0
+http://a.example/img/2.png 2 28.6 % 1
+http://a.example/ 1 14.3 % 0
+http://a.example/img/3.png 1 14.3 % 0
+http://b.example:8080/api/b 1 14.3 % 0
 http://a.example/img/1.png 1 100.0 %
+wait = "missing-or-stale" 0 of 1, a guess
+2 not stored, and nothing says why: explain = "storing" in the line has the answer say it
+127.0.0.1 22 100.0 % 8 5,831
 403 denied by line 1 2 25.0 %
 504 origin timed-out;fwd=uri-miss 2 25.0 %
 502 origin refused;fwd=uri-miss 1 12.5 %
@@ -88,6 +101,51 @@ seconds from a request's first byte: median, 99 in 100 took no longer, longest
 hit 4 0.002 0.004 0.004
 forwarded 6 0.120 5.000 5.001
 refused or failed 4 0.000 60.000 60.000
+seconds by origin, cut to three digits: median, 95 in 100 took no longer, 99 in 100 took no longer, longest
+127.0.0.1:9001 4 0.120 60.000 60.000 60.000
+127.0.0.1:9002 4 0.080 5.000 5.000 5.001
+slowest targets, whatever the query: on the average, the longest, and how often an origin answered
+POST http://a.example/x 0.250 0.250 1
+http://a.example/y 0.080 0.080 1
+http://a.example/x 0.075 0.120 2
+http://a.example/x 0.150 0.120 2
+"""
+# Of a log that has who asked, queries, and an answer of each kind that tells of a word of the table.
+COUNTED_ASKED = """
+29 answers, 14,006 bytes of content, from 2026-11-26 12:00:00 to 2026-11-26 12:01:45 UTC
+hit ratio: 4.0 % of 25; left out 4 refused or failed
+byte hit ratio: 7.2 % of 13,840 bytes of content
+stored again while the last would have been fresh: 0 of 5 that were stored for want of any
+http://a.example/page/1?utm_source=1 2 8.3 %
+most missed paths: misses, and with how many different queries
+http://a.example/page/1 5 20.8 % 4
+http://a.example/s 4 16.7 % 0
+http://a.example/n 3 12.5 % 0
+http://a.example/big 2 8.3 % 0
+http://a.example/v 1 4.2 % 0
+what would have been a hit with a word of the table (docs/WORDS.md), of the answers that tell it
+request-directives = "ignored" 2 of 2, sure of each by itself
+lifetime = 60 2 of 5, a guess
+wait = "missing-or-stale" 2 of 4, a guess
+a larger max_stored 1 of 2, a guess
+stale-if-error = SECONDS 2 of 2, a guess, and no hits
+2 kept out by the line's own set-cookie or errors: detail=not-stored-set-cookie, not-stored-error-status
+2 kept out by the origin or the client, and no word helps: another detail=not-stored-.. (tools/why)
+2 not stored, and nothing says why: explain = "storing" in the line has the answer say it
+10.0.0.2 20 69.0 % 0 13,340
+10.0.0.1 5 17.2 % 0 500
+10.0.0.3 4 13.8 % 4 166
+seconds by origin, cut to three digits: median, 95 in 100 took no longer, 99 in 100 took no longer, longest
+127.0.0.1:9001 20 0.100 0.190 0.200 0.200
+127.0.0.1:9002 7 0.300 5.000 5.000 5.000
+http://a.example/s 0.550 1.000 4
+http://a.example/v 0.200 0.200 1
+http://a.example/u 0.185 0.190 2
+http://a.example/r 0.065 0.070 2
+http://a.example/s 2.200 1.000 4
+http://a.example/u 0.370 0.190 2
+http://a.example/big 0.270 0.140 2
+http://a.example/page/1 0.150 0.050 5
 """
 # What stands in front of a reason and behind it: the moment in Unix seconds, the reason, how long it took in microseconds, the origin.
 FORMS = {
@@ -166,6 +224,10 @@ def words_of(text):
 def report(stand):
     yield "a_log_that_was_counted_by_hand", a_log_that_was_counted_by_hand
     yield "a_log_with_times_and_origins", a_log_with_times_and_origins
+    yield "a_log_of_who_asks_and_what_a_word_would_change", lambda: a_log_of_who_asks(stand)
+    yield "a_crawl_with_a_query_of_its_own_each", lambda: a_crawl_with_queries(stand)
+    yield "what_was_born_old", lambda: what_was_born_old(stand)
+    yield "queries_and_times_are_bounded", queries_and_times_are_bounded
     yield "forms_of_a_line", forms_of_a_line
     yield "origins_by_the_table", lambda: origins_by_the_table(stand)
     yield "what_is_no_log", lambda: what_is_no_log(stand)
@@ -182,7 +244,7 @@ def a_log_that_was_counted_by_hand():
     expect("status and standard error", (0, ""), (ran.returncode, ran.stderr))
     expect("figures that aren't told", [], [it for it in COUNTED.split("\n") if it not in told])
     titles = [it for it in told if it and it not in COUNTED.split("\n")]
-    expect("lines beyond the figures: the titles", 8, len(titles))
+    expect("lines beyond the figures: titles, and why a word is told", 11, len(titles))
     with open(LOG, "rb") as it:
         expect("of standard input", ran.stdout, run("-", stdin=it).stdout)
 
@@ -194,10 +256,78 @@ def a_log_with_times_and_origins():
     expect("figures that aren't told", [], [it for it in COUNTED_TIMED.split("\n") if it not in told])
 
 
+def a_log_of_who_asks(stand):
+    """As text, and the same numbers in the page."""
+    ran = run(ASKED)
+    expect("status and standard error", (0, ""), (ran.returncode, ran.stderr))
+    told = words_of(ran.stdout)
+    expect("figures that aren't told", [], [it for it in COUNTED_ASKED.split("\n") if it not in told])
+    run(ASKED, "--html", f"{stand.folder}/asked.html")
+    with open(f"{stand.folder}/asked.html", encoding="utf-8") as it:
+        cells = " ".join(re.sub(r"<[^>]*>", " ", it.read().replace("&quot;", '"')).split())
+    expect("numbers that the page lacks", [], [it for it in OF_PAGE if it not in cells])
+
+
+# Rows of the page, as they are read from left to right.
+OF_PAGE = [
+    'request-directives = "ignored" 2 2 sure of each by itself a fresh response was held: fwd=request',
+    "lifetime = 60 2 5 a guess within 60 s",
+    'wait = "missing-or-stale" 2 4 a guess',
+    "byte hit ratio 7.2 % of 13,840 bytes of content",
+    "http://a.example/page/1 5 20.8 % 4",
+    "10.0.0.2 20 69.0 % 0 13,340",
+    "127.0.0.1:9001 20 0.100 0.190 0.200 0.200",
+    "http://a.example/s 4 0.550 1.000 2.200",
+]
+
+
+def a_crawl_with_queries(stand):
+    """200 misses of one page, each with a query of its own, are one row that says so."""
+    line = "%d 10.0.0.%d:1 GET http://h.example/page/1?utm_source=%d 200 9 fwd=uri-miss;ttl=60;stored 0.010 127.0.0.1:81\n"
+    text = "".join(line % (1795694400 + number, number % 7, number) for number in range(200))
+    told = words_of(run(stand.file("crawl", text)).stdout)
+    expect("the row of the page", True, "http://h.example/page/1 200 100.0 % 200" in told)
+    expect("the clients", True, "10.0.0.0 29 14.5 % 0 261" in told and "10.0.0.6 28 14.0 % 0 252" in told)
+
+
+def what_was_born_old(stand):
+    """Responses whose lifetime was over when they were stored are told, and aren't taken for others that expired."""
+    line = "179569440%d 10.0.0.1:1 GET http://h.example/ 200 9 %s 0.010 127.0.0.1:81\n"
+    reasons = ["fwd=uri-miss;ttl=-60;stored", *["fwd=stale;ttl=-60;stored"] * 3, "fwd=uri-miss;ttl=0;stored"]
+    told = words_of(run(stand.file("old", "".join(line % it for it in enumerate(reasons)))).stdout)
+    expect("how many", 1, len([it for it in told if it.startswith("4 stored when they were over already (ttl below 0)")]))
+    expect("what they aren't taken for", [], [it for it in told if it.startswith("wait =")])
+
+
+def queries_and_times_are_bounded():
+    """Where there are too many the numbers are about right, and say so."""
+    some, one, other = Queries(most=500), [0], [0]
+    for number in range(400):
+        some.add(b"/a?%d" % (number % 200), one)
+    expect("exact up to the bound", ({id(one): 200}, 1), (some.by_row(), some.one_in()))
+    for number in range(20000):
+        some.add(b"/a?%d" % number, one)
+        some.add(b"/b?%d" % (number % 10000), other)
+    expect_within("targets that are remembered", 100, 500, len(some.rows))
+    expect_within("of how many one is counted", 32, 256, some.one_in())
+    expect_within("queries of 20,000", 12000, 28000, some.by_row()[id(one)])
+    expect_within("queries of 10,000", 5000, 15000, some.by_row()[id(other)])
+    origins = Origins()
+    for number in range(1, times.MOST_ORIGINS + 100):
+        for took in range(1000000, 1000000 + 10000 * 700, 10000):
+            origins.add(b"%d" % number, took, 1)
+    origins.bound()
+    expect("origins, and digits", (times.MOST_ORIGINS + 1, 2), (len(origins.rows), origins.digits))
+    expect_within("different times", 1000, 2 * times.MOST_TIMES, sum(len(it.counts) for it in origins.rows.values()))
+    expect("the last of all is the others", times.OTHERS, origins.shown(1000)[-1][0])
+    # (1.00 to 7.99 s, each once: the 350th is 4.49 s, to two digits)
+    expect("a median to two digits", 4400000, origins.rows[b"1"].least(50))
+
+
 def forms_of_a_line():
     """A line of each form, by what is read of it; and three lines of a file without a line end."""
     for line, (moment, *rest) in FORMS.items():
-        parts = lines.parts_of(line) or [None] * 8
+        parts = lines.parts_of(line) or [None] * 10
         took = parts[6] and lines.microseconds_of(parts[6])
         expect(f"of {line} moment, reason, microseconds and origin", [moment, *rest], [parts[0], parts[5], took, parts[7]])
     pieces = [it for some in lines.pieces_of(io.BytesIO(b"a\n\nb")) for it in some]
@@ -334,7 +464,7 @@ def names_without_end():
     """Memory doesn't grow with the names: of so many the rarest are counted as others."""
     script = "import sys\n"
     script += f"for i in range({NAMES}):\n"
-    script += "    sys.stdout.write(f'{i * 37} c GET http://{i:0300}/{i:0300}/{i} 200 1 fwd=uri-miss;x{i};ttl=9{i};stored {i}.{i:06} h{i}:80\\n')\n"
+    script += "    sys.stdout.write(f'{i * 37} c{i}:1 GET http://{i:0300}/{i:0300}/{i}?{i} 200 1 fwd=uri-miss;x{i};ttl=9{i};stored {i}.{i:06} h{i}:80\\n')\n"
     with subprocess.Popen([sys.executable, "-c", script], stdout=subprocess.PIPE) as writes:
         ran = run("-", "--html", "/dev/null", stdin=writes.stdout)
     told = re.search(r"about ([0-9,]+) answers, in [0-9.]+ s with ([0-9]+) MB\n", ran.stdout)

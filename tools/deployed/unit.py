@@ -1,8 +1,13 @@
 """The unit for systemd, as far as it can be tried without a running systemd."""
+import http.client
+import os
 import re
+import shlex
+import socket
+import stat
 import subprocess
 
-from deployed.stand import deployed, need, part
+from deployed.stand import deployed, free_port, need, part, wait_until
 from live.expect import Unexpected, expect, expect_within
 
 
@@ -12,6 +17,8 @@ def unit(stand):
     yield "systemd_reads_it", lambda: systemd_reads_it(stand)
     yield "it_gives_few_privileges", lambda: it_gives_few_privileges(stand)
     yield "a_table_with_a_mistake_fails_the_start", lambda: a_table_with_a_mistake_fails_the_start(stand)
+    yield "its_commands_serve_and_stop", lambda: its_commands_serve_and_stop(stand)
+    yield "its_socket_is_handed_on", lambda: its_socket_is_handed_on(stand)
 
 
 def unit_file(stand, name="revcache.service", words=()):
@@ -24,9 +31,10 @@ def analyze(*words):
 
 
 def systemd_reads_it(stand):
-    """`systemd-analyze verify` has nothing to say, of the unit and of the template that OPERATIONS makes of it."""
+    """`systemd-analyze verify` has nothing to say, of the unit, of its socket, and of the template that OPERATIONS makes of it."""
+    stand.file("revcache.socket", deployed("revcache.socket", {}))
     unit_file(stand, "revcache@.service", [("127.0.0.1:8080", "127.0.0.1:%i")])
-    for it in (unit_file(stand), f"{stand.folder}/revcache@8101.service"):
+    for it in (unit_file(stand), f"{stand.folder}/revcache@8101.service", f"{stand.folder}/revcache.socket"):
         status, out, err = analyze("verify", it)
         said = [line for line in (out + err).splitlines() if "revcache" in line]
         expect(f"from systemd-analyze verify {it} status and lines", (0, []), (status, said))
@@ -52,3 +60,89 @@ def a_table_with_a_mistake_fails_the_start(stand):
         ran = subprocess.run(command, stdin=subprocess.DEVNULL, capture_output=True, text=True, timeout=20)
         said = ran.stdout[: len(ended[1])]
         expect(f"from `{' '.join(command)}` status and lines", ended, (ran.returncode, said, ran.stderr))
+
+
+def its_commands_serve_and_stop(stand):
+    """ExecStart and ExecStop as they stand but for their folders: it writes its log and its figures, others may read the
+    figures, and it ends by its drain file."""
+    port, table = free_port(), stand.file("table.toml", deployed("table.toml", {}))
+    folders = {"%t/%N": f"{stand.folder}/run", "%L/%N": f"{stand.folder}/log"}
+    for it in folders.values():
+        os.makedirs(it, exist_ok=True)
+    words = [("127.0.0.1:8080", f"127.0.0.1:{port}"), ("/etc/revcache/table.toml", table), *folders.items()]
+    with open(unit_file(stand, words=words), encoding="utf-8") as it:
+        lines = dict(line.rstrip("\n").split("=", 1) for line in it if re.match(r"(ExecStart|ExecStop|UMask|RuntimeDirectoryMode)=", line))
+    expect("who may go into the folder of the figures", "0755", lines["RuntimeDirectoryMode"])
+    with subprocess.Popen(lines["ExecStart"].split(), stderr=subprocess.PIPE, umask=int(lines["UMask"], 8), stdin=subprocess.DEVNULL) as served:
+        try:
+            expect("on standard error", f"listening on 127.0.0.1:{port}\n", line_where_it_listens(served))
+            asked = http.client.HTTPConnection("127.0.0.1", port, timeout=20)
+            asked.request("HEAD", "/admin")
+            expect("the answer", 403, asked.getresponse().status)
+            asked.close()
+            wait_until(lambda: "denied by line 1" in text_of(f"{folders['%L/%N']}/access.log"), "a line in the log")
+            wait_until(lambda: 'code="403"} 1' in text_of(f"{folders['%t/%N']}/revcache.prom"), "the answer in the figures")
+            mode = stat.S_IMODE(os.stat(f"{folders['%t/%N']}/revcache.prom").st_mode)
+            expect("who may read the figures", 0o644, mode)
+            stop = shlex.split(lines["ExecStop"].replace("$MAINPID", str(served.pid)))
+            with subprocess.Popen(stop, stdin=subprocess.DEVNULL) as stops:
+                expect("the program's end", (0, b"draining\n"), (served.wait(40), served.stderr.read()))
+                expect("from ExecStop", 0, stops.wait(10))
+        finally:
+            served.kill()
+
+
+def line_where_it_listens(served):
+    """The line that says so; in front of it stands what the bounds come to."""
+    for line in iter(served.stderr.readline, b""):
+        if not line.startswith((b"at most ", b"warning: ")):
+            return line.decode()
+    return ""
+
+
+def its_socket_is_handed_on(stand):
+    """The commands of socket.conf as they stand but for their folders: ExecStart is that of the unit but for the socket, serves what
+    systemd-socket-activate hands on, and ends where ExecReload says so; that does nothing where the table has a mistake."""
+    need("systemd-socket-activate")
+    port, run = free_port(), f"{stand.folder}/socket-run"
+    os.makedirs(f"{stand.folder}/log", exist_ok=True)
+    os.makedirs(run, exist_ok=True)
+    path = stand.file("socket-table.toml", deployed("table.toml", {}))
+    words = {"/usr/local/bin/revcache": stand.program, "/etc/revcache/table.toml": path, "%t/%N": run, "%L/%N": f"{stand.folder}/log"}
+    starts, reload = [], ""
+    for name in ("revcache.service", "socket.conf"):
+        for line in deployed(name, words).splitlines():
+            if line.startswith("ExecStart="):
+                starts.append(line.partition("=")[2])
+            if line.startswith("ExecReload="):
+                reload = shlex.split(line.partition("=")[2])
+    expect("ExecStart of both", [starts[0], "", starts[0].replace("127.0.0.1:8080", "fd:3")], starts)
+    activate = ["systemd-socket-activate", "--listen", f"127.0.0.1:{port}", *starts[2].split()]
+    with subprocess.Popen(activate, stdin=subprocess.DEVNULL, stderr=subprocess.PIPE) as served:
+        try:
+            wait_until(lambda: can_connect(port), "the port that is kept open")
+            asked = http.client.HTTPConnection("127.0.0.1", port, timeout=20)
+            asked.request("HEAD", "/admin")
+            expect("the answer", 403, asked.getresponse().status)
+            asked.close()
+            stand.file("socket-table.toml", deployed("table.toml", {'path = "/admin"': 'path = "/admin/"'}))
+            ran = subprocess.run(reload, stdin=subprocess.DEVNULL, capture_output=True, timeout=20)
+            expect("from ExecReload with a mistake in the table", (2, False), (ran.returncode, os.path.exists(f"{run}/drain")))
+            stand.file("socket-table.toml", deployed("table.toml", {}))
+            ran = subprocess.run(reload, stdin=subprocess.DEVNULL, capture_output=True, timeout=20)
+            expect("from ExecReload", (0, True), (ran.returncode, os.path.exists(f"{run}/drain")))
+            expect("the program's end", 0, served.wait(40))
+        finally:
+            served.kill()
+
+
+def can_connect(port):
+    with socket.socket() as it:
+        return it.connect_ex(("127.0.0.1", port)) == 0
+
+
+def text_of(path):
+    if not os.path.exists(path):
+        return ""
+    with open(path, encoding="ascii") as it:
+        return it.read()

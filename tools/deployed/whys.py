@@ -94,6 +94,7 @@ def why(stand):
     yield "a_table_may_move", lambda: a_table_may_move(stand)
     yield "an_answer_of_the_program", lambda: an_answer_of_the_program(stand)
     yield "answers_of_strangers", answers_of_strangers
+    yield "a_request_of_a_browser", a_request_of_a_browser
 
 
 def all_has_its_words():
@@ -219,8 +220,36 @@ def answers_of_strangers():
         expect(f"of {url} status and lines on standard error", (1, 1), (ran.returncode, ran.stderr.count("\n")))
 
 
-def answer_once(listener, text):
+# An answer that isn't stored, to a request with a cookie; and of what is said a part.
+UNSTORED = b"HTTP/1.1 200 OK\r\nCache-Control: max-age=60\r\nSet-Cookie: a=b\r\nContent-Length: 2000000\r\nCache-Status: edge;fwd=uri-miss\r\n\r\n"
+OLD = b"HTTP/1.1 200 OK\r\nDate: Sun, 06 Nov 1994 08:49:37 GMT\r\nAge: 7\r\nContent-Length: 0\r\nCache-Status: edge;fwd=uri-miss;ttl=-9;stored\r\n\r\n"
+BROWSER = ["--header", "Accept-Encoding: gzip, br", "--header", "Cookie: sid=1"]
+
+
+def a_request_of_a_browser():
+    """Fields of the request go out as they are given, and the answer is judged by them and by the table; what can't be
+    sent isn't asked. Of a response that was stored too old the clocks are compared."""
+    for text, words, wanted in (
+        (UNSTORED, BROWSER, ["with Accept-Encoding, Cookie", "2000000 bytes: compare that with max_stored", 'if the line has set-cookie = "not-stored"']),
+        (UNSTORED, [*BROWSER, "--table", f"{ROOT}/deploy/site.toml"], ["not stored: rule 13 of storing, TooLarge", "max_stored of the table is 1048576"]),
+        (UNSTORED, ["--header", "Authorization: Basic eDp5"], ["not stored: rule 8 of storing, Authorization", "RFC 9111, section 3.5"]),
+        (OLD, [], ["s behind this machine's clock it came with an Age of 7 s", "born old", "compare the clocks of origin and proxy"]),
+    ):
+        seen = []
+        with socket.create_server(("127.0.0.1", 0)) as listener:
+            threading.Thread(target=answer_once, args=[listener, text, seen], daemon=True).start()
+            ran = run("http://127.0.0.1:%d/" % listener.getsockname()[1], *words)
+        expect(f"with {words} status and standard error", (0, ""), (ran.returncode, ran.stderr))
+        expect(f"with {words} what isn't said", [], [it for it in wanted if it not in words_of(ran.stdout)])
+        lines = [it for it in words[1::2] if words[words.index(it) - 1] == "--header"]
+        expect(f"with {words} the fields of the request", lines, seen[0].decode().split("\r\n")[3:-2])
+    for line in ("Host: h", "no colon", "a: b\nc: d"):
+        expect(f"status with --header {line!r}", 2, run("http://127.0.0.1:1/", "--header", line).returncode)
+    expect("status with --header and no URL", 2, run("hit", "--header", "A: b").returncode)
+
+
+def answer_once(listener, text, seen=None):
     connection, _ = listener.accept()
     with connection:
-        connection.recv(65536)
+        (seen if seen is not None else []).append(connection.recv(65536))
         connection.sendall(text)

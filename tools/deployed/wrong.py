@@ -21,6 +21,15 @@ WRONG = [
     ("haproxy.cfg", "#http-response del-header Refusal unless is_operator", "#http-response del-header Refusal if is_operator", "a_reason_for_operators_alone"),
     ("scale-out/haproxy.cfg", "hash-type consistent djb2 avalanche     # (the same ring)", "hash-type consistent", "scale_out"),
     ("scale-out/nginx.conf", "hash $host$request_uri consistent;      # (the same ring)", "hash $request_uri consistent;", "scale_out_nginx"),
+    ("origins/haproxy.cfg", "    option redispatch 1 ", "    #", "origins_by_haproxy"),
+    ("origins/haproxy.cfg", "http-reuse always", "http-reuse never", "origins_by_haproxy"),
+    ("origins/haproxy.cfg", "verify required", "verify none", "origins_by_haproxy"),
+    ("origins/nginx.conf", "#proxy_ssl_verify on;", "#proxy_ssl_verify off;", "origins_by_nginx"),
+    ("origins/nginx.conf", "proxy_set_header Host $http_host;", "", "origins_by_nginx"),
+    ("origins/nginx.conf", "proxy_next_upstream error timeout;", "proxy_next_upstream off;", "origins_by_nginx"),
+    ("origins/nginx.conf", "        keepalive 32;", "", "origins_by_nginx"),
+    ("revcache.service", "UMask=0022", "UMask=0077", "unit"),
+    ("revcache.service", " --stats %t/%N/revcache.prom", "", "unit"),
 ]
 
 

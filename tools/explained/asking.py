@@ -1,5 +1,7 @@
 """One request to the proxy, and what its answer says of itself."""
+import email.utils
 import http.client
+import re
 import urllib.parse
 
 PATIENCE = 150
@@ -7,13 +9,18 @@ PATIENCE = 150
 FIELDS = ["Cache-Control", "Expires", "Date", "Age", "Vary", "ETag", "Last-Modified", "Set-Cookie", "Content-Length"]
 
 
+# A field of a request, and those that aren't for the caller to say.
+FIELD = re.compile(r"([!#$%&'*+.^_`|~0-9A-Za-z-]+):[ \t]*([ \t!-~\x80-\xff]*)")
+OWN = {"host", "connection", "content-length", "transfer-encoding"}
+
+
 class NoAnswer(Exception):
     """The proxy gave none."""
 
 
 class Answer:
-    def __init__(self, line, fields):
-        self.line, self.fields = line, fields
+    def __init__(self, status, line, fields):
+        self.status, self.line, self.fields = status, line, fields
 
     def values(self, name):
         return [value for key, value in self.fields if key.lower() == name.lower()]
@@ -29,7 +36,49 @@ class Answer:
         return [*first, self.line, *(f"{name}: {value}" for name in FIELDS for value in self.values(name))]
 
 
-def get(url, to=None):
+    def clocks(self, reason, now):
+        """Of an answer that was stored when its lifetime was over: what its Date and Age say."""
+        if not re.search(r";ttl=-[0-9]+;stored", reason):
+            return
+        for value in self.values("Date")[:1]:
+            date = email.utils.parsedate_to_datetime(value).timestamp() if is_date(value) else None
+            behind = None if date is None else round(now - date)
+            way = "behind" if (behind or 0) > 0 else "ahead of"
+            yield f"its Date is {abs(behind)} s {way} this machine's clock" if date else "its Date can't be read"
+        for value in self.values("Age")[:1]:
+            yield f"it came with an Age of {value} s"
+
+
+def is_date(text):
+    try:
+        return email.utils.parsedate_to_datetime(text) is not None
+    except (TypeError, ValueError):
+        return False
+
+
+def fault_of(lines):
+    """What is wrong with the lines of --header; None where nothing is."""
+    for line in lines:
+        found = FIELD.fullmatch(line)
+        if not found:
+            return f"--header has to be a name, a colon and a value, and not {line!r}"
+        if found[1].lower() in OWN:
+            return f"--header can't be {found[1]}: the URL says the host, and there is no content"
+    return None
+
+
+def fields_of(lines):
+    return [(found[1], found[2].strip()) for found in map(FIELD.fullmatch, lines)]
+
+
+def target_of(url):
+    """The target as the log has it: the host in lower case, and no port 80."""
+    parts = urllib.parse.urlsplit(url)
+    port = f":{parts.port}" if parts.port and parts.port != 80 else ""
+    return f"http://{parts.hostname}{port}{parts.path or '/'}" + (f"?{parts.query}" if parts.query else "")
+
+
+def get(url, to=None, fields=()):
     """Asks for a URL by GET, at its own host or where `to` says."""
     parts = urllib.parse.urlsplit(url)
     if parts.scheme.lower() != "http":
@@ -46,9 +95,12 @@ def get(url, to=None):
         connection.putrequest("GET", target, skip_host=True, skip_accept_encoding=True)
         connection.putheader("Host", parts.netloc.rpartition("@")[2])
         connection.putheader("Connection", "close")
+        for name, value in fields:
+            connection.putheader(name, value.encode("latin-1"))
         connection.endheaders()
         answer = connection.getresponse()
-        return Answer(f"{answer.status} to GET {url}", answer.getheaders())
+        with_these = f" with {', '.join(name for name, _ in fields)}" if fields else ""
+        return Answer(answer.status, f"{answer.status} to GET {url}{with_these}", answer.getheaders())
     except http.client.HTTPException as fault:
         raise NoAnswer(f"no answer that can be read: {fault!r}") from None
     finally:

@@ -6,6 +6,8 @@ from explained.documents import codes_in, plain, sections_of
 PLAIN, CHANGE = "In plain words", "What can be changed"
 # Who can change something, as a part of an entry, and as the cells of that column begin.
 CHANGERS = {"Origin", "Client", "Operator", "to do"}
+# How the row of a response is named that was stored when its lifetime was over.
+BORN_OLD = "ttl=-N;stored"
 WHO = re.compile(r"(?:^|(?<=[.;] ))(Origin|Client|Operator|Nothing)(?=[:,.])")
 
 
@@ -140,6 +142,11 @@ class Words:
         return self.of_table(
             f"detail-{word}", f"detail={word}", "Detail", word, defined, [("in a log", self.log_words(word))]
         )
+
+    def born_old(self):
+        """What is said where a response was stored whose lifetime was over by then."""
+        defined = self.sources.place("ttl_of_passed_answer")
+        return self.of_table("detail-born-old", "ttl below 0 beside stored: born old", "Detail", BORN_OLD, defined)
 
     def log_words(self, word):
         """What a log reader sees, of a parameter or a detail."""

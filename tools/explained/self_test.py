@@ -2,6 +2,8 @@
 import os
 import re
 
+from explained import asking
+from explained.deciding import InHand
 from explained.entries import CHANGE, CHANGERS, PLAIN, Words
 from explained.texts import Texts
 
@@ -14,6 +16,58 @@ RULES = [
 # Lists of words. (Out of memory is told of no target: it is the program's own.)
 FAULTS = [("FrameFault", "frame_word", Words.message), ("TargetFault", "target_word", Words.target)]
 OTHERS = [("FailKind", "fail_kind_word", Words.kind), ("Cause", "refusal_text", Words.cause), ("Detail", "detail_word", Words.detail)]
+
+
+# What may stand against any answer that says nothing against itself.
+UNSEEN = ["ConnectionField", "TooLarge", "Overtaken"]
+MINUTE, COOKIE = ("Cache-Control", "max-age=60"), ("Set-Cookie", "sid=1")
+# An answer in hand: what was asked with, its status and fields, the table's words if they are known; then the rule that
+# stands, or those that may (docs/RULES.md, "Storing").
+IN_HAND = [
+    ([], 200, [("Cache-Control", "max-age=60, Private")], None, "Private"),
+    ([], 200, [("Cache-Control", "private"), ("Cache-Control", "no-store")], None, "ResponseNoStore"),
+    ([], 200, [("Cache-Control", "must-understand, no-store, max-age=60")], None, UNSEEN),
+    ([], 299, [("Cache-Control", "must-understand, max-age=60")], None, "MustUnderstand"),
+    ([], 200, [("Cache-Control", 'max-age=60, x="private, no-store"')], None, UNSEEN),
+    ([], 200, [("Cache-Control", 'max-age=60, x=", no-store')], None, UNSEEN),
+    ([("Cache-Control", "no-store")], 200, [MINUTE], None, "RequestNoStore"),
+    ([("Authorization", "Basic eDp5")], 200, [MINUTE], None, "Authorization"),
+    ([("authorization", "Basic eDp5")], 200, [("Cache-Control", "s-maxage=60")], None, UNSEEN),
+    ([("If-None-Match", '"v1"')], 304, [MINUTE, ("ETag", '"v1"')], None, "Status"),
+    ([], 206, [MINUTE], None, "Status"),
+    ([], 302, [("Location", "/")], None, "NothingAllows"),
+    ([], 302, [("Location", "/"), ("Expires", "0")], None, UNSEEN),
+    ([], 200, [MINUTE, ("Vary", "Accept-Encoding, *")], None, "VaryStar"),
+    ([], 200, [MINUTE, ("Vary", "Accept-Encoding")], None, UNSEEN),
+    ([], 200, [("Content-Length", "5")], None, "NothingToReuse"),
+    ([], 404, [("ETag", "v1")], None, "NothingToReuse"),
+    ([], 200, [("ETag", 'W/"v1"')], None, UNSEEN),
+    ([], 200, [("Last-Modified", "Sun, 06 Nov 1994 08:49:37 GMT")], None, UNSEEN),
+    ([], 200, [("Content-Length", "5")], {"max_stored": 9, "lifetime": 60}, ["ConnectionField", "Overtaken"]),
+    ([], 302, [("Location", "/")], {"max_stored": 9, "lifetime": 60}, "NothingAllows"),
+    ([], 200, [MINUTE, ("Content-Length", "5000000")], {"max_stored": 1048576}, "TooLarge"),
+    ([], 200, [MINUTE, ("Content-Length", "1048576")], {"max_stored": 1048576}, ["ConnectionField", "Overtaken"]),
+    ([], 200, [MINUTE, COOKIE], None, [*UNSEEN, "SetCookie"]),
+    ([], 200, [MINUTE, COOKIE, ("Content-Length", "5")], {"max_stored": 9, "set-cookie": "not-stored"}, "SetCookie"),
+    ([], 200, [("Cache-Control", "public, max-age=60"), COOKIE], None, UNSEEN),
+    ([], 500, [MINUTE], None, [*UNSEEN, "ErrorStatus"]),
+    ([], 500, [MINUTE, ("Content-Length", "5")], {"max_stored": 9, "errors": "not-stored"}, "ErrorStatus"),
+    ([], 404, [MINUTE], None, UNSEEN),
+]
+# Lines of --header, and whether they may be sent.
+HEADERS = {"Accept-Encoding: gzip, br": True, "Cookie:sid=1": True, "X-Empty:": True, "Host: h": False, "no colon": False}
+HEADERS |= {"two\r\nlines: x": False, "a: b\r\nc: d": False, ": x": False, "Content-Length: 0": False}
+# A value of Cache-Status, and what is told first of it.
+FIRST = {
+    "edge;fwd=uri-miss;ttl=-60;stored": "detail-born-old",
+    "edge;fwd=stale;ttl=-60;stored": "detail-born-old",
+    "edge;fwd=uri-miss;ttl=60;stored": "reuse-5",
+    "edge;fwd=uri-miss;ttl=0;stored": "reuse-5",
+    "edge;hit;ttl=-5": "parameter-hit",
+    "edge;fwd=uri-miss;detail=not-stored-private": "storing-7",
+    "edge;fwd=uri-miss;detail=not-stored-no-lifetime": "storing-12",
+    "edge;fwd=stale;detail=stale-if-error;ttl=-5": "reuse-7",
+}
 
 
 def lacking(entry, root, wanted=("in plain words", "standard", "defined in")):
@@ -64,6 +118,7 @@ def of_words(words, root):
     for type, function, make in OTHERS:
         for name in words.sources.table(function, type):
             yield f"{type} {name}", lacking(make(words, name), root)
+    yield "born old", lacking(words.born_old(), root)
     for it in sorted(words.sources.parameters() - {"fwd", "detail", "stale-if-error"}):
         yield f"parameter {it}", lacking(words.parameter(it), root, ("the proxy", "where", "standard", "defined in"))
 
@@ -98,10 +153,34 @@ def of_texts(found):
         yield it, [] if found.of(text) else [f"`{it}` has no words in docs/"]
 
 
+def of_asking(found):
+    """What is told of an answer in hand: the rule that stands, first; of a response that was stored too old; and lines of
+    --header."""
+    rules = sorted(found.sources.numbers("storing_rule_number", "StoreRule").items(), key=lambda it: it[1])
+    judged = [name for name, _, _ in InHand([], 200, []).judged()]
+    yield "order", [] if judged == [it for it, _ in rules] else [f"rules of storing are judged in the order {judged}"]
+    for asked, status, fields, words, wanted in IN_HAND:
+        it = InHand(asked, status, fields, words)
+        stands, may = it.first()
+        got = stands[0] if stands else [name for name, _ in may]
+        what = f"of {status} {fields} to {asked} with {words}"
+        yield what, [] if got == wanted else [f"{what}: {got} stands, and not {wanted}"]
+        key = found.of("edge;fwd=uri-miss", it)[0].key
+        first = f"storing-{dict(rules)[wanted]}" if stands else "not-stored"
+        yield f"{what}, told", [] if key == first else [f"{what}: {key} is told first, and not {first}"]
+    for text, wanted in FIRST.items():
+        key = found.of(text)[0].key
+        yield text, [] if key == wanted else [f"{text}: {key} is told first, and not {wanted}"]
+    for line, may in HEADERS.items():
+        yield line, [] if (asking.fault_of([line]) is None) == may else [f"--header {line!r} is taken wrongly"]
+    named = asking.fields_of(["Cookie:sid=1", "Accept-Encoding:  gzip, br "])
+    yield "fields", [] if named == [("Cookie", "sid=1"), ("Accept-Encoding", "gzip, br")] else [f"--header gives {named}"]
+
+
 def faults_of(found, root):
     """How many have their words, and what is lacking."""
     count, faults = 0, []
-    for checks in (of_rules(found.words, root), of_words(found.words, root), of_texts(found)):
+    for checks in (of_rules(found.words, root), of_words(found.words, root), of_texts(found), of_asking(found)):
         for _, lacks in checks:
             count += not lacks
             faults += lacks

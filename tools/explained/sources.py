@@ -51,6 +51,14 @@ class Sources:
                 return f"{self.files[it, type]} (`{it} {name}`)"
         return None
 
+    def place(self, name):
+        """The file that a definition stands in, whatever its type; fails where none has it."""
+        for path in sorted(glob.glob(f"{self.root}/crates/*/specs/*.antt")):
+            with open(path, encoding="utf-8") as it:
+                if f" pub {name} :" in it.read():
+                    return f"{os.path.relpath(path, self.root)} (`{name}`)"
+        raise LookupError(f"no definition {name} stands in crates/*/specs")
+
     def parameters(self):
         """The parameters that a member of Cache-Status or a refusal can have, without what stands behind a `=`."""
         found = set()

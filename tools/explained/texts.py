@@ -20,35 +20,47 @@ class Texts:
             reason, detail = (self.sources.texts(it, "ReuseRule")[name] for it in ("reuse_rule_reason", "reuse_rule_detail"))
             self.by_text[reason, detail] = name
 
-    def of(self, text):
-        """Entries for a value of Cache-Status or of Refusal, a line on standard error, or a word; none if unknown."""
+    def of(self, text, in_hand=None):
+        """Entries for a value of Cache-Status or of Refusal, a line on standard error, or a word; none if unknown. Where
+        the answer is in hand, it is said which rule of storing stands."""
         text = value_of(text)
-        return self.of_reason(text) or self.of_line(text) or self.of_word(text) or self.in_documents(text)
+        return self.of_reason(text, in_hand) or self.of_line(text) or self.of_word(text) or self.in_documents(text)
 
-    def of_reason(self, text):
+    def of_reason(self, text, in_hand=None):
         """Entries for a reason in a log: what it says itself, and not what is said of it elsewhere."""
-        return self.of_refusal(text) or (self.of_member(text) if self.is_member(text) else [])
+        return self.of_refusal(text) or (self.of_member(text, in_hand) if self.is_member(text) else [])
 
     def is_member(self, text):
         """Whether it is a member of Cache-Status, with the proxy's name or without."""
         return bool(re.match(r"(?:[^;= ]+;)?(?:hit|fwd=[a-z-]+)(?:;|$)", text))
 
-    def of_member(self, text):
+    def of_member(self, text, in_hand=None):
         parts = text.split(";")
         parameters = {it.partition("=")[0]: it.partition("=")[2] for it in parts}
-        entries = []
-        if "hit" in parameters:
-            entries.append(self.words.parameter("hit"))
-        else:
-            entries += self.of_rule(parameters.get("fwd"), parameters.get("detail"))
-        entries += [self.words.parameter(it) for it in ("fwd-status", "ttl", "stored", "collapsed") if it in parameters]
         reason, detail = parameters.get("fwd"), parameters.get("detail")
+        entries = [self.words.parameter("hit")] if "hit" in parameters else self.of_rule(reason, detail)
+        entries += [self.words.parameter(it) for it in ("fwd-status", "ttl", "stored", "collapsed") if it in parameters]
         entries += [self.words.detail(name) for name, word in self.own_details().items() if word == detail]
-        entries += [self.words.storing(name) for name in self.storing_rules(detail)]
+        if entries and "stored" in parameters and parameters.get("ttl", "").startswith("-"):
+            entries.insert(0, self.words.born_old())
         is_sent = {"hit", "stored", "collapsed", "ttl"} & set(parameters) or detail in self.own_details().values()
-        if entries and not is_sent and not self.storing_rules(detail):
-            entries.append(self.not_stored(reason, detail))
-        return entries
+        if self.storing_rules(detail):
+            # why it isn't stored is why it is missed again and again: it comes first
+            return [*map(self.words.storing, self.storing_rules(detail)), *entries]
+        if entries and not is_sent and in_hand and reason not in ("method", "bypass"):
+            return [*self.decided(in_hand), *entries]
+        return [*entries, self.not_stored(reason, detail)] if entries and not is_sent else entries
+
+    def decided(self, in_hand):
+        """The rule of storing that stands against an answer in hand, or those that may."""
+        stands, may = in_hand.first()
+        if stands:
+            entry = self.words.storing(stands[0])
+            return [Entry(entry.key, f"not stored: {entry.title}", [("in this answer", stands[1]), *entry.parts])]
+        rules = [(self.words.storing(name), why) for name, why in may]
+        parts = [(it.title.partition(", ")[2], f"{why}. {in_short(it)}") for it, why in rules]
+        title = "no ;stored: nothing in the answer itself keeps it out, so one of these does, which no client can see"
+        return [Entry("not-stored", title, parts)]
 
     def storing_rules(self, detail):
         """The storing rule that a detail names, by which an answer isn't stored."""

@@ -8,7 +8,7 @@ from live.client import PATIENCE, Said, request
 from live.expect import Unexpected, expect, expect_answer, expect_within
 from live.logs import lines_of, without_ttl
 from live.origin import Origin, held_back, silent, whole
-from live.proxy import LISTENING, table_of
+from live.proxy import BOUNDS, LISTENING, WARNING, table_of
 from live.record import compare_clients, replay
 from live.scenario import KEPT, LATEST, scenario
 from live.staying import HIT, STORED
@@ -215,7 +215,7 @@ def a_record_is_never_written_over(stage):
         it.write(b"what happened")
     words = [stage.program, "serve", file, "--listen", "127.0.0.1:0", "--turns", "1", "--record", record]
     ran = subprocess.run(words, stdin=subprocess.DEVNULL, capture_output=True, timeout=PATIENCE)
-    said = [it for it in ran.stderr.decode().splitlines() if not it.startswith(LISTENING)]
+    said = [it for it in ran.stderr.decode().splitlines() if not it.startswith((LISTENING, BOUNDS, WARNING))]
     expect("status and lines on standard error", (1, ["write fault"]), (ran.returncode, said))
     expect("on standard output", True, f"the record {record} is never written over: take another name, or %s" in ran.stdout.decode())
     with open(record, "rb") as it:

@@ -173,6 +173,40 @@ def figures_of_the_store(stage):
     expect_samples(figures_with(file, of("store_removals_total"), 2), told(1, 1, 2))
 
 
+def weight_of(answer, host, target, nominated=0):
+    """The bytes that a stored response weighs, by docs/LIMITS.md: its content, each of its lines with four beside name and value, host and
+    target twice, what its Vary nominates, and 1,200."""
+    beside = ("age", "cache-status", "content-length")
+    lines = [it for it in answer.fields if it[0].lower() not in beside]
+    return len(answer.content) + sum(len(name) + len(value) + 4 for name, value in lines) + 2 * len(host + target) + nominated + 1200
+
+
+@scenario
+def figures_of_what_the_store_weighs(stage):
+    """`revcache_store_bytes` is the weight of what is held: it rises by a response that is stored, changes with one that is freshened,
+    and falls by one that is replaced, invalidated or evicted."""
+    file = f"{stage.room.name}/figures"
+    varying = whole(200, KEPT, "Vary: Accept-Language", content=b"y" * 3000)
+    posted = lambda fetch: (whole(204) if fetch.method == "POST" else whole(200, KEPT, content=b"z"))(fetch)  # noqa: E731
+    stage.origin(Origin({"/a": whole(200, KEPT, content=b"x" * 5000), "/b": varying, "/c": posted}))
+    client = stage.proxy(options=["--stats", file], capacity=2).client()
+
+    def expect_weight(*weights):
+        expect_samples(figures_with(file, of("store_bytes"), sum(weights)), {of("store_responses"): len(weights)})
+
+    expect_weight()
+    first = weight_of(client.ask("/a"), "h", "/a")
+    expect_weight(first)
+    second = weight_of(client.ask("/b?q", "Accept-Language: de"), "h", "/b?q", len("Accept-Language") + len("de"))
+    expect_weight(first, second)
+    expect_answer(client.ask("/a"), 200, "edge;hit;ttl=600", b"x" * 5000)
+    expect_weight(first, second)
+    third = weight_of(client.ask("/c"), "h", "/c")
+    expect_weight(first, third)
+    expect("the status", 204, client.ask("/c", method="POST", content=b"").status)
+    expect_weight(first)
+
+
 @scenario
 def figures_are_taken_by_promtool(stage):
     """`promtool check metrics` has nothing to say of a page."""

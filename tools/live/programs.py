@@ -18,6 +18,7 @@ from live.scenario import KEPT, scenario
 
 TOOLS = os.path.dirname(os.path.dirname(os.path.realpath(__file__)))
 NO_ADDRESSES = ["localhost:0", "127.0.0.1", ":0", "[::1]:0", "127.0.0.1:65536", "127.0.0.1:08", "127.0.0.01:8", "127.0.0.1:+1"]
+NO_ADDRESSES += ["fd:", "fd:2", "fd:03", "fd:+3", "fd:three", "fd:2147483648", "3"]
 # Options of `serve` whose number is outside of their range, or whose word is none of theirs.
 NO_NUMBERS = [("--turns", "0"), ("--turns", "4294967296"), ("--connections", "0"), ("--connections", "1048577")]
 NO_NUMBERS += [("--origin-connections", "0"), ("--origin-connections", "65537"), ("--origin-probe", "maybe")]
@@ -147,9 +148,9 @@ def the_standard_library_as_origin(stage):
             origin.kill()
 
 
-def run(stage, *words):
+def run(stage, *words, handed_on=()):
     """The status, the output and the line on standard error of a program that ends by itself."""
-    ran = subprocess.run([stage.program, *words], stdin=subprocess.DEVNULL, capture_output=True, timeout=20)
+    ran = subprocess.run([stage.program, *words], stdin=subprocess.DEVNULL, capture_output=True, timeout=20, pass_fds=handed_on)
     return ran.returncode, ran.stdout.decode(), ran.stderr.decode()
 
 
@@ -284,13 +285,35 @@ def a_check_says_what_has_no_effect_and_what_a_request_meets(stage):
     file = f"{stage.room.name}/table.toml"
     with open(file, "w", encoding="utf-8") as it:
         it.write(table_of(CROSSED, max_body=10, max_stored=11, version=3))
-    expect("of a table", (0, f"ok 5 lines\n{IDLE}", ""), run(stage, "check", file))
+    # (64 responses of 11 bytes, with 80,000 beside each)
+    store = "the store takes 6 MB at most\n"
+    expect("of a table", (0, f"ok 5 lines\n{store}{IDLE}", ""), run(stage, "check", file))
     for asked, met, words in MET:
         told = f"{asked} {met}\n" + "".join(f"    {it}\n" for it in words)
-        expect(f"of `{asked}`", (0, f"ok 5 lines\n{IDLE}{told}", ""), run(stage, "check", file, "--ask", asked))
+        expect(f"of `{asked}`", (0, f"ok 5 lines\n{store}{IDLE}{told}", ""), run(stage, "check", file, "--ask", asked))
     for words in ("", "GET", "http://h.example/", "GET h.example/", "GET ftp://h.example/", "G@T http://h.example/"):
         status, out, err = run(stage, "check", file, "--ask", words)
         expect(f"of `{words}` status and standard error", (64, "usage fault\n"), (status, err))
+
+
+@scenario
+def a_table_that_asks_the_server_itself_is_told(stage):
+    """`serve` warns of each line whose origin is the address that it listens on, or this machine's where it listens on all; of no other."""
+    file = f"{stage.room.name}/table.toml"
+    with socket.create_server(("127.0.0.1", 0)) as free:
+        port = free.getsockname()[1]
+    own, other, deny = f"127.0.0.1:{port}", f"127.0.0.1:{port - 1}", "deny"
+    for listen, origins, lines in (
+        (own, (other, own, deny, own), (2, 4)),
+        (f"0.0.0.0:{port}", (own, f"127.0.0.2:{port}", other, f"192.0.2.1:{port}"), (1, 2)),
+        (own, (f"127.0.0.2:{port}", other, deny), ()),
+    ):
+        with open(file, "w", encoding="utf-8") as it:
+            it.write(table_of([(f"/{i}", ["*"], origin) for i, origin in enumerate(origins)]))
+        status, _, err = run(stage, "serve", file, "--listen", listen, "--turns", "1")
+        told = [it for it in err.splitlines() if it.startswith("warning: the origin")]
+        words = "is this server itself: its requests come back until connections run out"
+        expect(f"on {listen}", (0, [f"warning: the origin of line {n} {words}" for n in lines]), (status, told))
 
 
 def replay(stage, script, **more):

@@ -14,6 +14,8 @@ from live.expect import Skipped, Unexpected, expect
 from live.script import numbers_with
 
 LISTENING = "listening on "
+# What is said in front of that: what the bounds come to in memory, and warnings of the table and of the bounds.
+BOUNDS, WARNING = "at most ", "warning: "
 
 
 def table_of(lines, max_body=1000000, max_stored=100000, capacity=64, version=1):
@@ -31,7 +33,7 @@ def table_of(lines, max_body=1000000, max_stored=100000, capacity=64, version=1)
 class Proxy:
     """A running program, and the clients that connect to it. It stays until it is stopped, but where it is given turns."""
 
-    def __init__(self, program, folder, table, turns=None, options=(), listen="127.0.0.1:0", records=True, environment=None, output=subprocess.PIPE):
+    def __init__(self, program, folder, table, turns=None, options=(), listen="127.0.0.1:0", records=True, environment=None, output=subprocess.PIPE, handed_on=()):
         self.program, self.folder, self.clients, self.numbers = program, folder, [], itertools.count(1)
         # (a record is never written over another one)
         self.record = next(it for it in (f"{folder}/record-{i}" for i in itertools.count(1)) if not os.path.exists(it))
@@ -41,13 +43,23 @@ class Proxy:
         words += ["--turns", str(turns)] if turns else []
         words += ["--record", self.record] if records else []
         self.is_recorded = records
-        how = {"stdin": subprocess.DEVNULL, "stdout": output, "stderr": subprocess.PIPE, "env": environment}
+        how = {"stdin": subprocess.DEVNULL, "stdout": output, "stderr": subprocess.PIPE, "env": environment, "pass_fds": handed_on}
         self.process = subprocess.Popen([program, *words, *options], **how)
+        self.told = []
         self.port = self.read_port()
 
     def read_port(self):
-        """The port of the line that says where the program listens."""
-        line, deadline = b"", time.monotonic() + PATIENCE
+        """The port of the line that says where the program listens; the lines in front of it are kept."""
+        deadline = time.monotonic() + PATIENCE
+        while (line := self.read_line(deadline)).startswith((BOUNDS, WARNING)):
+            self.told.append(line)
+        if not line.startswith(f"{LISTENING}127.0.0.1:"):
+            raise Unexpected("on standard error", "listening on 127.0.0.1:PORT", line)
+        return int(line.rpartition(":")[2])
+
+    def read_line(self, deadline):
+        """The next line on standard error."""
+        line = b""
         while not line.endswith(b"\n"):
             is_there = select.select([self.process.stderr], [], [], deadline - time.monotonic())[0]
             byte = os.read(self.process.stderr.fileno(), 1) if is_there else b""
@@ -55,10 +67,7 @@ class Proxy:
                 self.process.kill()
                 raise Unexpected("on standard error", "listening on 127.0.0.1:PORT", line)
             line += byte
-        text = line.decode().rstrip("\n")
-        if not text.startswith(f"{LISTENING}127.0.0.1:"):
-            raise Unexpected("on standard error", "listening on 127.0.0.1:PORT", text)
-        return int(text.rpartition(":")[2])
+        return line.decode().rstrip("\n")
 
     def client(self, **more):
         it = Client(self.port, next(self.numbers), **more)

@@ -9,6 +9,7 @@ from live.client import PATIENCE, request
 from live.expect import Unexpected, expect, expect_answer, expect_member, expect_refusal
 from live.line_words import MINUTE, MISS, by_words, expect_asked
 from live.logs import lines_of, without_ttl
+from live.memory_bounds import told_of_store
 from live.origin import held_back, whole
 from live.programs import expect_ended, run
 from live.proxy import table_of
@@ -187,7 +188,8 @@ def the_site_of_deploy_is_a_table(stage):
     with open(file, "w", encoding="utf-8") as it:
         it.write(text)
     for path in (f"{TOOLS}/../deploy/site.toml", file):
-        expect("from check", (0, "ok 7 lines\n", ""), run(stage, "check", path))
+        # (20,000 responses of 1,048,576 bytes)
+        expect("from check", (0, f"ok 7 lines\n{told_of_store(20000, 1048576)}", ""), run(stage, "check", path))
     client = stage.proxy_of(text).client()
     expect_refusal(client.ask("/admin"), 403, "denied by line 1")
     expect_refusal(client.ask("/assets/a", method="POST", content=b"x"), 403, "no line allows it")

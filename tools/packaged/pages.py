@@ -68,17 +68,56 @@ def program_page(operations, version, date):
         "# EXIT STATUS", plain(section(operations, "Faults and exit statuses")),
         "# FILES", "/etc/revcache/table.toml: the operator's table, revcache-table(5).",
         "/usr/share/doc/revcache: the documents for operators, and files for nginx, haproxy, Prometheus and Grafana.",
-        "# SEE ALSO", "revcache-table(5), nginx(8), haproxy(1), systemctl(1)",
+        "/var/log/revcache/access.log, /run/revcache/revcache.prom: the unit's log and figures.",
+        "# SEE ALSO", "revcache-table(5), revcache-report(1), revcache-why(1), revcache-warm(1), nginx(8), haproxy(1), systemctl(1)",
     ]  # fmt: skip
     return roff("\n\n".join(parts) + "\n")
 
 
-def table_page(table, version, date):
-    """revcache-table(5): the operator's table."""
+def table_page(table, words, version, date):
+    """revcache-table(5): the operator's table, and the words of a line of version 3."""
     head = [f'% revcache-table 5 "{date}" "revcache {version}" "File Formats"', "# NAME", "revcache-table - the operator's table of revcache(1)"]
     head += ["# DESCRIPTION", "/etc/revcache/table.toml is one file in TOML. It says which requests go to which origin, and what is denied."]
     parts = [f"# {it.upper()}\n\n{plain(section(table, it))}" for it in ("The table", "Spellings that pass a denial", "Lines without cache")]
+    parts = [it.replace("WORDS.md", '"Words of version 3"') for it in parts]
+    begin, *sections = re.split(r"^## ", words, flags=re.M)
+    of_words = begin.partition("\n\n")[2].partition("For operators")[2].partition(". ")[2]
+    parts += [f"# WORDS OF VERSION 3\n\n{plain(of_words)}", *(f"## {plain(it)}" for it in sections)]
     return roff("\n\n".join([*head, *parts, "# SEE ALSO", "revcache(1)"]) + "\n")
+
+
+def tool_page(name, text, version, date):
+    """A page of a tool, by what its --help says: its usage, what it is, and its options."""
+    usage, said, *groups = re.split(r"\n\n(?=\S)", f"{text.strip()}\n")
+    at = next(i for i, it in enumerate(groups) if re.match(r"(positional arguments|options):\n", it))
+    what = " ".join(said.split())
+    what = what[what.index(": ") + 2 :].partition(". ")[0].rstrip(".")
+    forms = " ".join(usage.removeprefix("usage:").split())
+    parts = [
+        f'% {name} 1 "{date}" "revcache {version}" "User Commands"',
+        "# NAME", f"{name} - {what}",
+        "# SYNOPSIS", f"**{forms}**",
+        "# DESCRIPTION", *(escaped(it) for it in [said, *groups[:at]]),
+        "# OPTIONS", *(options(it) for it in groups[at:]),
+        "# SEE ALSO", "revcache(1), revcache-table(5)",
+    ]  # fmt: skip
+    return roff("\n\n".join(parts) + "\n")
+
+
+def escaped(text):
+    """A paragraph of --help: one that is indented stays as it is, of another words in signs stay words."""
+    return text if text.startswith("    ") else re.sub(r"([*_<>\[\]])", r"\\\1", text)
+
+
+def options(text):
+    """Words and options of --help, each with what is said of it."""
+    out = []
+    for line in text.split("\n")[1:]:
+        if found := re.match(r"  (\S(?:\S| (?! ))*)(?:  +(.*))?$", line):
+            out.append([found[1], found[2] or ""])
+        elif out:
+            out[-1][1] += f" {line.strip()}"
+    return "\n".join(f"`{name}`\n: {escaped(' '.join(said.split()) or 'what it is about, above')}\n" for name, said in out)
 
 
 def options_of_help(text):

@@ -1,9 +1,12 @@
 """What is counted of a log, in one pass and in bounded memory."""
 from collections import Counter
 
+from reported.hints import Hints
 from reported.lines import microseconds_of, parts_of
-from reported.reasons import KINDS, LANES, LEFT_OUT, Reasons
-from reported.tallies import Tally, short
+from reported.queries import Queries
+from reported.reasons import FORWARDED, KINDS, LANES, LEFT_OUT, Reasons
+from reported.tallies import KEPT, Tally, short
+from reported.times import Origins, Slow, Times
 
 # How many different (host, segment, status, reason, origin) are counted before they are added to the tallies.
 MOST_COUNTS = 20000
@@ -43,35 +46,6 @@ class Bins:
                 kept[at] += count
 
 
-class Times:
-    """How long replies took, to three digits, and the longest of them to the microsecond."""
-
-    def __init__(self):
-        self.texts, self.counts, self.longest = Counter(), Counter(), 0
-
-    def fold(self):
-        for text, count in self.texts.items():
-            took = microseconds_of(text)
-            self.longest = max(self.longest, took)
-            unit = 10 ** max(0, len(str(took)) - 3)
-            self.counts[took // unit * unit] += count
-        self.texts.clear()
-
-    def number(self):
-        self.fold()
-        return sum(self.counts.values())
-
-    def least(self, hundredths):
-        """The least time that so many in a hundred replies took no longer than, cut to three digits."""
-        self.fold()
-        wanted = -(-sum(self.counts.values()) * hundredths // 100)
-        for took in sorted(self.counts):
-            wanted -= self.counts[took]
-            if wanted <= 0:
-                return took
-        return 0
-
-
 class Minutes:
     """What was asked and stored in each minute; of very many minutes those of the least go."""
 
@@ -101,8 +75,16 @@ class Figures:
         # Of each name what counts in the hit ratio, and the hits of it; of a target how often it was missed, and how
         # often it was stored again too early.
         self.hosts, self.segments, self.missed, self.again = Tally(2), Tally(2), Tally(), Tally()
+        # Of each path, whatever its query: how often it was missed, and with which queries.
+        self.paths, self.queries = Tally(kept=KEPT // 2), Queries()
+        # Of each client how often it asked, what of it was refused or failed, and its bytes of content.
+        self.clients = Tally(3, KEPT // 2)
+        # The bytes of content of what counts in the hit ratio, and of the hits of it.
+        self.bytes_looked_up = self.bytes_of_hits = 0
         # Of each origin what it failed at, by the columns of `failures_of`, and what it was asked for.
         self.origins, self.origins_are_told = Tally(6), bool(table)
+        # How long answers took, by lane, origin and text until it is folded; of each target at the origin.
+        self.took, self.origin_times, self.slow, self.hints = Counter(), Origins(), Slow(), Hints()
 
     def read(self, pieces):
         for lines in pieces:
@@ -114,7 +96,7 @@ class Figures:
                     self.take(*parts)
         self.fold()
 
-    def take(self, moment, method, target, status, length, reason, took, origin):
+    def take(self, moment, method, target, status, length, reason, took, origin, client, digits):
         reason = self.reasons[reason]
         self.bytes += length
         if moment != self.last:
@@ -129,12 +111,15 @@ class Figures:
         self.asked += 1
         minute[0] += 1
         row[reason.kind] += 1
+        self.clients.add(short(client.rpartition(b":")[0] or client), 1, reason.is_refusal, length)
         if reason.left_out is None:
             row[LOOKED_UP] += 1
+            self.bytes_looked_up += length
             if reason.is_hit:
                 row[HITS] += 1
+                self.bytes_of_hits += length
             else:
-                self.missed.add(short(target), 1)
+                self.miss(target)
         if reason.is_stored:
             self.stored += 1
             minute[1] += 1
@@ -142,7 +127,17 @@ class Figures:
             if reason.is_new:
                 self.store(target, moment, reason.ttl)
         if took:
-            self.take_time(self.times[reason.lane], took)
+            self.take_time(reason, method, target, took, name if origin or self.table else None)
+        if reason.hint is not None:
+            self.hints.take(reason.hint, target, status, moment, digits, microseconds_of(took) if took else 0)
+
+    def miss(self, target):
+        """Counts a miss of a target, and of its path."""
+        path, mark, _ = target.partition(b"?")
+        self.missed.add(short(target), 1)
+        row = self.paths.add(short(path), 1)
+        if mark:
+            self.queries.add(target, row)
 
     def turn_to(self, moment):
         """Lines of another moment follow."""
@@ -157,10 +152,22 @@ class Figures:
             return short(origin)
         return self.table.origin(method, target).encode("utf-8", "replace") if self.table else host
 
-    def take_time(self, times, took):
-        times.texts[took] += 1
-        if len(times.texts) > MOST_COUNTS:
-            times.fold()
+    def take_time(self, reason, method, target, took, name):
+        self.took[reason.lane, name, took] += 1
+        if len(self.took) > MOST_COUNTS:
+            self.fold_times()
+        if reason.lane == FORWARDED and not reason.is_covered:
+            path = target.partition(b"?")[0]
+            self.slow.take(short(path if method == b"GET" else method + b" " + path), microseconds_of(took))
+
+    def fold_times(self):
+        for (lane, name, text), count in self.took.items():
+            took = microseconds_of(text)
+            self.times[lane].add(took, count)
+            if name is not None:
+                self.origin_times.add(name, took, count)
+        self.took.clear()
+        self.origin_times.bound()
 
     def store(self, target, moment, ttl):
         """Counts what is stored anew though the last one for its target would have been fresh still."""
@@ -194,6 +201,7 @@ class Figures:
             if name is not None:
                 self.origins.add(name, *failures_of(reason, status, count))
         self.counts.clear()
+        self.fold_times()
 
     def ratio(self):
         """What was looked up, and how much of it was a hit."""

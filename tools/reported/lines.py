@@ -9,8 +9,8 @@ import re
 
 # Visible characters, and blanks in the last word alone.
 LINE = re.compile(
-    rb"(?:([0-9]{1,12})(?:\.[0-9]{1,9})?|([0-9]{4}-[0-9]{2}-[0-9]{2}T[0-9]{2}:[0-9]{2}:[0-9]{2})(?:\.[0-9]{1,9})?Z)"
-    rb" [!-~]+ ([!-~]+) ([!-~]+) ([0-9]{3}) ([0-9]{1,18}) ([ -~]+)"
+    rb"(?:([0-9]{1,12})(?:\.([0-9]{1,9}))?|([0-9]{4}-[0-9]{2}-[0-9]{2}T[0-9]{2}:[0-9]{2}:[0-9]{2})(?:\.([0-9]{1,9}))?Z)"
+    rb" ([!-~]+) ([!-~]+) ([!-~]+) ([0-9]{3}) ([0-9]{1,18}) ([ -~]+)"
 )
 # What stands behind a reason. (No reason ends so: its last word is neither a dash nor an address.)
 BEHIND = re.compile(rb" ([0-9]{1,12}(?:\.[0-9]{1,9})?(?:ms|s)?|-) ([!-~]*:[0-9]{1,5}|-)(?: [ -~]*)?$")
@@ -59,12 +59,12 @@ def seconds_of(text, known={}):
 
 
 def parts_of(line):
-    """Moment, method, target, status, bytes, reason, how long it took and the origin, the last two None where they
-    don't stand; None of what is no line."""
+    """Moment, method, target, status, bytes, reason, how long it took and the origin, these two None where they don't
+    stand; then the client with its port, and the digits of the moment behind its point. None of what is no line."""
     words = line and LINE.fullmatch(line)
     if not words:
         return None
-    plain, day, method, target, status, length, reason = words.groups()
+    plain, digits, day, digits_of_day, client, method, target, status, length, reason = words.groups()
     moment = int(plain) if plain else seconds_of(day)
     if moment is None or moment > LAST_MOMENT:
         return None
@@ -82,11 +82,22 @@ def parts_of(line):
         reason,
         None if took == b"-" else took,
         None if origin == b"-" else origin,
+        client,
+        digits or digits_of_day,
     )
 
 
-def microseconds_of(took):
+def microseconds_of(took, known={}):
     """How long a reply took."""
+    found = known.get(took)
+    if found is None:
+        if len(known) >= 20000:
+            known.clear()
+        found = known[took] = microseconds_read(took)
+    return found
+
+
+def microseconds_read(took):
     number = took.rstrip(b"ms")
     whole, _, part = number.partition(b".")
     in_seconds = int(whole) * 1000000 + int(part.ljust(6, b"0")[:6] or 0)

@@ -7,10 +7,10 @@ from explained.documents import Documents
 from explained.entries import Words
 from explained.sources import Sources
 from explained.texts import Texts
-from reported import charts
+from reported import charts, queries
 from reported.reasons import FAILED, KINDS, LANES, LEFT_OUT, REFUSED, Reason
 from reported.style import STYLE
-from reported.text import minutes, seconds, text_of, visible, when
+from reported.text import about, byte_ratio, digits, minutes, seconds, text_of, visible, when
 
 ROOT = os.path.dirname(os.path.dirname(os.path.dirname(os.path.realpath(__file__))))
 # A longer name is cut, and stands whole where the pointer is.
@@ -192,21 +192,89 @@ def failures_table(figures, most):
 
 
 def durations_table(figures):
-    rows = []
-    for lane, it in zip(LANES, figures.times):
-        if it.number():
-            rows.append(
-                [
-                    name_cell(lane),
-                    cell(f"{it.number():,}"),
-                    *(cell(seconds(n)) for n in (it.least(50), it.least(99), it.longest)),
-                ]
-            )
-    if not rows:
-        return ""
-    return table(
-        "Seconds from a request's first byte", ["", "answers", "median", "99 in 100 took no longer", "longest"], rows
-    )
+    rows = [(lane, it) for lane, it in zip(LANES, figures.times) if it.number()]
+    return times_table("Seconds from a request's first byte", rows, (50, 99))
+
+
+def times_table(title, rows, hundredths, note=""):
+    """How many answers, the times within which so many in a hundred were sent, and the longest."""
+    cells = [
+        [
+            name_cell(name),
+            cell(f"{it.number():,}"),
+            *(cell(seconds(n)) for n in (*map(it.least, hundredths), it.longest)),
+            "<td></td>",
+        ]
+        for name, it in rows
+    ]
+    named = ["median" if it == 50 else f"{it} in 100 took no longer" for it in hundredths]
+    return table(title, ["", "answers", *named, "longest", ""], cells, note) if cells else ""
+
+
+def origins_table(figures, most):
+    note = f"From a request's first byte to its reply. Medians and the like are cut to {digits(figures)}."
+    return times_table("Seconds by origin", figures.origin_times.shown(most), (50, 95, 99), note)
+
+
+def slow_table(title, rows, note):
+    most = max((took for _, (took, _, _) in rows), default=1) or 1
+    cells = [
+        [
+            name_cell(name),
+            cell(f"{count:,}"),
+            cell(seconds(took // count)),
+            cell(seconds(longest)),
+            cell(seconds(took)),
+            bar_cell(took / most, "k3"),
+        ]
+        for name, (took, count, longest) in rows
+    ]
+    return table(title, ["target", "answers", "mean", "longest", "in all", ""], cells, note) if cells else ""
+
+
+def paths_table(figures, most):
+    whole = sum(figures.paths.sums()) if figures.paths.rows else 0
+    cells = [
+        [name_cell(name), cell(f"{n:,}"), cell(f"{100 * n / whole:.1f} %"), cell(f"{count:,}"), bar_cell(n / whole, "k3")]
+        for name, (n, count) in queries.shown(figures.paths, figures.queries, most)
+    ]
+    note = "Targets without their query, and with how many different queries each was missed"
+    note += f"{about(figures.queries.one_in())}: where these are nearly as many as the misses, the query may change nothing."
+    return table("Most missed paths", ["path", "misses", "share", "queries", ""], cells, escape(note))
+
+
+def clients_table(figures, most):
+    cells = [
+        [
+            name_cell(name),
+            cell(f"{count:,}"),
+            cell(f"{100 * count / figures.asked:.1f} %"),
+            cell(f"{refused:,}"),
+            cell(f"{length:,}"),
+            bar_cell(count / figures.asked, "k3"),
+        ]
+        for name, (count, refused, length) in figures.clients.shown(most)
+    ]
+    heads = ["client", "answers", "share", "refused or failed", "bytes of content", ""]
+    return table("Clients that ask most", heads, cells, "Behind a front it is the front.")
+
+
+def hints_table(figures):
+    cells = [
+        [
+            name_cell(word),
+            cell(f"{hits:,}"),
+            cell(f"{asked:,}"),
+            f"<td>{escape(how_sure)}</td>",
+            f'<td class="why">{escape(why)}</td>',
+        ]
+        for word, hits, asked, how_sure, why in figures.hints.rows()
+    ]
+    for count, why in figures.hints.others():
+        cells.append([name_cell("-"), cell("0"), cell(f"{count:,}"), "<td></td>", f'<td class="why">{escape(why)}</td>'])
+    heads = ["word (docs/WORDS.md)", "hits", "of these answers", "", "counted"]
+    note = "A log has the first rule against an answer, and neither ages nor Vary nor Cache-Control: so these are guesses, but for the first word."
+    return table("What would have been a hit with a word of the table", heads, cells, note)
 
 
 def tiles(figures):
@@ -221,6 +289,11 @@ def tiles(figures):
             "hit ratio",
             f"{100 * hits / asked:.1f} %" if asked else "none",
             f"of {asked:,}; left out: {left or 'nothing'}",
+        ),
+        (
+            "byte hit ratio",
+            f"{100 * figures.bytes_of_hits / figures.bytes_looked_up:.1f} %" if figures.bytes_looked_up else "none",
+            byte_ratio(figures).partition(" % ")[2] or "no content was looked up",
         ),
         ("origins failed", f"{failed[0]:,}", f"of {failed[5]:,} that they were asked"),
         (
@@ -258,11 +331,23 @@ def page(figures, most, name):
         ratios_table("Hit ratio by host", figures.hosts, most),
         ratios_table("Hit ratio by first path segment", figures.segments, most),
         "</div>",
+        hints_table(figures),
         failures_table(figures, most),
+        origins_table(figures, most),
         refusals_table(figures, reasons, most),
         '<div class="pair">',
         counts_table("Most missed targets", figures.missed, missed[0] - missed[1], most, "k3"),
+        paths_table(figures, most),
+        "</div>",
+        '<div class="pair">',
+        clients_table(figures, most),
         counts_table("Stored again while the last would have been fresh", figures.again, figures.early, most, "k2"),
+        "</div>",
+        '<div class="pair">',
+        slow_table("Slowest targets", figures.slow.by_mean()[:most], "By the mean of their seconds, whatever the query."),
+        slow_table(
+            "Targets that kept origins busy", figures.slow.by_sum()[:most], "By their seconds in all, whatever the query."
+        ),
         "</div>",
         '<div class="pair">',
         statuses_table(figures),

@@ -1,6 +1,8 @@
 """What a reason in a log says: the words of Cache-Status behind the proxy's name, or those of Refusal."""
 import re
 
+from reported.hints import hint_of
+
 # The program's are shorter.
 LONGEST = 200
 TTL = re.compile(r";ttl=(-?[0-9]{1,18})")
@@ -40,7 +42,7 @@ class Reason:
     """A reason, read once. `word` is what it says but for what differs from one answer to the next."""
 
     __slots__ = ("word", "ttl", "is_refusal", "family", "is_failure", "is_hit", "is_stored", "is_new", "is_covered")
-    __slots__ += ("is_covered_error", "asks", "kind", "lane", "left_out", "same")
+    __slots__ += ("is_covered_error", "asks", "kind", "lane", "left_out", "hint", "same")
 
     def __init__(self, text):
         words = text.decode("ascii").split(";")
@@ -67,6 +69,7 @@ class Reason:
         self.kind = self.kind_of(words, is_hit, is_collapsed)
         self.lane = OWN if self.is_refusal else HIT if is_hit else COLLAPSED if is_collapsed else FORWARDED
         self.left_out = self.why_left_out(words)
+        self.hint = hint_of(words, self.is_refusal, self.is_stored)
 
     def kind_of(self, words, is_hit, is_collapsed):
         if self.is_refusal:

@@ -23,7 +23,8 @@ class Table:
         import tomllib
 
         with open(file, "rb") as it:
-            self.lines = tomllib.load(it)["line"]
+            self.all = tomllib.load(it)
+        self.lines = self.all["line"]
         for it in self.lines:
             texts = it["host"], it["path"], it["origin"], *it["methods"]
             if not all(isinstance(text, str) for text in texts):
@@ -34,12 +35,16 @@ class Table:
         return (self.short if len(method) + len(target) < 300 else self.find)(method, target)
 
     def find(self, method, target):
-        method, target = method.decode("ascii"), target.decode("ascii")
+        found = self.line(method.decode("ascii"), target.decode("ascii"))
+        return found["origin"] if found else "no line of the table"
+
+    def line(self, method, target):
+        """The line that decides on a request; None where none does."""
         host, path = target.partition("//")[2].partition("/")[::2]
         host = re.sub(r":[0-9]*$", "", host)
         path = normal("/" + path.partition("?")[0])
         for it in self.lines:
             below = it["path"] == "/" or path == normal(it["path"]) or path.startswith(normal(it["path"]) + "/")
             if it["host"] in ("*", host) and below and ("*" in it["methods"] or method in it["methods"]):
-                return it["origin"]
-        return "no line of the table"
+                return it
+        return None

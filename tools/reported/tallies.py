@@ -22,6 +22,7 @@ class Tally:
             row = self.rows[name] = [0] * len(self.rest)
         for at, number in enumerate(numbers):
             row[at] += number
+        return row
 
     def prune(self):
         rarest = sorted(self.rows.items(), key=lambda it: it[1])[: -self.kept]

@@ -2,10 +2,12 @@
 import re
 import time
 
+from reported import queries
 from reported.reasons import LANES, LEFT_OUT
 
 # Of a bar, and of a name that isn't cut.
 WIDTH, LONGEST = 40, 100
+HINTS = "what would have been a hit with a word of the table (docs/WORDS.md)"
 HIDDEN = re.compile(r"[^ -~]")
 
 
@@ -98,14 +100,81 @@ def seconds(microseconds):
 
 def durations(figures):
     rows = [(lane, it) for lane, it in zip(LANES, figures.times) if it.number()]
+    return times("seconds from a request's first byte", rows, (50, 99))
+
+
+def times(title, rows, hundredths):
+    """How many answers, the times within which so many in a hundred of them were sent, and the longest."""
     if not rows:
         return []
-    text, width = ["seconds from a request's first byte: median, 99 in 100 took no longer, longest"], max(
-        len(it[0]) for it in rows
-    )
-    for lane, it in rows:
-        numbers = " ".join(f"{seconds(n):>10}" for n in (it.least(50), it.least(99), it.longest))
-        text.append(f"  {lane:<{width}} {it.number():>11,} {numbers}")
+    rows, width = names_of(rows)
+    named = ["median" if it == 50 else f"{it} in 100 took no longer" for it in hundredths]
+    text = [f"{title}: {', '.join(named)}, longest"]
+    for name, it in rows:
+        numbers = " ".join(f"{seconds(n):>10}" for n in (*map(it.least, hundredths), it.longest))
+        text.append(f"  {name:<{width}} {it.number():>11,} {numbers}")
+    return [*text, ""]
+
+
+def digits(figures):
+    """How exact the times by origin are."""
+    return "three digits" if figures.origin_times.digits == 3 else "two digits, since there are very many different ones"
+
+
+def by_origin(figures, most):
+    return times(f"seconds by origin, cut to {digits(figures)}", figures.origin_times.shown(most), (50, 95, 99))
+
+
+def slowest(figures, most):
+    """The targets that took the longest, one by one and in all."""
+    text = []
+    for title, rows in (
+        ("slowest targets, whatever the query: on the average, the longest, and how often an origin answered", figures.slow.by_mean()),
+        ("targets that kept origins busy for the longest: seconds in all, the longest, and how often", figures.slow.by_sum()),
+    ):
+        if not rows:
+            continue
+        named, width = names_of(rows[:most])
+        is_mean = not text
+        text.append(title)
+        for name, (took, count, longest) in named:
+            text.append(f"  {name:<{width}} {seconds(took // count if is_mean else took):>13} {seconds(longest):>10} {count:>11,}")
+        text.append("")
+    return text
+
+
+def paths(figures, most):
+    """The paths that are missed most, each with how many different queries it was missed with."""
+    rows, width = names_of(queries.shown(figures.paths, figures.queries, most))
+    one_in, whole = figures.queries.one_in(), sum(figures.paths.sums()) if figures.paths.rows else 0
+    if not rows:
+        return ["most missed paths: none", ""]
+    text = [f"most missed paths: misses, and with how many different queries{about(one_in)}"]
+    text += [f"  {name:<{width}} {n:>11,} {100 * n / whole:>5.1f} % {count:>11,}" for name, (n, count) in rows]
+    return [*text, ""]
+
+
+def about(one_in):
+    return f" (about: one in {one_in:,} targets was counted)" if one_in > 1 else ""
+
+
+def clients(figures, most):
+    rows, width = names_of(figures.clients.shown(most))
+    text = ["clients that ask most (behind a front it is the front): answers, refused or failed ones, bytes of content"]
+    for name, (count, refused, length) in rows:
+        text.append(f"  {name:<{width}} {count:>11,} {100 * count / figures.asked:>5.1f} % {refused:>11,} {length:>15,}")
+    return [*text, ""]
+
+
+def hints(figures):
+    """What a word of the table would have made a hit."""
+    rows, others = figures.hints.rows(), figures.hints.others()
+    if not rows and not others:
+        return [f"{HINTS}: nothing that a log tells", ""]
+    text, width = [f"{HINTS}, of the answers that tell it"], max((len(it[0]) for it in rows), default=0)
+    for word, hits, asked, how_sure, why in rows:
+        text += [f"  {word:<{width}} {hits:>11,} of {asked:,}, {how_sure}", f"      {why}"]
+    text += [f"  {count:,} {why}" for count, why in others]
     return [*text, ""]
 
 
@@ -125,12 +194,17 @@ def ratio(figures):
     return f"{text}; left out {left}" if left else text
 
 
+def byte_ratio(figures):
+    whole, hits = figures.bytes_looked_up, figures.bytes_of_hits
+    return f"byte hit ratio: {100 * hits / whole:.1f} % of {whole:,} bytes of content" if whole else "byte hit ratio: no content was looked up"
+
+
 def report(figures, most):
     whole, missed = figures.asked, figures.ratio() if figures.hosts.rows else [0, 0]
     text = [
         f"{whole:,} answers, {figures.bytes:,} bytes of content, from {when(figures.first)} to {when(figures.last)} UTC"
     ]
-    text += [minutes(figures), ratio(figures)]
+    text += [minutes(figures), ratio(figures), byte_ratio(figures)]
     text += [
         f"stored again while the last would have been fresh: {figures.early:,} of {figures.new:,} "
         "that were stored for want of any",
@@ -140,8 +214,11 @@ def report(figures, most):
     text += ratios("hit ratio by host", figures.hosts, most)
     text += ratios("hit ratio by first path segment", figures.segments, most)
     text += counts("most missed targets", figures.missed.shown(most), missed[0] - missed[1])
+    text += paths(figures, most)
     text += counts(
         "targets stored again while the last would have been fresh", figures.again.shown(most), figures.early
     )
+    text += hints(figures)
     text += counts("refusals", figures.refusals.shown(most), sum(figures.refusals.sums()))
-    return text + failures(figures, most) + durations(figures)
+    text += clients(figures, most) + failures(figures, most)
+    return text + durations(figures) + by_origin(figures, most) + slowest(figures, most)

@@ -2,6 +2,11 @@ pub mod EntryLists
 pub mod FoundSerials
 pub mod Recency
 pub mod RecencyOrder
+pub mod WeightedRecency
+pub mod Fronts
+pub mod EntryWeights
+mod CountedWeights
+pub mod Shedding
 mod KeyedEntries
 mod Indices
 mod MarkLists

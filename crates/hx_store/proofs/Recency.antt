@@ -85,7 +85,7 @@ to_front-append : (o : Option ℕ) (xs ys : List ℕ) → (rest : List ℕ) × (
 to_front-append None xs ys = (ys, refl)
 to_front-append (Some x) xs ys = (filter (λ y. not (eqb y x)) ys, ap (λ zs. x ∷ zs) (sym (filter-append _ xs ys)))
 
-after-append : (i : StoreChange) (xs ys : List ℕ) → (rest : List ℕ) × (recent_after_change i xs ++ rest ≡ recent_after_change i (xs ++ ys))
+pub after-append : (i : StoreChange) (xs ys : List ℕ) → (rest : List ℕ) × (recent_after_change i xs ++ rest ≡ recent_after_change i (xs ++ ys))
 after-append i xs ys =
     let p : ℕ → Bool = λ x. not (serial_is_in x i.removed) in
     let a = to_front-append i.used xs ys in
@@ -111,7 +111,7 @@ bounded_front C (i ∷ past) =
     )
 
 -- t: touched. r: among the recent. k: kept its place. n: not removed. l, m: its place is below the limit
-held_step : (t r k n l m : Bool) → (((t || (r && k)) && n) ≡ true → l ≡ m) →
+pub held_step : (t r k n l m : Bool) → (((t || (r && k)) && n) ≡ true → l ≡ m) →
     (((t || (r && k)) && n) && l) ≡ (((t || r) && n) && (m && (t || k)))
 held_step true r k true l m h = h refl ∙ sym (and_true m)
   where
@@ -189,7 +189,7 @@ apart (x ∷ xs) ys s d h =
     ap (λ b. b || serial_is_in s xs) (false_from_ne_true (eqb x s) no) ∙ apart xs ys s d.1 h
 
 -- a test that holds of just a front of a list keeps that front
-filter_front : (p : ℕ → Bool) (xs ys : List ℕ) → ((s : ℕ) → serial_is_in s xs ≡ p s) → Distinct (xs ++ ys) → filter p (xs ++ ys) ≡ xs
+pub filter_front : (p : ℕ → Bool) (xs ys : List ℕ) → ((s : ℕ) → serial_is_in s xs ≡ p s) → Distinct (xs ++ ys) → filter p (xs ++ ys) ≡ xs
 filter_front p xs ys h d =
     filter-append p xs ys
     ∙ ap (λ zs. filter p xs ++ zs) (filter_none p ys (λ s e. sym (h s) ∙ apart xs ys s d e))
@@ -267,7 +267,7 @@ pub held_at_most : (C : ℕ) (past : List StoreChange) → length (held_of C pas
 held_at_most C [] = omega arith
 held_at_most C (i ∷ past) = rw (held_more C i past) (omega (arith, length-take C (recent_after_change i (held_of C past))))
 
-and_not : (a b : Bool) → a ≡ true → b ≡ false → (a && not b) ≡ true
+pub and_not : (a b : Bool) → a ≡ true → b ≡ false → (a && not b) ≡ true
 and_not a b h k = ap (λ x. x && not b) h ∙ ap not k
 
 not_true : (b : Bool) → not b ≡ true → b ≡ false

@@ -1,7 +1,9 @@
 -- The entries that the laws of worked cases speak of.
-use Rattle.std.specs.Prelude.{ℕ, List, [], codes}
+use Rattle.std.specs.Prelude.{ℕ, ◌==◌, cond, List, [], ◌∷◌, codes, Some, None}
 use Rattle.hx_target.specs.declared.keys.Key.{Key}
 use Rattle.hx_store.specs.Stored.{Stored}
+use Rattle.hx_store.specs.Weights.{StoreBounds}
+use Rattle.hx_store.specs.WeightedRecency.{WeighedChange}
 
 abbrev pub key_of_path : List ℕ → Key
 key_of_path path = record { host = codes "h"; port = 80; path_query = path }
@@ -31,3 +33,48 @@ third = entry_of_path 3 (codes "/c")
 -- of the same key as the third
 abbrev pub fourth : Stored
 fourth = entry_of_path 4 (codes "/c")
+
+-- the first with five bytes of content, and with a line of eleven bytes
+abbrev pub first_with_content : Stored
+first_with_content = record first { content = codes "hello" }
+
+abbrev pub first_with_a_line : Stored
+first_with_a_line = record first { fields = record { name = codes "ETag"; value = codes "abc" } ∷ [] }
+
+-- the first where its request's language counts, which the request has or hasn't
+abbrev pub first_in_english : Stored
+first_in_english = record first { nominated = record { name = codes "Accept-Language"; value = Some (codes "en") } ∷ [] }
+
+abbrev pub first_in_no_language : Stored
+first_in_no_language = record first { nominated = record { name = codes "Accept-Language"; value = None } ∷ [] }
+
+-- room for so many bytes, and for more entries than the cases have
+abbrev pub room_for_bytes : ℕ → StoreBounds
+room_for_bytes most = record { entries = 9; bytes = Some most }
+
+-- each weighs 100, but one serial so much
+abbrev pub weighs_100_but : ℕ → ℕ → ℕ → ℕ
+weighs_100_but serial weight s = cond (s == serial) weight 100
+
+-- steps that store a serial, use it or remove it, after which it weighs so much
+abbrev pub stores : ℕ → ℕ → WeighedChange
+stores serial weight = record {
+  change = record { stored = Some serial; used = None; removed = [] };
+  weights = weighs_100_but serial weight;
+}
+
+abbrev pub uses : ℕ → ℕ → WeighedChange
+uses serial weight = record {
+  change = record { stored = None; used = Some serial; removed = [] };
+  weights = weighs_100_but serial weight;
+}
+
+abbrev pub removes : ℕ → WeighedChange
+removes serial = record {
+  change = record { stored = None; used = None; removed = serial ∷ [] };
+  weights = weighs_100_but 0 0;
+}
+
+-- 1, 2 and 3 were stored, of 100 each
+abbrev pub three_were_stored : List WeighedChange
+three_were_stored = stores 3 100 ∷ stores 2 100 ∷ stores 1 100 ∷ []

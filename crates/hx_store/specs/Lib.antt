@@ -7,4 +7,6 @@ pub mod Index
 pub mod Found
 pub mod Recency
 pub mod SerialPlaces
+pub mod Weights
+pub mod WeightedRecency
 pub mod Cases

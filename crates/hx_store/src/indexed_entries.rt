@@ -2,8 +2,8 @@
 //!
 //! A call costs at most the logarithm of what is held, and no entry is moved. There is no bound of its own.
 
-ghost use Rattle.std.specs.Prelude.{◌≡◌, ◌≤◌, ◌+◌, ◌-◌, ◌==◌, ◌∷◌, [], false, true, not, length, take, slice_get};
-ghost use Rattle.std.specs.Prelude.{option_copied, IfOk, IfErr, OnErr, OnOk, Some};
+ghost use Rattle.std.specs.Prelude.{◌≡◌, ◌<◌, ◌≤◌, ◌+◌, ◌-◌, ◌^◌, ◌==◌, ◌∷◌, [], false, true, not, length, min, take};
+ghost use Rattle.std.specs.Prelude.{slice_get, option_copied, IfOk, IfErr, OnErr, OnOk, Some};
 ghost use Rattle.std.specs.Option.{ForSome};
 ghost use Rattle.hx_target.specs.Keys.{same_key};
 ghost use Rattle.hx_store.specs.Serials.{Distinct};
@@ -11,6 +11,7 @@ ghost use Rattle.hx_store.specs.Shelf.{holds_serial, find_entry, without_serials
 ghost use Rattle.hx_store.specs.Shelf.{matching_serials, with_promoted};
 ghost use Rattle.hx_store.specs.Shelf.{without_key};
 ghost use Rattle.hx_store.specs.Index.{entries_but_others};
+ghost use Rattle.hx_store.specs.Weights.{after_shedding, shed_entry, total_weight};
 
 use crate::entries::Entry;
 use crate::entry_cache::EntryCache;
@@ -28,6 +29,8 @@ pub(crate) struct IndexedEntries {
     seed: u64,
     entries: EntryCache,
     index: KeyIndex,
+    /// What the entries weigh together, none of them more than fits 64 bits.
+    weight: u128,
 }
 
 /// One call drops it, wherever that is.
@@ -38,13 +41,15 @@ impl Drop for IndexedEntries {
             seed: _,
             entries: _,
             index: _,
+            weight: _,
         } = self;
     }
 }
 
 impl Model for IndexedEntries {
-    ghost use Rattle.std.specs.Prelude.{List};
+    ghost use Rattle.std.specs.Prelude.{◌≡◌, List};
     ghost use Rattle.hx_store.specs.Stored.{Stored};
+    ghost use Rattle.hx_store.specs.Weights.{counted_total};
     ghost use Rattle.hx_store.specs.Index.{IsKeyIndexOf, MarksAreOfTheirEntries, HasNoUnusedKey};
     ghost use Rattle.hx_store.specs.Serials.{Distinct};
     ghost use Rattle.hx_store.specs.Shelf.{serials};
@@ -54,7 +59,7 @@ impl Model for IndexedEntries {
     ghost view = { λ s. s.entries };
 
     ghost invariant = { λ s. (Distinct (serials s.entries) × IsKeyIndexOf s.entries s.index) × HasNoUnusedKey s.index
-        × MarksAreOfTheirEntries s.seed s.entries s.index };
+        × MarksAreOfTheirEntries s.seed s.entries s.index × (s.weight ≡ counted_total s.entries) };
 }
 
 impl IndexedEntries {
@@ -67,6 +72,7 @@ impl IndexedEntries {
             seed,
             entries: EntryCache::new(alloc)?,
             index: KeyIndex::new(alloc, seed),
+            weight: 0,
         })
     }
 
@@ -75,6 +81,13 @@ impl IndexedEntries {
         ensures { result ≡ length self.now }
     {
         self.entries.len()
+    }
+
+    /// The bytes that they weigh together, 2^64 - 1 where they are more.
+    pub(crate) fn weight(&self) -> u64
+        ensures { result ≡ min (total_weight self.now) (2 ^ 64 - 1) }
+    {
+        self.weight.min(u64::MAX as u128) as u64
     }
 
     /// Whether the entry of this serial is here.
@@ -142,6 +155,8 @@ impl IndexedEntries {
     {
         let serial = entry.serial;
         let mark = entry.nominated.mark(self.seed);
+        let weight = entry.weight();
+        let _held = self.entries.len();
         if self
             .index
             .insert(self.alloc, &entry.key, serial, mark)
@@ -150,7 +165,10 @@ impl IndexedEntries {
             return Err(entry);
         }
         match self.entries.store(entry) {
-            Ok(()) => Ok(()),
+            Ok(()) => {
+                self.weight += weight as u128;
+                Ok(())
+            }
             Err(entry) => {
                 self.index.remove(&entry.key, serial);
                 Err(entry)
@@ -167,7 +185,11 @@ impl IndexedEntries {
     {
         let mark = entry.nominated.mark(self.seed);
         self.index.mark(&entry.key, entry.serial, mark);
-        self.entries.replace(entry)
+        let weight = entry.weight();
+        let _held = self.entries.len();
+        let old = self.entries.replace(entry);
+        self.weight = self.weight - old.weight() as u128 + weight as u128;
+        old
     }
 
     /// Brings the entry of this serial to the front. No memory is taken.
@@ -186,6 +208,7 @@ impl IndexedEntries {
         match self.entries.remove(serial) {
             Some(entry) => {
                 self.index.remove(&entry.key, serial);
+                self.weight -= entry.weight() as u128;
                 Some(entry)
             }
             None => None,
@@ -200,6 +223,7 @@ impl IndexedEntries {
         match self.entries.pop_last() {
             Some(entry) => {
                 self.index.remove(&entry.key, entry.serial);
+                self.weight -= entry.weight() as u128;
                 Some(entry)
             }
             None => None,
@@ -213,6 +237,19 @@ impl IndexedEntries {
         ensures gone { result ≡ slice_get self.old capacity }
     {
         if self.len() > capacity {
+            self.pop_last()
+        } else {
+            None
+        }
+    }
+
+    /// Takes the last one out where they weigh more than `most` bytes together.
+    pub(crate) fn shed(&mut self, most: u64) -> Option<Entry>
+        requires { most < 2 ^ 64 - 1 }
+        ensures value { result ≡ shed_entry most self.old }
+        ensures entries { self.new ≡ after_shedding most self.old }
+    {
+        if self.weight() > most {
             self.pop_last()
         } else {
             None

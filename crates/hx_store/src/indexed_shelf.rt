@@ -78,6 +78,10 @@ impl Shelf for IndexedShelf {
         self.held.len()
     }
 
+    fn weight(&self) -> u64 {
+        self.held.weight()
+    }
+
     fn contains(&self, serial: u64) -> bool {
         self.held.contains(serial)
     }
@@ -127,5 +131,9 @@ impl Shelf for IndexedShelf {
         let before = self.held.len();
         self.held.remove_key(key);
         before - self.held.len()
+    }
+
+    fn shed(&mut self, most: u64) -> Option<Entry> {
+        self.held.shed(most)
     }
 }

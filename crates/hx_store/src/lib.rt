@@ -16,6 +16,8 @@ mod laws;
 mod list_shelf;
 mod serial_list;
 mod shelves;
+mod weight_laws;
+mod weights;
 
 pub use entries::Entry;
 pub use indexed_shelf::IndexedShelf;
@@ -27,3 +29,10 @@ pub use laws::{
 pub use list_shelf::ListShelf;
 pub use serial_list::Serials;
 pub use shelves::Shelf;
+pub use weight_laws::{
+    an_entry_weighs_what_it_keeps, entries_are_cut_to_their_bounds, entries_are_shed,
+    entries_are_weighed, only_storing_and_freshening_break_a_bound,
+    serials_are_cut_with_their_entries, shedding_leaves_what_stays_within_the_bounds,
+    the_list_within_its_bounds_is_what_is_held, the_longest_front_within_its_bounds_stays,
+    what_is_held_within_its_bounds, without_a_bound_of_bytes_numbers_decide,
+};

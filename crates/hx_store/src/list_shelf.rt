@@ -10,6 +10,7 @@ ghost use Rattle.hx_store.specs.Shelf.{holds_serial, without_serials, without_ke
 use crate::entries::Entry;
 use crate::serial_list::Serials;
 use crate::shelves::Shelf;
+use crate::weights::total_weight;
 use hx_fields::Fields;
 use hx_target::Key;
 use hx_vary::matches;
@@ -125,6 +126,10 @@ impl Shelf for ListShelf {
         self.entries.len()
     }
 
+    fn weight(&self) -> u64 {
+        total_weight(self.entries.as_slice())
+    }
+
     fn contains(&self, serial: u64) -> bool {
         self.place(serial).is_some()
     }
@@ -224,5 +229,14 @@ impl Shelf for ListShelf {
         let before = self.entries.len();
         self.entries.retain(|e| !e.has_key(key));
         before - self.entries.len()
+    }
+
+    fn shed(&mut self, most: u64) -> Option<Entry> {
+        if self.weight() > most {
+            let kept = self.entries.len().saturating_sub(1);
+            evict_last(&mut self.entries, kept)
+        } else {
+            None
+        }
     }
 }

@@ -3,14 +3,15 @@
 //! Every shelf meets the same clauses. What is true of each of them, that no serial stands twice and that
 //! no more entries stand than its capacity, is promised by `find` and `len`.
 
-ghost use Rattle.std.specs.Prelude.{◌≡◌, ◌<◌, ◌≤◌, ◌-◌, ◌==◌, ℕ, List, [], ◌∷◌, false, true, not, length, take};
-ghost use Rattle.std.specs.Prelude.{slice_get, option_copied, IfOk, IfErr, IsOk, OnErr, OnOk, Some};
+ghost use Rattle.std.specs.Prelude.{◌≡◌, ◌<◌, ◌≤◌, ◌-◌, ◌^◌, ◌==◌, ℕ, List, [], ◌∷◌, false, true, not, length, min};
+ghost use Rattle.std.specs.Prelude.{take, slice_get, option_copied, IfOk, IfErr, IsOk, OnErr, OnOk, Some};
 ghost use Rattle.std.specs.Option.{ForSome};
 ghost use Rattle.hx_target.specs.Keys.{same_key};
 ghost use Rattle.hx_store.specs.Serials.{Distinct};
 ghost use Rattle.hx_store.specs.Shelf.{holds_serial, find_entry, without_serials, without_key, serials, serials_of};
 ghost use Rattle.hx_store.specs.Shelf.{matching_serials};
 ghost use Rattle.hx_store.specs.Shelf.{with_promoted};
+ghost use Rattle.hx_store.specs.Weights.{after_shedding, shed_entry, total_weight};
 
 use crate::entries::Entry;
 use crate::serial_list::Serials;
@@ -39,6 +40,10 @@ pub trait Shelf {
     fn len(&self) -> usize
         ensures value { result ≡ length (entries self.now) }
         ensures bounded { result ≤ limit self.now };
+
+    /// The bytes that its entries weigh together, 2^64 - 1 where they are more.
+    fn weight(&self) -> u64
+        ensures { result ≡ min (total_weight (entries self.now)) (2 ^ 64 - 1) };
 
     /// Whether the entry of this serial is held.
     fn contains(&self, serial: u64) -> bool
@@ -111,6 +116,15 @@ pub trait Shelf {
     fn invalidate(&mut self, key: &Key) -> usize
         ensures value { result ≡ length (entries self.old) - length (entries self.new) }
         ensures entries { entries self.new ≡ without_key key.now (entries self.old) }
+        ensures limit { limit self.new ≡ limit self.old }
+        ensures room { room self.old ≤ room self.new };
+
+    /// Where the entries weigh more than `most` bytes together, takes the last one out and hands it back. No memory is
+    /// taken.
+    fn shed(&mut self, most: u64) -> Option<Entry>
+        requires { most < 2 ^ 64 - 1 }
+        ensures value { result ≡ shed_entry most (entries self.old) }
+        ensures entries { entries self.new ≡ after_shedding most (entries self.old) }
         ensures limit { limit self.new ≡ limit self.old }
         ensures room { room self.old ≤ room self.new };
 }

@@ -88,7 +88,7 @@ impl Nominated {
     }
 
     /// The values, in order.
-    pub(crate) fn as_slice(&self) -> &[NominatedValue]
+    pub fn as_slice(&self) -> &[NominatedValue]
         ensures { result.now ≡ self.now }
     {
         self.values.as_slice()

@@ -13,6 +13,7 @@ use std::cell::Cell;
 #[derive(Drop)]
 pub struct StoreCounts {
     held: Cell<u64>,
+    weight: Cell<u64>,
     evicted: Cell<u64>,
     removed: Cell<u64>,
 }
@@ -25,6 +26,7 @@ impl StoreCounts {
     pub fn new() -> StoreCounts {
         StoreCounts {
             held: Cell::new(0),
+            weight: Cell::new(0),
             evicted: Cell::new(0),
             removed: Cell::new(0),
         }
@@ -33,6 +35,11 @@ impl StoreCounts {
     /// Responses that are held.
     pub fn held(&self) -> u64 {
         self.held.get()
+    }
+
+    /// Bytes that they weigh together.
+    pub fn weight(&self) -> u64 {
+        self.weight.get()
     }
 
     /// Responses that went since the store was full.
@@ -60,9 +67,10 @@ impl<'a, S: Shelf + Drop> CountedShelf<'a, S> {
         CountedShelf { shelf, counts }
     }
 
-    /// Counts how many are held.
+    /// Counts how many are held, and what they weigh.
     fn count_held(&self) {
         self.counts.held.set(self.shelf.len() as u64);
+        self.counts.weight.set(self.shelf.weight());
     }
 
     /// Counts what went out where a response was stored; so many were held before.
@@ -102,6 +110,10 @@ impl<'a, S: Shelf + Drop> Shelf for CountedShelf<'a, S> {
         self.shelf.len()
     }
 
+    fn weight(&self) -> u64 {
+        self.shelf.weight()
+    }
+
     fn contains(&self, serial: u64) -> bool {
         self.shelf.contains(serial)
     }
@@ -135,7 +147,9 @@ impl<'a, S: Shelf + Drop> Shelf for CountedShelf<'a, S> {
     }
 
     fn freshen(&mut self, entry: Entry) -> Entry {
-        self.shelf.freshen(entry)
+        let old = self.shelf.freshen(entry);
+        self.count_held();
+        old
     }
 
     fn promote(&mut self, serial: u64) -> bool {
@@ -152,5 +166,12 @@ impl<'a, S: Shelf + Drop> Shelf for CountedShelf<'a, S> {
         let count = self.shelf.invalidate(key);
         self.count_out(count);
         count
+    }
+
+    fn shed(&mut self, most: u64) -> Option<Entry> {
+        let out = self.shelf.shed(most);
+        add(&self.counts.evicted, usize::from(out.is_some()));
+        self.count_held();
+        out
     }
 }

@@ -2,6 +2,8 @@
 //!
 //! A label's value is of a closed list, a status, or the address of an origin in the operator's table.
 
+ghost use Rattle.std.specs.Prelude.{◌≡◌, true, false};
+
 use crate::accept_counts::AcceptCounts;
 use crate::counted_shelf::StoreCounts;
 use crate::endings::Endings;
@@ -60,6 +62,21 @@ pub enum RecordState {
     Writing,
     /// The record has ended before the limit of a script.
     Ended,
+}
+
+impl RecordState {
+    /// By whether a record is written, and whether one has ended.
+    pub fn of(is_recording: bool, has_ended: bool) -> RecordState
+        ensures writing { is_recording ≡ true → result ≡ RecordState.Writing }
+        ensures ended { is_recording ≡ false → has_ended ≡ true → result ≡ RecordState.Ended }
+        ensures none { is_recording ≡ false → has_ended ≡ false → result ≡ RecordState.NoRecord }
+    {
+        match (is_recording, has_ended) {
+            (true, _) => RecordState::Writing,
+            (false, true) => RecordState::Ended,
+            (false, false) => RecordState::NoRecord,
+        }
+    }
 }
 
 /// What a server counts and holds.
@@ -123,6 +140,12 @@ fn push_store(page: &mut Page<'_>, about: &ServerFacts<'_>) -> Result<(), AllocE
         Kind::Gauge,
         "Responses that are stored.",
         about.store.held(),
+    )?;
+    page.single_sample_family(
+        "revcache_store_bytes",
+        Kind::Gauge,
+        "Bytes that they weigh together: contents, heads, targets, and 1200 each.",
+        about.store.weight(),
     )?;
     page.single_sample_family(
         "revcache_store_evictions_total",

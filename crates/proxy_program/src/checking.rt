@@ -2,55 +2,15 @@
 //! meets.
 
 use crate::fault::Fault;
+use crate::meeting::{Question, target_of};
+use crate::memory::print_store;
 use http::Method;
 use hx_allow::{Config, Verdict};
-use hx_fields::{Bytes, Fields};
 use hx_policy::Policy;
-use hx_target::{Target, TargetFault, read_target};
-use std::alloc::{AllocError, Global};
+use hx_target::{Target, TargetFault};
+use std::alloc::AllocError;
 use std::io;
-
-/// A request that is asked about.
-#[derive(Clone, Copy, Debug)]
-pub(crate) struct Question<'a> {
-    /// As it was typed: a method, a blank and a URL.
-    text: &'a str,
-    method: &'a str,
-    host: &'a str,
-    /// The path and the query.
-    path: &'a str,
-}
-
-/// The host and the path of a URL. A front takes https away, so both schemes are one here.
-fn parts_of(url: &str) -> Option<(&str, &str)> {
-    let rest = match url.strip_prefix("http://") {
-        Some(rest) => rest,
-        None => url.strip_prefix("https://")?,
-    };
-    match rest.split_once('/') {
-        Some((host, _)) => Some((host, rest.strip_prefix(host)?)),
-        None => Some((rest, "/")),
-    }
-}
-
-/// What is asked about, or none where it is no method, blank and URL.
-pub(crate) fn question_of(text: &str) -> Option<Question<'_>> {
-    let (method, url) = text.split_once(' ')?;
-    let (host, path) = parts_of(url)?;
-    Some(Question {
-        text,
-        method,
-        host,
-        path,
-    })
-}
-
-fn target_of(alloc: Global, question: &Question<'_>) -> Result<Target, TargetFault> {
-    let mut fields = Fields::new(alloc);
-    fields.push(b"Host", question.host.as_bytes())?;
-    let target = Bytes::copy_of(alloc, question.path.as_bytes())?;
-    read_target(alloc, &target, &fields)
-}
+use std::rt::Files;
 
 fn default_or_word(is_default: bool, word: &'static str) -> &'static str {
     if is_default { "" } else { word }
@@ -141,13 +101,14 @@ fn print_idle<R: Print>(rt: &R, config: &Config) -> io::Result<()> {
     Ok(())
 }
 
-fn print_table<R: Print>(rt: &R, config: &Config) -> io::Result<()> {
+fn print_table<R: Print + Files + AllocGlobal>(rt: &R, config: &Config) -> io::Result<()> {
     println!(rt; "ok {} lines", config.lines())?;
+    print_store(rt, config)?;
     print_idle(rt, config)
 }
 
 /// Tells what a table says, and what a request meets where one is asked about.
-pub(crate) fn print_checked<R: Print + AllocGlobal>(
+pub(crate) fn print_checked<R: Print + Files + AllocGlobal>(
     rt: &R,
     config: &Config,
     question: Option<&Question<'_>>,

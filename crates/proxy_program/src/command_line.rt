@@ -1,10 +1,10 @@
 //! The three forms of the command line.
 
-use crate::checking::{Question, question_of};
 use crate::fault::Fault;
+use crate::meeting::{Question, question_of};
 use clap::builder::ValueParser;
 use clap::{Arg, ArgAction, ArgMatches, Command, Error};
-use proxy_server::Limits;
+use proxy_server::{Limits, ListenAt};
 use std::alloc::Global;
 use std::net::SocketAddr;
 
@@ -32,7 +32,7 @@ static ON_AND_OFF: [&str; 2] = ["on", "off"];
 #[derive(Clone, Copy, Debug)]
 pub(crate) struct Service<'a> {
     pub(crate) table: &'a str,
-    pub(crate) listen: SocketAddr,
+    pub(crate) listen: ListenAt,
     /// How many turns it serves; without it, it stays until it is stopped.
     pub(crate) turns: Option<u32>,
     /// Its bounds, but for those of contents, which the table has.
@@ -49,13 +49,25 @@ pub(crate) struct Service<'a> {
     pub(crate) stats: Option<&'a str>,
 }
 
+/// How a table is to be checked.
+#[derive(Clone, Copy, Debug)]
+pub(crate) struct Checking<'a> {
+    pub(crate) table: &'a str,
+    /// What a request meets.
+    pub(crate) question: Option<Question<'a>>,
+    /// A file of questions, with what is expected of each.
+    pub(crate) questions: Option<&'a str>,
+    /// Another table, and a log of whose requests it is told which they decide differently.
+    pub(crate) against: Option<(&'a str, &'a str)>,
+}
+
 /// What the words ask for.
 #[derive(Clone, Copy, Debug)]
 pub(crate) enum Form<'a> {
     /// A script is replayed.
     Replay,
-    /// The table in this file is checked, and perhaps asked what a request meets.
-    Check(&'a str, Option<Question<'a>>),
+    /// A table is checked.
+    Check(Checking<'a>),
     /// Clients are served.
     Serve(Service<'a>),
 }
@@ -101,6 +113,19 @@ fn check<'a>(alloc: Global) -> Result<Command<'a>, Error> {
             "REQUEST",
             "a method, a blank and a URL: tells which line decides, and its words",
         ))?
+        .arg(option_with_value(
+            alloc,
+            "ask-file",
+            "QUESTIONS",
+            "a file of lines as 'GET http://h.example/a => line 3': tells which are answered otherwise",
+        ))?
+        .arg(option_with_value(
+            alloc,
+            "against",
+            "OLD",
+            "another table: tells which requests of --log are decided otherwise than by that",
+        ))?
+        .arg(option_with_value(alloc, "log", "FILE", "a log of the server, for --against"))?
         .after_help(CHECK_HELP);
     Ok(command)
 }
@@ -116,11 +141,15 @@ A line on standard error names a fault; what it was about, and what to do, stand
 
 const CHECK_HELP: &str = "Example:
   revcache check /etc/revcache/table.toml --ask 'GET http://shop.example/cart'
+  revcache check new.toml --against /etc/revcache/table.toml --log /var/log/revcache/access.log
+
+What may stand behind => of a question: line N, denied, denied by line N, no line, refused.
 
 Exit statuses:
   0   the table is good
-  1   the file or memory is at fault
+  1   a file or memory is at fault
   2   the table is at fault
+  3   a question of --ask-file is answered otherwise
   64  the command line is at fault";
 
 const SERVE_HELP: &str = "Example:
@@ -141,7 +170,7 @@ fn listen_option<'a>(alloc: Global) -> Arg<'a> {
         alloc,
         "listen",
         "ADDRESS",
-        "an IPv4 address and a port; port 0 lets the system choose",
+        "an IPv4 address and a port, of which 0 lets the system choose; or fd:N, a listening socket that was handed on",
     )
     .required(true)
 }
@@ -334,6 +363,27 @@ fn program<'a>(alloc: Global) -> Result<Command<'a>, Error> {
     Ok(command)
 }
 
+/// The descriptor of a socket that was handed on: `fd:` and its number, without leading zeros, 3 at least. Those below
+/// are standard input, output and error.
+fn descriptor_of(text: &str) -> Option<i32> {
+    let number = text.strip_prefix("fd:")?;
+    if number.starts_with('0') || number.starts_with('+') {
+        return None;
+    }
+    match number.parse::<i32>() {
+        Ok(fd) if fd >= 3 => Some(fd),
+        _ => None,
+    }
+}
+
+/// Where clients connect to.
+fn listen_at(text: &str) -> Option<ListenAt> {
+    match descriptor_of(text) {
+        Some(fd) => Some(ListenAt::Descriptor(fd)),
+        None => Some(ListenAt::Address(address_of(text)?)),
+    }
+}
+
 /// An address as in a table: four numbers and a port, without leading zeros. The port may be 0.
 fn address_of(text: &str) -> Option<SocketAddr> {
     let (_, port) = text.rsplit_once(':')?;
@@ -376,7 +426,7 @@ fn limits_of(matches: &ArgMatches<'_>) -> Option<Limits> {
     })
 }
 
-fn service_of<'a>(matches: &ArgMatches<'a>, listen: SocketAddr) -> Option<Service<'a>> {
+fn service_of<'a>(matches: &ArgMatches<'a>, listen: ListenAt) -> Option<Service<'a>> {
     Some(Service {
         table: matches.get_str("table")?,
         listen,
@@ -393,7 +443,7 @@ fn service_of<'a>(matches: &ArgMatches<'a>, listen: SocketAddr) -> Option<Servic
 /// That a text is no address to listen on.
 fn address_fault(alloc: Global, text: &str) -> Fault {
     let words = format!(in alloc;
-        "error: invalid value '{text}' for '--listen <ADDRESS>': an IPv4 address and a port, as in 127.0.0.1:8080"
+        "error: invalid value '{text}' for '--listen <ADDRESS>': an IPv4 address and a port, as in 127.0.0.1:8080, or a socket that was handed on, as in fd:3"
     );
     Fault::Usage(words.ok())
 }
@@ -403,7 +453,7 @@ fn serve_of<'a>(alloc: Global, matches: &ArgMatches<'a>) -> Result<Form<'a>, Fau
     let Some(text) = matches.get_str("listen") else {
         return Err(Fault::Usage(None));
     };
-    let Some(listen) = address_of(text) else {
+    let Some(listen) = listen_at(text) else {
         return Err(address_fault(alloc, text));
     };
     match service_of(matches, listen) {
@@ -417,13 +467,30 @@ fn check_of<'a>(alloc: Global, matches: &ArgMatches<'a>) -> Result<Form<'a>, Fau
     let Some(path) = matches.get_str("table") else {
         return Err(Fault::Usage(None));
     };
-    let Some(text) = matches.get_str("ask") else {
-        return Ok(Form::Check(path, None));
+    let against = match (matches.get_str("against"), matches.get_str("log")) {
+        (Some(table), Some(log)) => Some((table, log)),
+        (None, None) => None,
+        _ => return Err(against_fault(alloc)),
     };
-    match question_of(text) {
-        Some(question) => Ok(Form::Check(path, Some(question))),
-        None => Err(question_fault(alloc, text)),
-    }
+    let question = match matches.get_str("ask") {
+        Some(text) => match question_of(text) {
+            Some(question) => Some(question),
+            None => return Err(question_fault(alloc, text)),
+        },
+        None => None,
+    };
+    Ok(Form::Check(Checking {
+        table: path,
+        question,
+        questions: matches.get_str("ask-file"),
+        against,
+    }))
+}
+
+/// What is said of one of the two options that belong together.
+fn against_fault(alloc: Global) -> Fault {
+    let words = format!(in alloc; "error: '--against <OLD>' and '--log <FILE>' go together");
+    Fault::Usage(words.ok())
 }
 
 /// What is said of a text that is no request.

@@ -1,8 +1,8 @@
 //! How many descriptors the process may have, and how many it may want.
 
-use std::io::Read;
+use crate::files::read_front;
 use std::rt::Files;
-use std::{fs, str};
+use std::str;
 
 /// The listener, the log, the record, the table, and what the system wants besides.
 const OTHER_DESCRIPTORS: u64 = 16;
@@ -36,8 +36,6 @@ fn number_of(text: &str) -> Option<u64> {
 
 /// The descriptors that the process may have, where the system tells.
 pub(crate) fn descriptors_allowed<R: Files + AllocGlobal>(rt: &R) -> Option<u64> {
-    let mut text = Vec::new(rt.alloc());
-    let file = fs::open(rt, "/proc/self/limits").ok()?;
-    file.take(4096).read_to_end(&mut text).ok()?;
+    let text = read_front(rt, "/proc/self/limits")?;
     number_of(str::from_utf8(text.as_slice()).ok()?)
 }

@@ -24,6 +24,8 @@ pub(crate) enum Fault {
     Socket(Option<String>),
     /// A server can't go on.
     Serving(ServeFault),
+    /// A table answers a question otherwise than expected.
+    Answers,
     /// Memory ran out.
     NoMemory,
 }
@@ -85,6 +87,7 @@ impl fmt::Display for Fault {
             Fault::Write(_) => f.write_str("write fault"),
             Fault::Socket(_) => f.write_str("socket fault"),
             Fault::Serving(fault) => f.write_str(serving_text(*fault)),
+            Fault::Answers => f.write_str("answers differ"),
             Fault::NoMemory => f.write_str("no memory"),
         }
     }
@@ -99,13 +102,15 @@ fn print_words<R: Print>(rt: &R, words: &Option<String>) -> io::Result<()> {
 }
 
 impl Fault {
-    /// The program's exit status: 64 for the command line, 2 where the table is at fault, else 1.
+    /// The program's exit status: 64 for the command line, 2 where the table is at fault, 3 where it answers otherwise,
+    /// else 1.
     pub(crate) fn exit_status(&self) -> u8
         ensures { result ≡ exit_status_of_fault self.now }
     {
         match self {
             Fault::Usage(_) => 64,
             Fault::Table(fault, _) => fault.exit_status(),
+            Fault::Answers => 3,
             _ => 1,
         }
     }
@@ -123,6 +128,7 @@ impl Fault {
             Fault::Write(words) => print_words(rt, words),
             Fault::Socket(words) => print_words(rt, words),
             Fault::Serving(fault) => println!(rt; "{fault}"),
+            Fault::Answers => Ok(()),
             Fault::NoMemory => {
                 println!(rt;
                     "memory was refused; give the process more, or lower capacity, max_body or max_stored"

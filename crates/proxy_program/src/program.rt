@@ -1,14 +1,17 @@
 //! What the command line asks for, done.
 
-use crate::checking::{Question, print_checked};
-use crate::command_line::{Form, Service, VERSION, form_of, read};
+use crate::checking::print_checked;
+use crate::command_line::{Checking, Form, Service, VERSION, form_of, read};
 use crate::commit::commit_of;
+use crate::comparing::print_compared;
 use crate::fault::{Fault, fault_of};
-use crate::files::read_table;
+use crate::files::{read_questions, read_table};
 use crate::mistakes::config_of;
+use crate::questions::ask_all;
 use crate::serving::serve;
 use clap::Error;
 use clap::error::ErrorKind;
+use hx_allow::Config;
 use std::io::IsTerminal;
 use std::net::Net;
 use std::process::ExitCode;
@@ -16,15 +19,23 @@ use std::random::RandomSource;
 use std::rt::{Clock, Env, Files};
 use std::{env, io};
 
-/// Checks a table, and tells what it says.
-fn check<R: Files + Print + AllocGlobal>(
-    rt: &R,
-    path: &str,
-    question: Option<&Question<'_>>,
-) -> Result<(), Fault> {
+/// The table in a file.
+fn table_in<R: Files + AllocGlobal>(rt: &R, path: &str) -> Result<Config, Fault> {
     let table = read_table(rt, path)?;
-    let config = config_of(rt.alloc(), table.as_slice())?;
-    print_checked(rt, &config, question)
+    config_of(rt.alloc(), table.as_slice())
+}
+
+/// Checks a table, and tells what it says, what it would change, and which questions it answers otherwise.
+fn check<R: Files + Print + AllocGlobal>(rt: &R, checking: &Checking<'_>) -> Result<(), Fault> {
+    let config = table_in(rt, checking.table)?;
+    print_checked(rt, &config, checking.question.as_ref())?;
+    if let Some((old, log)) = checking.against {
+        print_compared(rt, &config, &table_in(rt, old)?, log)?;
+    }
+    match checking.questions {
+        Some(path) => ask_all(rt, &config, read_questions(rt, path)?.as_str()),
+        None => Ok(()),
+    }
 }
 
 /// Prints the program's name and version, and the commit that it was built from, where that is known.
@@ -85,10 +96,9 @@ impl From<Fault> for EndedEarly {
 
 fn checked<R: Files + Print + AllocGlobal>(
     rt: &R,
-    path: &str,
-    question: Option<&Question<'_>>,
+    checking: &Checking<'_>,
 ) -> Result<(), EndedEarly> {
-    match check(rt, path, question) {
+    match check(rt, checking) {
         Ok(()) => Ok(()),
         Err(fault) => Err(EndedEarly {
             fault,
@@ -128,7 +138,7 @@ where
             print_what_is_awaited(rt);
             return Ok(proxy_replay::program::run(rt));
         }
-        Form::Check(path, question) => checked(rt, path, question.as_ref())?,
+        Form::Check(checking) => checked(rt, &checking)?,
         Form::Serve(service) => served(rt, &service)?,
     }
     Ok(ExitCode::SUCCESS)

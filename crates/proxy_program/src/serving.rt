@@ -9,21 +9,27 @@ use crate::fault::{Fault, fault_of, system_call_words};
 use crate::figures::Figures;
 use crate::files::read_table;
 use crate::journal::{Journal, Target, log_file};
+use crate::memory::{megabytes, memory_allowed, most_held, most_stored};
 use crate::mistakes::config_of;
 use crate::stats_file::StatsFile;
 use crate::warnings::Warnings;
 use crate::watch::{ServerState, Watch};
 use hx_allow::Config;
 use hx_store::{IndexedShelf, Shelf};
-use proxy_server::{CountedShelf, Limits, LiveSockets, Recorder, ServeFault, Server, StoreCounts};
+use proxy_server::{
+    CountedShelf, Limits, ListenAt, LiveSockets, Recorder, ServeFault, Server, StoreCounts,
+};
 use std::fs::OpenOptions;
 use std::hash::{BuildHasher, Hasher, RandomState};
 use std::io;
 use std::io::{ErrorKind, Write};
-use std::net::{Net, SocketAddr};
+use std::net::{IpAddr, Net, SocketAddr, SocketAddrV4};
 use std::os::unix::fs::OpenOptionsExt;
 use std::random::RandomSource;
 use std::rt::{Clock, Files};
+
+/// The most lines of a table.
+const MOST_LINES: u16 = 256;
 
 /// The name of a record: `%s` in it is the moment, in Unix seconds.
 fn record_name<R: Clock + AllocGlobal>(rt: &R, path: &str) -> Result<String, Fault> {
@@ -93,6 +99,46 @@ fn announce<R: Eprint>(rt: &R, address: SocketAddr, asked: &Limits, allows: Opti
         let _ = eprintln!(rt;
             "warning: {allows} descriptors are allowed, and up to {wants} may be wanted: at most {taken} connections of clients are taken"
         );
+    }
+}
+
+/// Tells how much its bounds allow to be held, and where that is more than there is.
+fn announce_memory<R: Files + Eprint + AllocGlobal>(rt: &R, stored: u64, held: u64) {
+    let most = stored.saturating_add(held);
+    let (all, stored, held) = (megabytes(most), megabytes(stored), megabytes(held));
+    let _ = eprintln!(rt;
+        "at most {all} MB are held: {stored} of stored responses, {held} of what is in progress and connections"
+    );
+    match memory_allowed(rt) {
+        Some(allowed) if allowed.bytes() < most => {
+            let (bound, owner) = (megabytes(allowed.bytes()), allowed.owner());
+            let _ = eprintln!(rt;
+                "warning: that is more than the {bound} MB that {owner}: lower capacity, max_stored, --content-limit or --connections"
+            );
+        }
+        _ => {}
+    }
+}
+
+/// Whether who connects to an origin comes to this server: its own address, or this machine's own where it listens on
+/// all addresses.
+fn comes_back(origin: SocketAddrV4, address: SocketAddr) -> bool {
+    let is_own = IpAddr::V4(*origin.ip()) == address.ip();
+    let is_any = address.ip().is_unspecified() && origin.ip().is_loopback();
+    origin.port() == address.port() && (is_own || is_any)
+}
+
+/// Tells of each line whose requests come back to this server.
+fn warn_of_loops<R: Eprint>(rt: &R, config: &Config, address: SocketAddr) {
+    for line in 1..=MOST_LINES {
+        if config
+            .origin_address(line)
+            .is_some_and(|it| comes_back(it, address))
+        {
+            let _ = eprintln!(rt;
+                "warning: the origin of line {line} is this server itself: its requests come back until connections run out"
+            );
+        }
     }
 }
 
@@ -214,19 +260,26 @@ fn seed_of<R: RandomSource + AllocGlobal>(rt: &R) -> Result<u64, Fault>
     }
 }
 
-/// Why an address can't be listened on.
-fn listen_fault<R: AllocGlobal>(rt: &R, address: SocketAddr, error: &io::Error) -> Fault {
-    let words = format!(in rt.alloc(); "{address} can't be listened on: {error}").ok();
-    fault_of(error, Fault::Socket(words))
+/// Why clients can't connect.
+fn listen_fault<R: AllocGlobal>(rt: &R, at: ListenAt, error: &io::Error) -> Fault {
+    let words = match at {
+        ListenAt::Address(address) => format!(in rt.alloc();
+            "{address} can't be listened on: {error}"
+        ),
+        ListenAt::Descriptor(fd) => format!(in rt.alloc();
+            "fd:{fd} is no TCP socket over IPv4 that was bound and listens: {error}"
+        ),
+    };
+    fault_of(error, Fault::Socket(words.ok()))
 }
 
-/// The sockets at the address that is asked for.
+/// The sockets where clients connect.
 fn sockets_of<'n, R: Net + AllocGlobal>(
     rt: &'n R,
-    listen: SocketAddr,
+    listen: ListenAt,
     limits: Limits,
 ) -> Result<LiveSockets<'n, R>, Fault> {
-    match LiveSockets::bind(rt, rt.alloc(), listen, limits) {
+    match LiveSockets::listen(rt, rt.alloc(), listen, limits) {
         Ok(sockets) => Ok(sockets),
         Err(e) => Err(listen_fault(rt, listen, &e)),
     }
@@ -277,8 +330,11 @@ pub(crate) fn serve<R: Net + Clock + Files + Print + Eprint + AllocGlobal + Rand
     }
     let mut figures = figures_of(rt, service.stats, &config, &store, &mut sockets)?;
     let address = sockets.address();
+    warn_of_loops(rt, &config, address);
+    let stored = most_stored(&config);
     let mut server = Server::new(rt.alloc(), config, shelf, sockets, record);
     begin_figures(rt, &figures, &server)?;
+    announce_memory(rt, stored, most_held(&limits, service.log.is_some()));
     announce(rt, address, &service.limits, allows);
     let turns = service.turns.map_or(u64::MAX, u64::from);
     let watch = Watch::new(service.drain, service.drain_timeout, service.log);

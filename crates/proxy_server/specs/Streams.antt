@@ -29,6 +29,7 @@ use Rattle.slab.specs.Slab.{Slab}
 use Rattle.proxy_turn.specs.declared.sockets.Received.{Received}
 use Rattle.proxy_turn.specs.declared.sockets.Received.TheVariants as received
 use Rattle.proxy_figures.specs.Counts.{count_plus}
+use Rattle.proxy_pacing.specs.RestBytes.{is_nothing}
 use Rattle.proxy_server.specs.Peers.{PeerReadOutcome, UnsentBytes, peer_read_outcome, BytesAreHandedOn}
 use Rattle.proxy_server.specs.Peers.{BytesAreHandedOnInPart}
 use Rattle.proxy_server.specs.Peers.{Nothing, Bytes, Ended, IsFailure}
@@ -116,9 +117,6 @@ peer_is_lost (Some peer) = peer.broken && peer.connecting
 abbrev pub client_is_cut : {S : Type 0} → Option (Client S) → Bool
 client_is_cut None = true
 client_is_cut (Some client) = client.peer.broken
-
-abbrev pub is_nothing : List ℕ → Bool
-is_nothing bytes = length bytes == 0
 
 -- bytes are left of those that came and weren't handed in
 abbrev pub client_has_rest : Option (List ℕ) → Bool

@@ -24,19 +24,17 @@ ghost use Rattle.proxy_figures.specs.EndingCounts.{endings_with_cut};
 pub(crate) mod client;
 mod closing;
 mod patience;
-mod pieces;
-mod rest;
 pub(crate) mod stream_queues;
 
 use crate::clients::client::{Client, Place};
 use crate::clients::stream_queues::{StreamQueue, StreamQueues};
 use crate::limits::Limits;
-use crate::moments::Moments;
 use crate::sockets::peer::{Peer, held_after};
 use crate::sockets::stream::Stream;
 use mio::event::Event;
 use mio::net::TcpStream;
 use proxy_figures::{CutReason, Endings};
+use proxy_pacing::Moments;
 use proxy_turn::Received;
 use slab::Slab;
 use std::alloc::Global;
@@ -482,16 +480,16 @@ impl<S: Stream + Drop> Clients<S> {
     {
         // Each mark is moved once at most.
         for _ in 0..=self.idle.len() {
-            let (mark, id) = self.idle.first()?;
-            let key = id as usize;
+            let mark = self.idle.first()?;
+            let key = mark.id as usize;
             match self.streams.get_mut(key) {
-                Some(client) if client.is_idle() && client.idle_since == mark => {
-                    return Some((key, mark));
+                Some(client) if client.is_idle() && client.idle_since == mark.at => {
+                    return Some((key, mark.at));
                 }
                 Some(client) => client.idle_mark = None,
                 None => {}
             }
-            self.idle.remove(mark, id);
+            self.idle.remove(mark.at, mark.id);
             self.mark_again(key);
         }
         None

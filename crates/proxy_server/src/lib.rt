@@ -12,7 +12,6 @@ mod clients;
 mod fault_texts;
 mod limits;
 mod links;
-mod moments;
 mod pace;
 mod server;
 mod server_cases;
@@ -26,4 +25,5 @@ pub use crate::server_cases::{
 };
 pub use crate::sockets::live_sockets::LiveSockets;
 pub use proxy_figures::{CountedShelf, ServerFacts, StoreCounts, Troubles};
+pub use proxy_listener::ListenAt;
 pub use proxy_record::{RecordFault, Recorder, Recording};

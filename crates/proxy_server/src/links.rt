@@ -16,12 +16,12 @@ pub(crate) mod link;
 
 use crate::limits::{Limits, SECOND};
 use crate::links::link::{Link, mark_peer_ready};
-use crate::moments::Moments;
 use crate::sockets::peer::held_after;
 use crate::sockets::stream::Stream;
 use mio::event::Event;
 use mio::net::TcpStream;
 use proxy_figures::{LinkTimeouts, Origins};
+use proxy_pacing::Moments;
 use proxy_turn::Received;
 use std::alloc::Global;
 use std::collections::BTreeMap;

@@ -6,7 +6,6 @@ mod holding;
 pub(crate) mod live_sockets;
 pub(crate) mod peer;
 pub(crate) mod reply_log;
-mod send_buffer;
 pub(crate) mod socket_tokens;
 pub(crate) mod stream;
 mod unsent;

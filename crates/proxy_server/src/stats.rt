@@ -8,15 +8,6 @@ use std::alloc::{AllocError, Global};
 use std::io::Write;
 use std::net::Net;
 
-/// Whether what happens is recorded.
-fn record_state(is_recording: bool, has_ended: bool) -> RecordState {
-    match (is_recording, has_ended) {
-        (true, _) => RecordState::Writing,
-        (false, true) => RecordState::Ended,
-        (false, false) => RecordState::NoRecord,
-    }
-}
-
 impl<'a, S: Shelf + Drop, R: Net, W: Write + Drop> Server<'a, S, R, W> {
     /// The page of figures. Its only error is out of memory. Replies are counted where the sockets keep counts.
     pub fn stats(&self, alloc: Global, about: &ServerFacts<'_>) -> Result<Vec<u8>, AllocError> {
@@ -46,7 +37,7 @@ impl<'a, S: Shelf + Drop, R: Net, W: Write + Drop> Server<'a, S, R, W> {
             held: clients.held().saturating_add(links.held()),
             held_limit: sockets.limits.content,
             log_lines: sockets.log().map_or(0, Lines::added),
-            record: record_state(self.ends.is_recording(), self.ends.has_ended()),
+            record: RecordState::of(self.ends.is_recording(), self.ends.has_ended()),
         };
         figures.page(alloc)
     }

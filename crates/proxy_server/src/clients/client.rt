@@ -7,14 +7,13 @@ ghost use Rattle.proxy_server.specs.Logging.{IsLineAboutReply, logged_address};
 ghost use Rattle.proxy_server.specs.Streams.{client_has_rest, client_may_give, rest_bytes, ClientIsRead};
 ghost use Rattle.proxy_server.specs.Streams.{number_of_place, client_is_idle, new_client, ClientIsReadOn};
 
-use crate::clients::pieces::{LEAST_HANDED_IN, head_end};
-use crate::clients::rest::Rest;
 use crate::clients::stream_queues::StreamQueue;
 use crate::sockets::peer::Peer;
 use crate::sockets::reply_log::Reply;
 use crate::sockets::stream::Stream;
 use mio::net::TcpStream;
 use proxy_log::{SeenOfReply, UnansweredRequests, line_about};
+use proxy_pacing::{LEAST_HANDED_IN, Rest, head_end};
 use proxy_turn::Received;
 use std::alloc::{AllocError, Global};
 use std::io;

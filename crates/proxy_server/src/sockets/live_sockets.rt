@@ -19,7 +19,6 @@ use crate::links::Links;
 use crate::links::link::Link;
 use crate::sockets::call_counts::CallCounts;
 use crate::sockets::peer::Peer;
-use crate::sockets::send_buffer::bound_send_buffers;
 use crate::sockets::socket_tokens::Holder;
 use hx_allow::Config;
 use hx_status::FailKind;
@@ -28,6 +27,7 @@ use mio::{Events, Interest, Poll};
 use proxy_figures::{
     AcceptCounts, Admission, Asked, CutReason, ReplyCounts, Troubles, Turns, is_out_of_descriptors,
 };
+use proxy_listener::{ListenAt, listen};
 use proxy_log::Lines;
 use proxy_turn::{End, MOST_WORKS, Received, Report, SocketFailed, Sockets, TurnFault};
 use std::alloc::{AllocError, Global};
@@ -159,19 +159,18 @@ fn read_piece(
 }
 
 impl<'a, R: Net> LiveSockets<'a, R> {
-    /// Listens on an address. Its port may be 0, for one that the system chooses.
-    pub fn bind(
+    /// Sockets that listen there. Fails where the system refuses it, or memory runs out.
+    pub fn listen(
         net: &'a R,
         alloc: Global,
-        address: SocketAddr,
+        at: ListenAt,
         limits: Limits,
     ) -> io::Result<LiveSockets<'a, R>>
         ensures limits { IfOk result (λ sockets. sockets.limits ≡ limits) }
         ensures begins { IfOk result (λ sockets. sockets.is_draining ≡ false) }
     {
         let poll = Poll::new(net)?;
-        let mut listener = TcpListener::bind(net, address)?;
-        bound_send_buffers(&listener);
+        let mut listener = listen(net, at)?;
         poll.registry().register(&mut listener, Holder::Listener.token()?, Interest::READABLE)?;
         let address = listener.local_addr()?;
         Ok(LiveSockets {

@@ -1,4 +1,5 @@
-//! The shelf with an index beside the shelf that is a list, through the same 5,000 calls: each gives the same of both.
+//! The shelf with an index beside the shelf that is a list, through the same 5,000 calls: each gives the same of both,
+//! and both weigh the same.
 
 use super::entries::{entry_for, key};
 use hx_fields::Fields;
@@ -11,6 +12,9 @@ const CALLS: u64 = 5_000;
 
 const CAPACITY: u64 = 12;
 
+/// More bytes than entries weigh of which there is room for.
+const BYTES: u64 = 16_000;
+
 /// One call.
 #[derive(Clone, Copy)]
 enum Call {
@@ -20,6 +24,7 @@ enum Call {
     Remove(u64),
     Invalidate(u64),
     Find(u64),
+    Shed(u64),
 }
 
 /// The path of an entry, by its serial.
@@ -66,6 +71,7 @@ fn nth_call(n: u64, dice: u64) -> Call {
         9..=11 => Call::Promote(serial),
         12 => Call::Remove(serial),
         13 => Call::Invalidate(serial),
+        14 => Call::Shed(dice / 16 % BYTES),
         _ => Call::Find(serial),
     }
 }
@@ -131,10 +137,15 @@ fn answer<S: Shelf>(alloc: Global, shelf: &mut S, call: Call) -> Result<u64, Fai
             Ok(shelf.invalidate(&key) as u64)
         }
         Call::Find(serial) => Ok(found(alloc, shelf, path_of(serial))?),
+        Call::Shed(most) if most < BYTES => match shelf.shed(most) {
+            Some(entry) => Ok(entry.serial),
+            None => Ok(0),
+        },
+        Call::Shed(_) => Err("a bound that is looked for".into()),
     }
 }
 
-/// Both answer the same, and hold as many.
+/// Both answer the same, hold as many, and weigh as much.
 fn agree(
     rt: &impl Abort,
     alloc: Global,
@@ -145,6 +156,7 @@ fn agree(
     let of_indexed = answer(alloc, indexed, call)?;
     assert_eq!(rt; of_list, of_indexed);
     assert_eq!(rt; list.len(), indexed.len());
+    assert_eq!(rt; list.weight(), indexed.weight());
     Ok(())
 }
 

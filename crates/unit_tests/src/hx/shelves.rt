@@ -1,7 +1,7 @@
 //! A store of few entries, through each call.
 
 use super::entries::{entry, key};
-use hx_store::{ListShelf, Shelf};
+use hx_store::{IndexedShelf, ListShelf, Shelf};
 use std::alloc::{AllocError, Global};
 use std::process::Abort;
 use std::test::Fail;
@@ -100,4 +100,47 @@ fn entries_are_found_by_key(rt: HostRuntime) -> Result<(), Fail> {
     assert!(rt; removed(alloc, &mut shelf, "/a")? == 2);
     assert!(rt; shelf.len() == 1 && shelf.capacity() == 3);
     Ok(())
+}
+
+/// What an entry of such a path weighs: its content of 2 bytes, its lines of 27 and 23 with 4 more each, the names of
+/// 15 and 6 that it nominates, host and path of 3 twice, and 1,200.
+const ENTRY_WEIGHS: u64 = 1_287;
+
+/// Sheds an entry where more than so many bytes are held, and gives its serial.
+fn shed<S: Shelf>(shelf: &mut S, most: u64) -> Result<Option<u64>, Fail> {
+    if most > ENTRY_WEIGHS * 3 {
+        return Err("a bound of these entries".into());
+    }
+    match shelf.shed(most) {
+        Some(entry) => Ok(Some(entry.serial)),
+        None => Ok(None),
+    }
+}
+
+/// Three entries are put into an empty store, and go again where they weigh too much, the least recently used first.
+fn weighs_and_sheds<S: Shelf>(rt: &impl Abort, alloc: Global, shelf: &mut S) -> Result<(), Fail> {
+    for (serial, path) in [(1, "/a"), (2, "/b"), (3, "/c")] {
+        let entry = entry(alloc, serial, path)?;
+        assert_eq!(rt; entry.weight(), ENTRY_WEIGHS);
+        if shelf.contains(entry.serial) || shelf.put(entry, &[]).is_err() {
+            return Err("room for a new entry".into());
+        }
+    }
+    assert!(rt; shelf.promote(1));
+    assert_eq!(rt; shelf.weight(), 3 * ENTRY_WEIGHS);
+    assert_eq!(rt; shed(shelf, 3 * ENTRY_WEIGHS)?, None);
+    assert_eq!(rt; shed(shelf, 3 * ENTRY_WEIGHS - 1)?, Some(2));
+    assert_eq!(rt; shelf.weight(), 2 * ENTRY_WEIGHS);
+    assert_eq!(rt; shed(shelf, 0)?, Some(3));
+    assert_eq!(rt; shed(shelf, 0)?, Some(1));
+    assert_eq!(rt; shed(shelf, 0)?, None);
+    assert_eq!(rt; shelf.weight(), 0);
+    Ok(())
+}
+
+#[test]
+fn entries_weigh_and_are_shed(rt: HostRuntime) -> Result<(), Fail> {
+    let alloc = rt.alloc();
+    weighs_and_sheds(&rt, alloc, &mut ListShelf::new(alloc, 9))?;
+    weighs_and_sheds(&rt, alloc, &mut IndexedShelf::new(alloc, 9)?)
 }

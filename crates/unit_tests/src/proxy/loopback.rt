@@ -2,7 +2,7 @@
 
 use hx_allow::Config;
 use hx_store::ListShelf;
-use proxy_server::{Limits, LiveSockets, Server};
+use proxy_server::{Limits, ListenAt, LiveSockets, Server};
 use std::alloc::Global;
 use std::io::{ErrorKind, Read, Write};
 use std::net::{SocketAddr, TcpListener, TcpStream};
@@ -44,7 +44,7 @@ fn server_before<'a>(
         content: 1_000_000,
         max_body: config.max_body(),
     };
-    let sockets = LiveSockets::bind(rt, alloc, any, limits)?;
+    let sockets = LiveSockets::listen(rt, alloc, ListenAt::Address(any), limits)?;
     let address = sockets.address();
     let shelf = ListShelf::new(alloc, config.capacity());
     Ok((Server::new(alloc, config, shelf, sockets, None), address))

@@ -1,7 +1,15 @@
-use Rattle.std.proofs.Common.{◌≡◌, ◌-◌, length, slice_get, Some, subst, sym, ◌∙◌}
+use Rattle.std.proofs.Common.{arith, ap, ◌≡◌, ◌-◌, length, slice_get, Some, subst, sym, ◌∙◌}
 use Rattle.hx_store.specs.Index.{MarksAreOfTheirEntries, SerialIsTakenOut}
 use Rattle.hx_store.proofs.IndexedLists.{IsKept, kept-last, last-none, marked-last}
+use Rattle.hx_store.specs.Weights.{counted_total}
+use Rattle.hx_store.proofs.CountedWeights.{counted_last}
 use Rattle.hx_store.proofs.indexed_entries.IndexedEntries.pop_last.Goals as goal
+
+pub overflow_sub-self : goal.overflow_sub-self
+overflow_sub-self c =
+    let es = c.self.inside.entries in
+    let last : slice_get es (length es - 1) ≡ Some c.in-Some.entry = sym c.pop_last.ensures.value ∙ c.in-Some.is in
+    omega (arith, c.weight.ensures, c.self.invariant.3, counted_last es c.in-Some.entry last)
 
 pub invariant_of-self : goal.invariant_of-self
 invariant_of-self c =
@@ -13,6 +21,7 @@ invariant_of-self c =
       kept-last es c.in-Some.entry c.self.inside.index c.remove.new.self last taken c.self.invariant.0,
       c.remove.ensures.trim c.self.invariant.1,
       marked-last c.self.inside.seed es c.in-Some.entry c.self.inside.index c.remove.new.self c.self.invariant.0.0 last taken c.self.invariant.2,
+      omega (arith, c.weight.ensures, c.self.invariant.3, counted_last es c.in-Some.entry last),
     )
 
 pub invariant_of-self-in-None : goal.invariant_of-self-in-None
@@ -23,4 +32,5 @@ invariant_of-self-in-None c =
       subst (λ zs. IsKept zs c.self.inside.index) (sym same) c.self.invariant.0,
       c.self.invariant.1,
       subst (λ zs. MarksAreOfTheirEntries c.self.inside.seed zs c.self.inside.index) (sym same) c.self.invariant.2,
+      c.self.invariant.3 ∙ ap counted_total (sym same),
     )

@@ -1,10 +1,17 @@
-use Rattle.std.proofs.Common.{rules, ◌≡◌, false, ap, subst, sym, ◌∙◌}
+use Rattle.std.proofs.Common.{arith, rules, ◌≡◌, false, ap, subst, sym, ◌∙◌}
 use Rattle.std.specs.Map.{keys_of}
 use Rattle.hx_vary.specs.Marks.{mark_of_values}
 use Rattle.hx_store.specs.Index.{SerialIsPutIn, IsSameKeyIndex, SerialIsTakenOut, EachMarkIsOfItsEntry}
 use Rattle.hx_store.specs.Shelf.{holds_serial}
 use Rattle.hx_store.proofs.IndexedLists.{index-again, kept-more, marked-again, marked-more}
+use Rattle.std.proofs.lemmas.List.Sums.{sum_by-cons}
+use Rattle.hx_store.specs.Weights.{counted_weight}
+use Rattle.hx_store.proofs.CountedWeights.{counted_bound}
 use Rattle.hx_store.proofs.indexed_entries.IndexedEntries.store.Goals as goal
+
+pub overflow_add-self : goal.overflow_add-self
+overflow_add-self c =
+    omega (arith, c.weight-weight.ensures, c.self.invariant.3, counted_bound c.self.inside.entries, c.len-held.ensures, c.len-held.type_inv)
 
 pub invariant_of-self-in-Err : goal.invariant_of-self-in-Err
 invariant_of-self-in-Err c =
@@ -21,6 +28,7 @@ invariant_of-self-in-Err c =
       (c.self.invariant.0.0, index-again c.entry.inside.key c.entry.inside.serial mark es index c.insert.new.self c.remove.new.self new c.self.invariant.0.1 put taken),
       c.remove.ensures.trim (c.insert.ensures.trim c.self.invariant.1),
       marked-again c.self.inside.seed c.entry.inside.key c.entry.inside.serial mark es index c.insert.new.self c.remove.new.self new put taken c.self.invariant.2,
+      c.self.invariant.3,
     )
 
 pub invariant_of-self : goal.invariant_of-self
@@ -29,6 +37,7 @@ invariant_of-self c =
       (c.self.invariant.0.0, λ q. ap keys_of (same q) ∙ c.self.invariant.0.1 q),
       c.insert.ensures.trim c.self.invariant.1,
       λ q. subst (EachMarkIsOfItsEntry c.self.inside.seed c.self.inside.entries) (sym (same q)) (c.self.invariant.2 q),
+      c.self.invariant.3,
     )
 
 pub invariant_of-self-in-Ok : goal.invariant_of-self-in-Ok
@@ -43,4 +52,5 @@ invariant_of-self-in-Ok c =
       kept-more c.args.entry (mark_of_values c.self.inside.seed c.args.entry.nominated) es index c.insert.new.self new put_as c.self.invariant.0,
       c.insert.ensures.trim c.self.invariant.1,
       marked-more c.self.inside.seed c.args.entry es index c.insert.new.self new c.self.invariant.0.1 put_as c.self.invariant.2,
+      omega (arith, c.weight-weight.ensures, c.self.invariant.3, sum_by-cons counted_weight c.args.entry es),
     )

@@ -1,14 +1,14 @@
 //! What a client sent behind the head of a request, in one read: it is handed in when that request was.
 ghost use Rattle.std.specs.Prelude.{◌≡◌, ◌<◌, ◌≤◌, ◌++◌, [], length, take, drop, OnOk, OnErr};
-ghost use Rattle.proxy_server.specs.Streams.{is_nothing};
+ghost use Rattle.proxy_pacing.specs.RestBytes.{is_nothing};
 
-use crate::clients::pieces::head_end;
+use crate::pieces::head_end;
 use std::alloc::{AllocError, Global};
 use std::marker::Model;
 
 /// Bytes of a client that wait to be handed in. Contracts see those that are left.
 #[derive(Drop)]
-pub(crate) struct Rest {
+pub struct Rest {
     bytes: Vec<u8>,
     /// So many of them were handed in.
     taken: usize,
@@ -25,7 +25,7 @@ impl Model for Rest {
 }
 
 impl Rest {
-    pub(crate) fn new(alloc: Global) -> Rest
+    pub fn new(alloc: Global) -> Rest
         ensures { result ≡ [] }
     {
         Rest {
@@ -35,7 +35,7 @@ impl Rest {
     }
 
     /// Whether nothing is left.
-    pub(crate) fn is_empty(&self) -> bool
+    pub fn is_empty(&self) -> bool
         ensures { result ≡ is_nothing self.now }
     {
         let left = &self.bytes[self.taken..];
@@ -43,7 +43,7 @@ impl Rest {
     }
 
     /// Keeps bytes behind the others. An `Err` changes nothing.
-    pub(crate) fn keep(&mut self, piece: &[u8]) -> Result<(), AllocError>
+    pub fn keep(&mut self, piece: &[u8]) -> Result<(), AllocError>
         ensures kept { OnOk result (self.new ≡ self.old ++ piece.now) }
         ensures err { OnErr result (self.new ≡ self.old) }
     {
@@ -52,7 +52,7 @@ impl Rest {
 
     /// Gives the bytes as far as the head of one request, and as there is room for them, but `least` of them, where
     /// there are so many; answers how many.
-    pub(crate) fn give(&mut self, buf: &mut [u8], least: usize) -> usize
+    pub fn give(&mut self, buf: &mut [u8], least: usize) -> usize
         ensures within { result ≤ length buf.old }
         ensures length { length buf.new ≡ length buf.old }
         ensures some { 0 < length buf.old → 0 < length self.old → 0 < result }

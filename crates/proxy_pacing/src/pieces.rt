@@ -14,7 +14,7 @@ const VERSION: usize = 8;
 
 /// A request that was begun goes on by so many bytes at least, where so many have come: no more than a dozen requests
 /// stand in them.
-pub(crate) const LEAST_HANDED_IN: usize = 256;
+pub const LEAST_HANDED_IN: usize = 256;
 
 /// Whether a line ends in a version, as a request line does that isn't refused (RFC 9112, section 3).
 fn ends_in_version(line: &[u8]) -> bool {
@@ -50,7 +50,7 @@ fn head_end_from(bytes: &[u8], from: usize) -> Option<usize> {
 
 /// How many of the bytes are handed in: as far as the first empty line behind a request line that ends at an index or
 /// later, or all.
-pub(crate) fn head_end(bytes: &[u8], from: usize) -> usize
+pub fn head_end(bytes: &[u8], from: usize) -> usize
     ensures within { result ≤ length bytes.now }
     ensures some { 0 < length bytes.now → 0 < result }
 {

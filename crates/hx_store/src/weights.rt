@@ -1,0 +1,93 @@
+//! What an entry weighs in the store: the bytes by which the operator bounds it.
+//!
+//! The law is in `specs/Weights.antt`. Nothing here asks the system what memory it gave.
+
+ghost use Rattle.std.specs.Prelude.{◌≡◌, ◌+◌, ◌-◌, ◌^◌, min, option_copied};
+ghost use Rattle.hx_store.specs.Weights.{weight_of, weight_of_key, weight_of_line, weight_of_lines, length_if_any};
+ghost use Rattle.hx_store.specs.Weights.{total_weight, weight_of_nominated, weight_of_nominated_value};
+
+use crate::entries::Entry;
+use hx_fields::{Bytes, Field};
+use hx_target::Key;
+use hx_vary::NominatedValue;
+
+/// What an entry takes beside its bytes.
+const BYTES_OF_AN_ENTRY: u64 = 1200;
+
+/// Between name and value of a line, and behind it.
+const BYTES_OF_A_LINE: u64 = 4;
+
+impl Entry {
+    /// The bytes that it weighs in the store, 2^64 - 1 where they are more. No memory is taken.
+    pub fn weight(&self) -> u64
+        ensures { result ≡ min (weight_of self.now) (2 ^ 64 - 1) }
+    {
+        let key = weight_of_key(&self.key);
+        (self.content.len() as u64)
+            .saturating_add(weight_of_lines(self.fields.as_slice()))
+            .saturating_add(weight_of_nominated(self.nominated.as_slice()))
+            .saturating_add(key)
+            .saturating_add(key)
+            .saturating_add(BYTES_OF_AN_ENTRY)
+    }
+}
+
+fn weight_of_line(line: &Field) -> u64
+    ensures { result ≡ min (weight_of_line line.now) (2 ^ 64 - 1) }
+{
+    (line.name.len() as u64)
+        .saturating_add(line.value.len() as u64)
+        .saturating_add(BYTES_OF_A_LINE)
+}
+
+fn weight_of_lines(lines: &[Field]) -> u64
+    ensures { result ≡ min (weight_of_lines lines.now) (2 ^ 64 - 1) }
+{
+    let mut weight: u64 = 0;
+    for line in lines {
+        weight = weight.saturating_add(weight_of_line(line));
+    }
+    weight
+}
+
+fn weight_of_key(key: &Key) -> u64
+    ensures { result ≡ min (weight_of_key key.now) (2 ^ 64 - 1) }
+{
+    (key.host.len() as u64).saturating_add(key.path_query.len() as u64)
+}
+
+fn length_if_any(value: &Option<Bytes>) -> usize
+    ensures { result ≡ length_if_any value.now }
+{
+    match value {
+        Some(value) => value.len(),
+        None => 0,
+    }
+}
+
+fn weight_of_nominated_value(kept: &NominatedValue) -> u64
+    ensures { result ≡ min (weight_of_nominated_value kept.now) (2 ^ 64 - 1) }
+{
+    (kept.name.len() as u64).saturating_add(length_if_any(&kept.value) as u64)
+}
+
+fn weight_of_nominated(values: &[NominatedValue]) -> u64
+    ensures { result ≡ min (weight_of_nominated values.now) (2 ^ 64 - 1) }
+{
+    let mut weight: u64 = 0;
+    for kept in values {
+        weight = weight.saturating_add(weight_of_nominated_value(kept));
+    }
+    weight
+}
+
+/// The bytes that some entries weigh together, 2^64 - 1 where they are more.
+pub(crate) fn total_weight(entries: &[Entry]) -> u64
+    ensures { result ≡ min (total_weight entries.now) (2 ^ 64 - 1) }
+{
+    let mut weight: u64 = 0;
+    for entry in entries {
+        weight = weight.saturating_add(entry.weight());
+    }
+    weight
+}

@@ -1,0 +1,2 @@
+pub mod MomentOrder
+pub mod RestBytes

@@ -1,0 +1,23 @@
+-- What the bounds of a table and of a server come to in memory, in bytes, as docs/LIMITS.md has it.
+use Rattle.std.specs.Prelude.{ℕ, Bool, ◌+◌, ◌-◌, ◌*◌, ◌/◌, ◌%◌, ◌^◌, ◌==◌, min, if◌then◌else◌}
+
+-- the greatest number that is told
+abbrev pub greatest : ℕ
+greatest = 2 ^ 64 - 1
+
+-- each response with the most content, and 80,000 bytes for its head, its target twice and its nominated values
+abbrev pub most_stored : ℕ → ℕ → ℕ
+most_stored capacity max_stored = min ((max_stored + 80000) * capacity) greatest
+
+-- contents and heads in progress, whose room grows by doubling, held once more where a log is kept; and 16 KiB a
+-- connection
+abbrev pub most_in_progress : ℕ → Bool → ℕ
+most_in_progress content has_log = min (content * (if has_log then 4 else 2)) greatest
+
+abbrev pub most_held : ℕ → Bool → ℕ → ℕ
+most_held content has_log connections =
+    min (most_in_progress content has_log + min (connections * 16384) greatest) greatest
+
+-- rounded up
+abbrev pub megabytes : ℕ → ℕ
+megabytes bytes = if bytes % 1000000 == 0 then bytes / 1000000 else bytes / 1000000 + 1

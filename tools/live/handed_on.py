@@ -1,0 +1,135 @@
+"""Scenarios of a listening socket that a supervisor keeps and hands on: who connects while one program ends and the next begins is served."""
+import os
+import socket
+import threading
+import time
+
+from live.client import PATIENCE, request
+from live.ending import DRAINED, put
+from live.expect import expect, expect_within
+from live.origin import Origin, whole
+from live.programs import expect_ended, run
+from live.proxy import Proxy, table_of
+from live.scenario import KEPT, scenario
+
+# How long one request may wait behind a change of the table, in seconds, and how many are asked in one.
+LONGEST, RATE = 1.0, 100
+
+
+class Supervisor:
+    """Keeps a listening socket, and starts one program after another over it, each with a table of its own."""
+
+    def __init__(self, stage):
+        self.stage, self.drain = stage, f"{stage.room.name}/drain"
+        self.socket = socket.create_server(("127.0.0.1", 0), backlog=1024)
+        self.port, self.program = self.socket.getsockname()[1], None
+
+    def start(self, text):
+        fd = self.socket.fileno()
+        options = ["--drain", self.drain]
+        self.program = Proxy(self.stage.program, self.stage.room.name, text, None, options, f"fd:{fd}", records=False, handed_on=(fd,))
+        expect("the port that it says", self.port, self.program.port)
+
+    def end(self):
+        """Ends the program as OPERATIONS says, by its file."""
+        put(self.drain)
+        expect("status, output and standard error", DRAINED, self.program.wait())
+        os.remove(self.drain)
+
+    def change(self, text):
+        self.end()
+        self.start(text)
+
+
+def ask(port, target):
+    """One request on a connection of its own: what came, and after how many seconds."""
+    began = time.monotonic()
+    with socket.create_connection(("127.0.0.1", port), timeout=PATIENCE) as it:
+        it.sendall(request(target, "Connection: close"))
+        got = b""
+        while piece := it.recv(65536):
+            got += piece
+    return got, time.monotonic() - began
+
+
+@scenario
+def who_comes_between_two_programs_is_served(stage):
+    """`--listen fd:N`: connections that come before the program begins, and between one program and the next, wait and are served."""
+    stage.origin(Origin({"/a": whole(200, KEPT, content=b"hello")}))
+    supervisor, text = Supervisor(stage), table_of([stage.origins[0].address])
+    for _ in range(3):
+        early = [socket.create_connection(("127.0.0.1", supervisor.port), timeout=PATIENCE) for _ in range(10)]
+        for it in early:
+            it.sendall(request("/a", "Connection: close"))
+        supervisor.start(text)
+        for it in early:
+            got = b""
+            while piece := it.recv(65536):
+                got += piece
+            it.close()
+            expect("an answer", (True, True), (got.startswith(b"HTTP/1.1 200 "), got.endswith(b"hello")))
+        supervisor.end()
+    supervisor.socket.close()
+
+
+@scenario
+def no_request_fails_while_the_table_changes(stage):
+    """A hundred requests a second, and five changes of the table: each is answered, by the old table or the new one, within a second."""
+    stage.origin(Origin({"/a": whole(200, KEPT, content=b"hello")}))
+    address = stage.origins[0].address
+    supervisor, found, ends = Supervisor(stage), [], threading.Event()
+    tables = [table_of([("/none", ["*"], "deny"), ("/", ["*"], address)]), table_of([address])]
+    supervisor.start(tables[0])
+
+    def ask_on():
+        while not ends.is_set():
+            try:
+                found.append(ask(supervisor.port, "/a"))
+            except OSError as fault:
+                found.append((repr(fault).encode(), 0))
+            time.sleep(10 / RATE)
+
+    askers = [threading.Thread(target=ask_on) for _ in range(10)]
+    for it in askers:
+        it.start()
+    for number in range(5):
+        time.sleep(0.5)
+        supervisor.change(tables[(number + 1) % 2])
+    time.sleep(0.5)
+    ends.set()
+    for it in askers:
+        it.join()
+    supervisor.end()
+    supervisor.socket.close()
+    failed = [got for got, _ in found if not (got.startswith(b"HTTP/1.1 200 ") and got.endswith(b"hello"))]
+    expect("requests that failed", [], failed)
+    expect("that many were asked", True, len(found) > 100)
+    expect_within("the longest wait", 0, LONGEST, max(seconds for _, seconds in found))
+
+
+@scenario
+def what_is_no_listener_is_refused(stage):
+    """`--listen fd:N` with what is no listening TCP socket over IPv4: a sentence, and status 1; nothing is served."""
+    file, room = f"{stage.room.name}/table.toml", stage.room.name
+    with open(file, "w", encoding="utf-8") as it:
+        it.write(table_of(["127.0.0.1:1"]))
+    listener = socket.create_server(("127.0.0.1", 0))
+    connected = socket.create_connection(listener.getsockname())
+    taken = listener.accept()[0]
+    local = socket.socket(socket.AF_UNIX)
+    local.bind(f"{room}/socket")
+    local.listen()
+    datagrams = socket.socket(socket.AF_INET, socket.SOCK_DGRAM)
+    datagrams.bind(("127.0.0.1", 0))
+    unbound = socket.socket()
+    wide = socket.create_server(("::1", 0), family=socket.AF_INET6)
+    with open(file, "rb") as plain:
+        for it in (plain, connected, taken, local, datagrams, unbound, wide):
+            words = [stage.program, "serve", file, "--listen", f"fd:{it.fileno()}", "--turns", "1"]
+            status, out, err = run(stage, *words[1:], handed_on=(it.fileno(),))
+            expect(f"of {it} status and standard error", (1, "socket fault\n"), (status, err))
+            named = f"fd:{it.fileno()} is no TCP socket over IPv4 that was bound and listens: "
+            expect("on standard output", True, out.startswith(named))
+    expect_ended(stage, ["serve", file, "--listen", "fd:99", "--turns", "1"], (1, "socket fault\n"), "fd:99 is no TCP socket over IPv4")
+    for it in (listener, connected, taken, local, datagrams, unbound, wide):
+        it.close()

@@ -1,0 +1,98 @@
+"""Scenarios of tests of a table: a file of questions with what is expected of each, and what a new table changes for the requests of a log."""
+from live.expect import Unexpected, expect
+from live.logs import lines_of
+from live.memory_bounds import told_of_store
+from live.origin import Origin, whole
+from live.programs import run
+from live.proxy import table_of
+from live.scenario import KEPT, scenario
+
+LINES = [("/admin", ["*"], "deny"), ("/api", ["GET", "POST"], "127.0.0.1:1"), ("/", ["GET"], "127.0.0.1:2")]
+# Questions with what is expected of each, and what a request meets there.
+MET = [
+    ("GET http://h.example/admin/x => denied by line 1", None),
+    ("GET http://h.example/%61dmin => denied", None),
+    ("POST https://h.example/api/v1?x => line 2", None),
+    ("GET http://h.example/apis => line 3", None),
+    ("POST http://h.example/ => no line", None),
+    ("POST http://h.example/ => denied", None),
+    ("GET http://h.example/a/../b => refused", None),
+    ("GET http://h.example/a => line 2", "allowed by line 3"),
+    ("GET http://h.example/a => denied", "allowed by line 3"),
+    ("GET http://h.example/admin => line 1", "denied by line 1"),
+    ("GET http://h.example/admin => denied by line 2", "denied by line 1"),
+    ("GET http://h.example/admin => no line", "denied by line 1"),
+    ("DELETE http://h.example/ => denied by line 3", "denied: no line allows it"),
+    ("GET http://h.example/a => refused", "allowed by line 3"),
+    ("GET http://h.example/%2e%2e => denied", "refused before the table is asked"),
+]
+NO_QUESTIONS = ["GET http://h.example/", "GET => line 1", "GET http://h.example/ => line", "GET http://h.example/ => line 65536"]
+NO_QUESTIONS += ["GET h.example/ => denied", "GET http://h.example/ => allowed", "=> denied", "GET http://h.example/ => line -1"]
+
+
+def write(path, text):
+    with open(path, "w", encoding="utf-8") as it:
+        it.write(text)
+    return path
+
+
+@scenario
+def a_table_is_tested_by_questions(stage):
+    """`check --ask-file`: each question that is answered otherwise than expected is told with its line, and the status is 3; else it is 0.
+    A line that is no question is named, with status 1."""
+    table, file = write(f"{stage.room.name}/table.toml", table_of(LINES)), f"{stage.room.name}/questions"
+    front = f"ok 3 lines\n{told_of_store(64, 100000)}"
+    good = [it for it, met in MET if met is None]
+    write(file, "# what has to hold\n\n" + "".join(f"  {it}\n" for it in good))
+    expect("of what holds", (0, f"{front}{len(good)} questions, 0 answered otherwise\n", ""), run(stage, "check", table, "--ask-file", file))
+    write(file, "".join(f"{it}\n" for it, _ in MET))
+    told = "".join(f"line {n}: {it}: it is {met}\n" for n, (it, met) in enumerate(MET, 1) if met)
+    told += f"{len(MET)} questions, {len(MET) - len(good)} answered otherwise\n"
+    expect("of all", (3, front + told, "answers differ\n"), run(stage, "check", table, "--ask-file", file))
+    for it in NO_QUESTIONS:
+        write(file, f"{good[0]}\n\n{it}\n")
+        status, out, err = run(stage, "check", table, "--ask-file", file)
+        expect(f"of `{it}` status and standard error", (1, "read fault\n"), (status, err))
+        if f"line 3 of the questions, '{it}', is none" not in out:
+            raise Unexpected("on standard output", f"that `{it}` is none", out)
+    write(file, "")
+    expect("of none", (0, f"{front}0 questions, 0 answered otherwise\n", ""), run(stage, "check", table, "--ask-file", file))
+    status, out, err = run(stage, "check", table, "--ask-file", f"{file}.none")
+    expect("of a file that isn't there", (1, "read fault\n", True), (status, err, "can't be read: No such file" in out))
+
+
+@scenario
+def a_new_table_is_compared_by_a_log(stage):
+    """`check NEW --against OLD --log FILE`: of the requests in a server's log it tells which go to another origin, have other words or are
+    denied by one table alone, how many, and one of each; a line that only moved is no change."""
+    log = f"{stage.room.name}/access.log"
+    stage.origin(Origin({it: whole(200, KEPT, content=b"hello") for it in ("/a", "/b", "/api/x", "/static/y")}))
+    address = stage.origins[0].address
+    old = table_of([("/admin", ["*"], "deny"), ("/", ["GET"], address)], version=3)
+    proxy = stage.proxy_of(old, None, ["--log", log])
+    client = proxy.client()
+    for target in ("/a", "/b", "/admin/u", "/api/x", "/api/x", "/static/y", "/a/../b"):
+        client.ask(target)
+    lines_of(log, 7)
+    proxy.stop(0)
+    lines = [("/static", ["GET"], address, {"lifetime": 60}), ("/api", ["GET"], "127.0.0.1:1"), ("/b", ["GET"], "deny"), ("/", ["GET"], address)]
+    new, old = write(f"{stage.room.name}/new.toml", table_of(lines, version=3)), write(f"{stage.room.name}/old.toml", old)
+    front, before = f"ok 4 lines\n{told_of_store(64, 100000)}", f"    before allowed by line 2, origin {address}\n"
+    changes = [
+        ("1 as GET http://h/admin/u\n", "    before denied by line 1\n", f"    now allowed by line 4, origin {address}\n"),
+        ("1 as GET http://h/static/y\n", before, f"    now allowed by line 1, origin {address}\n"),
+        ("2 as GET http://h/api/x\n", before, "    now allowed by line 2, origin 127.0.0.1:1\n"),
+        ("1 as GET http://h/b\n", before, "    now denied by line 3\n"),
+    ]
+    status, out, err = run(stage, "check", new, "--against", old, "--log", log)
+    expect("status and standard error", (0, ""), (status, err))
+    told = out.removeprefix(front)
+    expect("in front", f"{front}of 7 requests in the log 5 would be decided otherwise\n", out[: len(front)] + told.partition("\n")[0] + "\n")
+    for it in changes:
+        if "".join(it) not in told:
+            raise Unexpected("on standard output", "".join(it), told)
+    expect("lines about changes", 3 * len(changes), told.count("\n") - 1 - told.count("no request that can be asked"))
+    same = run(stage, "check", old, "--against", old, "--log", log)
+    expect("of the same table", True, same[1].startswith("ok 2 lines\n") and "of 7 requests in the log 0 would be decided otherwise\n" in same[1])
+    for words in (["--against", old], ["--log", log]):
+        expect(f"of {words[0]} alone", (64, "usage fault\n"), run(stage, "check", new, *words)[::2])
