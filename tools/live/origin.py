@@ -98,8 +98,12 @@ class Origin:
 
     def wait_for_connections(self, count):
         """Until the thread that accepts has come to so many, for a while."""
+        self.wait_within(lambda: len(self.fetches) >= count, 1)
+
+    def wait_within(self, is_so, seconds):
+        """Whether something is so of what has come, in time."""
         with self.came:
-            self.came.wait_for(lambda: len(self.fetches) >= count, 1)
+            return self.came.wait_for(is_so, seconds)
 
     def close(self):
         # (a close alone doesn't wake the thread that accepts)

@@ -1,5 +1,5 @@
 -- A line is its three parts, and a part is its words.
-use Rattle.std.proofs.Common.{◌≡◌, ◌<◌, ◌≤◌, ◌+◌, ℕ, Bool, List, [], ◌∷◌, ◌++◌, length, ap, sym, ◌∙◌, arith, Result, Ok, Err, OnOk, OnErr, codes, decimal, true}
+use Rattle.std.proofs.Common.{◌≡◌, ◌<◌, ◌≤◌, ◌+◌, ℕ, Bool, List, ◌++◌, length, ap, sym, ◌∙◌, arith, Result, Ok, Err, OnOk, OnErr, codes, decimal, true}
 use Rattle.std.proofs.lemmas.List.{append_assoc, length-append}
 use Rattle.proxy_log.specs.Line.{logged_byte, logged_text, logged_word, log_line_text, log_line_front, log_line_answer, log_line_end}
 use Rattle.proxy_log.specs.Seconds.{seconds_text}

@@ -6,7 +6,8 @@
 -- StreamIsReadSoFar: requests were given, and what they ask for is kept
 -- SomeRequestsWereRead, StreamIsReadOn: some were, or all: no further request has come whole
 -- is_refused_answer: the stream itself is refused there, so nothing behind is heard
-use Rattle.std.specs.Prelude.{◌≡◌, Bool, true, false, List, [], ◌∷◌, ◌++◌, Option, IsSome}
+-- HeadIsLeftFrom: where the next head begins in what has come
+use Rattle.std.specs.Prelude.{◌≡◌, ◌-◌, ◌⊎◌, ℕ, Bool, true, false, List, [], ◌∷◌, ◌++◌, length, Option, None, IsSome}
 use Rattle.hx_framing.specs.declared.messages.Request.{Request}
 use Rattle.hx_framing.specs.declared.messages.Next.{Next}
 use Rattle.hx_framing.specs.declared.messages.Next.TheVariants as next
@@ -73,3 +74,9 @@ pub record StreamIsReadOn
   pub last : is_last_whole answer ≡ true
   pub stops : over ≡ is_refused_answer answer
   pub refused : is_refused_answer answer ≡ true → IsSome begun
+
+-- From where on a text that has come is a head that isn't whole. Behind a request that came whole, so that none has
+-- begun, it is what the reader keeps. Where none came whole, and what is asked is as before, it is what it was.
+abbrev pub HeadIsLeftFrom : ℕ → ℕ → List ℕ → List Question → List Question → Option Question → ℕ → Type 0
+HeadIsLeftFrom from text_length kept before questions begun at =
+    ((questions ≡ before) × (at ≡ from)) ⊎ ((begun ≡ None) × (at ≡ text_length - length kept))

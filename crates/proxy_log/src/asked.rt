@@ -1,5 +1,5 @@
 //! What a client asked for, read from its bytes a second time.
-ghost use Rattle.std.specs.Prelude.{◌≡◌, ◌⊎◌, ◌≤◌, ◌<◌, ◌-◌, [], length, drop, IfOk, IfSome};
+ghost use Rattle.std.specs.Prelude.{◌≡◌, ◌≤◌, ◌<◌, [], length, drop, IfOk, IfSome};
 ghost use Rattle.std.specs.Prelude.{MatchOption, IsOk, OnErr, OnOk, None, Some, false, true, is_some};
 ghost use Rattle.std.specs.Option.{option_or};
 ghost use Rattle.hx_framing.specs.declared.messages.Request.{Request};
@@ -9,7 +9,7 @@ ghost use Rattle.hx_framing.specs.ReaderState.{kept};
 ghost use Rattle.proxy_log.specs.Asked.{QuestionIsOfRequest, QuestionIsKept, TextNamesTarget, begun_after_reply};
 ghost use Rattle.proxy_log.specs.Asked.{next_question, no_question_read, question_of_head};
 ghost use Rattle.proxy_log.specs.Asked.{uri_text};
-ghost use Rattle.proxy_log.specs.Hearing.{StreamIsReadOn, SomeRequestsWereRead};
+ghost use Rattle.proxy_log.specs.Hearing.{HeadIsLeftFrom, StreamIsReadOn, SomeRequestsWereRead};
 
 use crate::request_line::request_line_of_head;
 use hx_fields::Bytes;
@@ -216,8 +216,8 @@ impl UnansweredRequests {
             self.old.begun self.new.begun)) }
         ensures goes_on { IfOk result (λ place. IfSome place (λ at. self.new.over ≡ self.old.over)) }
         ensures less { IfOk result (λ place. IfSome place (λ at. weight self.new.reader < weight self.old.reader)) }
-        ensures behind { IfOk result (λ place. IfSome place (λ at. (at ≡ from)
-            ⊎ (at ≡ length text.now - length (kept self.new.reader)))) }
+        ensures behind { IfOk result (λ place. IfSome place (HeadIsLeftFrom from (length text.now)
+            (kept self.new.reader) self.old.questions.items self.new.questions.items self.new.begun)) }
     {
         match self.reader.next(alloc)? {
             Next::Message(request) => {

@@ -90,7 +90,8 @@ impl Lines {
 
     /// Drops the lines, which were written or can't be.
     pub fn clear(&mut self)
-        ensures { self.new.text.items ≡ [] }
+        ensures text { self.new.text.items ≡ [] }
+        ensures counts { self.new ≡ record self.old { text = self.new.text } }
     {
         if self.text.len() > MOST_KEPT {
             self.text = Vec::new(self.alloc);

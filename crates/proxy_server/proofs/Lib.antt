@@ -1,4 +1,5 @@
 mod Closings
+mod Dropping
 mod Living
 mod Losing
 mod Peering

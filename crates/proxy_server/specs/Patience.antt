@@ -7,11 +7,12 @@
 -- age_of_link: of a link, 0 where there is none
 -- link_time_may_be_over_at: the first moment of a link at which a time of it may be
 -- end_is_silent: of an end                         link_overtime: which time of a link is over
-use Rattle.std.specs.Prelude.{ℕ, ◌-◌, ◌==◌, min, max, nat_lt, Bool, true, false, not, ◌&&◌, ◌||◌, List, length, Option}
-use Rattle.std.specs.Prelude.{None, Some, is_some, cond, if◌then◌else◌}
+-- IsIdleSince, IsIdleNumber, IsUnmarkedClient: of who may be let go
+use Rattle.std.specs.Prelude.{◌≡◌, ℕ, ◌-◌, ◌==◌, min, max, nat_lt, Bool, true, false, not, ◌&&◌, ◌||◌, List, length}
+use Rattle.std.specs.Prelude.{Option, None, Some, is_some, cond, if◌then◌else◌}
 use Rattle.std.specs.Option.{option_and_then}
 use Rattle.proxy_figures.specs.Counts.{count_plus}
-use Rattle.proxy_server.specs.Streams.{client_may_give}
+use Rattle.proxy_server.specs.Streams.{client_may_give, client_is_idle, number_of_place}
 use Rattle.proxy_server.specs.declared.clients.client.Client.{Client}
 use Rattle.proxy_server.specs.declared.limits.Limits.{Limits}
 use Rattle.proxy_server.specs.declared.limits.TheConstants.{PATIENCE_MILLISECONDS}
@@ -97,3 +98,17 @@ end_of_time_of_peer limits began (Some peer) =
 abbrev pub link_time_may_be_over_at : {S : Type 0} → Limits → Link S → ℕ
 link_time_may_be_over_at limits link =
     count_plus (min (count_plus link.began limits.exchange_timeout) (end_of_time_of_peer limits link.began link.peer)) 1
+
+-- a client is between two requests, since then; or under this number
+abbrev pub IsIdleSince : {S : Type 0} → ℕ → Option (Client S) → Type 0
+IsIdleSince moment None = ⊥
+IsIdleSince moment (Some client) = (client_is_idle client ≡ true) × (client.idle_since ≡ moment)
+
+abbrev pub IsIdleNumber : {S : Type 0} → ℕ → Option (Client S) → Type 0
+IsIdleNumber n None = ⊥
+IsIdleNumber n (Some client) = (client_is_idle client ≡ true) × (number_of_place client.place ≡ Some n)
+
+-- a client of this number that stands among those that have sent their end no more
+abbrev pub IsUnmarkedClient : {S : Type 0} → ℕ → Option (Client S) → Type 0
+IsUnmarkedClient n None = ⊥
+IsUnmarkedClient n (Some client) = (client.departed_mark ≡ None) × (number_of_place client.place ≡ Some n)

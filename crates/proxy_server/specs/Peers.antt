@@ -1,13 +1,14 @@
 -- What passes between a peer and its stream.
 --
 -- PeerReadOutcome, read_outcome_of_result, bytes_taken_by_write: what a read gave, the bytes that a write took
+-- is_passing_reason, IsFailure, is_last_read: whether more may come behind a read
 -- peer_read_outcome: what a peer tells of a read
 -- MoreMayBeLeft: whether more may be left to be read      event_shows_reading, event_shows_an_end: what an event tells
 -- UnsentBytes: what a contract sees of `Unsent`
 -- BytesAreHandedOn: of bytes that are to be written the stream took the front, and the rest is kept
 -- BytesAreHandedOnInPart: the stream took the front, and the rest is lost
-use Rattle.std.specs.Prelude.{◌≡◌, ◌==◌, ℕ, Bool, true, false, ◌||◌, if◌then◌else◌, List, [], ◌++◌, take, Result, Ok}
-use Rattle.std.specs.Prelude.{Err}
+use Rattle.std.specs.Prelude.{◌≡◌, ◌==◌, ℕ, Bool, true, false, not, ◌||◌, if◌then◌else◌, List, [], ◌++◌, take, Result}
+use Rattle.std.specs.Prelude.{Ok, Err}
 use Rattle.std.specs.IoError.{error_kind}
 use Rattle.std.specs.declared.io.Error.{Error}
 use Rattle.std.specs.declared.io.ErrorKind.{ErrorKind}
@@ -27,6 +28,21 @@ pub data PeerReadOutcome : Type 0 where
 abbrev pub read_outcome_of_result : Result ℕ Error → List ℕ → PeerReadOutcome
 read_outcome_of_result (Ok n) buf = if n == 0 then Ended else Bytes (take n buf)
 read_outcome_of_result (Err e) buf = Nothing (error_kind e)
+
+-- nothing had come, or the call was interrupted; else a call that gives nothing has failed
+abbrev pub is_passing_reason : ErrorKind → Bool
+is_passing_reason WouldBlock = true
+is_passing_reason Interrupted = true
+is_passing_reason _ = false
+
+abbrev pub IsFailure : Error → Type 0
+IsFailure e = is_passing_reason (error_kind e) ≡ false
+
+-- behind the end and behind a failure nothing more comes
+abbrev pub is_last_read : PeerReadOutcome → Bool
+is_last_read (Nothing reason) = not (is_passing_reason reason)
+is_last_read (Bytes bytes) = false
+is_last_read Ended = true
 
 -- a write answers how many bytes it took of the front
 abbrev pub bytes_taken_by_write : {E : Type 0} → Result ℕ E → List ℕ → List ℕ

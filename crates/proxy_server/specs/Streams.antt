@@ -7,6 +7,7 @@
 -- client_at, stream_at_number: who stands at a key, and at that of a number
 -- unsent_of_client, handed_of_client, unsent_where_changed: what is held for a client, and for all
 -- client_may_give: a read of a client would give something, or may
+-- ClientIsReadOn: what a read does of one that was closed
 -- ClientIsRead: what a read of a client hands in
 -- number_to_list, link_is_to_be_listed: who is to be put among the ends that are read next
 -- listed_client, listed_link: who is to be put there is marked
@@ -16,7 +17,7 @@
 use Rattle.std.specs.Prelude.{◌≡◌, ◌<◌, ◌+◌, ◌-◌, ◌^◌, ℕ, min, Bool, true, false, not, ◌&&◌, ◌||◌, ◌==◌}
 use Rattle.std.specs.Prelude.{if◌then◌else◌, nat_lt}
 use Rattle.std.specs.Prelude.{List, [], ◌∷◌, ◌++◌, length}
-use Rattle.std.specs.Prelude.{take, Option, Some, None, option_map, IsSomeAnd, Result, Ok}
+use Rattle.std.specs.Prelude.{take, Option, Some, None, option_map, IsSomeAnd, Result, Ok, IfErr}
 use Rattle.std.specs.Option.{option_and_then}
 use Rattle.std.specs.Ordering.{nat_cmp}
 use Rattle.std.specs.BTreeMap.{get, BTreeMap}
@@ -31,7 +32,7 @@ use Rattle.proxy_figures.specs.Counts.{count_plus}
 use Rattle.proxy_pacing.specs.RestBytes.{is_nothing}
 use Rattle.proxy_server.specs.Peers.{PeerReadOutcome, UnsentBytes, peer_read_outcome, BytesAreHandedOn}
 use Rattle.proxy_server.specs.Peers.{BytesAreHandedOnInPart}
-use Rattle.proxy_server.specs.Peers.{Nothing, Bytes, Ended}
+use Rattle.proxy_server.specs.Peers.{Nothing, Bytes, Ended, IsFailure}
 use Rattle.proxy_server.specs.Peers.{MoreMayBeLeft}
 use Rattle.proxy_server.specs.declared.clients.client.Client.{Client}
 use Rattle.proxy_server.specs.declared.clients.client.Place.{Place}
@@ -53,6 +54,14 @@ pub record PeerIsRead {S : Type 0} (Passed : S → List ℕ → List PeerReadOut
   pub passed : old.readable ≡ true → Passed old.stream [] (peer_read_outcome new.readable result buf ∷ []) new.stream
   pub left : old.readable ≡ true → MoreMayBeLeft old.hung room result new.readable
   pub unread : old.readable ≡ false → (new ≡ old) × (result ≡ Ok received.Nothing)
+
+-- What a read does of a client that was closed: its peer alone is read, unless that still has to take something.
+pub record ClientIsReadOn {S : Type 0} (Passed : S → List ℕ → List PeerReadOutcome → S → Type 0) (room : ℕ)
+    (result : Result Received Error) (buf : List ℕ) (old new : Client S) : Type 0 where
+  pub read : old.peer.unsent.bytes ≡ [] → PeerIsRead Passed room result buf old.peer new.peer
+  pub peer : new ≡ record old { peer = new.peer }
+  pub unsent : new.peer.unsent ≡ old.peer.unsent
+  pub failed : IfErr result IsFailure
 
 -- the client of a key, each of which stands in memory of its own; and of a number
 abbrev pub client_at : {S : Type 0} → Slab (Box (Client S)) → ℕ → Option (Client S)

@@ -2,8 +2,8 @@
 //!
 //! A stream keeps its key, which is its token, and its number from its accept to its end.
 ghost use Rattle.std.specs.Prelude.{◌≡◌, ◌<◌, ◌+◌, ◌-◌, ◌^◌, ◌++◌, ◌==◌, min, true, false, length, vec_len};
-ghost use Rattle.std.specs.Prelude.{option_copied, option_map, option_to_list, is_some, IsSome, IfSome, IfOk, Ok};
-ghost use Rattle.std.specs.Prelude.{Some, None};
+ghost use Rattle.std.specs.Prelude.{option_copied, option_map, option_to_list, is_some, IsSome, IfSome, IfOk, Ok, Some};
+ghost use Rattle.std.specs.Prelude.{None, ◌≤◌, ℕ, IsTrue};
 ghost use Rattle.std.specs.Option.{option_copied_mut, option_and_then};
 ghost use Rattle.std.specs.Bool.{OnTrue, OnFalse};
 ghost use Rattle.std.specs.Ordering.{nat_cmp};
@@ -15,9 +15,10 @@ ghost use Rattle.proxy_server.specs.OtherEntries.{OtherEntriesStay, OtherSlabKey
 ghost use Rattle.proxy_server.specs.Streams.{PeerIsWritten, IsDoneToClientsPeer, stream_at_number, client_is_cut};
 ghost use Rattle.proxy_server.specs.Streams.{client_at, unsent_of_client, handed_of_client, unsent_where_changed};
 ghost use Rattle.proxy_server.specs.Streams.{ClientIsRead, IsDoneToClient, number_to_list, listed_client};
-ghost use Rattle.proxy_server.specs.Closing.{ClientStandsInQueue, ClientLeavesItsPlace};
 ghost use Rattle.proxy_server.specs.Streams.{unlisted_client, looked_at_next};
-ghost use Rattle.proxy_server.specs.Patience.{milliseconds_since};
+ghost use Rattle.proxy_server.specs.Closing.{ClientStandsInQueue, ClientLeavesItsPlace, QueuesOrGoes};
+ghost use Rattle.proxy_server.specs.Closing.{FirstLingeringGoes};
+ghost use Rattle.proxy_server.specs.Patience.{milliseconds_since, IsIdleSince, IsUnmarkedClient};
 ghost use Rattle.proxy_figures.specs.EndingCounts.{endings_with_cut};
 
 pub(crate) mod client;
@@ -343,7 +344,8 @@ impl<S: Stream + Drop> Clients<S> {
 
     /// Puts a stream into a queue, behind those that stand there. The engine doesn't know it any more.
     pub(crate) fn join_queue(&mut self, key: usize, queue: StreamQueue)
-        ensures { OtherSlabKeysStay key self.old.streams self.new.streams }
+        ensures stands { QueuesOrGoes queue (client_at self.old.streams key) (client_at self.new.streams key) }
+        ensures others { OtherSlabKeysStay key self.old.streams self.new.streams }
     {
         let stamp = self.queues.next_stamp();
         self.join_queue_since(key, queue, stamp);
@@ -351,7 +353,8 @@ impl<S: Stream + Drop> Clients<S> {
 
     /// Puts a stream into a queue, by a stamp.
     fn join_queue_since(&mut self, key: usize, queue: StreamQueue, stamp: u64)
-        ensures { OtherSlabKeysStay key self.old.streams self.new.streams }
+        ensures stands { QueuesOrGoes queue (client_at self.old.streams key) (client_at self.new.streams key) }
+        ensures others { OtherSlabKeysStay key self.old.streams self.new.streams }
     {
         let Some(client) = self.streams.get_mut(key) else {
             return;
@@ -472,7 +475,9 @@ impl<S: Stream + Drop> Clients<S> {
 
     /// Of the clients that are between two requests the one that is so for the longest, and since when. Marks of those
     /// that have gone on are moved or dropped on the way.
-    pub(crate) fn longest_idle(&mut self) -> Option<(usize, u64)> {
+    pub(crate) fn longest_idle(&mut self) -> Option<(usize, u64)>
+        ensures { IfSome result (λ p. IsIdleSince p.1 (client_at self.new.streams p.0)) }
+    {
         // Each mark is moved once at most.
         for _ in 0..=self.idle.len() {
             let mark = self.idle.first()?;
@@ -492,10 +497,7 @@ impl<S: Stream + Drop> Clients<S> {
 
     /// A client whose mark was dropped is marked anew, if it is between two requests.
     fn mark_again(&mut self, key: usize) {
-        let is_idle = match self.streams.get(key) {
-            Some(client) => client.is_idle(),
-            None => false,
-        };
+        let is_idle = self.stream(key).is_some_and(Client::is_idle);
         if is_idle && !self.mark_idle(key) {
             self.cut_stream(key, CutReason::Memory);
         }
@@ -507,10 +509,7 @@ impl<S: Stream + Drop> Clients<S> {
         let Some((key, since)) = self.longest_idle() else {
             return false;
         };
-        let has_asked = match self.streams.get(key) {
-            Some(client) => client.has_asked,
-            None => false,
-        };
+        let has_asked = self.stream(key).is_some_and(|it| it.has_asked);
         if since < now || has_asked {
             self.cut_stream(key, CutReason::Room);
             return true;
@@ -536,7 +535,9 @@ impl<S: Stream + Drop> Clients<S> {
     }
 
     /// Takes out the first client of those that have sent their end: its number, if the engine knows it.
-    pub(crate) fn next_departed(&mut self) -> Option<u64> {
+    pub(crate) fn next_departed(&mut self) -> Option<u64>
+        ensures { IfSome result (λ n. (key : ℕ) × IsUnmarkedClient n (client_at self.new.streams key)) }
+    {
         let key = self.departed.take_due(u64::MAX)? as usize;
         let client = self.streams.get_mut(key)?;
         client.departed_mark = None;
@@ -545,7 +546,11 @@ impl<S: Stream + Drop> Clients<S> {
 
     /// Makes room for one more stream, where there are as many as may be: of those that were closed the first goes, or
     /// else the one that is idle for the longest. Whether there is room now.
-    pub(crate) fn make_room(&mut self, now: u64) -> bool {
+    pub(crate) fn make_room(&mut self, now: u64) -> bool
+        ensures room { slab_len self.old.streams < self.old.limits.connections → (self.new ≡ self.old) × IsTrue result }
+        ensures first { self.old.limits.connections ≤ slab_len self.old.streams
+            → FirstLingeringGoes self.old.queues self.old.streams self.new.streams result }
+    {
         if self.len() < self.limits.connections {
             return true;
         }
@@ -572,9 +577,7 @@ impl<S: Stream + Drop> Clients<S> {
         ensures open { self.new.open ≡ self.old.open }
         ensures others { OtherSlabKeysStay key self.old.streams self.new.streams }
     {
-        let Some(client) = self.streams.get_mut(key) else {
-            return None;
-        };
+        let client = self.streams.get_mut(key)?;
         if client.is_listed || !client.may_give() {
             return None;
         }

@@ -5,7 +5,7 @@ ghost use Rattle.proxy_server.specs.Patience.{client_has_left, has_lasted_longer
 ghost use Rattle.proxy_turn.specs.Received.{FitsTheBuffer};
 ghost use Rattle.proxy_server.specs.Logging.{IsLineAboutReply, logged_address};
 ghost use Rattle.proxy_server.specs.Streams.{client_has_rest, client_may_give, rest_bytes, ClientIsRead};
-ghost use Rattle.proxy_server.specs.Streams.{number_of_place, client_is_idle, new_client};
+ghost use Rattle.proxy_server.specs.Streams.{number_of_place, client_is_idle, new_client, ClientIsReadOn};
 
 use crate::clients::stream_queues::StreamQueue;
 use crate::sockets::peer::Peer;
@@ -285,6 +285,7 @@ impl<S: Stream + Drop> Client<S> {
         ensures length { length buf.new ≡ length buf.old }
         ensures takes_first { 0 < length self.old.peer.unsent.bytes → (self.new ≡ self.old)
             × (result ≡ Ok Received.Nothing) }
+        ensures read { ClientIsReadOn S.Passed (length buf.old) result buf.new self.old self.new }
     {
         if !self.peer.has_unsent() {
             return self.peer.read(buf, now);

@@ -6,8 +6,9 @@ ghost use Rattle.std.specs.Prelude.{◌≡◌, ◌<◌, length};
 ghost use Rattle.std.specs.Ordering.{nat_cmp};
 ghost use Rattle.std.specs.BTreeMap.{get};
 ghost use Rattle.proxy_server.specs.Closing.{ClosedStreamsAreBounded, ClientStandsInQueue, AtMostOneOtherStreamGoes};
-ghost use Rattle.proxy_server.specs.Closing.{StreamIsClosedByNumber};
-ghost use Rattle.proxy_server.specs.Streams.{client_at};
+ghost use Rattle.proxy_server.specs.Closing.{StreamIsClosedByNumber, InputIsDropped, LeavesWhereUnsent};
+ghost use Rattle.proxy_server.specs.Closing.{TakesFirst};
+ghost use Rattle.proxy_server.specs.Streams.{client_at, stream_at_number};
 
 use crate::clients::Clients;
 use crate::clients::client::Client;
@@ -27,7 +28,11 @@ enum StillToWait {
 }
 
 /// Reads and drops what a client still sends.
-fn drop_input<S: Stream + Drop>(client: &mut Client<S>, now: u64) -> StillToWait {
+fn drop_input<S: Stream + Drop>(client: &mut Client<S>, now: u64) -> StillToWait
+    ensures dropped { InputIsDropped S.Passed result client.old.peer client.new.peer }
+    ensures peer { client.new ≡ record client.old { peer = client.new.peer } }
+    ensures unsent { client.new.peer.unsent ≡ client.old.peer.unsent }
+{
     let mut buf = [0u8; PIECE];
     for _piece in 0..MOST_PIECES_DROPPED {
         match client.read_on(&mut buf, now) {
@@ -61,7 +66,9 @@ impl<S: Stream + Drop> Clients<S> {
     /// has.
     #[tactic(auto, using(crate::proofs::Closings::none_goes, crate::proofs::Closings::closes_at, crate::proofs::Closings::closes_none))]
     pub(crate) fn close(&mut self, n: u64, now: u64)
-        ensures { StreamIsClosedByNumber (get nat_cmp self.old.open n) self.old.streams self.new.streams }
+        ensures others { StreamIsClosedByNumber (get nat_cmp self.old.open n) self.old.streams self.new.streams }
+        ensures leaves { LeavesWhereUnsent (stream_at_number self.old.open self.old.streams n)
+            (stream_at_number self.old.open self.new.streams n) }
     {
         let Some(key) = self.remove_number(n) else {
             return;
@@ -85,7 +92,9 @@ impl<S: Stream + Drop> Clients<S> {
     /// Goes on with a connection that was closed, or lets it go.
     #[tactic(auto, using(crate::proofs::Closings::none_goes, crate::proofs::Closings::goes_behind))]
     pub(crate) fn end(&mut self, key: usize, now: u64)
-        ensures { AtMostOneOtherStreamGoes key self.old.streams self.new.streams }
+        ensures others { AtMostOneOtherStreamGoes key self.old.streams self.new.streams }
+        ensures takes_first { TakesFirst (client_at self.old.streams key)
+            → client_at self.new.streams key ≡ client_at self.old.streams key }
     {
         let Some(client) = self.streams.get_mut(key) else {
             return;
@@ -94,12 +103,10 @@ impl<S: Stream + Drop> Clients<S> {
             self.drop_stream(key);
             return;
         }
-        let is_taken = !client.peer.has_unsent();
-        let may_give = client.peer.readable && is_taken;
-        self.more = self.more || may_give;
-        if !is_taken {
+        if client.peer.has_unsent() {
             return;
         }
+        self.more = self.more || client.peer.readable;
         self.linger_after_close(key);
     }
 
@@ -136,11 +143,7 @@ impl<S: Stream + Drop> Clients<S> {
                 return;
             };
             from = stamp.saturating_add(1);
-            let is_readable = match self.stream(key) {
-                Some(client) => client.peer.readable,
-                None => false,
-            };
-            if is_readable {
+            if self.stream(key).is_some_and(|it| it.peer.readable) {
                 self.end(key, now);
             }
         }

@@ -1,9 +1,9 @@
 //! Whose time is over, and when each is looked at next.
-ghost use Rattle.std.specs.Prelude.{◌≡◌, ◌<◌, ◌-◌, ◌⊎◌, true, false, [], Some, None, length};
+ghost use Rattle.std.specs.Prelude.{◌≡◌, ◌<◌, ◌-◌, ◌⊎◌, true, false, [], Some, None, length, IfSome, ℕ};
 ghost use Rattle.proxy_server.specs.Patience.{closed_time_is_over, has_lasted_longer, incomplete_since};
-ghost use Rattle.proxy_server.specs.Patience.{client_is_silent, client_has_left_or_gone};
+ghost use Rattle.proxy_server.specs.Patience.{client_is_silent, client_has_left_or_gone, IsIdleNumber};
 ghost use Rattle.proxy_server.specs.OtherEntries.{OtherSlabKeysStay, ChangesOnlyAtNumber};
-ghost use Rattle.proxy_server.specs.Streams.{stream_at_number};
+ghost use Rattle.proxy_server.specs.Streams.{stream_at_number, client_at};
 
 use crate::clients::Clients;
 use crate::clients::client::{Client, Place};
@@ -37,10 +37,8 @@ fn is_late(client: &mut Client, limits: &Limits, now: u64) -> bool
     ensures only { result ≡ true → (has_lasted_longer now client.new.asked limits.now.request_timeout ≡ true)
         ⊎ (limits.now.client_timeout < now - client.old.peer.heard) }
 {
-    if client.peer.has_unsent() {
-        // It isn't read meanwhile.
-        client.asked = Some(now);
-    } else if client.asked.is_none() {
+    // One that has something to take isn't read meanwhile.
+    if client.peer.has_unsent() || client.asked.is_none() {
         client.asked = Some(now);
     }
     client.is_late(now, limits.request_timeout) || client.peer.is_silent(now, limits.client_timeout)
@@ -71,12 +69,8 @@ impl Clients {
     /// When a client is looked at next: once a time of it may be over, and no later than a time that begins now may be.
     fn next_look(&self, key: usize, now: u64) -> u64 {
         let soon = now.saturating_add(SECOND);
-        match self.stream(key) {
-            Some(client) => next_time(client, &self.limits)
-                .max(soon)
-                .min(now.saturating_add(self.limits.client_look())),
-            None => soon,
-        }
+        let latest = now.saturating_add(self.limits.client_look());
+        self.stream(key).map_or(soon, |it| next_time(it, &self.limits).max(soon).min(latest))
     }
 
     /// A client was looked at, and its time isn't over. Without memory for the next look, it is cut off.
@@ -92,11 +86,8 @@ impl Clients {
     /// Looks at a client that was closed, and drops it where its time is over.
     fn look_at_closed(&mut self, key: usize, queue: StreamQueue, now: u64) {
         let limits = self.limits;
-        let is_over = match self.stream(key) {
-            Some(client) => closed_time_is_over(client, queue, &limits, now),
-            None => false,
-        };
-        if !is_over {
+        let client = self.stream(key);
+        if !client.is_some_and(|it| closed_time_is_over(it, queue, &limits, now)) {
             self.look_again(key, now);
             return;
         }
@@ -123,7 +114,9 @@ impl Clients {
 
     /// The number of a client that is let go since no more connections are taken: it is between two requests, and has
     /// sent one, or had its time for that.
-    pub(crate) fn next_to_let_go(&mut self, now: u64) -> Option<u64> {
+    pub(crate) fn next_to_let_go(&mut self, now: u64) -> Option<u64>
+        ensures { IfSome result (λ n. (key : ℕ) × IsIdleNumber n (client_at self.new.streams key)) }
+    {
         let (key, since) = self.longest_idle()?;
         let client = self.stream(key)?;
         if client.has_asked || now.saturating_sub(since) > FIRST_REQUEST_MILLISECONDS {

@@ -1,11 +1,10 @@
 //! A stream of the system, and what is known of it. No call waits.
 ghost use Rattle.std.specs.Prelude.{◌≡◌, ◌<◌, ◌≤◌, ◌-◌, ◌||◌, true, false, not, [], ◌∷◌, ◌++◌, length, IfOk, OnOk};
-ghost use Rattle.std.specs.Prelude.{OnErr, min, ◌+◌, ◌^◌};
+ghost use Rattle.std.specs.Prelude.{OnErr, IfErr, min, ◌+◌, ◌^◌};
 ghost use Rattle.proxy_turn.specs.Received.{FitsTheBuffer};
 ghost use Rattle.proxy_server.specs.Patience.{end_is_silent};
 ghost use Rattle.proxy_server.specs.Peers.{peer_read_outcome, BytesAreHandedOn, BytesAreHandedOnInPart, MoreMayBeLeft};
-ghost use Rattle.proxy_server.specs.Peers.{event_shows_reading};
-ghost use Rattle.proxy_server.specs.Peers.{event_shows_an_end};
+ghost use Rattle.proxy_server.specs.Peers.{event_shows_reading, event_shows_an_end, IsFailure};
 ghost use Rattle.proxy_server.specs.Streams.{PeerIsWritten, new_peer};
 
 use crate::sockets::socket_tokens::Holder;
@@ -266,6 +265,7 @@ impl<S: Stream + Drop> Peer<S> {
         ensures unread { self.old.readable ≡ false → (self.new ≡ self.old) × (result ≡ Ok Received.Nothing) }
         ensures hung { self.new.hung ≡ self.old.hung }
         ensures unsent { self.new.unsent ≡ self.old.unsent }
+        ensures failed { IfErr result IsFailure }
     {
         if !self.readable {
             return Ok(Received::Nothing);
