@@ -1,5 +1,5 @@
 -- Which descriptors may be those of a socket that was handed on.
-use Rattle.std.specs.Prelude.{ℤ, pos, negsuc, ◌<◌, Result, IsErr}
+use Rattle.std.specs.Prelude.{ℤ, pos, negsuc, ◌<◌}
 use Rattle.proxy_listener.specs.declared.listening.ListenAt.{ListenAt}
 use Rattle.proxy_listener.specs.declared.listening.ListenAt.TheVariants.{Address, Descriptor}
 
