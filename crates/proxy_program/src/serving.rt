@@ -309,7 +309,69 @@ fn begin_figures<'a, R: Net + Files + AllocGlobal, S: Shelf + Drop, W: Write + D
     }
 }
 
-/// Serves, and tells at the end how many lines of the log were lost.
+/// What is told of a server at its start.
+#[derive(Clone, Copy, Debug)]
+struct Start {
+    address: SocketAddr,
+    /// Bytes that the store takes at most, and those that are held beside it.
+    stored: u64,
+    held: u64,
+    /// The descriptors that are allowed, where the system tells.
+    allows: Option<u64>,
+}
+
+/// Serves until its end, and tells then how many lines of the log were lost.
+fn serve_to_its_end<'a, R, S: Shelf + Drop, P: Write + Drop>(
+    rt: &R,
+    service: &Service<'_>,
+    server: &mut Server<'a, S, R, R::File>,
+    journal: &mut Option<Journal<R::File, P>>,
+    figures: &mut Option<Figures<'_>>,
+) -> Result<(), Fault>
+where
+    R: Net + Clock + Files + Print + Eprint + AllocGlobal,
+{
+    let turns = service.turns.map_or(u64::MAX, u64::from);
+    let watch = Watch::new(service.drain, service.drain_timeout, service.log);
+    let served = serve_turns(rt, turns, watch, server, journal, figures);
+    let lost = write_log(server, journal);
+    if lost > 0 {
+        let _ = eprintln!(rt; "log fault {lost}");
+    }
+    if let Some(figures) = figures {
+        // They have the last turn, too.
+        let _ = figures.write(rt, server, lost);
+    }
+    served
+}
+
+/// Serves by a table over sockets, once its files are open.
+fn serve_table<'n, R: Net + Clock + Files + Print + Eprint + AllocGlobal + RandomSource>(
+    rt: &'n R,
+    service: &Service<'_>,
+    config: Config,
+    sockets: LiveSockets<'n, R>,
+    record: Option<Recorder<R::File>>,
+    start: Start,
+) -> Result<(), Fault> {
+    let mut sockets = sockets;
+    let store = StoreCounts::new();
+    let shelf = IndexedShelf::seeded(rt.alloc(), config.capacity(), seed_of(rt)?)?;
+    let shelf = CountedShelf::new(shelf, &store);
+    let mut journal = journal_of(rt, service.log, io::writer(rt))?;
+    if journal.is_some() {
+        sockets.keep_log();
+    }
+    let mut figures = figures_of(rt, service.stats, &config, &store, &mut sockets)?;
+    warn_of_loops(rt, &config, start.address);
+    let mut server = Server::new(rt.alloc(), config, shelf, sockets, record);
+    begin_figures(rt, &figures, &server)?;
+    announce_memory(rt, start.stored, start.held);
+    announce(rt, start.address, &service.limits, start.allows);
+    serve_to_its_end(rt, service, &mut server, &mut journal, &mut figures)
+}
+
+/// Serves as the command line says.
 pub(crate) fn serve<R: Net + Clock + Files + Print + Eprint + AllocGlobal + RandomSource>(
     rt: &R,
     service: &Service<'_>,
@@ -319,33 +381,13 @@ pub(crate) fn serve<R: Net + Clock + Files + Print + Eprint + AllocGlobal + Rand
     let allows = descriptors_allowed(rt);
     let mut limits = within_descriptors(service.limits, allows);
     limits.max_body = config.max_body();
-    let mut sockets = sockets_of(rt, service.listen, limits)?;
+    let sockets = sockets_of(rt, service.listen, limits)?;
     let record = record_of(rt, service.record, table.as_slice())?;
-    let store = StoreCounts::new();
-    let shelf = IndexedShelf::seeded(rt.alloc(), config.capacity(), seed_of(rt)?)?;
-    let shelf = CountedShelf::new(shelf, &store);
-    let mut journal = journal_of(rt, service.log, io::writer(rt))?;
-    if journal.is_some() {
-        sockets.keep_log();
-    }
-    let mut figures = figures_of(rt, service.stats, &config, &store, &mut sockets)?;
-    let address = sockets.address();
-    warn_of_loops(rt, &config, address);
-    let stored = most_stored(&config);
-    let mut server = Server::new(rt.alloc(), config, shelf, sockets, record);
-    begin_figures(rt, &figures, &server)?;
-    announce_memory(rt, stored, most_held(&limits, service.log.is_some()));
-    announce(rt, address, &service.limits, allows);
-    let turns = service.turns.map_or(u64::MAX, u64::from);
-    let watch = Watch::new(service.drain, service.drain_timeout, service.log);
-    let served = serve_turns(rt, turns, watch, &mut server, &mut journal, &mut figures);
-    let lost = write_log(&mut server, &mut journal);
-    if lost > 0 {
-        let _ = eprintln!(rt; "log fault {lost}");
-    }
-    if let Some(figures) = &figures {
-        // They have the last turn, too.
-        let _ = figures.write(rt, &server, lost);
-    }
-    served
+    let start = Start {
+        address: sockets.address(),
+        stored: most_stored(&config),
+        held: most_held(&limits, service.log.is_some()),
+        allows,
+    };
+    serve_table(rt, service, config, sockets, record, start)
 }
