@@ -77,6 +77,7 @@ wait = "missing-or-stale" 0 of 1, a guess
 b.example:8080 2 1 0 0 60.0 % of 5
 a.example 0 0 1 0 14.3 % of 7
 1 lines that are none of a log
+left before an answer: none
 """
 # The same of the log that tells how long answers took, and the origin that was asked.
 COUNTED_TIMED = """

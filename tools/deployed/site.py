@@ -59,7 +59,7 @@ def site(stand):
 
 def it_is_a_table(stand):
     ran = subprocess.run([stand.program, "check", f"{DEPLOY}/site.toml"], stdin=subprocess.DEVNULL, capture_output=True, text=True, timeout=20)
-    expect("from check", (0, f"ok 7 lines\n{told_of_store(20000, 1048576)}", ""), (ran.returncode, ran.stdout, ran.stderr))
+    expect("from check", (0, f"ok 7 lines\n{told_of_store(20000, 1048576, 500000000)}", ""), (ran.returncode, ran.stdout, ran.stderr))
 
 
 def what_is_denied(site):

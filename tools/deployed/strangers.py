@@ -254,3 +254,24 @@ def cookies_are_for_one(front):
     answer = expect_from(front.ask("/cookie"), 200, "edge;fwd=stale;fwd-status=304;ttl=;detail=response-no-cache")
     expect("the cookie behind a 304", None, answer.value("Set-Cookie"))
     expect("the cookies of what isn't stored", "sid=1, theme=dark", front.ask("/own").value("Set-Cookie"))
+
+
+@part
+def a_strangers_purge(stand):
+    need("nginx", "haproxy", "curl")
+    for kind in ("nginx", "haproxy"):
+        front = Front(stand, kind, NEAR)
+        yield f"is_refused_in_any_spelling_by_{kind}", lambda front=front: is_refused_in_any_spelling(front)
+
+
+def is_refused_in_any_spelling(front):
+    """A method is its bytes (RFC 9110, 9.1), and some origins take `purge` for PURGE. None of these comes to an origin, and the page stays."""
+    expect_from(front.ask("/a"), 200, "edge;fwd=uri-miss;ttl=;stored")
+    for method in ("PURGE", "purge", "Purge", "PURGEX", "purgex", "BAN"):
+        for version in ("--http1.1", "--http2"):
+            status = status_of(front.https, "/a", version, "--interface", "127.0.0.9", "--request", method)
+            if status not in (0, 400, 403, 405):
+                raise Unexpected(f"status for {method} by {version}", "400, 403 or 405", status)
+    expect_from(front.ask("/a"), 200, "edge;hit;ttl=")
+    expect("requests at the origin", 1, len(front.origin.fetches))
+    expect_from(front.ask("/a", "--request", "PURGE"), 204, "edge;fwd=method")

@@ -83,9 +83,9 @@ def fields_of(lines):
 
 
 def target_of(url):
-    """The target as the log has it: the host in lower case, and no port 80."""
+    """The target as the log has it: the host in lower case, and no port 80. (A front takes https and its port away.)"""
     parts = urllib.parse.urlsplit(url)
-    port = f":{parts.port}" if parts.port and parts.port != 80 else ""
+    port = f":{parts.port}" if parts.port and parts.port != (443 if parts.scheme.lower() == "https" else 80) else ""
     return f"http://{parts.hostname}{port}{parts.path or '/'}" + (f"?{parts.query}" if parts.query else "")
 
 

@@ -148,6 +148,12 @@ class Words:
         defined = self.sources.place("ttl_of_passed_answer")
         return self.of_table("detail-born-old", "ttl below 0 beside stored: born old", "Detail", BORN_OLD, defined)
 
+    def left(self, name):
+        """Why a request was never answered."""
+        word = self.sources.texts("unanswered_name", "UnansweredCause")[name]
+        defined = self.sources.definition("UnansweredCause", name, ["unanswered_name"])
+        return self.of_table(f"left-{word}", f"left;cause={word}: no answer was sent", "Left", word, defined)
+
     def log_words(self, word):
         """What a log reader sees, of a parameter or a detail."""
         found = self.documents.row(

@@ -1,8 +1,9 @@
 """Whether all that the program can write has its words, and whether a lack of them would be found."""
 import os
 import re
+import tempfile
 
-from explained import asking
+from explained import asking, logged
 from explained.deciding import InHand
 from explained.entries import CHANGE, CHANGERS, PLAIN, Words
 from explained.texts import Texts
@@ -16,6 +17,7 @@ RULES = [
 # Lists of words. (Out of memory is told of no target: it is the program's own.)
 FAULTS = [("FrameFault", "frame_word", Words.message), ("TargetFault", "target_word", Words.target)]
 OTHERS = [("FailKind", "fail_kind_word", Words.kind), ("Cause", "refusal_text", Words.cause), ("Detail", "detail_word", Words.detail)]
+OTHERS.append(("UnansweredCause", "unanswered_name", Words.left))
 
 
 # What may stand against any answer that says nothing against itself.
@@ -177,10 +179,37 @@ def of_asking(found):
     yield "fields", [] if named == [("Cookie", "sid=1"), ("Accept-Encoding", "gzip, br")] else [f"--header gives {named}"]
 
 
+# Lines of a log, of which the first four are about a page by different spellings.
+LOG = b"""1764050000.123 127.0.0.1:1 GET http://h.example/a 200 5 fwd=uri-miss;ttl=60;stored 0.012 127.0.0.1:8081
+1764050001.123 127.0.0.1:1 GET http://h.example/a 200 5 hit;ttl=59 0.000 -
+1764050002.123 127.0.0.1:1 GET http://h.example/a 200 5 hit;ttl=58 0.000 -
+1764050003.123 127.0.0.1:1 GET http://h.example/a 000 0 left;cause=closed 3.000 127.0.0.1:8081
+1764050004.123 127.0.0.1:1 GET http://h.example/a?x 200 5 fwd=uri-miss 0.012 127.0.0.1:8081
+1764050005.123 127.0.0.1:1 GET http://other.example/a 200 5 fwd=uri-miss 0.012 127.0.0.1:8081
+1764050006.123 127.0.0.1:1 GET http://h.example/b 502 20 origin closed;fwd=uri-miss 0.012 127.0.0.1:8081"""
+LOGGED = {
+    "http://h.example/a": {"hit": 2, "fwd=uri-miss;stored": 1, "left;cause=closed": 1},
+    "https://H.example:443/a": {"hit": 2, "fwd=uri-miss;stored": 1, "left;cause=closed": 1},
+    "http://h.example:80/a?x": {"fwd=uri-miss": 1},
+    "http://h.example/b": {"origin closed;fwd=uri-miss": 1},
+    "http://h.example": {},
+}
+
+
+def of_log():
+    """What is told of a URL by a log."""
+    with tempfile.NamedTemporaryFile() as file:
+        file.write(LOG)
+        file.flush()
+        for url, wanted in LOGGED.items():
+            got = dict(logged.read(file.name, url).reasons)
+            yield f"the log of {url}", [] if got == wanted else [f"a log has of {url} {got}, and not {wanted}"]
+
+
 def faults_of(found, root):
     """How many have their words, and what is lacking."""
     count, faults = 0, []
-    for checks in (of_rules(found.words, root), of_words(found.words, root), of_texts(found), of_asking(found)):
+    for checks in (of_rules(found.words, root), of_words(found.words, root), of_texts(found), of_asking(found), of_log()):
         for _, lacks in checks:
             count += not lacks
             faults += lacks

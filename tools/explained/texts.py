@@ -97,8 +97,16 @@ class Texts:
             )
         return Entry("not-stored", "no ;stored: the first of these rules that stands kept the answer out", parts)
 
+    def of_left(self, text):
+        """Of a request that was never answered; without its cause each of them."""
+        words = self.sources.texts("unanswered_name", "UnansweredCause")
+        cause = text.removeprefix("left;cause=")
+        return [self.words.left(name) for name, word in words.items() if text == "left" or word == cause]
+
     def of_refusal(self, text):
         head, *rest = text.split(";")
+        if head == "left":
+            return self.of_left(text)
         more = {it.partition("=")[0]: it.partition("=")[2] for it in rest}
         if re.fullmatch(r"denied by line [0-9N]+", text):
             return [self.words.cause("Denied")]

@@ -28,9 +28,9 @@ def expect_the_slowest_reader_is_cut_off(stage, option):
     for it, text in pages.items():
         expect_answer(proxy.client().ask(it), 200, STORED, text)
     slow = [proxy.client(window=4096) for _ in range(4)]
-    *modest, greedy = slow
+    greedy, *modest = slow
     greedy.is_cut_off = True
-    for it, target in zip(slow, ["/modest"] * 3 + ["/greedy"]):
+    for it, target in zip(slow, ["/greedy"] + ["/modest"] * 3):
         it.send(request(target))
         it.read_some(1)
     time.sleep(1)

@@ -45,6 +45,26 @@ def is_refused(proxy):
         client.socket.close()
 
 
+def is_soon_refused(proxy):
+    """The same within two seconds: who comes while the listener's queue is emptied is still served."""
+    deadline = time.monotonic() + 2
+    while not is_refused(proxy):
+        if time.monotonic() > deadline:
+            return False
+        time.sleep(0.1)
+    return True
+
+
+@scenario
+def a_drain_file_that_was_left_is_told(stage):
+    """The file of `--drain` is there at the start: the server ends at once, and says which file that is."""
+    file = f"{stage.room.name}/drain"
+    put(file)
+    proxy = stage.proxy_of(table_of(["127.0.0.1:1"]), None, ["--drain", file])
+    told = f"draining\nwarning: {file} was there at the start, so it ends at once: remove that file before a start\n"
+    expect("its end", (0, b"", told), proxy.wait())
+
+
 @scenario
 def a_drained_server_ends_in_order(stage):
     """`--drain FILE`: once it is there no connection is taken and what is idle is closed; an answer that is on its way, and one
@@ -68,7 +88,7 @@ def a_drained_server_ends_in_order(stage):
     for it in (kept, silent_one, idle):
         expect("an idle connection closed", True, it.is_closed(5))
     expect_within("the idle connections' ends", 0, 5, time.monotonic() - began)
-    expect("a new connection refused", True, is_refused(proxy))
+    expect("a new connection refused", True, is_soon_refused(proxy))
     expect("the program's status while answers are due", None, proxy.process.poll())
     half.send(request("/a")[20:])
     go.set()

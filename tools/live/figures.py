@@ -224,6 +224,27 @@ def figures_are_taken_by_promtool(stage):
 
 
 @scenario
+def figures_that_another_program_writes(stage):
+    """Two programs with one file of figures: the second one says so at its start. One that begins anew, or long after, doesn't."""
+    file, table = f"{stage.room.name}/figures", f"{stage.room.name}/table.toml"
+    with open(table, "w", encoding="utf-8") as it:
+        it.write(table_of(["127.0.0.1:1"]))
+    first = stage.proxy_of(table_of(["127.0.0.1:1"]), None, ["--stats", file])
+    said = f"warning: the program on 127.0.0.1:{first.port} writes its figures into {file}, too: give each a file of its own"
+
+    def warnings_at(port):
+        words = [stage.program, "serve", table, "--listen", f"127.0.0.1:{port}", "--turns", "1", "--stats", file]
+        ran = subprocess.run(words, stdin=subprocess.DEVNULL, capture_output=True, timeout=PATIENCE)
+        return [it for it in ran.stderr.decode().splitlines() if it.startswith("warning: the program on")]
+
+    expect("what a second one says", [said], warnings_at(0))
+    first.stop(0)
+    expect("what the same one says", [], [it for it in warnings_at(first.port) if str(first.port) in it])
+    time.sleep(4.5)
+    expect("what one says that comes later", [], warnings_at(0))
+
+
+@scenario
 def figures_that_cannot_be_written(stage):
     """A start fails where there is no place for them; one that serves goes on, and says so once."""
     table = f"{stage.room.name}/table.toml"

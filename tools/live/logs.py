@@ -205,6 +205,36 @@ def a_log_that_cannot_be_written(stage):
 
 
 @scenario
+def a_log_whose_folder_is_removed(stage):
+    """The file of a log and its folder are removed: once that is seen, which takes a second, its lines are lost, which is told and counted. Where
+    the folder is there again so is the log."""
+    folder, figures = f"{stage.room.name}/logs", f"{stage.room.name}/figures"
+    os.mkdir(folder)
+    stage.origin(Origin({"/a": whole(200, KEPT, content=b"hello")}))
+    client = stage.proxy(options=["--log", f"{folder}/log", "--stats", figures]).client()
+    expect_answer(client.ask("/a"), 200, "edge;fwd=uri-miss;ttl=600;stored", b"hello")
+    shutil.rmtree(folder)
+    time.sleep(2.2)
+    for _ in range(3):
+        expect_answer(client.ask("/a"), 200, "edge;hit;ttl=600", b"hello")
+    deadline = time.monotonic() + PATIENCE
+    while " 3\n" not in (told := lost_lines(figures)):
+        if time.monotonic() > deadline:
+            raise Unexpected("lines that were lost", 3, told)
+        time.sleep(0.1)
+    os.mkdir(folder)
+    time.sleep(2.2)
+    client.ask("/a")
+    expect("a line of the new log", "hit;ttl=", without_ttl(lines_of(f"{folder}/log", 1)[0][6]))
+    stage.lines, stage.said = 1, f"the log {folder}/log can't be written: No such file or directory (os error 2)\n".encode()
+
+
+def lost_lines(path):
+    with open(path, encoding="ascii") as it:
+        return next(line for line in it if line.startswith("revcache_log_lost_lines_total{"))
+
+
+@scenario
 def a_log_on_a_full_standard_output(stage):
     """`--log -`: where standard output takes no line, nothing else is said there, and each reply goes out."""
     if not os.path.exists("/dev/full"):
@@ -223,12 +253,44 @@ def a_log_on_a_full_standard_output(stage):
         proxy.process.kill()
 
 
+@scenario
+def lines_of_another_program_are_told(stage):
+    """A log to which somebody else adds lines is told of, once. One that is emptied, or moved away, isn't."""
+    origin = stage.origin(Origin({"/a": whole(200, KEPT, content=b"hello")}))
+    log = f"{stage.room.name}/log"
+    proxy = Proxy(stage.program, stage.room.name, table_of([origin.address]), options=["--log", log], records=False)
+    try:
+        client = proxy.client()
+
+        def ask_and_wait(change):
+            client.ask("/a")
+            change()
+            time.sleep(2.2)
+
+        ask_and_wait(lambda: os.truncate(log, 0))
+        ask_and_wait(lambda: os.rename(log, f"{log}.1"))
+        ask_and_wait(lambda: add_line(f"{log}.1"))
+        ask_and_wait(lambda: add_line(log))
+        ask_and_wait(lambda: add_line(log))
+        proxy.process.send_signal(signal.SIGTERM)
+        said = f"warning: another program adds lines to {log}, too: give each a log of its own\n"
+        expect("on standard error", said, proxy.wait()[2])
+    finally:
+        proxy.process.kill()
+
+
+def add_line(path):
+    with open(path, "ab") as it:
+        it.write(b"a line of another program\n")
+
+
 REFUSER = os.path.join(os.path.dirname(os.path.dirname(os.path.realpath(__file__))), "refuse_memory", "refuse_memory.c")
 
 
 def told_of_a_denial(stage, library, n):
     """A server whose Nth request for memory is refused is asked twice for what is denied: how many requests there were before the second
-    answer and behind it, and what it has said on standard output and standard error."""
+    answer and behind it, and what it has said on standard output and standard error; or nothing, where an answer itself took the request
+    that was refused, so that its connection was closed."""
     file = f"{stage.room.name}/count"
     with open(file, "wb") as it:
         it.write(bytes(8))
@@ -237,9 +299,13 @@ def told_of_a_denial(stage, library, n):
     proxy = Proxy(stage.program, stage.room.name, table, options=["--log", log], records=False, environment=more)
     try:
         client = proxy.client()
-        client.ask("/a")
-        before = number_in(file)
-        expect_refusal(client.ask("/a"), 403, "denied by line 1")
+        try:
+            client.ask("/a")
+            before = number_in(file)
+            answer = client.ask("/a")
+        except Unexpected:
+            return None
+        expect_refusal(answer, 403, "denied by line 1")
         time.sleep(0.1)
         proxy.process.terminate()
         return before, number_in(file), *proxy.wait()[1:]
@@ -264,12 +330,14 @@ def a_line_without_memory_is_lost(stage):
     expect("where nothing is refused, on both outputs", [b"", ""], said)
     lost = 0
     for n in range(last, first, -1):
-        _, reached, *said = told_of_a_denial(stage, library, n)
-        # (how many turns it takes is chance, so a run may have fewer requests for memory)
-        if reached < n:
+        told = told_of_a_denial(stage, library, n)
+        # (how many turns it takes is chance, so a run may have fewer requests for memory, and the Nth of it may be an answer's)
+        if told is None or told[1] < n:
             continue
+        _, _, *said = told
         if "log fault" not in said[1]:
-            break
+            # (behind the line some are for what is looked at once a second)
+            continue
         expect("on both outputs", [b"no memory is left for lines of the log; give the process more\n", "log fault\n"], said)
         lost += 1
     expect("whether a line was lost", True, lost > 0)

@@ -45,12 +45,13 @@ def allowed():
     return (least, "this cgroup may have") if least < machine else (machine, "this machine has")
 
 
-def told_of_store(capacity, max_stored):
+def told_of_store(capacity, max_stored, max_store=None):
     """What `check` tells of a table's store."""
     most, (bytes_there, owner) = capacity * (max_stored + BESIDE), allowed()
+    most = most if max_store is None else min(most, max_store + max_store // 10)
     text = f"the store takes {megabytes(most)} MB at most\n"
     if most > bytes_there:
-        text += f"that is more than the {megabytes(bytes_there)} MB that {owner}: lower capacity or max_stored\n"
+        text += f"that is more than the {megabytes(bytes_there)} MB that {owner}: lower capacity, max_stored or max_store\n"
     return text
 
 
@@ -64,6 +65,20 @@ def a_check_tells_what_the_store_takes(stage):
         status, out, err = run(stage, "check", file)
         expect("status and standard error", (0, ""), (status, err))
         expect(f"of {capacity} responses of {max_stored} bytes", f"ok 1 lines\n{told_of_store(capacity, max_stored)}", out)
+        if f" {most} MB at most\n" not in out:
+            raise Unexpected("from check", f"{most} MB", out)
+
+
+@scenario
+def a_check_tells_what_the_store_takes_by_weight(stage):
+    """Where a table bounds the bytes of its store, `check` tells these and a tenth of them, if not the number of responses allows less."""
+    file = f"{stage.room.name}/table.toml"
+    for capacity, max_stored, max_store, most in ((1000, 100000, 65536, 1), (1000, 100000, 100000000, 110), (1000, 100000, 200000000, 180)):
+        with open(file, "w", encoding="utf-8") as it:
+            it.write(table_of(["127.0.0.1:1"], capacity=capacity, max_stored=min(max_stored, max_store), max_body=16777216, version=4, max_store=max_store))
+        status, out, err = run(stage, "check", file)
+        expect("status and standard error", (0, ""), (status, err))
+        expect(f"of {max_store} bytes", f"ok 1 lines\n{told_of_store(capacity, min(max_stored, max_store), max_store)}", out)
         if f" {most} MB at most\n" not in out:
             raise Unexpected("from check", f"{most} MB", out)
 
@@ -83,5 +98,5 @@ def a_server_tells_what_its_bounds_come_to(stage):
     large = stage.proxy(options=["--content-limit", "1099511627776"], capacity=65536, max_stored=1000000, records=False)
     count, owner = allowed()
     expect("lines in front of its address", 2, len(large.told))
-    warning = f"warning: that is more than the {megabytes(count)} MB that {owner}: lower capacity, max_stored, --content-limit or --connections"
+    warning = f"warning: that is more than the {megabytes(count)} MB that {owner}: lower capacity, max_stored, max_store, --content-limit or --connections"
     expect("the second", warning, large.told[1])

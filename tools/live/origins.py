@@ -127,6 +127,7 @@ def a_link_that_was_begun_in_vain_is_its_origin_s(stage):
     left.leave(reset=True)
     expect("the link's end at the origin", True, waited.fetches[0].is_over.wait(LATEST))
     expect_refusal(stays.ask("/down"), 502, "origin refused;fwd=uri-miss")
-    expect("the origin that was asked", down.address, lines_of(log, 1)[0][-1])
+    told = [(it[4], it[-1]) for it in lines_of(log, 2)]
+    expect("status and origin of each line", [("000", waited.address), ("502", down.address)], told)
     samples = figures_with(file, of("origin_failures_total", origin=down.address, kind="refused"), 1)
     expect("failures of the other origin", 0, samples[of("origin_failures_total", origin=waited.address, kind="refused")])

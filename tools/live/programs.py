@@ -32,7 +32,7 @@ FAULTS = [
     ('name = "edge"', 'name = "edge"\ncolour = 1', "config fault 2 key colour", "correct its spelling or delete it"),
     ('path = "/"', 'path = "/"\ncache = "off"', "config fault 2 key cache", "cache needs version = 2"),
     ('name = "edge"', 'name = "Edge"', "config fault 3", "a lower-case letter and at most 31 of a-z, 0-9 and -"),
-    ("version = 1", "version = 4", "config fault 4 key version", "version has to be 1, 2 or 3, without quotes"),
+    ("version = 1", "version = 5", "config fault 4 key version", "version has to be 1, 2, 3 or 4, without quotes"),
     ("capacity = 64", 'capacity = "64"', "config fault 4 key capacity", WRONG_CAPACITY),
     ("max_body = 1000000", "max_body = -1", "config fault 4 key max_body", "max_body has to be a whole number from 0 to 16777216"),
     ("max_stored = 100000", "max_stored = 1.5", "config fault 4 key max_stored", "max_stored has to be a whole number from 0 to 16777216"),
@@ -59,14 +59,15 @@ CROSSED = [
 ]
 IDLE = "".join(f"line {n} is never reached: line {first} takes all of it\n" for n, first in ((3, 1), (4, 2), (5, 2)))
 IDLE += "max_stored is above max_body: what is larger than max_body isn't stored either\n"
-SECOND_WORDS = ['cache = "on"', "lifetime = 60", 'set-cookie = "not-stored"', 'wait = "missing-or-stale"', 'explain = "storing"']
-SECOND_LINE = "is allowed by line 2, origin 127.0.0.1:2", SECOND_WORDS
+SECOND_WORDS = ['cache = "on"', "lifetime = 60", "error-lifetime = 60", 'set-cookie = "not-stored"', 'wait = "missing-or-stale"', 'explain = "storing"']
+SECOND_LINE = "is allowed by line 2, origin 127.0.0.1:2"
+SECURE = "https comes by a front alone, which takes it away; a request that names it itself is refused: scheme"
 # What requests meet there.
 MET = [
-    ("GET http://h.example/a/b", "is allowed by line 1, origin 127.0.0.1:1", ['cache = "on"', 'errors = "not-stored"']),
-    ("GET https://h.example", *SECOND_LINE),
-    ("DELETE http://h.example/%61?x=/", *SECOND_LINE),
-    ("OPTIONS http://h.example/a", "is denied: no line allows it", []),
+    ("GET http://h.example/a/b", "is allowed by line 1, origin 127.0.0.1:1", ['cache = "on"', 'errors = "not-stored"', "key h.example:80/a/b"]),
+    ("GET https://h.example", SECOND_LINE, [*SECOND_WORDS, "key h.example:80/", SECURE]),
+    ("DELETE http://H.example:81/%61?x=/", SECOND_LINE, [*SECOND_WORDS, "key h.example:81/%61?x=/"]),
+    ("OPTIONS http://h.example/a", "is denied: no line allows it", ["key h.example:80/a"]),
     ("GET http://h.example/a/../b", "is refused before the table is asked: no segment of a path may be . or .., escaped or not", []),
 ]
 # The most bytes of a script, and of one happening in it.

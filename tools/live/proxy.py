@@ -18,9 +18,10 @@ LISTENING = "listening on "
 BOUNDS, WARNING = "at most ", "warning: "
 
 
-def table_of(lines, max_body=1000000, max_stored=100000, capacity=64, version=1):
+def table_of(lines, max_body=1000000, max_stored=100000, capacity=64, version=1, max_store=None):
     """The operator's table, of (path, methods, origin), behind which its other words may stand, or of an origin's address for everything."""
     text = f'version = {version}\nname = "edge"\ncapacity = {capacity}\nmax_body = {max_body}\nmax_stored = {max_stored}\n'
+    text += "" if max_store is None else f"max_store = {max_store}\n"
     for it in lines:
         path, methods, origin, *more = it if isinstance(it, tuple) else ("/", ["*"], it)
         names = ", ".join(f'"{name}"' for name in methods)

@@ -61,6 +61,54 @@ def a_table_is_tested_by_questions(stage):
     expect("of a file that isn't there", (1, "read fault\n", True), (status, err, "can't be read: No such file" in out))
 
 
+# Answers of an origin, by a line that stores neither errors nor cookies and tells why: what Cache-Status says of each.
+ANSWERS = [
+    ("Cache-Control: max-age=60", "stored", "fwd=uri-miss;ttl=60;stored"),
+    ("200 | cache-control:max-age=60 | ETag: \"v1\"", "stored", "fwd=uri-miss;ttl=60;stored"),
+    ("Cache-Control: private, max-age=60", "not stored", "fwd=uri-miss;detail=not-stored-private"),
+    ("404 | Cache-Control: max-age=60", "stored", "fwd=uri-miss;ttl=60;stored"),
+    ("500 | Cache-Control: max-age=60", "not stored", "fwd=uri-miss;detail=not-stored-error-status"),
+    ("Cache-Control: max-age=60 | Set-Cookie: a=b", "not stored", "fwd=uri-miss;detail=not-stored-set-cookie"),
+    ("Content-Type: text/plain", "not stored", "fwd=uri-miss;detail=not-stored-no-lifetime"),
+    ("302 | Location: /", "not stored", "fwd=uri-miss;detail=not-stored-nothing-allows"),
+    ("204 | Cache-Control: max-age=60", "stored", "fwd=uri-miss;ttl=60;stored"),
+    ("Cache-Control: max-age=60 | Vary: *", "not stored", "fwd=uri-miss;detail=not-stored-vary-star"),
+]
+NO_ANSWERS = ["nonsense", "99 | a: b", "600", ": b", "Cache-Control: max-age=60 | b"]
+
+
+@scenario
+def an_answer_is_tried_by_a_table(stage):
+    """`check --answer`, with --ask and in a file of questions: whether an origin's answer would be stored, as the proxy itself says when it plays
+    it; what is no answer is named. A request that the table denies has none."""
+    words = {"explain": "storing", "set-cookie": "not-stored", "errors": "not-stored"}
+    table = write(f"{stage.room.name}/table.toml", table_of([("/admin", ["*"], "deny"), ("/", ["GET", "POST"], "127.0.0.1:1", words)], version=3))
+    file = f"{stage.room.name}/questions"
+    for answer, word, reason in ANSWERS:
+        status, out, err = run(stage, "check", table, "--ask", "GET http://h.example/a", "--answer", answer)
+        told = (0, f"    with this answer: {word}, {reason}", "")
+        expect(f"of `{answer}`", told, (status, out.splitlines()[-1], err))
+    asked = "".join(f"answer: {answer}\nGET http://h.example/a => {word}\n" for answer, word, _ in ANSWERS)
+    write(file, asked)
+    told = f"{len(ANSWERS)} questions, 0 answered otherwise"
+    status, out, _ = run(stage, "check", table, "--ask-file", file)
+    expect("of all", (0, told), (status, out.splitlines()[-1]))
+    write(file, "GET http://h.example/a => stored\nGET http://h.example/admin => stored\nPOST http://h.example/a => stored\n")
+    status, out, _ = run(stage, "check", table, "--ask-file", file, "--answer", "Cache-Control: max-age=60")
+    lines = [
+        "line 2: GET http://h.example/admin => stored: it is denied by line 1",
+        "line 3: POST http://h.example/a => stored: it is not stored, fwd=method;detail=not-stored-method",
+        "3 questions, 2 answered otherwise",
+    ]
+    expect("of what isn't stored", (3, lines), (status, out.splitlines()[-3:]))
+    for it in NO_ANSWERS:
+        status, _, err = run(stage, "check", table, "--ask", "GET http://h.example/a", "--answer", it)
+        expect(f"of `{it}` status and standard error", (64, "usage fault\n"), (status, err))
+        write(file, f"answer: {it}\n")
+        status, _, err = run(stage, "check", table, "--ask-file", file)
+        expect(f"of `{it}` in a file", (1, "read fault\n"), (status, err))
+
+
 @scenario
 def a_new_table_is_compared_by_a_log(stage):
     """`check NEW --against OLD --log FILE`: of the requests in a server's log it tells which go to another origin, have other words or are

@@ -4,7 +4,7 @@ from collections import Counter
 from reported.hints import Hints
 from reported.lines import microseconds_of, parts_of
 from reported.queries import Queries
-from reported.reasons import FORWARDED, KINDS, LANES, LEFT_OUT, Reasons
+from reported.reasons import FORWARDED, KINDS, LANES, LEFT, LEFT_OUT, Reasons
 from reported.tallies import KEPT, Tally, short
 from reported.times import Origins, Slow, Times
 
@@ -77,6 +77,8 @@ class Figures:
         self.hosts, self.segments, self.missed, self.again = Tally(2), Tally(2), Tally(), Tally()
         # Of each path, whatever its query: how often it was missed, and with which queries.
         self.paths, self.queries = Tally(kept=KEPT // 2), Queries()
+        # Of each cause how often a request was never answered for it, and of each origin that had been asked then.
+        self.left, self.left_origins = Tally(), Tally()
         # Of each client how often it asked, what of it was refused or failed, and its bytes of content.
         self.clients = Tally(3, KEPT // 2)
         # The bytes of content of what counts in the hit ratio, and of the hits of it.
@@ -112,6 +114,8 @@ class Figures:
         minute[0] += 1
         row[reason.kind] += 1
         self.clients.add(short(client.rpartition(b":")[0] or client), 1, reason.is_refusal, length)
+        if reason.is_left:
+            self.left_origins.add(short(origin) if origin else b"none", 1)
         if reason.left_out is None:
             row[LOOKED_UP] += 1
             self.bytes_looked_up += length
@@ -164,7 +168,7 @@ class Figures:
         for (lane, name, text), count in self.took.items():
             took = microseconds_of(text)
             self.times[lane].add(took, count)
-            if name is not None:
+            if name is not None and lane != LEFT:
                 self.origin_times.add(name, took, count)
         self.took.clear()
         self.origin_times.bound()
@@ -191,6 +195,8 @@ class Figures:
             self.words.add(reason.word, count)
             self.families.add(reason.family, count)
             self.statuses[status.decode("ascii")] += count
+            if reason.is_left:
+                self.left.add(reason.word, count)
             if reason.is_refusal:
                 self.refusals.add(f"{status.decode('ascii')} {reason.word}", count)
             if reason.left_out is None:

@@ -8,7 +8,7 @@ from explained.entries import Words
 from explained.sources import Sources
 from explained.texts import Texts
 from reported import charts, queries
-from reported.reasons import FAILED, KINDS, LANES, LEFT_OUT, REFUSED, Reason
+from reported.reasons import FAILED, GONE, KINDS, LANES, LEFT_OUT, REFUSED, Reason
 from reported.style import STYLE
 from reported.text import about, byte_ratio, digits, minutes, seconds, text_of, visible, when
 
@@ -138,6 +138,24 @@ def refusals_table(figures, reasons, most):
             ]
         )
     return table("Refusals by cause", ["status and Refusal", "answers", "share", "", "words"], rows)
+
+
+def left_table(figures, reasons, most):
+    """Requests that were never answered."""
+    rows, whole = [], sum(figures.left.sums()) if figures.left.rows else 0
+    for word, (count,) in figures.left.shown(most):
+        links = reasons.links(word) if word in figures.left.rows else ""
+        share = [cell(f"{count:,}"), cell(f"{100 * count / whole:.1f} %"), bar_cell(count / whole, f"k{GONE}")]
+        rows.append([name_cell(word), *share, f'<td class="why">{links}</td>'])
+    return table("Left before an answer, or ended without one", ["cause", "requests", "share", "", "words"], rows)
+
+
+def left_origins_table(figures, most):
+    rows, whole = [], sum(figures.left_origins.sums()) if figures.left_origins.rows else 0
+    for name, (count,) in figures.left_origins.shown(most):
+        share = [cell(f"{count:,}"), cell(f"{100 * count / whole:.1f} %"), bar_cell(count / whole, f"k{GONE}")]
+        rows.append([name_cell(name), *share])
+    return table("Left while this origin was asked", ["origin", "requests", "share", ""], rows)
 
 
 def statuses_table(figures):
@@ -337,6 +355,8 @@ def page(figures, most, name):
         failures_table(figures, most),
         origins_table(figures, most),
         refusals_table(figures, reasons, most),
+        left_table(figures, reasons, most),
+        left_origins_table(figures, most),
         '<div class="pair">',
         counts_table("Most missed targets", figures.missed, missed[0] - missed[1], most, "k3"),
         paths_table(figures, most),

@@ -18,18 +18,20 @@ KINDS = [
     "fwd=bypass",
     "refused",
     "failed at the origin",
+    "left",
 ]
-REFUSED, FAILED = KINDS.index("refused"), KINDS.index("failed at the origin")
+REFUSED, FAILED, GONE = (KINDS.index(it) for it in ("refused", "failed at the origin", "left"))
 # Why an answer counts in no hit ratio: nothing was looked up for it.
 LEFT_OUT = [
     "refused or failed",
     "of lines without cache",
     "by other methods than GET and HEAD",
     "with a range, a content or a precondition",
+    "that were never answered",
 ]
 # Of whose time is told.
-HIT, COLLAPSED, FORWARDED, OWN = range(4)
-LANES = ["hit", "collapsed", "forwarded", "refused or failed"]
+HIT, COLLAPSED, FORWARDED, OWN, LEFT = range(5)
+LANES = ["hit", "collapsed", "forwarded", "refused or failed", "left"]
 FAMILIES = {
     "refused": "refused, malformed",
     "denied": "refused by the table",
@@ -42,14 +44,16 @@ class Reason:
     """A reason, read once. `word` is what it says but for what differs from one answer to the next."""
 
     __slots__ = ("word", "ttl", "is_refusal", "family", "is_failure", "is_hit", "is_stored", "is_new", "is_covered")
-    __slots__ += ("is_covered_error", "asks", "kind", "lane", "left_out", "hint", "same")
+    __slots__ += ("is_left", "is_covered_error", "asks", "kind", "lane", "left_out", "hint", "same")
 
     def __init__(self, text):
         words = text.decode("ascii").split(";")
         self.word = ";".join(it for it in words if not it.startswith(("ttl=", "fwd-status=")))
         found = TTL.search(f";{';'.join(words)}")
         self.ttl = int(found[1]) if found else 0
-        self.is_refusal = not self.word.startswith(("hit", "fwd="))
+        # A client that left before its answer, or whose exchange ended without one.
+        self.is_left = words[0] == "left"
+        self.is_refusal = not self.is_left and not self.word.startswith(("hit", "fwd="))
         self.family = (
             FAMILIES.get(words[0].partition(" ")[0].rstrip(":"), "refused, only-if-cached")
             if self.is_refusal
@@ -65,15 +69,17 @@ class Reason:
         )
         statuses = [it for it in words if it.startswith("fwd-status=5")]
         self.is_covered_error = self.is_covered and bool(statuses)
-        self.asks = self.is_failure or not (self.is_refusal or self.is_hit)
+        self.asks = self.is_failure or not (self.is_refusal or self.is_hit or self.is_left)
         self.kind = self.kind_of(words, is_hit, is_collapsed)
-        self.lane = OWN if self.is_refusal else HIT if is_hit else COLLAPSED if is_collapsed else FORWARDED
+        self.lane = LEFT if self.is_left else OWN if self.is_refusal else HIT if is_hit else COLLAPSED if is_collapsed else FORWARDED
         self.left_out = self.why_left_out(words)
         self.hint = hint_of(words, self.is_refusal, self.is_stored)
 
     def kind_of(self, words, is_hit, is_collapsed):
         if self.is_refusal:
             return FAILED if self.is_failure else REFUSED
+        if self.is_left:
+            return GONE
         name = "hit" if is_hit else "collapsed" if is_collapsed else words[0]
         return KINDS.index(name) if name in KINDS else KINDS.index("fwd=bypass")
 
@@ -81,6 +87,8 @@ class Reason:
         """Its place in LEFT_OUT; None where it counts in a hit ratio."""
         if self.is_refusal:
             return 0
+        if self.is_left:
+            return 4
         if words[0] == "fwd=bypass":
             return 1 if "detail=operator" in words else 3
         return 2 if words[0] == "fwd=method" else None

@@ -4,11 +4,11 @@ STYLE = (
     """
 :root{--ground:#fff;--box:#f6f7f8;--ink:#1b1f23;--faint:#5d6670;--line:#d9dde1;--link:#1257a8;
 --k0:#2f9e6e;--k1:#93d2b3;--k2:#c8b23a;--k3:#3d7fd0;--k4:#93bcef;--k5:#8a6cc4;--k6:#a4abb3;--k7:#69727c;
---k8:#e79a2b;--k9:#cf3a3f}
+--k8:#e79a2b;--k9:#cf3a3f;--k10:#7b4b2a}
 @media (prefers-color-scheme:dark){:root{--ground:#15181b;--box:#1f2327;--ink:#e6e9ec;--faint:#9aa4ae;
 --line:#343a41;--link:#79b3f2;
 --k0:#38b27d;--k1:#2c6d50;--k2:#b09a2e;--k3:#4b8fe2;--k4:#33598a;--k5:#9c7fd8;--k6:#828a93;--k7:#565e67;
---k8:#d98f2a;--k9:#e2555a}}
+--k8:#d98f2a;--k9:#e2555a;--k10:#a9744f}}
 *{box-sizing:border-box}
 body{margin:0 auto;max-width:1200px;padding:16px;background:var(--ground);color:var(--ink);
 font:15px/1.45 system-ui,sans-serif}
@@ -41,6 +41,6 @@ outline:2px solid var(--link);outline-offset:4px}
 dl{display:grid;grid-template-columns:minmax(90px,max-content) 1fr;gap:2px 12px;margin:0}dt{color:var(--faint)}
 dd{margin:0;overflow-wrap:anywhere;min-width:0}
 """
-    + "".join(f"path.k{it}{{fill:var(--k{it})}}i.k{it},.bar .k{it}{{background:var(--k{it})}}" for it in range(10))
+    + "".join(f"path.k{it}{{fill:var(--k{it})}}i.k{it},.bar .k{it}{{background:var(--k{it})}}" for it in range(11))
     + "\n"
 )

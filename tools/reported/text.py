@@ -51,7 +51,7 @@ def statuses(figures):
     whole, rows = sum(figures.statuses.values()), []
     for hundred in sorted({it[0] for it in figures.statuses}):
         ones = sorted((it, count) for it, count in figures.statuses.items() if it[0] == hundred)
-        rows += [(f"{hundred}xx", [sum(count for _, count in ones)]), *((f"  {it}", [count]) for it, count in ones)]
+        rows += [(f"{hundred}xx" if hundred != "0" else "none", [sum(count for _, count in ones)]), *((f"  {it}", [count]) for it, count in ones)]
     return counts("statuses", rows, whole)
 
 
@@ -158,6 +158,15 @@ def about(one_in):
     return f" (about: one in {one_in:,} targets was counted)" if one_in > 1 else ""
 
 
+def left(figures, most):
+    """Requests that were never answered: by cause, and by the origin that had been asked."""
+    if not figures.left.rows:
+        return ["left before an answer: none", ""]
+    whole = sum(figures.left.sums())
+    text = counts("left before an answer, or ended without one", figures.left.shown(most), whole)
+    return [*text[:-1], *counts("these by the origin that had been asked", figures.left_origins.shown(most), whole)]
+
+
 def clients(figures, most):
     rows, width = names_of(figures.clients.shown(most))
     text = ["clients that ask most (behind a front it is the front): answers, refused or failed ones, bytes of content"]
@@ -220,5 +229,6 @@ def report(figures, most):
     )
     text += hints(figures)
     text += counts("refusals", figures.refusals.shown(most), sum(figures.refusals.sums()))
+    text += left(figures, most)
     text += clients(figures, most) + failures(figures, most)
     return text + durations(figures) + by_origin(figures, most) + slowest(figures, most)

@@ -1,5 +1,5 @@
 //! What a line says of caching, in a case: `words` and each word as `lifetime=60`, with the values of the operator's
-//! table.
+//! table of version 4. A line of version 3 with that lifetime has `error-lifetime=60` too.
 
 use hx_policy::Policy;
 use std::alloc::AllocError;
@@ -9,6 +9,7 @@ fn with_word(policy: Policy, word: &str) -> Option<Policy> {
     let mut policy = policy;
     match word.split_once('=')? {
         ("lifetime", seconds) => policy.lifetime = Some(seconds.parse::<u32>().ok()?),
+        ("error-lifetime", seconds) => policy.error_lifetime = Some(seconds.parse::<u32>().ok()?),
         ("stale-if-error", seconds) => policy.stale_if_error = Some(seconds.parse::<u32>().ok()?),
         ("set-cookie", "not-stored") => policy.stores_cookies = false,
         ("errors", "not-stored") => policy.stores_errors = false,
@@ -44,6 +45,7 @@ fn write_unless(text: &mut String, kept: bool, word: &str) -> Result<(), AllocEr
 pub fn write_words(text: &mut String, policy: Policy) -> Result<(), AllocError> {
     write_unless(text, policy.caches, " cache=off")?;
     write_seconds(text, "lifetime", policy.lifetime)?;
+    write_seconds(text, "error-lifetime", policy.error_lifetime)?;
     write_seconds(text, "stale-if-error", policy.stale_if_error)?;
     write_unless(text, policy.stores_cookies, " set-cookie=not-stored")?;
     write_unless(text, policy.stores_errors, " errors=not-stored")?;

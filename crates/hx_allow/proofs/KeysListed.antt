@@ -8,12 +8,14 @@ use Rattle.std.proofs.lemmas.List.Elements.{All-nil, All-cons}
 use Rattle.toml.specs.Data.{Members, get_member}
 use Rattle.hx_policy.specs.Policies.{plain}
 use Rattle.hx_allow.specs.LineTables.{is_good, first_bad_key}
-use Rattle.hx_allow.specs.LineWords.{key_has_text, policy_of_line_table}
+use Rattle.hx_allow.specs.LineWords.{key_has_text, word_of_error_lifetime, policy_of_line_table}
+use Rattle.hx_allow.specs.Keys.{word_key}
 use Rattle.hx_allow.specs.Rows.{line_keys}
 use Rattle.hx_allow.specs.Versions.{LineHasNoWord}
-use Rattle.hx_allow.specs.declared.config_faults.LineWord.TheVariants.{Lifetime, StaleIfError, SetCookie, Errors, RequestDirectives, Wait, Explain}
+use Rattle.hx_allow.specs.declared.config_faults.LineWord.TheVariants.{Lifetime, ErrorLifetime, StaleIfError, SetCookie, Errors, RequestDirectives, Wait, Explain}
 use Rattle.hx_allow.specs.declared.rows.LineKey.{LineKey}
 use Rattle.hx_allow.specs.declared.rows.LineKey.TheVariants.{Host, Methods, Path, Origin, Cache, Word}
+use Rattle.hx_allow.specs.declared.values.TableVersion.{TableVersion}
 use Rattle.hx_allow.proofs.LinesRead.{none_applies}
 
 -- what holds of the list holds of each key
@@ -24,16 +26,18 @@ listed P all Path = all 2 Host (omega arith)
 listed P all Origin = all 3 Host (omega arith)
 listed P all Cache = all 4 Host (omega arith)
 listed P all (Word Lifetime) = all 5 Host (omega arith)
-listed P all (Word StaleIfError) = all 6 Host (omega arith)
-listed P all (Word SetCookie) = all 7 Host (omega arith)
-listed P all (Word Errors) = all 8 Host (omega arith)
-listed P all (Word RequestDirectives) = all 9 Host (omega arith)
-listed P all (Word Wait) = all 10 Host (omega arith)
-listed P all (Word Explain) = all 11 Host (omega arith)
+listed P all (Word ErrorLifetime) = all 6 Host (omega arith)
+listed P all (Word StaleIfError) = all 7 Host (omega arith)
+listed P all (Word SetCookie) = all 8 Host (omega arith)
+listed P all (Word Errors) = all 9 Host (omega arith)
+listed P all (Word RequestDirectives) = all 10 Host (omega arith)
+listed P all (Word Wait) = all 11 Host (omega arith)
+listed P all (Word Explain) = all 12 Host (omega arith)
 
--- where no word of the third version stands, the policy is that of the versions before
-pub plain_policy : (ms : Members) → LineHasNoWord ms → policy_of_line_table ms ≡ plain (not (key_has_text (codes "cache") (codes "off") ms))
-plain_policy ms none =
+-- where no word stands, the policy is that of the versions before the third
+pub plain_policy : (version : TableVersion) (ms : Members) → LineHasNoWord ms → policy_of_line_table version ms ≡ plain (not (key_has_text (codes "cache") (codes "off") ms))
+plain_policy version ms none =
+    let error_lifetime : get_member (word_key (word_of_error_lifetime version)) ms ≡ None = none (word_of_error_lifetime version) in
     let lifetime : get_member (codes "lifetime") ms ≡ None = none Lifetime in
     let stale_if_error : get_member (codes "stale-if-error") ms ≡ None = none StaleIfError in
     let set_cookie : get_member (codes "set-cookie") ms ≡ None = none SetCookie in
@@ -41,7 +45,7 @@ plain_policy ms none =
     let request_directives : get_member (codes "request-directives") ms ≡ None = none RequestDirectives in
     let wait : get_member (codes "wait") ms ≡ None = none Wait in
     let explain : get_member (codes "explain") ms ≡ None = none Explain in
-    rw lifetime (rw stale_if_error (rw set_cookie (rw errors (rw request_directives (rw wait (rw explain refl))))))
+    rw error_lifetime (rw lifetime (rw stale_if_error (rw set_cookie (rw errors (rw request_directives (rw wait (rw explain refl)))))))
 
 -- ---- what a test of the list tells of each
 
@@ -56,7 +60,7 @@ module _ {A : Type 0} (p : A → Bool) where
   not_false true e = refl
   not_false false e = cc
 
-  none_fails : (xs : List A) → find (λ x. not (p x)) xs ≡ None → All (λ x. p x ≡ true) xs
+  pub none_fails : (xs : List A) → find (λ x. not (p x)) xs ≡ None → All (λ x. p x ≡ true) xs
   none_fails [] e = All-nil (λ x. p x ≡ true)
   none_fails (x ∷ xs) e =
       let parts = none_applies (not (p x)) (find (λ x. not (p x)) xs) x e in

@@ -10,7 +10,7 @@ use Rattle.std.proofs.lemmas.Slice.Eq.{bytes_eq-Decides}
 use Rattle.std.proofs.lemmas.Map.Text.{is_eq-slice_cmp}
 use Rattle.toml.specs.Data.{Data, Members, no_members, member, get_member, is_before, is_sorted, members_are_sorted}
 use Rattle.hx_allow.specs.LineTables.{line_fault}
-use Rattle.hx_allow.specs.Tables.{table_fault, judge_table, BytesAreToml, BytesReadAs}
+use Rattle.hx_allow.specs.Tables.{table_fault, judge_table, version_of, BytesAreToml, BytesReadAs}
 use Rattle.hx_allow.specs.Unknown.{KeyIsPresent, KeyComesBefore, IsLeastUnknown}
 use Rattle.hx_allow.specs.Values.{is_known, first_unknown}
 use Rattle.hx_allow.specs.declared.config_faults.ConfigFault.TheVariants.{UnknownKey}
@@ -129,13 +129,13 @@ least_is_first scope ms key sorted least = by_first (first_unknown scope ms) ref
     by_first None none = let bad = sym least.unknown ∙ each_known scope ms key none least.is_present in cc
     by_first (Some k) found_fault = ap Some (one_least scope ms k key (first_is_least scope ms k sorted found_fault) least)
 
-pub found_at_top : (t : Members) (key : List ℕ) → members_are_sorted t ≡ true → IsLeastUnknown Top t key → judge_table t ≡ Err (UnknownKey key)
+pub found_at_top : (t : Members) (key : List ℕ) → members_are_sorted t ≡ true → IsLeastUnknown (Top (version_of t)) t key → judge_table t ≡ Err (UnknownKey key)
 unfolding judge_table table_fault
-found_at_top t key sorted least = rw (least_is_first Top t key sorted least) refl
+found_at_top t key sorted least = rw (least_is_first (Top (version_of t)) t key sorted least) refl
 
 pub found_in_line : (version : TableVersion) (n : ℕ) (ms : Members) (key : List ℕ) → members_are_sorted ms ≡ true → IsLeastUnknown (Line version) ms key → line_fault version n ms ≡ Some (UnknownKey key)
 unfolding line_fault
 found_in_line version n ms key sorted least = rw (least_is_first (Line version) ms key sorted least) refl
 
-pub found_of_text : (text : List ℕ) (t : Members) (key : List ℕ) → BytesAreToml text t → IsLeastUnknown Top t key → BytesReadAs text (Err (UnknownKey key))
+pub found_of_text : (text : List ℕ) (t : Members) (key : List ℕ) → BytesAreToml text t → IsLeastUnknown (Top (version_of t)) t key → BytesReadAs text (Err (UnknownKey key))
 found_of_text text t key is least = inl (t, is, sym (found_at_top t key (read_is_sorted text t is.2) least))

@@ -28,29 +28,29 @@ or_later_none : (a b : Option ConfigFault) → first_fault_or_later a b ≡ None
 or_later_none None b e = (refl, e)
 or_later_none (Some fault) b e = cc
 
-module _ (P : Line → Type 0) (version : TableVersion) (line_is : (n : ℕ) (ms : Members) → line_fault version n ms ≡ None → P (line_read ms)) where
-  with_line_is : (n : ℕ) (o : Option Members) (lines : List Line) → fault_of_line_item version n o ≡ None → All P lines → All P (lines_with o lines)
+module _ (P : Line → Type 0) (version : TableVersion) (line_is : (n : ℕ) (ms : Members) → line_fault version n ms ≡ None → P (line_read version ms)) where
+  with_line_is : (n : ℕ) (o : Option Members) (lines : List Line) → fault_of_line_item version n o ≡ None → All P lines → All P (lines_with version o lines)
   with_line_is n None lines none all = all
-  with_line_is n (Some ms) lines none all = All-cons P (line_read ms) lines (line_is n ms none) all
+  with_line_is n (Some ms) lines none all = All-cons P (line_read version ms) lines (line_is n ms none) all
 
-  pub each_line : (n : ℕ) (ds : Items) → lines_fault version n ds ≡ None → All P (lines_read ds)
+  pub each_line : (n : ℕ) (ds : Items) → lines_fault version n ds ≡ None → All P (lines_read version ds)
   each_line n no_items none = All-nil P
   each_line n (item d ds) none =
       let parts = or_later_none (fault_of_line_item version n (as_table d)) (lines_fault version (n + 1) ds) none in
-      with_line_is n (as_table d) (lines_read ds) parts.0 (each_line (n + 1) ds parts.1)
+      with_line_is n (as_table d) (lines_read version ds) parts.0 (each_line (n + 1) ds parts.1)
 
 no_line_fault : (t : Members) → table_fault t ≡ None → lines_fault (version_of t) 1 (unwrap_or (lines_at t) no_items) ≡ None
 unfolding table_fault
-no_line_fault t none = by_keys (first_unknown Top t) refl (first_bad_at_top t) refl
+no_line_fault t none = by_keys (first_unknown (Top (version_of t)) t) refl (first_bad_at_top t) refl
   where
-    by_keys : (o : Option (List ℕ)) → first_unknown Top t ≡ o → (p : Option TopKey) → first_bad_at_top t ≡ p → lines_fault (version_of t) 1 (unwrap_or (lines_at t) no_items) ≡ None
+    by_keys : (o : Option (List ℕ)) → first_unknown (Top (version_of t)) t ≡ o → (p : Option TopKey) → first_bad_at_top t ≡ p → lines_fault (version_of t) 1 (unwrap_or (lines_at t) no_items) ≡ None
     by_keys (Some key) e p f = let bad : table_fault t ≡ Some (UnknownKey key) = rw e refl in cc
     by_keys None e (Some key) f = let bad : table_fault t ≡ Some (fault_of_top_key key) = rw e (rw f refl) in cc
     by_keys None e None f =
         let is : table_fault t ≡ lines_fault (version_of t) 1 (unwrap_or (lines_at t) no_items) = rw e (rw f refl) in
         sym is ∙ none
 
-module _ (P : Line → Type 0) (t : Members) (table : Table) (line_is : (n : ℕ) (ms : Members) → line_fault (version_of t) n ms ≡ None → P (line_read ms)) where
+module _ (P : Line → Type 0) (t : Members) (table : Table) (line_is : (n : ℕ) (ms : Members) → line_fault (version_of t) n ms ≡ None → P (line_read (version_of t) ms)) where
   by_fault : (o : Option ConfigFault) → table_fault t ≡ o → Ok table ≡ fault_or_table_read o t → All P table.lines
   unfolding table_read
   by_fault (Some fault) is e = cc

@@ -58,11 +58,11 @@ path_is : Once → (text : Option (List ℕ)) → is_some_and is_line_path text 
 path_is once None is = cc
 path_is once (Some text) is = once text (no_bad_escape text is)
 
-line_is : Once → (version : TableVersion) (n : ℕ) (ms : Members) → line_fault version n ms ≡ None → IsTablePath (line_read ms)
+line_is : Once → (version : TableVersion) (n : ℕ) (ms : Members) → line_fault version n ms ≡ None → IsTablePath (line_read version ms)
 unfolding line_fault line_read
 line_is once version n ms none = by_keys (first_unknown (Line version) ms) refl
   where
-    by_keys : (o : Option (List ℕ)) → first_unknown (Line version) ms ≡ o → IsTablePath (line_read ms)
+    by_keys : (o : Option (List ℕ)) → first_unknown (Line version) ms ≡ o → IsTablePath (line_read version ms)
     by_keys (Some key) e = let bad : line_fault version n ms ≡ Some (UnknownKey key) = rw e refl in cc
     by_keys None e =
         let is : line_fault version n ms ≡ option_map (fault_of_line_key n) (first_bad_key ms) = rw e refl in

@@ -1,36 +1,41 @@
 -- What the versions of the table share: a line without the keys that a version adds says the same in each, a table of the
--- first has no line with `cache`, and one of the first two none with a word of the third.
-use Rattle.std.proofs.Common.{◌≡◌, Less, Equal, Greater, Ordering, is_eq, nat_cmp, ℕ, ◌+◌, Bool, true, false, cond, List, codes, Option, Some, None, refl, ap, sym, ◌∙◌, subst}
-use Rattle.std.specs.Prelude.{Ok, Err, not, ◌&&◌, bytes_eq, unwrap_or, option_map}
+-- first has no line with `cache`, one of the first two none with a word, and one of the first three none with a word of
+-- the fourth.
+use Rattle.std.proofs.Common.{◌≡◌, Less, Equal, Greater, Ordering, is_eq, nat_cmp, ℕ, ◌+◌, ◌^◌, ◌≤◌, leb, arith, Bool, true, false, cond, List, codes, Option, Some, None, refl, ap, sym, ◌∙◌, subst}
+use Rattle.std.specs.Prelude.{Ok, Err, not, ◌&&◌, bytes_eq, unwrap_or, option_map, IfSome, ℤ, pos, negsuc, nat_le, is_none, ◌||◌}
+use Rattle.std.specs.Option.{option_and_then}
 use Rattle.std.specs.List.{All}
 use Rattle.std.specs.Ordering.{match_ordering}
 use Rattle.std.specs.Cmp.Lexicographic.{slice_cmp, nat_list_eq_equiv}
+use Rattle.std.proofs.lemmas.Bool.{leb-true}
 use Rattle.std.proofs.lemmas.Slice.Eq.{bytes_eq-Decides}
 use Rattle.std.proofs.lemmas.Map.Text.{is_eq-slice_cmp}
-use Rattle.toml.specs.Data.{Data, Items, no_items, item, Members, no_members, member, get_member, as_table}
+use Rattle.toml.specs.Data.{Data, Items, no_items, item, Members, no_members, member, get_member, as_table, as_integer}
 use Rattle.hx_policy.specs.Policies.{plain}
 use Rattle.hx_allow.specs.TableLines.{Line as PlainLine, Table}
 use Rattle.hx_allow.specs.Keys.{word_key}
 use Rattle.hx_allow.specs.LineWords.{key_has_text}
-use Rattle.hx_allow.specs.Rows.{Row, line_row, word_row, line_keys, fault_of_top_key, fault_of_line_key, has_keys_of}
+use Rattle.hx_allow.specs.Rows.{Row, line_row, word_row, top_keys, line_keys, fault_of_top_key, fault_of_line_key, has_keys_of}
 use Rattle.hx_allow.specs.LineTables.{is_good_at, is_good, first_bad_key, line_fault, line_read, lines_fault, first_fault_or_later, fault_of_line_item}
-use Rattle.hx_allow.specs.Tables.{first_bad_at_top, lines_at, version_of, table_fault, judge_table, fault_or_table_read}
-use Rattle.hx_allow.specs.Values.{is_known, is_key_of, first_unknown}
-use Rattle.hx_allow.specs.Versions.{LineHasNoWord}
+use Rattle.hx_allow.specs.Tables.{is_good_at_top, is_good_store_bound, number_at, first_bad_at_top, lines_at, version_of, table_fault, table_read, judge_table, fault_or_table_read}
+use Rattle.hx_allow.specs.Values.{is_known, is_key_of, first_unknown, within, is_some_and}
+use Rattle.hx_allow.specs.Versions.{LineHasNoWord, LineHasNoWordOfFour, LineIsOfThree}
 use Rattle.hx_allow.specs.declared.config_faults.ConfigFault.{ConfigFault}
-use Rattle.hx_allow.specs.declared.config_faults.ConfigFault.TheVariants.{UnknownKey, BadName, BadNumber, BadCache, BadWord, NoLines}
+use Rattle.hx_allow.specs.declared.config_faults.ConfigFault.TheVariants.{UnknownKey, BadNumber, BadCache, BadWord}
 use Rattle.hx_allow.specs.declared.config_faults.LineWord.{LineWord}
+use Rattle.hx_allow.specs.declared.config_faults.LineWord.TheVariants.{Lifetime, ErrorLifetime, StaleIfError, SetCookie, Errors, RequestDirectives, Wait, Explain}
+use Rattle.hx_allow.specs.declared.config_faults.NumberKey.TheVariants.{Version, Capacity, MaxBody, MaxStored, MaxStore}
 use Rattle.hx_allow.specs.declared.rows.LineKey.{LineKey}
 use Rattle.hx_allow.specs.declared.rows.LineKey.TheVariants.{Host, Methods, Path, Origin, Cache, Word}
 use Rattle.hx_allow.specs.declared.rows.Place.{Place}
 use Rattle.hx_allow.specs.declared.rows.TopKey.{TopKey}
 use Rattle.hx_allow.specs.declared.rows.TopKey.TheVariants.{Name, Number, Lines}
-use Rattle.hx_allow.specs.declared.rows.Place.TheVariants.{Needed, AllowingLine, CachingLine}
+use Rattle.hx_allow.specs.declared.rows.Place.TheVariants.{Needed, Optional, AllowingLine, CachingLine}
 use Rattle.hx_allow.specs.declared.values.Scope.{Scope}
 use Rattle.hx_allow.specs.declared.values.Scope.TheVariants.{Top, Line}
 use Rattle.hx_allow.specs.declared.values.TableVersion.{TableVersion}
-use Rattle.hx_allow.specs.declared.values.TableVersion.TheVariants.{One, Two, Three}
-use Rattle.hx_allow.proofs.KeysListed.{each_key, found_fails, any_alike, plain_policy}
+use Rattle.hx_allow.specs.declared.values.TableVersion.TheVariants.{One, Two, Three, Four}
+use Rattle.hx_allow.proofs.KeysListed.{each_key, found_fails, none_fails, any_alike, plain_policy}
 use Rattle.hx_allow.proofs.LinesRead.{each_line_read}
 
 -- ---- keys
@@ -90,12 +95,13 @@ not_true : (b : Bool) → not b ≡ true → b ≡ false
 not_true true e = cc
 not_true false e = refl
 
-unknown_word : (version : TableVersion) (word : LineWord) → ¬ (version ≡ Three) → is_known (Line version) (word_key word) ≡ false
+unknown_word : (version : TableVersion) (word : LineWord) → has_keys_of version Three ≡ false → is_known (Line version) (word_key word) ≡ false
 unknown_word One word other = not_true (is_known (Line One) (word_key word)) (each_key (is_no_word_of One) refl (Word word))
 unknown_word Two word other = not_true (is_known (Line Two) (word_key word)) (each_key (is_no_word_of Two) refl (Word word))
-unknown_word Three word other = absurd (other refl)
+unknown_word Three word other = cc
+unknown_word Four word other = cc
 
-no_words : (version : TableVersion) (ms : Members) → ¬ (version ≡ Three) → first_unknown (Line version) ms ≡ None → LineHasNoWord ms
+no_words : (version : TableVersion) (ms : Members) → has_keys_of version Three ≡ false → first_unknown (Line version) ms ≡ None → LineHasNoWord ms
 no_words version ms other none = λ word. not_among_known (Line version) (word_key word) ms (unknown_word version word other) none
 
 -- ---- lines that say nothing new read alike
@@ -134,11 +140,42 @@ without_words (member key value ms) none =
     λ word. is_other (word_key word) key value (get_member (word_key word) ms) (none word) in
     rw (known_alike key (λ word. (others word).0)) (rw (without_words ms (λ word. (others word).1)) refl)
 
+-- where no word of the fourth version stands, the last two versions know the same keys
+known_in_four : (key : List ℕ) → ((word : LineWord) → (word_row word).since ≡ Four → bytes_eq key (word_key word) ≡ false) → is_known (Line Four) key ≡ is_known (Line Three) key
+known_in_four key other = any_alike (λ known. is_key_of Four key (line_row known)) (λ known. is_key_of Three key (line_row known)) line_keys alike
+  where
+    alike : (known : LineKey) → is_key_of Four key (line_row known) ≡ is_key_of Three key (line_row known)
+    alike Host = refl
+    alike Methods = refl
+    alike Path = refl
+    alike Origin = refl
+    alike Cache = refl
+    alike (Word Lifetime) = refl
+    alike (Word ErrorLifetime) = other ErrorLifetime refl
+    alike (Word StaleIfError) = refl
+    alike (Word SetCookie) = refl
+    alike (Word Errors) = refl
+    alike (Word RequestDirectives) = refl
+    alike (Word Wait) = refl
+    alike (Word Explain) = refl
+
+same_unknown_of_four : (ms : Members) → LineHasNoWordOfFour ms → first_unknown (Line Four) ms ≡ first_unknown (Line Three) ms
+same_unknown_of_four no_members none = refl
+same_unknown_of_four (member key value ms) none =
+    let others : (word : LineWord) → (word_row word).since ≡ Four → (bytes_eq key (word_key word) ≡ false) × (get_member (word_key word) ms ≡ None) =
+    λ word since. is_other (word_key word) key value (get_member (word_key word) ms) (none word since) in
+    rw (known_in_four key (λ word since. (others word since).0)) (rw (same_unknown_of_four ms (λ word since. (others word since).1)) refl)
+
 pub same_fault : (version : TableVersion) (n : ℕ) (ms : Members) → get_member (codes "cache") ms ≡ None → LineHasNoWord ms → line_fault version n ms ≡ line_fault One n ms
 unfolding line_fault
 same_fault One n ms none no_word = refl
 same_fault Two n ms none no_word = rw (same_unknown ms none) refl
 same_fault Three n ms none no_word = rw (without_words ms no_word) (rw (same_unknown ms none) refl)
+same_fault Four n ms none no_word = rw (same_unknown_of_four ms (λ word since. no_word word)) (rw (without_words ms no_word) (rw (same_unknown ms none) refl))
+
+pub same_fault_of_three : (n : ℕ) (ms : Members) → LineHasNoWordOfFour ms → line_fault Four n ms ≡ line_fault Three n ms
+unfolding line_fault
+same_fault_of_three n ms no_word = rw (same_unknown_of_four ms no_word) refl
 
 pub same_fault_of_two : (n : ℕ) (ms : Members) → LineHasNoWord ms → line_fault Three n ms ≡ line_fault Two n ms
 unfolding line_fault
@@ -150,6 +187,7 @@ same_fault_of_two n ms no_word = rw (without_words ms no_word) refl
 abbrev is_of_added_key : ConfigFault → Bool
 is_of_added_key (BadCache line) = true
 is_of_added_key (BadWord line word) = true
+is_of_added_key (BadNumber MaxStore) = true
 is_of_added_key _ = false
 
 neither_gives : (a b : Option ConfigFault) (fault : ConfigFault) → ¬ (a ≡ Some fault) → ¬ (b ≡ Some fault) → ¬ (first_fault_or_later a b ≡ Some fault)
@@ -162,7 +200,9 @@ module _ (fault : ConfigFault) (is_added : is_of_added_key fault ≡ true) where
       let bad : is_of_added_key fault ≡ false = subst (λ f. is_of_added_key f ≡ false) same other in
       cc
 
-  module _ (version : TableVersion) (never : (n : ℕ) (ms : Members) (key : LineKey) → first_unknown (Line version) ms ≡ None → is_good ms key ≡ false → ¬ (fault_of_line_key n key ≡ fault)) where
+  module _ (version : TableVersion)
+      (never : (n : ℕ) (ms : Members) (key : LineKey) → first_unknown (Line version) ms ≡ None → is_good ms key ≡ false → ¬ (fault_of_line_key n key ≡ fault))
+      (never_at_top : (t : Members) (key : TopKey) → version_of t ≡ version → first_unknown (Top (version_of t)) t ≡ None → is_good_at_top t key ≡ false → ¬ (fault_of_top_key key ≡ fault)) where
     not_refused : (n : ℕ) (ms : Members) → ¬ (line_fault version n ms ≡ Some fault)
     unfolding line_fault
     not_refused n ms bad = by_keys (first_unknown (Line version) ms) refl (first_bad_key ms) refl
@@ -190,21 +230,16 @@ module _ (fault : ConfigFault) (is_added : is_of_added_key fault ≡ true) where
 
     table_not_refused : (t : Members) → version_of t ≡ version → ¬ (table_fault t ≡ Some fault)
     unfolding table_fault
-    table_not_refused t same bad = by_keys (first_unknown Top t) refl (first_bad_at_top t) refl
+    table_not_refused t same bad = by_keys (first_unknown (Top (version_of t)) t) refl (first_bad_at_top t) refl
       where
-        not_at_top : (key : TopKey) → ¬ (fault_of_top_key key ≡ fault)
-        not_at_top Name = not_it BadName refl
-        not_at_top (Number key) = not_it (BadNumber key) refl
-        not_at_top Lines = not_it NoLines refl
-
-        by_keys : (o : Option (List ℕ)) → first_unknown Top t ≡ o → (p : Option TopKey) → first_bad_at_top t ≡ p → ⊥
+        by_keys : (o : Option (List ℕ)) → first_unknown (Top (version_of t)) t ≡ o → (p : Option TopKey) → first_bad_at_top t ≡ p → ⊥
         by_keys (Some key) e p f =
             let is : table_fault t ≡ Some (UnknownKey key) = rw e refl in
             not_it (UnknownKey key) refl cc
         by_keys None e (Some key) f =
             let is : table_fault t ≡ Some (fault_of_top_key key) = rw e (rw f refl) in
             let found : fault_of_top_key key ≡ fault = cc in
-            not_at_top key found
+            never_at_top t key same e (found_fails (is_good_at_top t) top_keys key f) found
         by_keys None e None f =
             let is : table_fault t ≡ lines_fault version 1 (unwrap_or (lines_at t) no_items) = rw e (rw f (rw same refl)) in
             lines_not_refused 1 (unwrap_or (lines_at t) no_items) (sym is ∙ bad)
@@ -233,10 +268,11 @@ never_of_cache line n ms (Word word) known bad same = cc
 -- a key that needn't stand is good where it doesn't
 missing_is_good : (place : Place) (row : Row) (ms : Members) → is_needed place ≡ false → get_member row.key ms ≡ None → is_good_at place row ms ≡ true
 missing_is_good Needed row ms other none = cc
+missing_is_good Optional row ms other none = rw none refl
 missing_is_good AllowingLine row ms other none = rw none refl
 missing_is_good CachingLine row ms other none = rw none refl
 
-never_of_words : (version : TableVersion) (line : ℕ) (word : LineWord) (n : ℕ) (ms : Members) (key : LineKey) → ¬ (version ≡ Three) → first_unknown (Line version) ms ≡ None → is_good ms key ≡ false → ¬ (fault_of_line_key n key ≡ BadWord line word)
+never_of_words : (version : TableVersion) (line : ℕ) (word : LineWord) (n : ℕ) (ms : Members) (key : LineKey) → has_keys_of version Three ≡ false → first_unknown (Line version) ms ≡ None → is_good ms key ≡ false → ¬ (fault_of_line_key n key ≡ BadWord line word)
 never_of_words version line word n ms Host other known bad same = cc
 never_of_words version line word n ms Methods other known bad same = cc
 never_of_words version line word n ms Path other known bad same = cc
@@ -248,11 +284,155 @@ never_of_words version line word n ms (Word bad_word) other known bad same =
     cc
 
 pub never_refused : (t : Members) (line : ℕ) → version_of t ≡ One → ¬ (judge_table t ≡ Err (BadCache line))
-never_refused t line one = never_judged (BadCache line) refl One (never_of_cache line) t one
+never_refused t line one = never_judged (BadCache line) refl One (never_of_cache line) (λ t key same known bad. at_top key) t one
+  where
+    at_top : (key : TopKey) → ¬ (fault_of_top_key key ≡ BadCache line)
+    at_top Name same = cc
+    at_top (Number key) same = cc
+    at_top Lines same = cc
 
-pub never_refused_for_words : (t : Members) (line : ℕ) (word : LineWord) → ¬ (version_of t ≡ Three) → ¬ (judge_table t ≡ Err (BadWord line word))
+pub never_refused_for_words : (t : Members) (line : ℕ) (word : LineWord) → has_keys_of (version_of t) Three ≡ false → ¬ (judge_table t ≡ Err (BadWord line word))
 never_refused_for_words t line word other =
-    never_judged (BadWord line word) refl (version_of t) (λ n ms key known bad. never_of_words (version_of t) line word n ms key other known bad) t refl
+    never_judged (BadWord line word) refl (version_of t) (λ n ms key known bad. never_of_words (version_of t) line word n ms key other known bad) (λ t key same known bad. at_top key) t refl
+  where
+    at_top : (key : TopKey) → ¬ (fault_of_top_key key ≡ BadWord line word)
+    at_top Name same = cc
+    at_top (Number key) same = cc
+    at_top Lines same = cc
+
+-- ---- the words of the fourth version
+
+unknown_word_of_four : (version : TableVersion) (word : LineWord) → (word_row word).since ≡ Four → has_keys_of version Four ≡ false → is_known (Line version) (word_key word) ≡ false
+unknown_word_of_four One word since before = unknown_word One word refl
+unknown_word_of_four Two word since before = unknown_word Two word refl
+unknown_word_of_four Three Lifetime since before = cc
+unknown_word_of_four Three ErrorLifetime since before = refl
+unknown_word_of_four Three StaleIfError since before = cc
+unknown_word_of_four Three SetCookie since before = cc
+unknown_word_of_four Three Errors since before = cc
+unknown_word_of_four Three RequestDirectives since before = cc
+unknown_word_of_four Three Wait since before = cc
+unknown_word_of_four Three Explain since before = cc
+unknown_word_of_four Four word since before = cc
+
+never_of_new_words : (version : TableVersion) (line : ℕ) (word : LineWord) (n : ℕ) (ms : Members) (key : LineKey) → (word_row word).since ≡ Four → has_keys_of version Four ≡ false → first_unknown (Line version) ms ≡ None → is_good ms key ≡ false → ¬ (fault_of_line_key n key ≡ BadWord line word)
+never_of_new_words version line word n ms Host since before known bad same = cc
+never_of_new_words version line word n ms Methods since before known bad same = cc
+never_of_new_words version line word n ms Path since before known bad same = cc
+never_of_new_words version line word n ms Origin since before known bad same = cc
+never_of_new_words version line word n ms Cache since before known bad same = cc
+never_of_new_words version line word n ms (Word bad_word) since before known bad same =
+    let alike : bad_word ≡ word = cc in
+    let new : (word_row bad_word).since ≡ Four = subst (λ w. (word_row w).since ≡ Four) (sym alike) since in
+    let none : get_member (word_key bad_word) ms ≡ None = not_among_known (Line version) (word_key bad_word) ms (unknown_word_of_four version bad_word new before) known in
+    let place : is_needed (word_row bad_word).place ≡ false = not_true (is_needed (word_row bad_word).place) (each_key is_no_needed_word refl (Word bad_word)) in
+    let good : is_good ms (Word bad_word) ≡ true = missing_is_good (word_row bad_word).place (word_row bad_word) ms place none in
+    cc
+
+pub never_refused_for_new_words : (t : Members) (line : ℕ) (word : LineWord) → (word_row word).since ≡ Four → has_keys_of (version_of t) Four ≡ false → ¬ (judge_table t ≡ Err (BadWord line word))
+never_refused_for_new_words t line word since before =
+    never_judged (BadWord line word) refl (version_of t) (λ n ms key known bad. never_of_new_words (version_of t) line word n ms key since before known bad) (λ t key same known bad. at_top key) t refl
+  where
+    at_top : (key : TopKey) → ¬ (fault_of_top_key key ≡ BadWord line word)
+    at_top Name same = cc
+    at_top (Number key) same = cc
+    at_top Lines same = cc
+
+-- ---- the bound of the store
+
+unknown_bound : (version : TableVersion) → has_keys_of version Four ≡ false → is_known (Top version) (codes "max_store") ≡ false
+unknown_bound One before = refl
+unknown_bound Two before = refl
+unknown_bound Three before = refl
+unknown_bound Four before = cc
+
+no_bound : (version : TableVersion) (t : Members) → has_keys_of version Four ≡ false → first_unknown (Top version) t ≡ None → get_member (codes "max_store") t ≡ None
+no_bound version t before known = not_among_known (Top version) (codes "max_store") t (unknown_bound version before) known
+
+never_of_bound : (t : Members) (key : TopKey) → has_keys_of (version_of t) Four ≡ false → first_unknown (Top (version_of t)) t ≡ None → is_good_at_top t key ≡ false → ¬ (fault_of_top_key key ≡ BadNumber MaxStore)
+never_of_bound t Name before known bad same = cc
+never_of_bound t (Number Version) before known bad same = cc
+never_of_bound t (Number Capacity) before known bad same = cc
+never_of_bound t (Number MaxBody) before known bad same = cc
+never_of_bound t (Number MaxStored) before known bad same = cc
+never_of_bound t (Number MaxStore) before known bad same =
+    let good : is_good_at_top t (Number MaxStore) ≡ true = rw (no_bound (version_of t) t before known) refl in
+    cc
+never_of_bound t Lines before known bad same = cc
+
+no_line_gives : (n : ℕ) (key : LineKey) → ¬ (fault_of_line_key n key ≡ BadNumber MaxStore)
+no_line_gives n Host same = cc
+no_line_gives n Methods same = cc
+no_line_gives n Path same = cc
+no_line_gives n Origin same = cc
+no_line_gives n Cache same = cc
+no_line_gives n (Word word) same = cc
+
+pub never_refused_for_bound : (t : Members) → has_keys_of (version_of t) Four ≡ false → ¬ (judge_table t ≡ Err (BadNumber MaxStore))
+never_refused_for_bound t before =
+    never_judged (BadNumber MaxStore) refl (version_of t) (λ n ms key known bad. no_line_gives n key)
+    (λ u key same known bad. never_of_bound u key (subst (λ v. has_keys_of v Four ≡ false) (sym same) before) known bad) t refl
+
+-- where a table was read no key at the top is unknown, and none is bad
+read_without_fault : (t : Members) (table : Table) → judge_table t ≡ Ok table → (table_fault t ≡ None) × (table_read t ≡ table)
+unfolding judge_table
+read_without_fault t table e = by_fault (table_fault t) refl e
+  where
+    by_fault : (o : Option ConfigFault) → table_fault t ≡ o → fault_or_table_read o t ≡ Ok table → (table_fault t ≡ None) × (table_read t ≡ table)
+    by_fault (Some fault) is e = cc
+    by_fault None is e = (is, cc)
+
+top_without_fault : (t : Members) → table_fault t ≡ None → (first_unknown (Top (version_of t)) t ≡ None) × (first_bad_at_top t ≡ None)
+unfolding table_fault
+top_without_fault t none = by_keys (first_unknown (Top (version_of t)) t) refl (first_bad_at_top t) refl
+  where
+    by_keys : (o : Option (List ℕ)) → first_unknown (Top (version_of t)) t ≡ o → (p : Option TopKey) → first_bad_at_top t ≡ p → (first_unknown (Top (version_of t)) t ≡ None) × (first_bad_at_top t ≡ None)
+    by_keys (Some key) e p f = let bad : table_fault t ≡ Some (UnknownKey key) = rw e refl in cc
+    by_keys None e (Some key) f = let bad : table_fault t ≡ Some (fault_of_top_key key) = rw e (rw f refl) in cc
+    by_keys None e None f = (e, f)
+
+pub read_unbounded : (t : Members) (table : Table) → has_keys_of (version_of t) Four ≡ false → judge_table t ≡ Ok table → table.max_store ≡ None
+unfolding table_read
+read_unbounded t table before e =
+    let read = read_without_fault t table e in
+    let none : get_member (codes "max_store") t ≡ None = no_bound (version_of t) t before (top_without_fault t read.0).0 in
+    let absent : number_at MaxStore t ≡ None = rw none refl in
+    ap (λ (read : Table). read.max_store) (sym read.1) ∙ absent
+
+within_range : (low high n : ℕ) (o : Option ℤ) → within low high o ≡ Some n → (low ≤ n) × (n ≤ high)
+within_range low high n None e = cc
+within_range low high n (Some (negsuc k)) e = cc
+within_range low high n (Some (pos k)) e = by_tests (leb low k) refl (leb k high) refl e
+  where
+    by_tests : (a : Bool) → leb low k ≡ a → (b : Bool) → leb k high ≡ b → cond (a && b) (Some k) None ≡ Some n → (low ≤ n) × (n ≤ high)
+    by_tests true x true y e = let same : k ≡ n = cc in (subst (λ m. low ≤ m) same (leb-true low k x), subst (λ m. m ≤ high) same (leb-true k high y))
+    by_tests true x false y e = cc
+    by_tests false x b y e = cc
+
+pub read_bound : (t : Members) (table : Table) → judge_table t ≡ Ok table → IfSome table.max_store (λ most. (65536 ≤ most) × (most ≤ 2 ^ 40) × (table.max_stored ≤ most))
+unfolding table_read
+read_bound t table e =
+    let read = read_without_fault t table e in
+    let good : is_good_store_bound t ≡ true = none_fails (is_good_at_top t) top_keys (top_without_fault t read.0).1 5 Name (omega arith) in
+    subst (λ (read : Table). IfSome read.max_store (λ most. (65536 ≤ most) × (most ≤ 2 ^ 40) × (read.max_stored ≤ most))) read.1 (by_number (number_at MaxStore t) refl good)
+  where
+    Bounded : Option ℕ → Type 0
+    Bounded o = IfSome o (λ most. (65536 ≤ most) × (most ≤ 2 ^ 40) × (unwrap_or (number_at MaxStored t) 0 ≤ most))
+
+    by_number : (o : Option ℕ) → number_at MaxStore t ≡ o → is_good_store_bound t ≡ true → Bounded o
+    by_number None is good = tt
+    by_number (Some most) is good =
+        let range = within_range 65536 1099511627776 most (option_and_then as_integer (get_member (codes "max_store") t)) is in
+        (range.0, omega arith, by_member (get_member (codes "max_store") t) refl)
+      where
+        fits : Option ℕ → Bool
+        fits o = is_some_and (λ most. nat_le (unwrap_or (number_at MaxStored t) 0) most) o
+
+        by_member : (m : Option Data) → get_member (codes "max_store") t ≡ m → unwrap_or (number_at MaxStored t) 0 ≤ most
+        by_member None e = let absent : number_at MaxStore t ≡ None = rw e refl in absurd (cc)
+        by_member (Some value) e =
+            let shown : (is_none (Some value) || fits (number_at MaxStore t)) ≡ true = subst (λ m. (is_none m || fits (number_at MaxStore t)) ≡ true) e good in
+            leb-true (unwrap_or (number_at MaxStored t) 0) most (subst (λ o. fits o ≡ true) is shown)
 
 -- ---- what lines say
 
@@ -264,21 +444,29 @@ all_keys_known version n ms none = by_keys (first_unknown (Line version) ms) ref
     by_keys (Some key) e = let is : line_fault version n ms ≡ Some (UnknownKey key) = rw e refl in cc
     by_keys None e = e
 
-is_cached_line : (n : ℕ) (ms : Members) → line_fault One n ms ≡ None → (line_read ms).policy ≡ plain true
+is_cached_line : (n : ℕ) (ms : Members) → line_fault One n ms ≡ None → (line_read One ms).policy ≡ plain true
 unfolding line_read
 is_cached_line n ms none =
     let known = all_keys_known One n ms none in
     let caches : not (key_has_text (codes "cache") (codes "off") ms) ≡ true = rw (no_cache ms known) refl in
-    plain_policy ms (no_words One ms (λ same. cc) known) ∙ ap plain caches
+    plain_policy One ms (no_words One ms refl known) ∙ ap plain caches
 
-is_plain_line : (version : TableVersion) (n : ℕ) (ms : Members) → ¬ (version ≡ Three) → line_fault version n ms ≡ None → (line_read ms).policy ≡ plain (line_read ms).policy.caches
+is_plain_line : (version : TableVersion) (n : ℕ) (ms : Members) → has_keys_of version Three ≡ false → line_fault version n ms ≡ None → (line_read version ms).policy ≡ plain (line_read version ms).policy.caches
 unfolding line_read
-is_plain_line version n ms other none = plain_policy ms (no_words version ms other (all_keys_known version n ms none))
+is_plain_line version n ms other none = plain_policy version ms (no_words version ms other (all_keys_known version n ms none))
+
+is_line_of_three : (version : TableVersion) (ms : Members) → has_keys_of version Four ≡ false → LineIsOfThree (line_read version ms)
+unfolding line_read
+is_line_of_three version ms before = rw before refl
 
 pub each_is_cached : (t : Members) (table : Table) → version_of t ≡ One → judge_table t ≡ Ok table → All (λ (line : PlainLine). line.policy ≡ plain true) table.lines
 each_is_cached t table one e =
-    each_line_read (λ (line : PlainLine). line.policy ≡ plain true) t table (λ n ms none. is_cached_line n ms (subst (λ v. line_fault v n ms ≡ None) one none)) (sym e)
+    each_line_read (λ (line : PlainLine). line.policy ≡ plain true) t table
+    (λ n ms none. subst (λ v. (line_read v ms).policy ≡ plain true) (sym one) (is_cached_line n ms (subst (λ v. line_fault v n ms ≡ None) one none))) (sym e)
 
-pub each_is_plain : (t : Members) (table : Table) → ¬ (version_of t ≡ Three) → judge_table t ≡ Ok table → All (λ (line : PlainLine). line.policy ≡ plain line.policy.caches) table.lines
+pub each_is_plain : (t : Members) (table : Table) → has_keys_of (version_of t) Three ≡ false → judge_table t ≡ Ok table → All (λ (line : PlainLine). line.policy ≡ plain line.policy.caches) table.lines
 each_is_plain t table other e =
     each_line_read (λ (line : PlainLine). line.policy ≡ plain line.policy.caches) t table (λ n ms none. is_plain_line (version_of t) n ms other none) (sym e)
+
+pub each_is_of_three : (t : Members) (table : Table) → has_keys_of (version_of t) Four ≡ false → judge_table t ≡ Ok table → All LineIsOfThree table.lines
+each_is_of_three t table before e = each_line_read LineIsOfThree t table (λ n ms none. is_line_of_three (version_of t) ms before) (sym e)

@@ -1,4 +1,4 @@
--- A line without fault that has a word of the third version allows and has its cache on.
+-- A line without fault that has a word allows and has its cache on.
 use Rattle.std.proofs.Common.{◌≡◌, inl, inr, ℕ, Bool, true, false, List, codes, Option, Some, None, refl, ap, sym, ◌∙◌}
 use Rattle.std.specs.Prelude.{Ok, not, ◌&&◌, ◌||◌, is_none, is_some, bytes_eq, option_map}
 use Rattle.std.specs.Option.{option_and_then}
@@ -16,7 +16,7 @@ use Rattle.hx_allow.specs.declared.config_faults.ConfigFault.TheVariants.{Unknow
 use Rattle.hx_allow.specs.declared.rows.LineKey.{LineKey}
 use Rattle.hx_allow.specs.declared.rows.LineKey.TheVariants.{Origin, Word}
 use Rattle.hx_allow.specs.declared.rows.Place.{Place}
-use Rattle.hx_allow.specs.declared.rows.Place.TheVariants.{Needed, AllowingLine, CachingLine}
+use Rattle.hx_allow.specs.declared.rows.Place.TheVariants.{Needed, Optional, AllowingLine, CachingLine}
 use Rattle.hx_allow.specs.declared.values.Scope.TheVariants.{Line}
 use Rattle.hx_allow.specs.declared.values.TableVersion.{TableVersion}
 use Rattle.hx_allow.proofs.KeysListed.{each_key, each_good, plain_policy}
@@ -33,6 +33,7 @@ is_caching_word key = true
 -- a line that takes no words has none
 absent : (place : Place) (row : Row) (ms : Members) → is_of_caching place ≡ true → line_takes_words ms ≡ false → is_good_at place row ms ≡ true → get_member row.key ms ≡ None
 absent Needed row ms caching untaken good = cc
+absent Optional row ms caching untaken good = cc
 absent AllowingLine row ms caching untaken good = cc
 absent CachingLine row ms caching untaken good = by_value (get_member row.key ms) (is_of_kind row.kind row.key ms) (line_takes_words ms) untaken good
   where
@@ -58,18 +59,18 @@ both_hold true b e = cc
 both_hold false true e = cc
 both_hold false false e = (refl, refl)
 
-takes_them : (version : TableVersion) (n : ℕ) (ms : Members) → line_fault version n ms ≡ None → LineTakesItsWords (line_read ms)
+takes_them : (version : TableVersion) (n : ℕ) (ms : Members) → line_fault version n ms ≡ None → LineTakesItsWords (line_read version ms)
 unfolding line_fault line_read
 takes_them version n ms none = by_keys (first_unknown (Line version) ms) refl
   where
-    parts : (takes : Bool) → line_takes_words ms ≡ takes → first_bad_key ms ≡ None → LineTakesItsWords (line_read ms)
+    parts : (takes : Bool) → line_takes_words ms ≡ takes → first_bad_key ms ≡ None → LineTakesItsWords (line_read version ms)
     parts true is good =
         let both = both_hold (key_has_text (codes "origin") (codes "deny") ms) (key_has_text (codes "cache") (codes "off") ms) is in
         let origin : is_some_and is_line_origin (text_at (codes "origin") ms) ≡ true = each_good ms good Origin in
         inr (has_origin (text_at (codes "origin") ms) origin both.0, ap not both.1)
-    parts false is good = inl (plain_policy ms (no_words ms is good))
+    parts false is good = inl (plain_policy version ms (no_words ms is good))
 
-    by_keys : (o : Option (List ℕ)) → first_unknown (Line version) ms ≡ o → LineTakesItsWords (line_read ms)
+    by_keys : (o : Option (List ℕ)) → first_unknown (Line version) ms ≡ o → LineTakesItsWords (line_read version ms)
     by_keys (Some key) e = let bad : line_fault version n ms ≡ Some (UnknownKey key) = rw e refl in cc
     by_keys None e =
         let is : line_fault version n ms ≡ option_map (fault_of_line_key n) (first_bad_key ms) = rw e refl in

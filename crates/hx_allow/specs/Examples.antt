@@ -65,6 +65,13 @@ top_table version capacity lines =
     (codes "max_body") 1000 ∷ key_with_number (codes "max_stored") 1000
     ∷ key_with_text (codes "name") (codes "edge") ∷ key_with_number (codes "version") version ∷ [])
 
+-- the same with two entries, where its version, the bound of a content and that of the store are these
+abbrev pub bounded_table : ℕ → ℕ → Data → Items → Members
+bounded_table version max_stored max_store lines =
+    table_of_pairs (key_with_number (codes "capacity") 2 ∷ (codes "line", array lines) ∷ key_with_number
+    (codes "max_body") 1000 ∷ (codes "max_store", max_store) ∷ key_with_number (codes "max_stored") max_stored
+    ∷ key_with_text (codes "name") (codes "edge") ∷ key_with_number (codes "version") version ∷ [])
+
 -- a request for a path, of this host
 abbrev pub target_for_path : List ℕ → List ℕ → Target
 target_for_path host path = record {

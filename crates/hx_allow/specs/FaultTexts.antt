@@ -9,9 +9,9 @@ use Rattle.hx_allow.specs.declared.config_faults.ConfigFault.TheVariants.{BadCac
 use Rattle.hx_allow.specs.declared.rows.LineKey.TheVariants.{Host, Methods, Path, Origin, Cache}
 use Rattle.hx_allow.specs.declared.rows.Place.{Place}
 use Rattle.hx_allow.specs.declared.rows.TopKey.TheVariants.{Name}
-use Rattle.hx_allow.specs.declared.rows.Place.TheVariants.{Needed, AllowingLine, CachingLine}
-use Rattle.hx_allow.specs.Rows.{Kind, a_number, some_seconds, a_version, one_of, a_name, some_lines, a_host}
-use Rattle.hx_allow.specs.Rows.{some_methods, a_path, an_origin}
+use Rattle.hx_allow.specs.declared.rows.Place.TheVariants.{Needed, Optional, AllowingLine, CachingLine}
+use Rattle.hx_allow.specs.Rows.{Kind, a_number, some_seconds, a_store_bound, a_version, one_of, a_name, some_lines}
+use Rattle.hx_allow.specs.Rows.{a_host, some_methods, a_path, an_origin}
 use Rattle.hx_allow.specs.Rows.{Row, number_row, top_row, word_row, line_row, words_of_unknown_key}
 
 -- the line at fault, counted from 1
@@ -32,7 +32,10 @@ words_of_bounds low high = decimal low ++ (codes " to " ++ (decimal high ++ code
 abbrev pub words_of_kind : Kind → List ℕ
 words_of_kind (a_number low high) = codes "be a whole number from " ++ words_of_bounds low high
 words_of_kind (some_seconds low high) = codes "be a whole number of seconds from " ++ words_of_bounds low high
-words_of_kind a_version = codes "be 1, 2 or 3, without quotes"
+words_of_kind (a_store_bound low high) =
+    codes "be a whole number from "
+    ++ (decimal low ++ (codes " to " ++ (decimal high ++ codes ", without quotes, and no less than max_stored")))
+words_of_kind a_version = codes "be 1, 2, 3 or 4, without quotes"
 words_of_kind (one_of first second) = codes "be \"" ++ (first ++ (codes "\" or \"" ++ (second ++ codes "\"")))
 words_of_kind a_name = codes "be a lower-case letter and at most 31 of a-z, 0-9 and -, in quotes"
 words_of_kind some_lines = []
@@ -44,6 +47,7 @@ words_of_kind an_origin = codes "be \"deny\" or an IPv4 address and a port, as i
 -- where a key may stand
 abbrev pub words_of_place : Place → List ℕ
 words_of_place Needed = []
+words_of_place Optional = []
 words_of_place AllowingLine = codes ", and not to stand in a line that denies"
 words_of_place CachingLine = codes ", in a line that has an origin and its cache on"
 

@@ -27,7 +27,7 @@ use Rattle.hx_allow.specs.declared.config_faults.FoundFault.TheVariants as found
 use Rattle.hx_allow.specs.declared.config_faults.ConfigFault.TheVariants.{UnknownKey}
 use Rattle.hx_allow.specs.declared.rows.LineKey.{LineKey}
 use Rattle.hx_allow.specs.declared.rows.Place.{Place}
-use Rattle.hx_allow.specs.declared.rows.Place.TheVariants.{Needed, AllowingLine, CachingLine}
+use Rattle.hx_allow.specs.declared.rows.Place.TheVariants.{Needed, Optional, AllowingLine, CachingLine}
 
 -- `*`, or a host in lower case
 unfoldable pub is_line_host : List ℕ → Bool
@@ -74,6 +74,7 @@ is_of_kind _ key ms = false
 -- a row's key has a good value in a line that takes it, or needn't stand and doesn't
 abbrev pub is_good_at : Place → Row → Members → Bool
 is_good_at Needed row ms = is_of_kind row.kind row.key ms
+is_good_at Optional row ms = is_none (get_member row.key ms) || is_of_kind row.kind row.key ms
 is_good_at AllowingLine row ms =
     is_none (get_member row.key ms) || (is_of_kind row.kind row.key ms && not (line_denies ms))
 is_good_at CachingLine row ms =
@@ -94,14 +95,14 @@ line_fault version n ms = after_keys (first_unknown (Line version) ms)
     after_keys (Some key) = Some (UnknownKey key)
     after_keys None = option_map (fault_of_line_key n) (first_bad_key ms)
 
--- the line, where it has no fault
-unfoldable pub line_read : Members → PlainLine
-line_read ms = record {
+-- the line, where it has no fault, in a table of this version
+unfoldable pub line_read : TableVersion → Members → PlainLine
+line_read version ms = record {
   host = text_unless (codes "*") (text_at (codes "host") ms);
   methods = texts_of (unwrap_or (items_at (codes "methods") ms) no_items);
   path = table_path_of (unwrap_or (text_at (codes "path") ms) []);
   origin = option_and_then address_text (text_at (codes "origin") ms);
-  policy = policy_of_line_table ms;
+  policy = policy_of_line_table version ms;
 }
 
 abbrev pub first_fault_or_later : Option ConfigFault → Option ConfigFault → Option ConfigFault
@@ -123,14 +124,14 @@ abbrev pub array_of_tables : List Members → Items
 array_of_tables [] = no_items
 array_of_tables (ms ∷ more) = item (table ms) (array_of_tables more)
 
-abbrev pub lines_with : Option Members → List PlainLine → List PlainLine
-lines_with None lines = lines
-lines_with (Some ms) lines = line_read ms ∷ lines
+abbrev pub lines_with : TableVersion → Option Members → List PlainLine → List PlainLine
+lines_with version None lines = lines
+lines_with version (Some ms) lines = line_read version ms ∷ lines
 
--- what the lines say, where they have no fault
-abbrev pub lines_read : Items → List PlainLine
-lines_read no_items = []
-lines_read (item d ds) = lines_with (as_table d) (lines_read ds)
+-- what the lines say, where they have no fault, in a table of this version
+abbrev pub lines_read : TableVersion → Items → List PlainLine
+lines_read version no_items = []
+lines_read version (item d ds) = lines_with version (as_table d) (lines_read version ds)
 
 -- the fault that was found
 abbrev pub config_fault_found : FoundFault → ConfigFault

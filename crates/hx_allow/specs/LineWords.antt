@@ -1,15 +1,18 @@
 -- What a line says of caching, and which lines may say it.
 --
 -- line_denies, line_takes_words: a line has no origin, or has one and its cache on
+-- word_of_error_lifetime: the word that gives errors their lifetime
 -- policy_of_line_table: what a line without fault says
-use Rattle.std.specs.Prelude.{ℕ, Bool, false, not, ◌&&◌, ◌||◌, List, codes, bytes_eq}
+use Rattle.std.specs.Prelude.{ℕ, Bool, false, not, ◌&&◌, ◌||◌, if◌then◌else◌, List, codes, bytes_eq}
 use Rattle.toml.specs.Data.{Members}
 use Rattle.hx_policy.specs.declared.words.Policy.{Policy}
-use Rattle.hx_allow.specs.Rows.{Kind, one_of, Row, word_row, line_row}
+use Rattle.hx_allow.specs.Rows.{Kind, one_of, Row, word_row, line_row, has_keys_of}
 use Rattle.hx_allow.specs.Values.{text_at, is_some_and, number_in}
-use Rattle.hx_allow.specs.declared.config_faults.LineWord.TheVariants.{Lifetime, StaleIfError, SetCookie, Errors}
-use Rattle.hx_allow.specs.declared.config_faults.LineWord.TheVariants.{RequestDirectives, Wait, Explain}
+use Rattle.hx_allow.specs.declared.config_faults.LineWord.{LineWord}
+use Rattle.hx_allow.specs.declared.config_faults.LineWord.TheVariants.{Lifetime, ErrorLifetime, StaleIfError, SetCookie}
+use Rattle.hx_allow.specs.declared.config_faults.LineWord.TheVariants.{Errors, RequestDirectives, Wait, Explain}
 use Rattle.hx_allow.specs.declared.rows.LineKey.TheVariants.{Cache}
+use Rattle.hx_allow.specs.declared.values.TableVersion.{TableVersion}
 
 -- the text of a key is one of two
 abbrev pub is_one_of_two : List ℕ → List ℕ → List ℕ → Bool
@@ -37,11 +40,18 @@ says_second_of _ key ms = false
 abbrev pub says_second : Row → Members → Bool
 says_second row ms = says_second_of row.kind row.key ms
 
--- own: what a line says of caching, by the operator's words; each key that doesn't stand is as in the versions before
-abbrev pub policy_of_line_table : Members → Policy
-policy_of_line_table ms = record {
+-- own: the word that gives errors their lifetime, which is that of all others in a version without a word of its own
+abbrev pub word_of_error_lifetime : TableVersion → LineWord
+word_of_error_lifetime version =
+    if has_keys_of version (word_row ErrorLifetime).since then ErrorLifetime else Lifetime
+
+-- own: what a line of a table of a version says of caching, by the operator's words; each key that doesn't stand is as
+-- in the versions before
+abbrev pub policy_of_line_table : TableVersion → Members → Policy
+policy_of_line_table version ms = record {
   caches = not (says_second (line_row Cache) ms);
   lifetime = number_in (word_row Lifetime) ms;
+  error_lifetime = number_in (word_row (word_of_error_lifetime version)) ms;
   stale_if_error = number_in (word_row StaleIfError) ms;
   stores_cookies = not (says_second (word_row SetCookie) ms);
   stores_errors = not (says_second (word_row Errors) ms);

@@ -10,27 +10,30 @@ use Rattle.hx_allow.specs.declared.config_faults.ConfigFault.TheVariants.{BadNam
 use Rattle.hx_allow.specs.declared.config_faults.ConfigFault.TheVariants.{BadMethod}
 use Rattle.hx_allow.specs.declared.config_faults.ConfigFault.TheVariants.{BadPath, BadOrigin, BadCache, BadWord}
 use Rattle.hx_allow.specs.declared.config_faults.LineWord.{LineWord}
-use Rattle.hx_allow.specs.declared.config_faults.LineWord.TheVariants.{Lifetime, StaleIfError, SetCookie, Errors}
-use Rattle.hx_allow.specs.declared.config_faults.LineWord.TheVariants.{RequestDirectives, Wait, Explain}
+use Rattle.hx_allow.specs.declared.config_faults.LineWord.TheVariants.{Lifetime, ErrorLifetime, StaleIfError, SetCookie}
+use Rattle.hx_allow.specs.declared.config_faults.LineWord.TheVariants.{Errors, RequestDirectives, Wait, Explain}
 use Rattle.hx_allow.specs.declared.config_faults.NumberKey.{NumberKey}
 use Rattle.hx_allow.specs.declared.config_faults.NumberKey.TheVariants.{Version, Capacity, MaxBody, MaxStored}
+use Rattle.hx_allow.specs.declared.config_faults.NumberKey.TheVariants.{MaxStore}
 use Rattle.hx_allow.specs.declared.rows.Kind.{Kind as SourceKind}
 use Rattle.hx_allow.specs.declared.rows.Kind.TheVariants as source
 use Rattle.hx_allow.specs.declared.rows.LineKey.{LineKey}
 use Rattle.hx_allow.specs.declared.rows.LineKey.TheVariants.{Host, Methods, Path, Origin, Cache, Word}
 use Rattle.hx_allow.specs.declared.rows.Place.{Place}
-use Rattle.hx_allow.specs.declared.rows.Place.TheVariants.{Needed, AllowingLine, CachingLine}
+use Rattle.hx_allow.specs.declared.rows.Place.TheVariants.{Needed, Optional, AllowingLine, CachingLine}
 use Rattle.hx_allow.specs.declared.rows.Row.{Row as SourceRow}
 use Rattle.hx_allow.specs.declared.rows.TopKey.{TopKey}
 use Rattle.hx_allow.specs.declared.rows.TopKey.TheVariants.{Name, Number, Lines}
 use Rattle.hx_allow.specs.declared.values.TableVersion.{TableVersion}
-use Rattle.hx_allow.specs.declared.values.TableVersion.TheVariants.{One, Two, Three}
+use Rattle.hx_allow.specs.declared.values.TableVersion.TheVariants.{One, Two, Three, Four}
 
 -- what the value of a key has to be
 pub data Kind : Type 0 where
   -- a whole number from the first to the second, and one of seconds
   a_number : ℕ → ℕ → Kind
   some_seconds : ℕ → ℕ → Kind
+  -- a whole number from the first to the second, and no less than max_stored
+  a_store_bound : ℕ → ℕ → Kind
   -- the number of a version
   a_version : Kind
   -- one of two texts; where the key doesn't stand it is as with the first
@@ -62,6 +65,12 @@ number_row Version = required_row (codes "version") a_version
 number_row Capacity = required_row (codes "capacity") (a_number 1 65536)
 number_row MaxBody = required_row (codes "max_body") (a_number 0 16777216)
 number_row MaxStored = required_row (codes "max_stored") (a_number 0 16777216)
+number_row MaxStore = record {
+  key = codes "max_store";
+  since = Four;
+  kind = a_store_bound 65536 1099511627776;
+  place = Optional;
+}
 
 abbrev pub top_row : TopKey → Row
 top_row Name = required_row (codes "name") a_name
@@ -70,7 +79,7 @@ top_row Lines = required_row (codes "line") some_lines
 
 -- the keys at the top, in the order in which they are looked at
 abbrev pub top_keys : List TopKey
-top_keys = Name ∷ Number Version ∷ Number Capacity ∷ Number MaxBody ∷ Number MaxStored ∷ Lines ∷ []
+top_keys = Name ∷ Number Version ∷ Number Capacity ∷ Number MaxBody ∷ Number MaxStored ∷ Number MaxStore ∷ Lines ∷ []
 
 abbrev pub fault_of_top_key : TopKey → ConfigFault
 fault_of_top_key Name = BadName
@@ -83,6 +92,7 @@ most_seconds = 2147483648
 
 abbrev pub word_row : LineWord → Row
 word_row Lifetime = row_for_caching_lines (codes "lifetime") Three (some_seconds 1 most_seconds)
+word_row ErrorLifetime = row_for_caching_lines (codes "error-lifetime") Four (some_seconds 1 most_seconds)
 word_row StaleIfError = row_for_caching_lines (codes "stale-if-error") Three (some_seconds 0 most_seconds)
 word_row SetCookie = row_for_caching_lines (codes "set-cookie") Three (one_of (codes "stored") (codes "not-stored"))
 word_row Errors = row_for_caching_lines (codes "errors") Three (one_of (codes "stored") (codes "not-stored"))
@@ -92,11 +102,12 @@ word_row Explain = row_for_caching_lines (codes "explain") Three (one_of (codes 
 
 -- the words of a line, in the order in which they are looked at
 abbrev pub line_words : List LineWord
-line_words = Lifetime ∷ StaleIfError ∷ SetCookie ∷ Errors ∷ RequestDirectives ∷ Wait ∷ Explain ∷ []
+line_words =
+    Lifetime ∷ ErrorLifetime ∷ StaleIfError ∷ SetCookie ∷ Errors ∷ RequestDirectives ∷ Wait ∷ Explain ∷ []
 
 -- what is told of a key that isn't known, with the keys that a version adds
 abbrev pub words_of_unknown_key : List ℕ
-words_of_unknown_key = codes "a key isn't known where it stands; correct its spelling or delete it: behind [[line]] keys belong to that line; cache needs version = 2 or 3, and lifetime, stale-if-error, set-cookie, errors, request-directives, wait and explain need version = 3"
+words_of_unknown_key = codes "a key isn't known where it stands; correct its spelling or delete it: behind [[line]] keys belong to that line; cache needs version = 2, 3 or 4, lifetime, stale-if-error, set-cookie, errors, request-directives, wait and explain need version = 3 or 4, and max_store and error-lifetime need version = 4"
 
 abbrev pub line_row : LineKey → Row
 line_row Host = required_row (codes "host") a_host
@@ -128,6 +139,7 @@ abbrev pub version_number : TableVersion → ℕ
 version_number One = 1
 version_number Two = 2
 version_number Three = 3
+version_number Four = 4
 
 -- a version has the keys of the versions before it
 abbrev pub has_keys_of : TableVersion → TableVersion → Bool
@@ -137,19 +149,22 @@ has_keys_of version since = nat_le (version_number since) (version_number versio
 abbrev pub least_number : Kind → ℕ
 least_number (a_number low high) = low
 least_number (some_seconds low high) = low
+least_number (a_store_bound low high) = low
 least_number a_version = 1
 least_number _ = 0
 
 abbrev pub greatest_number : Kind → ℕ
 greatest_number (a_number low high) = high
 greatest_number (some_seconds low high) = high
-greatest_number a_version = 3
+greatest_number (a_store_bound low high) = high
+greatest_number a_version = 4
 greatest_number _ = 0
 
 -- the rows of the code
 abbrev pub plain_kind : SourceKind → Kind
 plain_kind (source.Number low high) = a_number low high
 plain_kind (source.Seconds low high) = some_seconds low high
+plain_kind (source.StoreBound low high) = a_store_bound low high
 plain_kind source.Version = a_version
 plain_kind (source.OneOf first second) = one_of first.now second.now
 plain_kind source.Name = a_name

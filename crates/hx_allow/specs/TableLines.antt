@@ -11,10 +11,12 @@ pub record Line : Type 0 where
   pub origin : Option (List ℕ)
   pub policy : Policy
 
--- The whole table. Limits are bytes, but for the capacity, which is entries.
+-- The whole table. Limits are bytes, but for the capacity, which is entries. The bytes of all stored responses are
+-- bounded where `max_store` stands.
 pub record Table : Type 0 where
   pub name : List ℕ
   pub capacity : ℕ
   pub max_body : ℕ
   pub max_stored : ℕ
+  pub max_store : Option ℕ
   pub lines : List Line

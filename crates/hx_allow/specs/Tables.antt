@@ -5,12 +5,12 @@
 -- BytesReadAs: the same of bytes, with the reading of TOML as a relation
 -- TableWasRead: some text reads as a table
 use Rattle.std.specs.Prelude.{◌≡◌, ◌⊎◌, ◌≤◌, ℕ, ◌==◌, nat_le, Bool, true, false, not, ◌&&◌, ◌||◌, if◌then◌else◌, List}
-use Rattle.std.specs.Prelude.{[], length, slice_index, find, codes, IsUtf8, Option, Some, None, is_some}
+use Rattle.std.specs.Prelude.{[], length, slice_index, find, codes, IsUtf8, Option, Some, None, is_some, is_none}
 use Rattle.std.specs.Prelude.{unwrap_or, Result, Ok, Err}
 use Rattle.std.specs.Option.{option_and_then}
 use Rattle.std.specs.List.{list_all}
 use Rattle.std.specs.Char.{is_ascii_lowercase, is_ascii_digit}
-use Rattle.toml.specs.Data.{Items, no_items, Members, as_table}
+use Rattle.toml.specs.Data.{Items, no_items, Members, get_member, as_table}
 use Rattle.toml.specs.Parse.{parse_document}
 use Rattle.hx_allow.specs.TableLines.{Table}
 use Rattle.hx_allow.specs.LineTables.{lines_fault, lines_read}
@@ -19,13 +19,14 @@ use Rattle.hx_allow.specs.Values.{first_unknown, text_at, number_in, is_some_and
 use Rattle.hx_allow.specs.Values.{items_at}
 use Rattle.hx_allow.specs.declared.values.Scope.TheVariants.{Top}
 use Rattle.hx_allow.specs.declared.values.TableVersion.{TableVersion}
-use Rattle.hx_allow.specs.declared.values.TableVersion.TheVariants.{One, Two, Three}
+use Rattle.hx_allow.specs.declared.values.TableVersion.TheVariants.{One, Two, Three, Four}
 use Rattle.hx_allow.specs.declared.config_faults.ConfigFault.{ConfigFault}
 use Rattle.hx_allow.specs.declared.config_faults.ConfigFault.TheVariants.{NotToml, UnknownKey}
 use Rattle.hx_allow.specs.declared.rows.TopKey.{TopKey}
 use Rattle.hx_allow.specs.declared.rows.TopKey.TheVariants.{Name, Number, Lines}
 use Rattle.hx_allow.specs.declared.config_faults.NumberKey.{NumberKey}
 use Rattle.hx_allow.specs.declared.config_faults.NumberKey.TheVariants.{Version, Capacity, MaxBody, MaxStored}
+use Rattle.hx_allow.specs.declared.config_faults.NumberKey.TheVariants.{MaxStore}
 
 -- the most lines of a table
 abbrev pub line_limit : ℕ
@@ -46,6 +47,7 @@ abbrev pub version_of : Members → TableVersion
 version_of t =
     if is_some_and (λ n. n == 2) (number_at Version t) then Two
     else if is_some_and (λ n. n == 3) (number_at Version t) then Three
+    else if is_some_and (λ n. n == 4) (number_at Version t) then Four
     else One
 
 -- an array of 1 to 256 tables
@@ -58,9 +60,21 @@ items_if_lines ds = if are_lines ds then Some ds else None
 abbrev pub lines_at : Members → Option Items
 lines_at t = option_and_then items_if_lines (items_at (codes "line") t)
 
+-- The bytes of the store aren't bounded, or the bound is within its range and no less than that of one content, which
+-- is looked at before it.
+-- own: a table whose store would be too small for what it lets be stored is refused ("The store is bounded in bytes")
+abbrev pub is_good_store_bound : Members → Bool
+is_good_store_bound t =
+    is_none (get_member (number_row MaxStore).key t)
+    || is_some_and (λ most. nat_le (unwrap_or (number_at MaxStored t) 0) most) (number_at MaxStore t)
+
+abbrev pub is_good_number : Members → NumberKey → Bool
+is_good_number t MaxStore = is_good_store_bound t
+is_good_number t key = is_some (number_at key t)
+
 abbrev pub is_good_at_top : Members → TopKey → Bool
 is_good_at_top t Name = is_some_and is_name (text_at (codes "name") t)
-is_good_at_top t (Number key) = is_some (number_at key t)
+is_good_at_top t (Number key) = is_good_number t key
 is_good_at_top t Lines = is_some (lines_at t)
 
 -- the first key at the top that is missing or isn't good, in the order in which they are looked at
@@ -69,7 +83,7 @@ first_bad_at_top t = find (λ key. not (is_good_at_top t key)) top_keys
 
 -- the first fault of a table, in the order in which they are looked for
 unfoldable pub table_fault : Members → Option ConfigFault
-table_fault t = after_keys (first_unknown Top t)
+table_fault t = after_keys (first_unknown (Top (version_of t)) t)
   where
     after_top : Option TopKey → Option ConfigFault
     after_top (Some key) = Some (fault_of_top_key key)
@@ -86,7 +100,8 @@ table_read t = record {
   capacity = unwrap_or (number_at Capacity t) 0;
   max_body = unwrap_or (number_at MaxBody t) 0;
   max_stored = unwrap_or (number_at MaxStored t) 0;
-  lines = lines_read (unwrap_or (lines_at t) no_items);
+  max_store = number_at MaxStore t;
+  lines = lines_read (version_of t) (unwrap_or (lines_at t) no_items);
 }
 
 abbrev pub fault_or_table_read : Option ConfigFault → Members → Result Table ConfigFault

@@ -14,9 +14,9 @@ use Rattle.hx_allow.specs.Rows.{Row, top_row, top_keys, line_row, line_keys, has
 abbrev pub is_key_of : TableVersion → List ℕ → Row → Bool
 is_key_of version key row = has_keys_of version row.since && bytes_eq key row.key
 
--- the keys that stand at the top, and in a line
+-- the keys that stand at the top, and in a line, of a table of a version
 abbrev pub is_known : Scope → List ℕ → Bool
-is_known Top key = list_any (λ known. bytes_eq key (top_row known).key) top_keys
+is_known (Top version) key = list_any (λ known. is_key_of version key (top_row known)) top_keys
 is_known (Line version) key = list_any (λ known. is_key_of version key (line_row known)) line_keys
 
 -- the first key that isn't known; the members of a table ascend by the bytes of their keys, so it is the least

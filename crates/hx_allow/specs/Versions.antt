@@ -3,14 +3,24 @@ use Rattle.std.specs.Prelude.{◌≡◌, ◌⊎◌, true, None, is_some}
 use Rattle.toml.specs.Data.{Members, get_member}
 use Rattle.hx_policy.specs.Policies.{plain}
 use Rattle.hx_allow.specs.Keys.{word_key}
+use Rattle.hx_allow.specs.Rows.{word_row}
 use Rattle.hx_allow.specs.TableLines.{Line}
 use Rattle.hx_allow.specs.declared.config_faults.LineWord.{LineWord}
+use Rattle.hx_allow.specs.declared.values.TableVersion.TheVariants.{Four}
 
--- no word of the third version stands
+-- no word stands
 abbrev pub LineHasNoWord : Members → Type 0
 LineHasNoWord ms = (word : LineWord) → get_member (word_key word) ms ≡ None
 
--- a line has no word of the third version, or it allows and has its cache on
+-- no word of the fourth version stands
+abbrev pub LineHasNoWordOfFour : Members → Type 0
+LineHasNoWordOfFour ms = (word : LineWord) → (word_row word).since ≡ Four → get_member (word_key word) ms ≡ None
+
+-- what a line of the third version says: errors have the lifetime of all others
+abbrev pub LineIsOfThree : Line → Type 0
+LineIsOfThree line = line.policy.error_lifetime ≡ line.policy.lifetime
+
+-- a line has no word, or it allows and has its cache on
 abbrev pub LineTakesItsWords : Line → Type 0
 LineTakesItsWords line =
     (line.policy ≡ plain line.policy.caches) ⊎ ((is_some line.origin ≡ true) × (line.policy.caches ≡ true))

@@ -1,5 +1,5 @@
 //! The operator's table, read.
-ghost use Rattle.std.specs.Prelude.{◌≡◌, ◌≤◌, [], length, Err, unwrap_or};
+ghost use Rattle.std.specs.Prelude.{◌≡◌, ◌≤◌, [], length, Err, IfSome, unwrap_or};
 ghost use Rattle.std.specs.Option.{option_copied, option_map};
 ghost use Rattle.std.specs.Net.Text.{socket_v4_text};
 ghost use Rattle.hx_allow.specs.Matching.{verdict_of, origin_of, origin_address_of, policy_of, VerdictNamesAnOrigin};
@@ -26,6 +26,7 @@ pub struct Config {
     pub(crate) capacity: usize,
     pub(crate) max_body: u64,
     pub(crate) max_stored: u64,
+    pub(crate) max_store: Option<u64>,
     pub(crate) lines: Vec<Line>,
     /// Which of the lines a host can match.
     pub(crate) by_host: HostIndex,
@@ -39,6 +40,7 @@ impl Drop for Config {
             capacity: _,
             max_body: _,
             max_stored: _,
+            max_store: _,
             lines: _,
             by_host: _,
         } = self;
@@ -46,7 +48,7 @@ impl Drop for Config {
 }
 
 impl Model for Config {
-    ghost use Rattle.std.specs.Prelude.{string_bytes, length, ◌≤◌, ◌≡◌};
+    ghost use Rattle.std.specs.Prelude.{string_bytes, length, ◌≤◌, ◌≡◌, IfSome};
     ghost use Rattle.hx_allow.specs.TableLines.{Table};
     ghost use Rattle.hx_allow.specs.Index.{IsHostIndexOf};
     ghost use Rattle.hx_allow.specs.Tables.{TableWasRead};
@@ -58,6 +60,7 @@ impl Model for Config {
       capacity = c.capacity;
       max_body = c.max_body;
       max_stored = c.max_stored;
+      max_store = c.max_store;
       lines = c.lines.items;
     } };
 
@@ -67,12 +70,14 @@ impl Model for Config {
           capacity = c.capacity;
           max_body = c.max_body;
           max_stored = c.max_stored;
+          max_store = c.max_store;
           lines = c.lines.items;
-        }) };
+        })
+        × IfSome c.max_store (λ most. most ≤ 1099511627776) };
 }
 
 impl Config {
-    /// Reads a table of version 1, 2 or 3. The first fault in the order of looking is answered;
+    /// Reads a table of version 1, 2, 3 or 4. The first fault in the order of looking is answered;
     /// out of memory is told in its place where the text or a key couldn't be copied.
     pub fn read(alloc: Global, bytes: &[u8]) -> Result<Config, ConfigFault>
         ensures table { ¬ (result ≡ Err ConfigFault.OutOfMemory) → BytesReadAs bytes.now result }
@@ -179,6 +184,14 @@ impl Config {
         ensures { result ≡ self.now.max_stored }
     {
         self.max_stored
+    }
+
+    /// The most bytes that all stored responses weigh together. Where there is none the capacity alone bounds them.
+    pub fn max_store(&self) -> Option<u64>
+        ensures bytes { result ≡ self.now.max_store }
+        ensures bounded { IfSome result (λ most. most ≤ 1099511627776) }
+    {
+        self.max_store
     }
 
     /// How many lines the table has.

@@ -9,7 +9,7 @@ use std::alloc::AllocError;
 /// A key of the table that has a number.
 #[derive(Clone, Copy, Debug, PartialEq, Eq, Hash)]
 pub enum NumberKey {
-    /// The version of the table's format, 1, 2 or 3.
+    /// The version of the table's format, 1, 2, 3 or 4.
     Version,
     /// The most entries of the store, 1 to 65,536.
     Capacity,
@@ -17,6 +17,9 @@ pub enum NumberKey {
     MaxBody,
     /// The most bytes of a stored content, at most 16,777,216.
     MaxStored,
+    /// The most bytes that all stored responses weigh together, 65,536 to 1,099,511,627,776 and no less than
+    /// `max_stored`. It may be missing.
+    MaxStore,
 }
 
 impl NumberKey {
@@ -28,11 +31,14 @@ impl NumberKey {
     }
 }
 
-/// A key of a line of version 3 that says more of caching, in the table's order.
+/// A key of a line of version 3 or 4 that says more of caching, in the table's order.
 #[derive(Clone, Copy, Debug, PartialEq, Eq, Hash)]
 pub enum LineWord {
-    /// The lifetime of what states none, 1 to 2,147,483,648 seconds (RFC 9111, section 4.2.2).
+    /// The lifetime of what states none, 1 to 2,147,483,648 seconds (RFC 9111, section 4.2.2). In
+    /// version 4 an error has none by it.
     Lifetime,
+    /// The lifetime of an error that states none, 1 to 2,147,483,648 seconds. It needs version 4.
+    ErrorLifetime,
     /// The staleness in which a stored response is sent in place of an error, 0 to 2,147,483,648
     /// seconds (RFC 5861, section 4).
     StaleIfError,
@@ -67,7 +73,7 @@ pub enum ConfigFault {
     UnknownKey(Bytes),
     /// `name` is no lower-case letter followed by at most 31 lower-case letters, digits and `-`.
     BadName,
-    /// The number of this key isn't in its range.
+    /// The number of this key isn't in its range; of `max_store`, or is less than `max_stored`.
     BadNumber(NumberKey),
     /// `host` of this line, counted from 1, is neither `"*"` nor a host in lower case.
     BadHost(u16),

@@ -7,21 +7,24 @@ ghost use Rattle.hx_allow.specs.declared.config_faults.ConfigFault.TheVariants.{
 ghost use Rattle.hx_allow.specs.declared.config_faults.ConfigFault.TheVariants.{BadHost, BadMethod, BadPath, BadOrigin};
 ghost use Rattle.hx_allow.specs.declared.config_faults.ConfigFault.TheVariants.{NoLines, OutOfMemory, BadCache};
 ghost use Rattle.hx_allow.specs.declared.config_faults.ConfigFault.TheVariants.{BadWord};
-ghost use Rattle.hx_allow.specs.declared.config_faults.LineWord.TheVariants.{Lifetime, StaleIfError, SetCookie, Errors};
-ghost use Rattle.hx_allow.specs.declared.config_faults.LineWord.TheVariants.{RequestDirectives, Wait, Explain};
+ghost use Rattle.hx_allow.specs.declared.config_faults.LineWord.TheVariants.{Lifetime, ErrorLifetime, StaleIfError};
+ghost use Rattle.hx_allow.specs.declared.config_faults.LineWord.TheVariants.{SetCookie, Errors, RequestDirectives};
+ghost use Rattle.hx_allow.specs.declared.config_faults.LineWord.TheVariants.{Wait, Explain};
 ghost use Rattle.hx_allow.specs.declared.config_faults.NumberKey.TheVariants.{Version, Capacity, MaxBody, MaxStored};
+ghost use Rattle.hx_allow.specs.declared.config_faults.NumberKey.TheVariants.{MaxStore};
 
 /// What has to stand at the top of a table.
 pub fn worked_words_of_the_top()
     ensures not_toml { expected_words NotToml ≡ codes "the table is no TOML, has a key twice, or has more than 1048576 bytes; look for a quote or bracket that is missing" }
-    ensures unknown_key { (key : List ℕ) → expected_words (UnknownKey key) ≡ codes "a key isn't known where it stands; correct its spelling or delete it: behind [[line]] keys belong to that line; cache needs version = 2 or 3, and lifetime, stale-if-error, set-cookie, errors, request-directives, wait and explain need version = 3" }
+    ensures unknown_key { (key : List ℕ) → expected_words (UnknownKey key) ≡ codes "a key isn't known where it stands; correct its spelling or delete it: behind [[line]] keys belong to that line; cache needs version = 2, 3 or 4, lifetime, stale-if-error, set-cookie, errors, request-directives, wait and explain need version = 3 or 4, and max_store and error-lifetime need version = 4" }
     ensures bad_name { expected_words BadName ≡ codes "name has to be a lower-case letter and at most 31 of a-z, 0-9 and -, in quotes" }
     ensures no_lines { expected_words NoLines ≡ codes "a table has 1 to 256 lines, each of which begins with [[line]]" }
     ensures out_of_memory { expected_words OutOfMemory ≡ codes "no memory is left for the table" }
-    ensures version { expected_words (BadNumber Version) ≡ codes "version has to be 1, 2 or 3, without quotes" }
+    ensures version { expected_words (BadNumber Version) ≡ codes "version has to be 1, 2, 3 or 4, without quotes" }
     ensures capacity { expected_words (BadNumber Capacity) ≡ codes "capacity has to be a whole number from 1 to 65536, without quotes" }
     ensures max_body { expected_words (BadNumber MaxBody) ≡ codes "max_body has to be a whole number from 0 to 16777216, without quotes" }
     ensures max_stored { expected_words (BadNumber MaxStored) ≡ codes "max_stored has to be a whole number from 0 to 16777216, without quotes" }
+    ensures max_store { expected_words (BadNumber MaxStore) ≡ codes "max_store has to be a whole number from 65536 to 1099511627776, without quotes, and no less than max_stored" }
 {}
 
 /// What has to stand in a line.
@@ -33,9 +36,10 @@ pub fn worked_words_of_lines()
     ensures bad_cache { (line : ℕ) → expected_words (BadCache line) ≡ codes "cache has to be \"on\" or \"off\", and not to stand in a line that denies" }
 {}
 
-/// What has to stand at a word of version 3.
+/// What has to stand at a word of version 3 or 4.
 pub fn worked_words_of_words()
     ensures lifetime { (line : ℕ) → expected_words (BadWord line Lifetime) ≡ codes "lifetime has to be a whole number of seconds from 1 to 2147483648, without quotes, in a line that has an origin and its cache on" }
+    ensures error_lifetime { (line : ℕ) → expected_words (BadWord line ErrorLifetime) ≡ codes "error-lifetime has to be a whole number of seconds from 1 to 2147483648, without quotes, in a line that has an origin and its cache on" }
     ensures stale_if_error { (line : ℕ) → expected_words (BadWord line StaleIfError) ≡ codes "stale-if-error has to be a whole number of seconds from 0 to 2147483648, without quotes, in a line that has an origin and its cache on" }
     ensures set_cookie { (line : ℕ) → expected_words (BadWord line SetCookie) ≡ codes "set-cookie has to be \"stored\" or \"not-stored\", in a line that has an origin and its cache on" }
     ensures errors { (line : ℕ) → expected_words (BadWord line Errors) ≡ codes "errors has to be \"stored\" or \"not-stored\", in a line that has an origin and its cache on" }

@@ -71,7 +71,11 @@ impl fmt::Display for Kind {
                 f,
                 "be a whole number of seconds from {low} to {high}, without quotes"
             ),
-            Kind::Version => f.write_str("be 1, 2 or 3, without quotes"),
+            Kind::StoreBound(low, high) => write!(
+                f,
+                "be a whole number from {low} to {high}, without quotes, and no less than max_stored"
+            ),
+            Kind::Version => f.write_str("be 1, 2, 3 or 4, without quotes"),
             Kind::OneOf(first, second) => write!(f, "be \"{first}\" or \"{second}\""),
             Kind::Name => f.write_str(
                 "be a lower-case letter and at most 31 of a-z, 0-9 and -, in quotes",
@@ -102,6 +106,7 @@ impl fmt::Display for Place {
     fn fmt<W: fmt::Write>(&self, f: &mut Formatter<W>) -> fmt::Result {
         match self {
             Place::Needed => Ok(()),
+            Place::Optional => Ok(()),
             Place::AllowingLine => f.write_str(", and not to stand in a line that denies"),
             Place::CachingLine => f.write_str(", in a line that has an origin and its cache on"),
         }

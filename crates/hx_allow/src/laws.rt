@@ -1,7 +1,7 @@
 //! What the definitions of `specs/` say together, and what they give on tables of a few lines: each
 //! function's contract is a law, and its body is empty.
 ghost use Rattle.std.specs.Prelude.{◌≡◌, ◌+◌, ◌++◌, List, ℕ, Result, Ok, Err, Some, None, [], ◌∷◌, true, false, codes};
-ghost use Rattle.std.specs.Prelude.{length, option_map};
+ghost use Rattle.std.specs.Prelude.{◌≤◌, ◌^◌, IfSome, length, option_map};
 ghost use Rattle.std.specs.List.{All, position_from};
 ghost use Rattle.toml.specs.Data.{Members, get_member};
 ghost use Rattle.toml.specs.Parse.{parse_document};
@@ -13,13 +13,14 @@ ghost use Rattle.hx_allow.specs.TableLines.{Line, Table};
 ghost use Rattle.hx_allow.specs.LineTables.{line_fault, lines_fault, array_of_tables};
 ghost use Rattle.hx_allow.specs.Matching.{matches_line, verdict_of, line_number};
 ghost use Rattle.hx_allow.specs.NeverReached.{first_line_taking};
+ghost use Rattle.hx_allow.specs.Rows.{has_keys_of, word_row};
 ghost use Rattle.hx_allow.specs.Tables.{version_of, judge_table, BytesReadAs};
-ghost use Rattle.hx_allow.specs.Versions.{LineHasNoWord, LineTakesItsWords};
+ghost use Rattle.hx_allow.specs.Versions.{LineHasNoWord, LineHasNoWordOfFour, LineIsOfThree, LineTakesItsWords};
 ghost use Rattle.hx_allow.specs.declared.config_faults.ConfigFault.{ConfigFault as Fault};
 ghost use Rattle.hx_allow.specs.declared.config_faults.LineWord.{LineWord as Word};
-ghost use Rattle.hx_allow.specs.declared.config_faults.NumberKey.TheVariants.{Version};
+ghost use Rattle.hx_allow.specs.declared.config_faults.NumberKey.TheVariants.{Version, MaxStore};
 ghost use Rattle.hx_allow.specs.declared.values.TableVersion.{TableVersion};
-ghost use Rattle.hx_allow.specs.declared.values.TableVersion.TheVariants.{One, Two, Three};
+ghost use Rattle.hx_allow.specs.declared.values.TableVersion.TheVariants.{One, Two, Three, Four};
 
 use hx_target::normalising_twice_is_once;
 
@@ -72,15 +73,39 @@ pub fn version_one_reads_as_before()
 /// A table of the first two versions is never refused for a word of the third, and none of its
 /// lines has one. A line without them is read alike in the last two.
 pub fn version_two_reads_as_before()
-    ensures never { (t : Members) (line : ℕ) (word : Word) → ¬ (version_of t ≡ Three)
+    ensures never { (t : Members) (line : ℕ) (word : Word) → has_keys_of (version_of t) Three ≡ false
         → ¬ (judge_table t ≡ Err (Fault.BadWord line word)) }
-    ensures plain { (t : Members) (table : Table) → ¬ (version_of t ≡ Three) → judge_table t ≡ Ok table
+    ensures plain { (t : Members) (table : Table) → has_keys_of (version_of t) Three ≡ false → judge_table t ≡ Ok table
         → All (λ (line : Line). line.policy ≡ plain line.policy.caches) table.lines }
     ensures alike { (n : ℕ) (members : Members) → LineHasNoWord members
         → line_fault Three n members ≡ line_fault Two n members }
 {}
 
-/// A line that has a word of the third version allows, and has its cache on.
+/// A table of the first three versions is never refused for what the fourth adds: for the bound of
+/// the store's bytes, of which it has none, so that what is stored is bounded by its number alone, as
+/// before; and for a word of the fourth, of which none of its lines has one, so that errors have the
+/// lifetime of all others, as before. A line without such a word is read alike in the fourth.
+pub fn version_three_reads_as_before()
+    ensures never { (t : Members) → has_keys_of (version_of t) Four ≡ false
+        → ¬ (judge_table t ≡ Err (Fault.BadNumber MaxStore)) }
+    ensures unbounded { (t : Members) (table : Table) → has_keys_of (version_of t) Four ≡ false
+        → judge_table t ≡ Ok table → table.max_store ≡ None }
+    ensures never_for_words { (t : Members) (line : ℕ) (word : Word) → (word_row word).since ≡ Four
+        → has_keys_of (version_of t) Four ≡ false → ¬ (judge_table t ≡ Err (Fault.BadWord line word)) }
+    ensures words { (t : Members) (table : Table) → has_keys_of (version_of t) Four ≡ false
+        → judge_table t ≡ Ok table → All LineIsOfThree table.lines }
+    ensures alike { (n : ℕ) (members : Members) → LineHasNoWordOfFour members
+        → line_fault Four n members ≡ line_fault Three n members }
+{}
+
+/// Where a table bounds the bytes of its store, the bound is in its range, and no content that may be
+/// stored is above it.
+pub fn a_store_takes_each_content()
+    ensures { (t : Members) (table : Table) → judge_table t ≡ Ok table
+        → IfSome table.max_store (λ most. (65536 ≤ most) × (most ≤ 2 ^ 40) × (table.max_stored ≤ most)) }
+{}
+
+/// A line that has a word of the third version or the fourth allows, and has its cache on.
 pub fn words_belong_where_a_line_caches()
     ensures { (t : Members) (table : Table) → judge_table t ≡ Ok table → All LineTakesItsWords table.lines }
 {}
@@ -99,6 +124,7 @@ pub fn a_whole_table_is_read()
       capacity = 2;
       max_body = 1000;
       max_stored = 1000;
+      max_store = None;
       lines = record {
         host = None;
         methods = codes "GET" ∷ codes "HEAD" ∷ codes "POST" ∷ [];
@@ -117,6 +143,7 @@ pub fn a_table_of_two_lines_is_read()
       capacity = 2;
       max_body = 1000;
       max_stored = 1000;
+      max_store = None;
       lines = record {
         host = None;
         methods = codes "*" ∷ [];
@@ -147,6 +174,7 @@ pub fn lines_without_cache_are_read()
       capacity = 2;
       max_body = 1000;
       max_stored = 1000;
+      max_store = None;
       lines = record {
         host = None;
         methods = codes "*" ∷ [];
@@ -173,7 +201,7 @@ pub fn lines_without_cache_are_read()
 /// the key in a table of the first version, a word that isn't known, and the key in a line that denies.
 #[tactic(auto, unfolding(toml::proofs::OnLiterals::toml_on_literals, crate::specs::Tables::judge_table, crate::specs::Tables::table_fault, crate::specs::Tables::table_read, crate::specs::Tables::is_name, crate::specs::LineTables::line_fault, crate::specs::LineTables::line_read, crate::specs::LineTables::is_line_host, crate::specs::LineTables::is_line_method, crate::specs::LineTables::is_line_path, crate::specs::Addresses::address_of, hx_target::specs::Hosts::is_host, hx_target::specs::Hosts::short_number, hx_target::specs::Paths::has_dot_segment))]
 pub fn table_versions()
-    ensures unknown { option_map judge_table (parse_document (codes "version = 4\nname = \"edge\"\ncapacity = 2\nmax_body = 1000\nmax_stored = 1000\n\n[[line]]\nhost = \"*\"\nmethods = [\"*\"]\npath = \"/live\"\norigin = \"127.0.0.1:8081\"\n")) ≡ Some (Err (Fault.BadNumber Version)) }
+    ensures unknown { option_map judge_table (parse_document (codes "version = 5\nname = \"edge\"\ncapacity = 2\nmax_body = 1000\nmax_stored = 1000\n\n[[line]]\nhost = \"*\"\nmethods = [\"*\"]\npath = \"/live\"\norigin = \"127.0.0.1:8081\"\n")) ≡ Some (Err (Fault.BadNumber Version)) }
     ensures first { option_map judge_table (parse_document (codes "version = 1\nname = \"edge\"\ncapacity = 2\nmax_body = 1000\nmax_stored = 1000\n\n[[line]]\nhost = \"*\"\nmethods = [\"*\"]\npath = \"/live\"\norigin = \"127.0.0.1:8081\"\ncache = \"off\"\n")) ≡ Some (Err (Fault.UnknownKey (codes "cache"))) }
     ensures word { option_map judge_table (parse_document (codes "version = 2\nname = \"edge\"\ncapacity = 2\nmax_body = 1000\nmax_stored = 1000\n\n[[line]]\nhost = \"*\"\nmethods = [\"*\"]\npath = \"/live\"\norigin = \"127.0.0.1:8081\"\ncache = \"no\"\n")) ≡ Some (Err (Fault.BadCache 1)) }
     ensures denying { option_map judge_table (parse_document (codes "version = 2\nname = \"edge\"\ncapacity = 2\nmax_body = 1000\nmax_stored = 1000\n\n[[line]]\nhost = \"*\"\nmethods = [\"*\"]\npath = \"/live\"\norigin = \"deny\"\ncache = \"off\"\n")) ≡ Some (Err (Fault.BadCache 1)) }

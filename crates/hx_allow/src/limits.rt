@@ -5,3 +5,6 @@ pub const MOST_TABLE_BYTES: usize = 1_048_576;
 
 /// Lines of a table. A table with more is refused as `NoLines`.
 pub(crate) const MOST_LINES: usize = 256;
+
+/// Bytes that all stored responses may weigh together at most, 2^40. A greater `max_store` is refused.
+pub(crate) const MOST_STORE_BYTES: u64 = 1_099_511_627_776;

@@ -1,13 +1,13 @@
 //! The lines of a TOML table: the first fault among them, and what they say.
-ghost use Rattle.std.specs.Prelude.{◌≡◌, ◌≤◌, ◌+◌, length, IfOk, Some, true, codes, unwrap_or, []};
+ghost use Rattle.std.specs.Prelude.{◌≡◌, ◌≤◌, ◌+◌, length, IfOk, Some, true, codes, unwrap_or, [], is_some};
 ghost use Rattle.std.specs.Option.{option_and_then, option_copied, option_map};
-ghost use Rattle.toml.specs.Data.{as_str, as_table, no_items};
+ghost use Rattle.toml.specs.Data.{as_str, as_table, no_items, get_member};
 ghost use Rattle.hx_target.specs.Paths.{table_path_of};
 ghost use Rattle.std.specs.List.{list_any, list_all};
 ghost use Rattle.std.specs.Char.{is_ascii_uppercase};
 ghost use Rattle.toml.specs.View.{table_view, array_view, items_view, view};
 ghost use Rattle.hx_allow.specs.Addresses.{address_text};
-ghost use Rattle.hx_allow.specs.Values.{is_some_and, items_at, text_unless, texts_of};
+ghost use Rattle.hx_allow.specs.Values.{is_some_and, items_at, text_unless, texts_of, number_between};
 ghost use Rattle.hx_allow.specs.LineTables.{is_line_host, is_line_method, are_line_methods, is_path_byte};
 ghost use Rattle.hx_allow.specs.LineTables.{does_not_end_with_slash};
 ghost use Rattle.hx_allow.specs.LineTables.{is_line_path, is_line_origin, is_of_kind, is_good_at, first_bad_key};
@@ -141,13 +141,19 @@ fn is_good_origin(text: Option<&str>) -> bool
     }
 }
 
+fn is_number_between(table: &Table, key: &str, low: u32, high: u32) -> bool
+    ensures { result ≡ is_some (number_between low high (get_member key.now (table_view table.now))) }
+{
+    number_between(table, key, u64::from(low), u64::from(high)).is_some()
+}
+
 /// Whether the value of a key is of a kind, of those that stand in a line.
 fn is_of_kind(kind: Kind, key: &str, table: &Table) -> bool
     ensures { result ≡ is_of_kind (plain_kind kind) key.now (table_view table.now) }
 {
     match kind {
-        Kind::Number(low, high) => number_between(table, key, low, high).is_some(),
-        Kind::Seconds(low, high) => number_between(table, key, low, high).is_some(),
+        Kind::Number(low, high) => is_number_between(table, key, low, high),
+        Kind::Seconds(low, high) => is_number_between(table, key, low, high),
         Kind::OneOf(first, second) => key_has_one_of_two(table, key, first, second),
         Kind::Host => is_good_host(text_at(table, key)),
         Kind::Methods => are_good_methods(array_at(table, key)),
@@ -163,6 +169,9 @@ fn is_good(row: Row, table: &Table) -> bool
 {
     match row.place {
         Place::Needed => is_of_kind(row.kind, row.key, table),
+        Place::Optional => {
+            value_at(table, row.key).is_none() || is_of_kind(row.kind, row.key, table)
+        }
         Place::AllowingLine => value_at(table, row.key).is_none()
             || (is_of_kind(row.kind, row.key, table) && !line_denies(table)),
         Place::CachingLine => value_at(table, row.key).is_none()
@@ -245,10 +254,10 @@ fn method_texts(alloc: Global, table: &Table) -> Result<Vec<Bytes>, AllocError>
     }
 }
 
-/// What a line without fault says.
+/// What a line without fault says, in a table of a version.
 #[tactic(auto, unfolding(crate::specs::LineTables::line_read))]
-fn line_read(alloc: Global, table: &Table) -> Result<Line, AllocError>
-    ensures { IfOk result (λ line. line ≡ line_read (table_view table.now)) }
+fn line_read(alloc: Global, version: TableVersion, table: &Table) -> Result<Line, AllocError>
+    ensures { IfOk result (λ line. line ≡ line_read version (table_view table.now)) }
 {
     let path = path_rule(alloc, text_at(table, "path"))?;
     Ok(Line {
@@ -257,7 +266,7 @@ fn line_read(alloc: Global, table: &Table) -> Result<Line, AllocError>
         methods: method_texts(alloc, table)?,
         path,
         origin: origin_rule(alloc, text_at(table, "origin"))?,
-        policy: policy_of_line_table(table),
+        policy: policy_of_line_table(version, table),
     })
 }
 
@@ -288,15 +297,19 @@ pub fn lines_fault(version: TableVersion, values: &[Value]) -> Option<FoundFault
     None
 }
 
-/// What lines without fault say.
-pub fn lines_read(alloc: Global, values: &[Value]) -> Result<Vec<Line>, AllocError>
-    ensures said { IfOk result (λ lines. lines.items ≡ lines_read (items_view values.now)) }
+/// What lines without fault say, in a table of a version.
+pub fn lines_read(
+    alloc: Global,
+    version: TableVersion,
+    values: &[Value],
+) -> Result<Vec<Line>, AllocError>
+    ensures said { IfOk result (λ lines. lines.items ≡ lines_read version (items_view values.now)) }
     ensures few { IfOk result (λ lines. length lines.items ≤ length values.now) }
 {
     let mut lines = Vec::new(alloc);
     for value in values {
         if let Some(table) = value.as_table() {
-            lines.push(line_read(alloc, table)?)?;
+            lines.push(line_read(alloc, version, table)?)?;
         }
     }
     Ok(lines)

@@ -1,4 +1,4 @@
-//! What the definitions give on worked lines with the words of version 3, computed from them: each
+//! What the definitions give on worked lines with the words of versions 3 and 4, computed from them: each
 //! function's contract is the cases, and its body is empty.
 ghost use Rattle.std.specs.Prelude.{◌≡◌, ◌∷◌, [], Some, None, Ok, true, false, codes, option_map, negsuc};
 ghost use Rattle.toml.specs.Data.{boolean, integer};
@@ -11,10 +11,11 @@ ghost use Rattle.hx_allow.specs.LineTables.{line_fault, line_read};
 ghost use Rattle.hx_allow.specs.Tables.{judge_table};
 ghost use Rattle.hx_allow.specs.Values.{is_known};
 ghost use Rattle.hx_allow.specs.declared.config_faults.ConfigFault.TheVariants.{BadCache, BadWord, UnknownKey};
-ghost use Rattle.hx_allow.specs.declared.config_faults.LineWord.TheVariants.{Lifetime, StaleIfError, SetCookie, Errors};
-ghost use Rattle.hx_allow.specs.declared.config_faults.LineWord.TheVariants.{RequestDirectives, Wait, Explain};
+ghost use Rattle.hx_allow.specs.declared.config_faults.LineWord.TheVariants.{Lifetime, ErrorLifetime, StaleIfError};
+ghost use Rattle.hx_allow.specs.declared.config_faults.LineWord.TheVariants.{SetCookie, Errors, RequestDirectives};
+ghost use Rattle.hx_allow.specs.declared.config_faults.LineWord.TheVariants.{Wait, Explain};
 ghost use Rattle.hx_allow.specs.declared.values.Scope.TheVariants.{Top, Line};
-ghost use Rattle.hx_allow.specs.declared.values.TableVersion.TheVariants.{One, Two, Three};
+ghost use Rattle.hx_allow.specs.declared.values.TableVersion.TheVariants.{One, Two, Three, Four};
 
 /// The keys of the words, which lines have from the third version on, and the top never has.
 pub fn worked_keys_of_words()
@@ -30,7 +31,7 @@ pub fn worked_keys_of_words()
     ensures underscore { is_known (Line Three) (codes "stale_if_error") ≡ false }
     ensures of_two { is_known (Line Two) (codes "lifetime") ≡ false }
     ensures of_one { is_known (Line One) (codes "set-cookie") ≡ false }
-    ensures at_the_top { is_known Top (codes "lifetime") ≡ false }
+    ensures at_the_top { is_known (Top Four) (codes "lifetime") ≡ false }
     ensures text_of_lifetime { word_key Lifetime ≡ codes "lifetime" }
     ensures text_of_stale_if_error { word_key StaleIfError ≡ codes "stale-if-error" }
     ensures text_of_set_cookie { word_key SetCookie ≡ codes "set-cookie" }
@@ -38,6 +39,13 @@ pub fn worked_keys_of_words()
     ensures text_of_request_directives { word_key RequestDirectives ≡ codes "request-directives" }
     ensures text_of_wait { word_key Wait ≡ codes "wait" }
     ensures wait_of_two { is_known (Line Two) (codes "wait") ≡ false }
+    ensures error_lifetime { is_known (Line Four) (word_key ErrorLifetime) ≡ true }
+    ensures lifetime_of_four { is_known (Line Four) (word_key Lifetime) ≡ true }
+    ensures error_lifetime_of_three { is_known (Line Three) (codes "error-lifetime") ≡ false }
+    ensures error_lifetime_of_two { is_known (Line Two) (codes "error-lifetime") ≡ false }
+    ensures error_lifetime_of_one { is_known (Line One) (codes "error-lifetime") ≡ false }
+    ensures error_lifetime_at_the_top { is_known (Top Four) (codes "error-lifetime") ≡ false }
+    ensures text_of_error_lifetime { word_key ErrorLifetime ≡ codes "error-lifetime" }
     ensures text_of_explain { word_key Explain ≡ codes "explain" }
 {}
 
@@ -63,6 +71,17 @@ pub fn worked_seconds_of_a_line()
         ≡ Some (BadWord 1 StaleIfError) }
     ensures staleness_of_two { line_fault Two 1
         (line_table_with_keys (key_with_number (codes "stale-if-error") 60 ∷ [])) ≡ Some (UnknownKey (codes "stale-if-error")) }
+    ensures least_of_errors { line_fault Four 1 (line_table_with_keys (key_with_number (codes "error-lifetime") 1 ∷ [])) ≡ None }
+    ensures most_of_errors { line_fault Four 1
+        (line_table_with_keys (key_with_number (codes "error-lifetime") 2147483648 ∷ [])) ≡ None }
+    ensures zero_of_errors { line_fault Four 1 (line_table_with_keys (key_with_number (codes "error-lifetime") 0 ∷ []))
+        ≡ Some (BadWord 1 ErrorLifetime) }
+    ensures above_of_errors { line_fault Four 1
+        (line_table_with_keys (key_with_number (codes "error-lifetime") 2147483649 ∷ [])) ≡ Some (BadWord 1 ErrorLifetime) }
+    ensures a_text_of_errors { line_fault Four 1
+        (line_table_with_keys (key_with_text (codes "error-lifetime") (codes "60") ∷ [])) ≡ Some (BadWord 1 ErrorLifetime) }
+    ensures of_errors_of_three { line_fault Three 1
+        (line_table_with_keys (key_with_number (codes "error-lifetime") 60 ∷ [])) ≡ Some (UnknownKey (codes "error-lifetime")) }
 {}
 
 /// Texts of a line: two words each, in lower case.
@@ -126,6 +145,16 @@ pub fn worked_places_of_words()
         ∷ key_with_text (codes "stale-if-error") (codes "x") ∷ key_with_text (codes "set-cookie") (codes "x")
         ∷ key_with_text (codes "errors") (codes "x") ∷ key_with_text (codes "request-directives") (codes "x") ∷ []))
         ≡ Some (BadWord 2 StaleIfError) }
+    ensures error_lifetime_next { line_fault Four 2 (line_table_with_keys (key_with_number (codes "error-lifetime") 0
+        ∷ key_with_number (codes "lifetime") 1 ∷ key_with_text (codes "stale-if-error") (codes "x") ∷ []))
+        ≡ Some (BadWord 2 ErrorLifetime) }
+    ensures lifetime_before_that_of_errors { line_fault Four 2
+        (line_table_with_keys (key_with_number (codes "error-lifetime") 0 ∷ key_with_number (codes "lifetime") 0 ∷ []))
+        ≡ Some (BadWord 2 Lifetime) }
+    ensures error_lifetime_denying { line_fault Four 2
+        (denying_line_table_with (key_with_number (codes "error-lifetime") 60 ∷ [])) ≡ Some (BadWord 2 ErrorLifetime) }
+    ensures error_lifetime_without_cache { line_fault Four 2 (line_table_with_keys (key_with_text (codes "cache") (codes "off")
+        ∷ key_with_number (codes "error-lifetime") 60 ∷ [])) ≡ Some (BadWord 2 ErrorLifetime) }
     ensures set_cookie_next { line_fault Three 2 (line_table_with_keys (key_with_text (codes "set-cookie") (codes "x")
         ∷ key_with_text (codes "errors") (codes "x") ∷ key_with_text (codes "request-directives") (codes "x") ∷ []))
         ≡ Some (BadWord 2 SetCookie) }
@@ -144,32 +173,50 @@ pub fn worked_places_of_words()
 /// What lines say by their words; each that doesn't stand is as in the versions before.
 #[tactic(auto, unfolding(crate::specs::LineTables::line_read))]
 pub fn worked_policies_of_words()
-    ensures none { (line_read (line_table_with_keys [])).policy ≡ plain true }
-    ensures off { (line_read (line_table_with_keys (key_with_text (codes "cache") (codes "off") ∷ []))).policy ≡ plain false }
-    ensures lifetime { (line_read (line_table_with_keys (key_with_number (codes "lifetime") 60 ∷ []))).policy
-        ≡ record (plain true) { lifetime = Some 60 } }
-    ensures stale_if_error { (line_read (line_table_with_keys (key_with_number (codes "stale-if-error") 600 ∷ []))).policy
+    ensures none { (line_read Three (line_table_with_keys [])).policy ≡ plain true }
+    ensures off { (line_read Three (line_table_with_keys (key_with_text (codes "cache") (codes "off") ∷ []))).policy
+        ≡ plain false }
+    ensures lifetime { (line_read Three (line_table_with_keys (key_with_number (codes "lifetime") 60 ∷ []))).policy
+        ≡ record (plain true) { lifetime = Some 60; error_lifetime = Some 60 } }
+    ensures stale_if_error { (line_read Three (line_table_with_keys (key_with_number (codes "stale-if-error") 600 ∷ []))).policy
         ≡ record (plain true) { stale_if_error = Some 600 } }
-    ensures cookies { (line_read (line_table_with_keys (key_with_text (codes "set-cookie") (codes "not-stored") ∷ []))).policy
+    ensures cookies { (line_read Three (line_table_with_keys (key_with_text (codes "set-cookie") (codes "not-stored") ∷ []))).policy
         ≡ record (plain true) { stores_cookies = false } }
-    ensures cookies_stored { (line_read (line_table_with_keys (key_with_text (codes "set-cookie") (codes "stored")
+    ensures cookies_stored { (line_read Three (line_table_with_keys (key_with_text (codes "set-cookie") (codes "stored")
         ∷ []))).policy ≡ plain true }
-    ensures errors { (line_read (line_table_with_keys (key_with_text (codes "errors") (codes "not-stored") ∷ []))).policy
+    ensures errors { (line_read Three (line_table_with_keys (key_with_text (codes "errors") (codes "not-stored") ∷ []))).policy
         ≡ record (plain true) { stores_errors = false } }
-    ensures errors_stored { (line_read (line_table_with_keys (key_with_text (codes "errors") (codes "stored")
+    ensures errors_stored { (line_read Three (line_table_with_keys (key_with_text (codes "errors") (codes "stored")
         ∷ []))).policy ≡ plain true }
-    ensures directives { (line_read (line_table_with_keys (key_with_text (codes "request-directives") (codes "ignored") ∷ []))).policy
+    ensures directives { (line_read Three (line_table_with_keys (key_with_text (codes "request-directives") (codes "ignored") ∷ []))).policy
         ≡ record (plain true) { heeds_requests = false } }
-    ensures wait { (line_read (line_table_with_keys (key_with_text (codes "wait") (codes "missing-or-stale") ∷ []))).policy
+    ensures wait { (line_read Three (line_table_with_keys (key_with_text (codes "wait") (codes "missing-or-stale") ∷ []))).policy
         ≡ record (plain true) { waits_for_stale = true } }
-    ensures wait_missing { (line_read (line_table_with_keys (key_with_text (codes "wait") (codes "missing")
+    ensures wait_missing { (line_read Three (line_table_with_keys (key_with_text (codes "wait") (codes "missing")
         ∷ []))).policy ≡ plain true }
-    ensures explain { (line_read (line_table_with_keys (key_with_text (codes "explain") (codes "storing") ∷ []))).policy
+    ensures explain { (line_read Three (line_table_with_keys (key_with_text (codes "explain") (codes "storing") ∷ []))).policy
         ≡ record (plain true) { explains_storing = true } }
-    ensures explain_reuse { (line_read (line_table_with_keys (key_with_text (codes "explain") (codes "reuse")
+    ensures explain_reuse { (line_read Three (line_table_with_keys (key_with_text (codes "explain") (codes "reuse")
         ∷ []))).policy ≡ plain true }
-    ensures directives_heeded { (line_read (line_table_with_keys (key_with_text (codes "request-directives")
+    ensures directives_heeded { (line_read Three (line_table_with_keys (key_with_text (codes "request-directives")
         (codes "heeded") ∷ []))).policy ≡ plain true }
+{}
+
+/// In the fourth version errors have a lifetime of their own, or none; in the third they have that of all others.
+#[tactic(auto, unfolding(crate::specs::LineTables::line_read))]
+pub fn worked_lifetimes_of_versions()
+    ensures none { (line_read Four (line_table_with_keys [])).policy ≡ plain true }
+    ensures lifetime { (line_read Four (line_table_with_keys (key_with_number (codes "lifetime") 60 ∷ []))).policy
+        ≡ record (plain true) { lifetime = Some 60 } }
+    ensures of_errors { (line_read Four (line_table_with_keys (key_with_number (codes "error-lifetime") 5 ∷ []))).policy
+        ≡ record (plain true) { error_lifetime = Some 5 } }
+    ensures both { (line_read Four (line_table_with_keys (key_with_number (codes "error-lifetime") 5
+        ∷ key_with_number (codes "lifetime") 60 ∷ []))).policy
+        ≡ record (plain true) { lifetime = Some 60; error_lifetime = Some 5 } }
+    ensures of_three { (line_read Three (line_table_with_keys (key_with_number (codes "lifetime") 60 ∷ []))).policy
+        ≡ record (plain true) { lifetime = Some 60; error_lifetime = Some 60 } }
+    ensures others { (line_read Four (line_table_with_keys (key_with_text (codes "errors") (codes "not-stored")
+        ∷ []))).policy ≡ record (plain true) { stores_errors = false } }
 {}
 
 /// A whole table of version 3.
@@ -180,10 +227,12 @@ pub fn a_table_with_words_is_read()
       capacity = 2;
       max_body = 1000;
       max_stored = 1000;
+      max_store = None;
       lines = record (line_with_method None (codes "GET") (codes "/") origin_8081) {
         policy = record {
           caches = true;
           lifetime = Some 60;
+          error_lifetime = Some 60;
           stale_if_error = Some 600;
           stores_cookies = false;
           stores_errors = false;
@@ -191,6 +240,21 @@ pub fn a_table_with_words_is_read()
           waits_for_stale = true;
           explains_storing = true;
         };
+      } ∷ [];
+    })) }
+{}
+
+/// A whole table of version 4.
+#[tactic(auto, unfolding(toml::proofs::OnLiterals::toml_on_literals, crate::specs::Tables::judge_table, crate::specs::Tables::table_fault, crate::specs::Tables::table_read, crate::specs::Tables::is_name, crate::specs::LineTables::line_fault, crate::specs::LineTables::line_read, crate::specs::LineTables::is_line_host, crate::specs::LineTables::is_line_method, crate::specs::LineTables::is_line_path, crate::specs::Addresses::address_of, hx_target::specs::Hosts::is_host, hx_target::specs::Hosts::short_number, hx_target::specs::Paths::has_dot_segment))]
+pub fn a_table_with_a_lifetime_of_errors_is_read()
+    ensures { option_map judge_table (parse_document (codes "version = 4\nname = \"edge\"\ncapacity = 2\nmax_body = 1000\nmax_stored = 1000\n\n[[line]]\nhost = \"*\"\nmethods = [\"GET\"]\npath = \"/\"\norigin = \"127.0.0.1:8081\"\nlifetime = 60\nerror-lifetime = 5\n")) ≡ Some (Ok (record {
+      name = codes "edge";
+      capacity = 2;
+      max_body = 1000;
+      max_stored = 1000;
+      max_store = None;
+      lines = record (line_with_method None (codes "GET") (codes "/") origin_8081) {
+        policy = record (plain true) { lifetime = Some 60; error_lifetime = Some 5 };
       } ∷ [];
     })) }
 {}

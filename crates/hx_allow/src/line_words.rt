@@ -2,12 +2,12 @@
 ghost use Rattle.std.specs.Prelude.{◌≡◌};
 ghost use Rattle.toml.specs.View.{table_view};
 ghost use Rattle.hx_allow.specs.LineWords.{key_has_one_of_two, key_has_text, line_denies, line_takes_words};
-ghost use Rattle.hx_allow.specs.LineWords.{says_second, policy_of_line_table};
+ghost use Rattle.hx_allow.specs.LineWords.{says_second, word_of_error_lifetime, policy_of_line_table};
 ghost use Rattle.hx_allow.specs.Rows.{plain_row};
 
 use crate::config_faults::LineWord;
 use crate::rows::{Kind, LineKey, Row};
-use crate::values::{number_in, text_at};
+use crate::values::{TableVersion, seconds_in, text_at};
 use hx_policy::Policy;
 use toml::Table;
 
@@ -54,14 +54,26 @@ fn says_second(row: Row, table: &Table) -> bool
     }
 }
 
-/// What a line without fault says of caching.
-pub fn policy_of_line_table(table: &Table) -> Policy
-    ensures { result ≡ policy_of_line_table (table_view table.now) }
+/// The word that gives errors their lifetime, which is that of all others in a version without a word of its own.
+fn word_of_error_lifetime(version: TableVersion) -> LineWord
+    ensures { result ≡ word_of_error_lifetime version }
+{
+    if LineWord::ErrorLifetime.row().is_known_in(version) {
+        LineWord::ErrorLifetime
+    } else {
+        LineWord::Lifetime
+    }
+}
+
+/// What a line without fault says of caching, in a table of a version.
+pub fn policy_of_line_table(version: TableVersion, table: &Table) -> Policy
+    ensures { result ≡ policy_of_line_table version (table_view table.now) }
 {
     Policy {
         caches: !says_second(LineKey::Cache.row(), table),
-        lifetime: number_in(LineWord::Lifetime.row(), table),
-        stale_if_error: number_in(LineWord::StaleIfError.row(), table),
+        lifetime: seconds_in(LineWord::Lifetime.row(), table),
+        error_lifetime: seconds_in(word_of_error_lifetime(version).row(), table),
+        stale_if_error: seconds_in(LineWord::StaleIfError.row(), table),
         stores_cookies: !says_second(LineWord::SetCookie.row(), table),
         stores_errors: !says_second(LineWord::Errors.row(), table),
         heeds_requests: !says_second(LineWord::RequestDirectives.row(), table),

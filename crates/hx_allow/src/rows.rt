@@ -7,9 +7,10 @@ ghost use Rattle.hx_allow.specs.Rows.{row_for_caching_lines, least_number, great
 ghost use Rattle.hx_allow.specs.Rows.{top_row, fault_of_top_key};
 
 use crate::config_faults::{ConfigFault, LineWord, NumberKey};
+use crate::limits::MOST_STORE_BYTES;
 use crate::values::TableVersion;
-use crate::values::TableVersion::{One, Three, Two};
-use Kind::{Number, OneOf, Seconds};
+use crate::values::TableVersion::{Four, One, Three, Two};
+use Kind::{Number, OneOf, Seconds, StoreBound};
 
 /// The most seconds that a lifetime has (RFC 9111, section 1.2.2).
 const MOST_SECONDS: u32 = 2_147_483_648;
@@ -21,6 +22,8 @@ pub(crate) enum Kind {
     Number(u32, u32),
     /// The same, of seconds.
     Seconds(u32, u32),
+    /// A whole number from the first to the second, and no less than `max_stored`.
+    StoreBound(u64, u64),
     /// The number of a version.
     Version,
     /// One of two texts. Where the key doesn't stand it is as with the first.
@@ -38,6 +41,8 @@ pub(crate) enum Kind {
 pub(crate) enum Place {
     /// It has to stand in each table, or in each line.
     Needed,
+    /// Where it stands it counts, and it needn't.
+    Optional,
     /// In a line that has an origin.
     AllowingLine,
     /// In a line that has an origin and its cache on.
@@ -73,23 +78,25 @@ pub(crate) enum LineKey {
 }
 
 /// The keys at the top, in the order in which they are looked at.
-pub(crate) const TOP_KEYS: [TopKey; 6] = [
+pub(crate) const TOP_KEYS: [TopKey; 7] = [
     TopKey::Name,
     TopKey::Number(NumberKey::Version),
     TopKey::Number(NumberKey::Capacity),
     TopKey::Number(NumberKey::MaxBody),
     TopKey::Number(NumberKey::MaxStored),
+    TopKey::Number(NumberKey::MaxStore),
     TopKey::Lines,
 ];
 
 /// The keys of a line, in the order in which they are looked at.
-pub(crate) const LINE_KEYS: [LineKey; 12] = [
+pub(crate) const LINE_KEYS: [LineKey; 13] = [
     LineKey::Host,
     LineKey::Methods,
     LineKey::Path,
     LineKey::Origin,
     LineKey::Cache,
     LineKey::Word(LineWord::Lifetime),
+    LineKey::Word(LineWord::ErrorLifetime),
     LineKey::Word(LineWord::StaleIfError),
     LineKey::Word(LineWord::SetCookie),
     LineKey::Word(LineWord::Errors),
@@ -100,7 +107,7 @@ pub(crate) const LINE_KEYS: [LineKey; 12] = [
 
 /// What is told of a key that isn't known, with the keys that a version adds.
 pub(crate) const WORDS_OF_UNKNOWN_KEY: &str =
-    "a key isn't known where it stands; correct its spelling or delete it: behind [[line]] keys belong to that line; cache needs version = 2 or 3, and lifetime, stale-if-error, set-cookie, errors, request-directives, wait and explain need version = 3";
+    "a key isn't known where it stands; correct its spelling or delete it: behind [[line]] keys belong to that line; cache needs version = 2, 3 or 4, lifetime, stale-if-error, set-cookie, errors, request-directives, wait and explain need version = 3 or 4, and max_store and error-lifetime need version = 4";
 
 impl NumberKey {
     pub(crate) fn row(self) -> Row
@@ -111,6 +118,12 @@ impl NumberKey {
             NumberKey::Capacity => Row::needed("capacity", Number(1, 65_536)),
             NumberKey::MaxBody => Row::needed("max_body", Number(0, 16_777_216)),
             NumberKey::MaxStored => Row::needed("max_stored", Number(0, 16_777_216)),
+            NumberKey::MaxStore => Row {
+                key: "max_store",
+                since: Four,
+                kind: StoreBound(65_536, MOST_STORE_BYTES),
+                place: Place::Optional,
+            },
         }
     }
 }
@@ -145,6 +158,11 @@ impl LineWord {
     {
         match self {
             LineWord::Lifetime => Row::of_caching("lifetime", Three, Seconds(1, MOST_SECONDS)),
+            LineWord::ErrorLifetime => Row::of_caching(
+                "error-lifetime",
+                Four,
+                Seconds(1, MOST_SECONDS),
+            ),
             LineWord::StaleIfError => Row::of_caching(
                 "stale-if-error",
                 Three,
@@ -243,20 +261,22 @@ impl TableVersion {
             TableVersion::One => 1,
             TableVersion::Two => 2,
             TableVersion::Three => 3,
+            TableVersion::Four => 4,
         }
     }
 }
 
 impl Kind {
     /// The least and the greatest number of a kind.
-    pub(crate) fn bounds(self) -> (u32, u32)
+    pub(crate) fn bounds(self) -> (u64, u64)
         ensures least { result.0 ≡ least_number (plain_kind self) }
         ensures greatest { result.1 ≡ greatest_number (plain_kind self) }
     {
         match self {
-            Kind::Number(low, high) => (low, high),
-            Kind::Seconds(low, high) => (low, high),
-            Kind::Version => (1, 3),
+            Kind::Number(low, high) => (u64::from(low), u64::from(high)),
+            Kind::Seconds(low, high) => (u64::from(low), u64::from(high)),
+            Kind::StoreBound(low, high) => (low, high),
+            Kind::Version => (1, 4),
             _ => (0, 0),
         }
     }

@@ -6,7 +6,7 @@ ghost use Rattle.toml.specs.Parse.{parse_document};
 ghost use Rattle.hx_policy.specs.Policies.{plain};
 ghost use Rattle.hx_allow.specs.Examples.{denying_line_table_with, line_table, repeated_value, key_with_method};
 ghost use Rattle.hx_allow.specs.Examples.{key_with_number, array_of_values, table_of_pairs, line_with_method};
-ghost use Rattle.hx_allow.specs.Examples.{origin_8081, key_with_text, top_table, line_table_with_keys};
+ghost use Rattle.hx_allow.specs.Examples.{origin_8081, key_with_text, top_table, bounded_table, line_table_with_keys};
 ghost use Rattle.hx_allow.specs.LineTables.{line_fault, line_read, lines_fault, lines_read};
 ghost use Rattle.hx_allow.specs.Tables.{judge_table, lines_at, version_of, is_out_of_memory};
 ghost use Rattle.hx_allow.specs.declared.config_faults.ConfigFault.TheVariants.{UnknownKey, BadName, BadNumber};
@@ -14,7 +14,8 @@ ghost use Rattle.hx_allow.specs.declared.config_faults.ConfigFault.TheVariants.{
 ghost use Rattle.hx_allow.specs.declared.config_faults.ConfigFault.TheVariants.{BadMethod, BadPath, BadOrigin, NoLines};
 ghost use Rattle.hx_allow.specs.declared.config_faults.ConfigFault.TheVariants.{BadCache};
 ghost use Rattle.hx_allow.specs.declared.config_faults.NumberKey.TheVariants.{Version, Capacity, MaxBody, MaxStored};
-ghost use Rattle.hx_allow.specs.declared.values.TableVersion.TheVariants.{One, Two, Three};
+ghost use Rattle.hx_allow.specs.declared.config_faults.NumberKey.TheVariants.{MaxStore};
+ghost use Rattle.hx_allow.specs.declared.values.TableVersion.TheVariants.{One, Two, Three, Four};
 
 /// The faults of a line in their order: with each that is mended the next one is told.
 #[tactic(auto, unfolding(crate::specs::LineTables::line_fault, crate::specs::LineTables::is_line_host, crate::specs::LineTables::is_line_method, crate::specs::LineTables::is_line_path, crate::specs::Addresses::address_of, hx_target::specs::Hosts::is_host, hx_target::specs::Hosts::short_number, hx_target::specs::Paths::has_dot_segment))]
@@ -73,15 +74,15 @@ pub fn worked_cache_of_a_line()
 /// What lines say: `*` is no host, `deny` no origin, a path is a table path, and each is cached that doesn't say `off`.
 #[tactic(auto, unfolding(crate::specs::LineTables::line_read, crate::specs::Addresses::address_of, hx_target::specs::Hosts::short_number))]
 pub fn worked_lines()
-    ensures every_host { line_read (line_table (codes "*") (codes "GET") (codes "/") (codes "127.0.0.1:8081"))
+    ensures every_host { line_read Three (line_table (codes "*") (codes "GET") (codes "/") (codes "127.0.0.1:8081"))
         ≡ line_with_method None (codes "GET") (codes "/") origin_8081 }
-    ensures one_host { line_read (line_table (codes "x") (codes "*") (codes "/%61dmin%2f") (codes "deny"))
+    ensures one_host { line_read Three (line_table (codes "x") (codes "*") (codes "/%61dmin%2f") (codes "deny"))
         ≡ line_with_method (Some (codes "x")) (codes "*") (codes "/admin%2F") None }
-    ensures off { line_read (line_table_with_keys (key_with_text (codes "cache") (codes "off") ∷ []))
+    ensures off { line_read Three (line_table_with_keys (key_with_text (codes "cache") (codes "off") ∷ []))
         ≡ record (line_with_method None (codes "GET") (codes "/") origin_8081) { policy = plain false } }
-    ensures on { line_read (line_table_with_keys (key_with_text (codes "cache") (codes "on") ∷ []))
+    ensures on { line_read Three (line_table_with_keys (key_with_text (codes "cache") (codes "on") ∷ []))
         ≡ line_with_method None (codes "GET") (codes "/") origin_8081 }
-    ensures two_methods { line_read (table_of_pairs (key_with_text (codes "host") (codes "*")
+    ensures two_methods { line_read Three (table_of_pairs (key_with_text (codes "host") (codes "*")
         ∷ (codes "methods", array (array_of_values (string (codes "GET") ∷ string (codes "HEAD") ∷ [])))
         ∷ key_with_text (codes "origin") (codes "deny") ∷ key_with_text (codes "path") (codes "/") ∷ [])) ≡ record {
           host = None;
@@ -103,7 +104,8 @@ pub fn lines_in_their_order()
         ∷ table (line_table (codes "H") (codes "GET") (codes "/") (codes "deny")) ∷ [])) ≡ Some (BadHost 2) }
     ensures none { lines_fault One 1 (array_of_values (table (line_table_with_keys []) ∷ table
         (denying_line_table_with []) ∷ [])) ≡ None }
-    ensures both { lines_read (array_of_values (table (denying_line_table_with []) ∷ table (line_table_with_keys [])
+    ensures both { lines_read Three (array_of_values (table (denying_line_table_with [])
+        ∷ table (line_table_with_keys [])
         ∷ []))
         ≡ line_with_method None (codes "GET") (codes "/") None ∷ line_with_method None (codes "GET")
         (codes "/") origin_8081 ∷ [] }
@@ -127,6 +129,8 @@ pub fn worked_versions_of_tables()
     ensures one { version_of (top_table 1 2 no_items) ≡ One }
     ensures two { version_of (top_table 2 2 no_items) ≡ Two }
     ensures three { version_of (top_table 3 2 no_items) ≡ Three }
+    ensures four { version_of (top_table 4 2 no_items) ≡ Four }
+    ensures five { version_of (top_table 5 2 no_items) ≡ One }
     ensures missing { version_of no_members ≡ One }
 {}
 
@@ -158,7 +162,7 @@ pub fn faults_of_a_table_in_order()
         (BadCache 1) }
     ensures capacity_0 { judge_table (top_table 1 0 (repeated_value 1 (table (line_table_with_keys [])))) ≡ Err
         (BadNumber Capacity) }
-    ensures version_4 { judge_table (top_table 4 2 (repeated_value 1 (table (line_table_with_keys [])))) ≡ Err
+    ensures version_5 { judge_table (top_table 5 2 (repeated_value 1 (table (line_table_with_keys [])))) ≡ Err
         (BadNumber Version) }
 {}
 
@@ -170,6 +174,7 @@ pub fn worked_tables()
       capacity = 2;
       max_body = 1000;
       max_stored = 1000;
+      max_store = None;
       lines = line_with_method None (codes "GET") (codes "/") origin_8081 ∷ [];
     }) }
     ensures second { judge_table (top_table 2 65536
@@ -178,6 +183,7 @@ pub fn worked_tables()
           capacity = 65536;
           max_body = 1000;
           max_stored = 1000;
+          max_store = None;
           lines = record (line_with_method None (codes "GET") (codes "/") origin_8081) { policy = plain false } ∷ [];
         }) }
     ensures limits { judge_table (table_of_pairs (key_with_number (codes "capacity") 1
@@ -188,7 +194,66 @@ pub fn worked_tables()
           capacity = 1;
           max_body = 7;
           max_stored = 5;
+          max_store = None;
           lines = line_with_method None (codes "GET") (codes "/") origin_8081 ∷ [];
+        }) }
+{}
+
+/// The bound of the store's bytes: a key of version 4, which needn't stand. It is looked at behind `max_stored` and in
+/// front of the lines.
+#[tactic(auto, unfolding(crate::specs::Tables::judge_table, crate::specs::Tables::table_fault, crate::specs::Tables::is_name, crate::specs::LineTables::line_fault, crate::specs::LineTables::is_line_host, crate::specs::LineTables::is_line_method, crate::specs::LineTables::is_line_path, crate::specs::Addresses::address_of, hx_target::specs::Hosts::is_host, hx_target::specs::Hosts::short_number, hx_target::specs::Paths::has_dot_segment))]
+pub fn faults_of_a_store_bound()
+    ensures below { judge_table (bounded_table 4 1000 (integer (pos 65535)) no_items) ≡ Err (BadNumber MaxStore) }
+    ensures above { judge_table (bounded_table 4 1000 (integer (pos 1099511627777)) no_items)
+        ≡ Err (BadNumber MaxStore) }
+    ensures a_text { judge_table (bounded_table 4 1000 (string (codes "65536")) no_items) ≡ Err (BadNumber MaxStore) }
+    ensures below_max_stored { judge_table (bounded_table 4 65537 (integer (pos 65536)) no_items)
+        ≡ Err (BadNumber MaxStore) }
+    ensures behind_max_stored { judge_table (bounded_table 4 16777217 (integer (pos 1)) no_items)
+        ≡ Err (BadNumber MaxStored) }
+    ensures least { judge_table (bounded_table 4 65536 (integer (pos 65536)) no_items) ≡ Err NoLines }
+    ensures most { judge_table (bounded_table 4 1000 (integer (pos 1099511627776)) no_items) ≡ Err NoLines }
+    ensures missing { judge_table (top_table 4 2 no_items) ≡ Err NoLines }
+    ensures of_three { judge_table (bounded_table 3 1000 (integer (pos 65536)) no_items)
+        ≡ Err (UnknownKey (codes "max_store")) }
+    ensures of_two { judge_table (bounded_table 2 1000 (integer (pos 65536)) no_items)
+        ≡ Err (UnknownKey (codes "max_store")) }
+    ensures of_one { judge_table (bounded_table 1 1000 (integer (pos 65536)) no_items)
+        ≡ Err (UnknownKey (codes "max_store")) }
+    ensures of_five { judge_table (bounded_table 5 1000 (integer (pos 65536)) no_items)
+        ≡ Err (UnknownKey (codes "max_store")) }
+{}
+
+/// What tables of version 4 say of the bytes of the store.
+#[tactic(auto, unfolding(crate::specs::Tables::judge_table, crate::specs::Tables::table_fault, crate::specs::Tables::table_read, crate::specs::Tables::is_name, crate::specs::LineTables::line_fault, crate::specs::LineTables::line_read, crate::specs::LineTables::is_line_host, crate::specs::LineTables::is_line_method, crate::specs::LineTables::is_line_path, crate::specs::Addresses::address_of, hx_target::specs::Hosts::is_host, hx_target::specs::Hosts::short_number, hx_target::specs::Paths::has_dot_segment))]
+pub fn worked_store_bounds()
+    ensures bounded { judge_table (bounded_table 4 1000 (integer (pos 65536)) (repeated_value 1
+        (table (line_table_with_keys [])))) ≡ Ok (record {
+          name = codes "edge";
+          capacity = 2;
+          max_body = 1000;
+          max_stored = 1000;
+          max_store = Some 65536;
+          lines = line_with_method None (codes "GET") (codes "/") origin_8081 ∷ [];
+        }) }
+    ensures unbounded { judge_table (top_table 4 2 (repeated_value 1 (table (line_table_with_keys [])))) ≡ Ok (record {
+      name = codes "edge";
+      capacity = 2;
+      max_body = 1000;
+      max_stored = 1000;
+      max_store = None;
+      lines = line_with_method None (codes "GET") (codes "/") origin_8081 ∷ [];
+    }) }
+    ensures with_a_word { judge_table (top_table 4 2 (repeated_value 1
+        (table (line_table_with_keys (key_with_number (codes "lifetime") 60 ∷ []))))) ≡ Ok (record {
+          name = codes "edge";
+          capacity = 2;
+          max_body = 1000;
+          max_stored = 1000;
+          max_store = None;
+          lines = record (line_with_method None (codes "GET") (codes "/") origin_8081) {
+            policy = record (plain true) { lifetime = Some 60 };
+          } ∷ [];
         }) }
 {}
 

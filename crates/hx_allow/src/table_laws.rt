@@ -9,7 +9,7 @@ ghost use Rattle.hx_allow.specs.Deciding.{deciding_line, lines_for_host};
 ghost use Rattle.hx_allow.specs.TableLines.{Line as PlainLine, Table};
 ghost use Rattle.hx_allow.specs.LineTables.{line_fault};
 ghost use Rattle.hx_allow.specs.Matching.{matches_line, verdict_of};
-ghost use Rattle.hx_allow.specs.Tables.{BytesAreToml, judge_table, BytesReadAs};
+ghost use Rattle.hx_allow.specs.Tables.{BytesAreToml, judge_table, version_of, BytesReadAs};
 ghost use Rattle.hx_allow.specs.Unknown.{KeyIsPresent, IsLeastUnknown};
 ghost use Rattle.hx_allow.specs.Values.{is_known, first_unknown};
 ghost use Rattle.hx_allow.specs.declared.config_faults.ConfigFault.{ConfigFault as Fault};
@@ -25,13 +25,13 @@ pub fn the_least_unknown_key_is_named()
         → first_unknown scope ms ≡ Some key → IsLeastUnknown scope ms key }
     ensures none { (scope : Scope) (ms : Members) (key : List ℕ) → first_unknown scope ms ≡ None → KeyIsPresent key ms
         → is_known scope key ≡ true }
-    ensures top { (t : Members) (key : List ℕ) → members_are_sorted t ≡ true → IsLeastUnknown Top t key
+    ensures top { (t : Members) (key : List ℕ) → members_are_sorted t ≡ true → IsLeastUnknown (Top (version_of t)) t key
         → judge_table t ≡ Err (Fault.UnknownKey key) }
     ensures line { (version : TableVersion) (n : ℕ) (ms : Members) (key : List ℕ) → members_are_sorted ms ≡ true
         → IsLeastUnknown (Line version) ms key → line_fault version n ms ≡ Some (Fault.UnknownKey key) }
     ensures sorted { (text : List ℕ) (t : Members) → parse_document text ≡ Some t → members_are_sorted t ≡ true }
-    ensures read { (text : List ℕ) (t : Members) (key : List ℕ) → BytesAreToml text t → IsLeastUnknown Top t key
-        → BytesReadAs text (Err (Fault.UnknownKey key)) }
+    ensures read { (text : List ℕ) (t : Members) (key : List ℕ) → BytesAreToml text t
+        → IsLeastUnknown (Top (version_of t)) t key → BytesReadAs text (Err (Fault.UnknownKey key)) }
 {}
 
 /// What is taken as a table is UTF-8 text of at most 1,048,576 bytes that is TOML; such a text is

@@ -7,8 +7,9 @@ ghost use Rattle.toml.specs.View.{table_view, array_view, items_view, view};
 ghost use Rattle.hx_allow.specs.Values.{is_some_and, text_at};
 ghost use Rattle.hx_allow.specs.LineTables.{config_fault_found};
 ghost use Rattle.hx_allow.specs.Tables.{is_name_byte, is_name, number_at, version_of, are_lines, lines_at, table_fault};
+ghost use Rattle.hx_allow.specs.Rows.{greatest_number, number_row};
 ghost use Rattle.hx_allow.specs.Tables.{table_read, judge_table, is_good_at_top, first_bad_at_top, is_out_of_memory};
-ghost use Rattle.hx_allow.specs.Tables.{SomeTextIsToml};
+ghost use Rattle.hx_allow.specs.Tables.{SomeTextIsToml, is_good_number, is_good_store_bound};
 
 use crate::config_faults::FoundFault;
 use crate::host_index::HostIndex;
@@ -16,7 +17,7 @@ use crate::limits::MOST_LINES;
 use crate::line_tables::{lines_fault, lines_read};
 use crate::rows::{TOP_KEYS, TopKey};
 use crate::values::{
-    Scope, TableVersion, array_at, first_unknown, has_one_to_most, number_in, text_at,
+    Scope, TableVersion, array_at, first_unknown, has_one_to_most, number_in, text_at, value_at,
 };
 use crate::{Config, ConfigFault, NumberKey};
 use hx_fields::Bytes;
@@ -55,8 +56,9 @@ fn is_good_name(text: Option<&str>) -> bool
     }
 }
 
-fn number_at(table: &Table, key: NumberKey) -> Option<u32>
-    ensures { result ≡ number_at key (table_view table.now) }
+fn number_at(table: &Table, key: NumberKey) -> Option<u64>
+    ensures number { result ≡ number_at key (table_view table.now) }
+    ensures bounded { IfSome result (λ n. n ≤ greatest_number (number_row key).kind) }
 {
     number_in(key.row(), table)
 }
@@ -67,6 +69,7 @@ fn version_of(table: &Table) -> TableVersion
     match number_at(table, NumberKey::Version) {
         Some(2) => TableVersion::Two,
         Some(3) => TableVersion::Three,
+        Some(4) => TableVersion::Four,
         _ => TableVersion::One,
     }
 }
@@ -103,12 +106,34 @@ fn lines_at(table: &Table) -> Option<&Array>
     }
 }
 
+/// Whether the bytes of the store aren't bounded, or their bound is in its range and no less than that of one content.
+fn is_good_store_bound(table: &Table) -> bool
+    ensures { result ≡ is_good_store_bound (table_view table.now) }
+{
+    if value_at(table, NumberKey::MaxStore.row().key).is_none() {
+        return true;
+    }
+    match number_at(table, NumberKey::MaxStore) {
+        Some(most) => number_at(table, NumberKey::MaxStored).unwrap_or(0) <= most,
+        None => false,
+    }
+}
+
+fn is_good_number(key: NumberKey, table: &Table) -> bool
+    ensures { result ≡ is_good_number (table_view table.now) key }
+{
+    match key {
+        NumberKey::MaxStore => is_good_store_bound(table),
+        _ => number_at(table, key).is_some(),
+    }
+}
+
 fn is_good_at_top(key: TopKey, table: &Table) -> bool
     ensures { result ≡ is_good_at_top (table_view table.now) key }
 {
     match key {
         TopKey::Name => is_good_name(text_at(table, "name")),
-        TopKey::Number(key) => number_at(table, key).is_some(),
+        TopKey::Number(key) => is_good_number(key, table),
         TopKey::Lines => lines_at(table).is_some(),
     }
 }
@@ -129,14 +154,15 @@ fn table_fault(table: &Table) -> Option<FoundFault<'_>>
     ensures first { option_map config_fault_found result ≡ table_fault (table_view table.now) }
     ensures found_fault { ¬ (result ≡ Some (FoundFault.Other ConfigFault.OutOfMemory)) }
 {
-    if let Some(key) = first_unknown(Scope::Top, table) {
+    let version = version_of(table);
+    if let Some(key) = first_unknown(Scope::Top(version), table) {
         return Some(FoundFault::UnknownKey(key));
     }
     if let Some(key) = first_bad_at_top(table) {
         return Some(FoundFault::Other(key.fault()));
     }
     let values = lines_at(table)?;
-    lines_fault(version_of(table), values)
+    lines_fault(version, values)
 }
 
 /// What a table without fault says.
@@ -147,14 +173,15 @@ fn config_of(alloc: Global, table: &Table) -> Result<Config, AllocError>
     ensures { IfOk result (λ config. config ≡ table_read (table_view table.now)) }
 {
     let lines = match lines_at(table) {
-        Some(values) => lines_read(alloc, values)?,
+        Some(values) => lines_read(alloc, version_of(table), values)?,
         None => Vec::new(alloc),
     };
     Ok(Config {
         name: String::from_str(alloc, text_at(table, "name").unwrap_or(""))?,
         capacity: number_at(table, NumberKey::Capacity).unwrap_or(0) as usize,
-        max_body: u64::from(number_at(table, NumberKey::MaxBody).unwrap_or(0)),
-        max_stored: u64::from(number_at(table, NumberKey::MaxStored).unwrap_or(0)),
+        max_body: number_at(table, NumberKey::MaxBody).unwrap_or(0),
+        max_stored: number_at(table, NumberKey::MaxStored).unwrap_or(0),
+        max_store: number_at(table, NumberKey::MaxStore),
         by_host: HostIndex::of(alloc, &lines)?,
         lines,
     })

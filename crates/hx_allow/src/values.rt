@@ -1,14 +1,15 @@
 //! What the operator's table reads of a TOML table: keys, texts, numbers and arrays.
-ghost use Rattle.std.specs.Prelude.{◌≡◌, ◌≤◌, length, true, codes, find, not, string_bytes, option_map, bytes_eq};
+ghost use Rattle.std.specs.Prelude.{◌≡◌, ◌<◌, ◌≤◌, ◌^◌, length, true, codes, find, not, string_bytes, option_map};
+ghost use Rattle.std.specs.Prelude.{IfSome};
 ghost use Rattle.std.specs.BTreeMap.{keys};
 ghost use Rattle.std.specs.Option.{option_copied};
 ghost use Rattle.toml.specs.Data.{get_member};
 ghost use Rattle.toml.specs.View.{table_view, array_view, items_view, view};
-ghost use Rattle.hx_allow.specs.Rows.{top_row, line_row, plain_row};
+ghost use Rattle.hx_allow.specs.Rows.{plain_row, plain_kind, greatest_number};
 ghost use Rattle.hx_allow.specs.Values.{is_known, is_key_of, first_unknown, text_at, items_at};
 ghost use Rattle.hx_allow.specs.Values.{number_between, number_in, has_one_to_most};
 
-use crate::rows::{LINE_KEYS, LineKey, Row, TOP_KEYS, TopKey};
+use crate::rows::{LINE_KEYS, Row, TOP_KEYS};
 use toml::value::Array;
 use toml::{Table, Value};
 
@@ -19,15 +20,17 @@ pub enum TableVersion {
     One,
     /// A line may have the key `cache`.
     Two,
-    /// A line may have that key and those of `LineWord`.
+    /// A line may have that key and those of `LineWord`, but for `error-lifetime`.
     Three,
+    /// A line may have that one too, and the top may have `max_store`.
+    Four,
 }
 
 /// Which part of the table keys stand in.
 #[derive(Clone, Copy, Debug, PartialEq, Eq)]
 pub enum Scope {
-    /// The top of the table.
-    Top,
+    /// The top of a table of this version.
+    Top(TableVersion),
     /// One of the lines of a table of this version.
     Line(TableVersion),
 }
@@ -36,36 +39,32 @@ fn is_known(scope: Scope, key: &[u8]) -> bool
     ensures { result ≡ is_known scope key.now }
 {
     match scope {
-        Scope::Top => is_top_key(key),
+        Scope::Top(version) => is_top_key(version, key),
         Scope::Line(version) => is_line_key(version, key),
     }
 }
 
-fn is_top_key(key: &[u8]) -> bool
-    ensures { result ≡ is_known Scope.Top key.now }
+fn is_top_key(version: TableVersion, key: &[u8]) -> bool
+    ensures { result ≡ is_known (Scope.Top version) key.now }
 {
-    TOP_KEYS.iter().any(|known| is_at_top(key, *known))
+    TOP_KEYS
+        .iter()
+        .any(|known| is_row_of(version, key, known.row()))
 }
 
-/// Whether the known key is this one.
-fn is_at_top(key: &[u8], known: TopKey) -> bool
-    ensures { result ≡ bytes_eq key.now (top_row known).key }
+/// Whether a version has the key of the row, and this is it.
+fn is_row_of(version: TableVersion, key: &[u8], row: Row) -> bool
+    ensures { result ≡ is_key_of version key.now (plain_row row) }
 {
-    key == known.row().key.as_bytes()
+    row.is_known_in(version) && key == row.key.as_bytes()
 }
 
 fn is_line_key(version: TableVersion, key: &[u8]) -> bool
     ensures { result ≡ is_known (Scope.Line version) key.now }
 {
-    LINE_KEYS.iter().any(|known| is_same(version, key, *known))
-}
-
-/// Whether lines of a version have the known key, and this is it.
-fn is_same(version: TableVersion, key: &[u8], known: LineKey) -> bool
-    ensures { result ≡ is_key_of version key.now (line_row known) }
-{
-    let row = known.row();
-    row.is_known_in(version) && key == row.key.as_bytes()
+    LINE_KEYS
+        .iter()
+        .any(|known| is_row_of(version, key, known.row()))
 }
 
 fn unknown_key(scope: Scope, table: &Table) -> Option<&String>
@@ -114,8 +113,9 @@ pub fn array_at<'a>(table: &'a Table, key: &str) -> Option<&'a Array>
 }
 
 /// The number of a key, where it is whole and within bounds.
-pub fn number_between(table: &Table, key: &str, low: u32, high: u32) -> Option<u32>
-    ensures { result ≡ number_between low high (get_member key.now (table_view table.now)) }
+pub fn number_between(table: &Table, key: &str, low: u64, high: u64) -> Option<u64>
+    ensures number { result ≡ number_between low high (get_member key.now (table_view table.now)) }
+    ensures bounded { IfSome result (λ n. n ≤ high) }
 {
     match value_at(table, key) {
         Some(value) => within(low, high, value.as_integer()),
@@ -124,19 +124,32 @@ pub fn number_between(table: &Table, key: &str, low: u32, high: u32) -> Option<u
 }
 
 /// The number of a row's key, where it is whole and within its bounds.
-pub(crate) fn number_in(row: Row, table: &Table) -> Option<u32>
-    ensures { result ≡ number_in (plain_row row) (table_view table.now) }
+pub(crate) fn number_in(row: Row, table: &Table) -> Option<u64>
+    ensures number { result ≡ number_in (plain_row row) (table_view table.now) }
+    ensures bounded { IfSome result (λ n. n ≤ greatest_number (plain_kind row.kind)) }
 {
     let (low, high) = row.kind.bounds();
     number_between(table, row.key, low, high)
 }
 
-fn within(low: u32, high: u32, number: Option<i64>) -> Option<u32>
-    ensures { result ≡ Rattle.hx_allow.specs.Values.within low high number }
+fn within(low: u64, high: u64, number: Option<i64>) -> Option<u64>
+    ensures number { result ≡ Rattle.hx_allow.specs.Values.within low high number }
+    ensures bounded { IfSome result (λ n. n ≤ high) }
 {
     match number {
-        Some(n) if i64::from(low) <= n && n <= i64::from(high) => Some(n as u32),
+        Some(n) if n >= 0 && low <= n as u64 && n as u64 <= high => Some(n as u64),
         _ => None,
+    }
+}
+
+/// The seconds of a row's key, where they are whole and within its bounds.
+pub(crate) fn seconds_in(row: Row, table: &Table) -> Option<u32>
+    requires { greatest_number (plain_kind row.kind) < 2 ^ 32 }
+    ensures { result ≡ number_in (plain_row row) (table_view table.now) }
+{
+    match number_in(row, table) {
+        Some(seconds) => Some(seconds as u32),
+        None => None,
     }
 }
 

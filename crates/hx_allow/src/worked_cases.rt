@@ -25,8 +25,9 @@ ghost use Rattle.hx_allow.specs.declared.config_faults.ConfigFault.TheVariants.{
 ghost use Rattle.hx_allow.specs.declared.config_faults.ConfigFault.TheVariants.{BadWord};
 ghost use Rattle.hx_allow.specs.declared.config_faults.LineWord.TheVariants.{Lifetime};
 ghost use Rattle.hx_allow.specs.declared.config_faults.NumberKey.TheVariants.{Version, Capacity, MaxBody, MaxStored};
+ghost use Rattle.hx_allow.specs.declared.config_faults.NumberKey.TheVariants.{MaxStore};
 ghost use Rattle.hx_allow.specs.declared.values.Scope.TheVariants.{Top, Line};
-ghost use Rattle.hx_allow.specs.declared.values.TableVersion.TheVariants.{One, Two};
+ghost use Rattle.hx_allow.specs.declared.values.TableVersion.TheVariants.{One, Two, Three, Four};
 ghost use Rattle.hx_allow.specs.declared.verdicts.Verdict.TheVariants.{Allowed, DeniedBy, NoLine};
 
 /// The numbers of the faults.
@@ -47,22 +48,26 @@ pub fn faults_have_these_numbers()
 
 /// The keys at the top of a table, and others.
 pub fn worked_keys_at_the_top()
-    ensures version { is_known Top (codes "version") ≡ true }
-    ensures name { is_known Top (codes "name") ≡ true }
-    ensures capacity { is_known Top (codes "capacity") ≡ true }
-    ensures max_body { is_known Top (codes "max_body") ≡ true }
-    ensures max_stored { is_known Top (codes "max_stored") ≡ true }
-    ensures line { is_known Top (codes "line") ≡ true }
-    ensures colour { is_known Top (codes "colour") ≡ false }
-    ensures host { is_known Top (codes "host") ≡ false }
-    ensures methods { is_known Top (codes "methods") ≡ false }
-    ensures path { is_known Top (codes "path") ≡ false }
-    ensures origin { is_known Top (codes "origin") ≡ false }
-    ensures cache { is_known Top (codes "cache") ≡ false }
-    ensures upper { is_known Top (codes "Version") ≡ false }
-    ensures shorter { is_known Top (codes "lin") ≡ false }
-    ensures longer { is_known Top (codes "lines") ≡ false }
-    ensures empty { is_known Top [] ≡ false }
+    ensures version { is_known (Top Four) (codes "version") ≡ true }
+    ensures name { is_known (Top Four) (codes "name") ≡ true }
+    ensures capacity { is_known (Top Four) (codes "capacity") ≡ true }
+    ensures max_body { is_known (Top Four) (codes "max_body") ≡ true }
+    ensures max_stored { is_known (Top Four) (codes "max_stored") ≡ true }
+    ensures max_store { is_known (Top Four) (codes "max_store") ≡ true }
+    ensures max_store_of_three { is_known (Top Three) (codes "max_store") ≡ false }
+    ensures max_store_of_one { is_known (Top One) (codes "max_store") ≡ false }
+    ensures max_stored_of_one { is_known (Top One) (codes "max_stored") ≡ true }
+    ensures line { is_known (Top Four) (codes "line") ≡ true }
+    ensures colour { is_known (Top Four) (codes "colour") ≡ false }
+    ensures host { is_known (Top Four) (codes "host") ≡ false }
+    ensures methods { is_known (Top Four) (codes "methods") ≡ false }
+    ensures path { is_known (Top Four) (codes "path") ≡ false }
+    ensures origin { is_known (Top Four) (codes "origin") ≡ false }
+    ensures cache { is_known (Top Four) (codes "cache") ≡ false }
+    ensures upper { is_known (Top Four) (codes "Version") ≡ false }
+    ensures shorter { is_known (Top Four) (codes "lin") ≡ false }
+    ensures longer { is_known (Top Four) (codes "lines") ≡ false }
+    ensures empty { is_known (Top Four) [] ≡ false }
 {}
 
 /// The keys of a line: `cache` is one from the second version on.
@@ -113,7 +118,8 @@ pub fn bounds_of_the_numbers()
     ensures version_1 { number_at Version (table_of_pairs (key_with_number (codes "version") 1 ∷ [])) ≡ Some 1 }
     ensures version_2 { number_at Version (table_of_pairs (key_with_number (codes "version") 2 ∷ [])) ≡ Some 2 }
     ensures version_3 { number_at Version (table_of_pairs (key_with_number (codes "version") 3 ∷ [])) ≡ Some 3 }
-    ensures version_4 { number_at Version (table_of_pairs (key_with_number (codes "version") 4 ∷ [])) ≡ None }
+    ensures version_4 { number_at Version (table_of_pairs (key_with_number (codes "version") 4 ∷ [])) ≡ Some 4 }
+    ensures version_5 { number_at Version (table_of_pairs (key_with_number (codes "version") 5 ∷ [])) ≡ None }
     ensures capacity_0 { number_at Capacity (table_of_pairs (key_with_number (codes "capacity") 0 ∷ [])) ≡ None }
     ensures capacity_1 { number_at Capacity (table_of_pairs (key_with_number (codes "capacity") 1 ∷ [])) ≡ Some 1 }
     ensures capacity_65536 { number_at Capacity (table_of_pairs (key_with_number (codes "capacity") 65536 ∷ [])) ≡ Some 65536 }
@@ -127,6 +133,13 @@ pub fn bounds_of_the_numbers()
         (table_of_pairs (key_with_number (codes "max_stored") 16777216 ∷ [])) ≡ Some 16777216 }
     ensures max_stored_16777217 { number_at MaxStored
         (table_of_pairs (key_with_number (codes "max_stored") 16777217 ∷ [])) ≡ None }
+    ensures max_store_65535 { number_at MaxStore (table_of_pairs (key_with_number (codes "max_store") 65535 ∷ [])) ≡ None }
+    ensures max_store_65536 { number_at MaxStore (table_of_pairs (key_with_number (codes "max_store") 65536 ∷ []))
+        ≡ Some 65536 }
+    ensures max_store_1099511627776 { number_at MaxStore
+        (table_of_pairs (key_with_number (codes "max_store") 1099511627776 ∷ [])) ≡ Some 1099511627776 }
+    ensures max_store_1099511627777 { number_at MaxStore
+        (table_of_pairs (key_with_number (codes "max_store") 1099511627777 ∷ [])) ≡ None }
 {}
 
 /// Names of proxies.
@@ -384,6 +397,7 @@ pub fn worked_keys_of_numbers()
     ensures capacity { key_text Capacity ≡ codes "capacity" }
     ensures max_body { key_text MaxBody ≡ codes "max_body" }
     ensures max_stored { key_text MaxStored ≡ codes "max_stored" }
+    ensures max_store { key_text MaxStore ≡ codes "max_store" }
 {}
 
 /// A line in front takes another where its host, its methods and its path take those.

@@ -1,7 +1,8 @@
 -- The words of a line, and the statuses that a cache may give a lifetime.
 --
--- plain: a line without words of version 3     is_heuristic: statuses     given_lifetime: what the operator gives
-use Rattle.std.specs.Prelude.{ℕ, ◌==◌, if◌then◌else◌, Bool, true, false, List, [], ◌∷◌, Option, None}
+-- plain: a line without words of version 3     is_heuristic, is_error: statuses
+-- given_lifetime: what the operator gives
+use Rattle.std.specs.Prelude.{ℕ, ◌==◌, nat_le, if◌then◌else◌, Bool, true, false, List, [], ◌∷◌, Option, None}
 use Rattle.std.specs.List.{list_any}
 use Rattle.hx_policy.specs.declared.words.Policy.{Policy}
 
@@ -10,6 +11,7 @@ abbrev pub plain : Bool → Policy
 plain caches = record {
   caches = caches;
   lifetime = None;
+  error_lifetime = None;
   stale_if_error = None;
   stores_cookies = true;
   stores_errors = true;
@@ -25,7 +27,13 @@ heuristic_statuses = 200 ∷ 203 ∷ 204 ∷ 206 ∷ 300 ∷ 301 ∷ 308 ∷ 404
 abbrev pub is_heuristic : ℕ → Bool
 is_heuristic status = list_any (λ s. s == status) heuristic_statuses
 
+-- the statuses that tell an error of the client or of the server (RFC 9110, sections 15.5 and 15.6)
+abbrev pub is_error : ℕ → Bool
+is_error status = nat_le 400 status
+
 -- "A cache MUST NOT use heuristics" but for "statuses that are defined as heuristically cacheable"
--- and what public marks (RFC 9111, section 4.2.2); own: for those statuses alone
+-- and what public marks (RFC 9111, section 4.2.2); own: for those statuses alone, and errors have a
+-- lifetime of their own
 abbrev pub given_lifetime : Policy → ℕ → Option ℕ
-given_lifetime policy status = if is_heuristic status then policy.lifetime else None
+given_lifetime policy status =
+    if is_heuristic status then (if is_error status then policy.error_lifetime else policy.lifetime) else None

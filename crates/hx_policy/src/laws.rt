@@ -1,6 +1,6 @@
 //! What the definitions say of policies and statuses: each function's contract is a law or worked
 //! cases, and its body is empty.
-ghost use Rattle.std.specs.Prelude.{◌≡◌, ℕ, Bool, Some, None, true, false};
+ghost use Rattle.std.specs.Prelude.{◌≡◌, ◌≤◌, ◌<◌, ℕ, Bool, Some, None, true, false, if◌then◌else◌};
 ghost use Rattle.hx_policy.specs.Policies.{plain, is_heuristic, given_lifetime};
 ghost use Rattle.hx_policy.specs.declared.words.Policy.{Policy as Words};
 
@@ -17,15 +17,41 @@ pub fn a_plain_policy_has_no_words()
     ensures storing { (caches : Bool) → (plain caches).explains_storing ≡ false }
 {}
 
-/// A lifetime is given to a status that is heuristically cacheable, and to no other (RFC 9111, section 4.2.2).
+/// A lifetime is given to a status that is heuristically cacheable, and to no other (RFC 9111, section 4.2.2): that of
+/// errors to an error, and that of all others to every other.
 pub fn a_lifetime_is_given_to_heuristic_statuses_alone()
-    ensures given { (words : Words) (status : ℕ) → is_heuristic status ≡ true
+    ensures given { (words : Words) (status : ℕ) → is_heuristic status ≡ true → status < 400
         → given_lifetime words status ≡ words.lifetime }
+    ensures to_errors { (words : Words) (status : ℕ) → is_heuristic status ≡ true → 400 ≤ status
+        → given_lifetime words status ≡ words.error_lifetime }
     ensures other { (words : Words) (status : ℕ) → is_heuristic status ≡ false → given_lifetime words status ≡ None }
+{}
+
+/// Where errors have the lifetime of all others, as in the versions of the table before the fourth, every heuristically
+/// cacheable status is given that one.
+pub fn without_a_word_of_errors_all_are_given_one_lifetime()
+    ensures { (words : Words) (status : ℕ) → words.error_lifetime ≡ words.lifetime
+        → given_lifetime words status ≡ (if is_heuristic status then words.lifetime else None) }
+{}
+
+/// Who is given which lifetime, status by status.
+pub fn worked_lifetimes_of_statuses()
     ensures of_200 { (words : Words) → given_lifetime words 200 ≡ words.lifetime }
-    ensures of_404 { (words : Words) → given_lifetime words 404 ≡ words.lifetime }
+    ensures of_203 { (words : Words) → given_lifetime words 203 ≡ words.lifetime }
+    ensures of_204 { (words : Words) → given_lifetime words 204 ≡ words.lifetime }
+    ensures of_300 { (words : Words) → given_lifetime words 300 ≡ words.lifetime }
+    ensures of_301 { (words : Words) → given_lifetime words 301 ≡ words.lifetime }
     ensures of_302 { (words : Words) → given_lifetime words 302 ≡ None }
+    ensures of_308 { (words : Words) → given_lifetime words 308 ≡ words.lifetime }
+    ensures of_400 { (words : Words) → given_lifetime words 400 ≡ None }
+    ensures of_403 { (words : Words) → given_lifetime words 403 ≡ None }
+    ensures of_404 { (words : Words) → given_lifetime words 404 ≡ words.error_lifetime }
+    ensures of_405 { (words : Words) → given_lifetime words 405 ≡ words.error_lifetime }
+    ensures of_410 { (words : Words) → given_lifetime words 410 ≡ words.error_lifetime }
+    ensures of_414 { (words : Words) → given_lifetime words 414 ≡ words.error_lifetime }
     ensures of_500 { (words : Words) → given_lifetime words 500 ≡ None }
+    ensures of_501 { (words : Words) → given_lifetime words 501 ≡ words.error_lifetime }
+    ensures of_503 { (words : Words) → given_lifetime words 503 ≡ None }
 {}
 
 /// The statuses that RFC 9110, section 15.1 calls heuristically cacheable.

@@ -2,16 +2,19 @@
 ghost use Rattle.std.specs.Prelude.{◌≡◌};
 ghost use Rattle.hx_policy.specs.Policies.{plain, given_lifetime};
 
-use crate::heuristics::is_heuristic;
+use crate::heuristics::{is_error, is_heuristic};
 
-/// What a line says of caching. Each word but the first needs version 3 of the table.
+/// What a line says of caching. Each word but the first needs version 3 of the table, and that of errors version 4.
 #[derive(Clone, Copy, Debug, PartialEq, Eq)]
 pub struct Policy {
     /// Requests may be answered from the store, and their responses stored.
     pub caches: bool,
-    /// The lifetime of a response of a heuristically cacheable status that states none, in seconds,
-    /// 1 to 2147483648 (RFC 9111, section 4.2.2).
+    /// The lifetime of a response of a heuristically cacheable status below 400 that states none, in
+    /// seconds, 1 to 2147483648 (RFC 9111, section 4.2.2).
     pub lifetime: Option<u32>,
+    /// The same of a status from 400 on, which tells an error. In a table of a version before the fourth it is that of
+    /// all others.
+    pub error_lifetime: Option<u32>,
     /// The stale-if-error of a response, in seconds, where neither the response nor the request has that directive (RFC
     /// 5861, section 4).
     pub stale_if_error: Option<u32>,
@@ -38,6 +41,7 @@ impl Policy {
         Policy {
             caches,
             lifetime: None,
+            error_lifetime: None,
             stale_if_error: None,
             stores_cookies: true,
             stores_errors: true,
@@ -51,10 +55,12 @@ impl Policy {
     pub fn given_lifetime(self, status: u16) -> Option<u32>
         ensures { result ≡ given_lifetime self status }
     {
-        if is_heuristic(status) {
-            self.lifetime
-        } else {
+        if !is_heuristic(status) {
             None
+        } else if is_error(status) {
+            self.error_lifetime
+        } else {
+            self.lifetime
         }
     }
 }

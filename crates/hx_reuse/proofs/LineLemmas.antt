@@ -1,6 +1,7 @@
 -- What the words of a line change, and that a line without words changes nothing.
-use Rattle.std.proofs.Common.{◌≡◌, ℕ, ◌≤◌, ◌<◌, ◌-◌, ◌⊎◌, inl, inr, Bool, true, false, cond, List, [], ◌∷◌, refl, sym, ◌∙◌, ap}
-use Rattle.std.specs.Prelude.{not, ◌&&◌, ◌||◌, ◌==◌, nat_lt, bytes_eq, codes, length, find, filter, is_none, Option, Some, None, option_map}
+use Rattle.std.proofs.Common.{◌≡◌, ℕ, ◌≤◌, ◌<◌, ◌-◌, ◌⊎◌, inl, inr, Bool, true, false, cond, List, [], ◌∷◌, refl, sym, ◌∙◌, ap, arith}
+use Rattle.std.proofs.lemmas.Bool.Decides.{nat_tests}
+use Rattle.std.specs.Prelude.{not, ◌&&◌, ◌||◌, ◌==◌, nat_lt, nat_le, bytes_eq, codes, length, find, filter, is_none, Option, Some, None, option_map}
 use Rattle.hx_fields.specs.declared.field_line.Field.{Field}
 use Rattle.hx_directives.specs.Occurrences.{occurrences_of}
 use Rattle.hx_directives.specs.Answers.{is_same_directive, directive_occurs, seconds_of_directive, first_valid, max_stale}
@@ -16,7 +17,7 @@ use Rattle.hx_age.specs.Age.{age_of}
 use Rattle.hx_hop.specs.declared.request_view.Asked.{Asked}
 use Rattle.hx_store.specs.Stored.{Stored}
 use Rattle.hx_policy.specs.declared.words.Policy.{Policy}
-use Rattle.hx_policy.specs.Policies.{plain, is_heuristic, given_lifetime}
+use Rattle.hx_policy.specs.Policies.{plain, is_heuristic, is_error, given_lifetime}
 use Rattle.hx_reuse.specs.declared.rule.ReuseRule.{ReuseRule}
 use Rattle.hx_reuse.specs.declared.rule.ReuseRule.TheVariants.{Operator, Method, Content, Range, Precondition, UriMiss, VaryMiss, ResponseNoCache, RequestNoCache, AboveMaxAge, BelowMinFresh, MustRevalidate, NoLifetime, StaleNoCache, NoMaxStale, PastMaxStale, StaleMaxAge, StaleMinFresh}
 use Rattle.hx_reuse.specs.declared.rule.ErrorRule.{ErrorRule}
@@ -56,23 +57,42 @@ none_given l o false h = ap (λ (n : Option ℕ). lifetime_with_given n l) h
 
 pub others_stay : (policy : Policy) (status : ℕ) (fields : List Field) → is_heuristic status ≡ false → lifetime_under policy status fields ≡ lifetime_of fields
 others_stay policy status fields h =
-    none_given (lifetime_of fields) (given_lifetime policy status) (lifetime_of fields).explicit (ap (λ (b : Bool). cond b policy.lifetime None) h)
+    none_given (lifetime_of fields) (given_lifetime policy status) (lifetime_of fields).explicit (rw h refl)
 
-is_some_given : (l : Lifetime) (o : Option ℕ) (n : ℕ) (b : Bool) → b ≡ false → o ≡ Some n → cond b l (lifetime_with_given o l) ≡ lifetime_with_given (Some n) l
-is_some_given l o n b h k = rw (h, k) refl
+below_400 : (status : ℕ) → status < 400 → nat_le 400 status ≡ false
+below_400 status h = grind (arith, nat_tests)
 
-pub given_counts : (policy : Policy) (status : ℕ) (fields : List Field) (n : ℕ) → (lifetime_of fields).explicit ≡ false → is_heuristic status ≡ true → policy.lifetime ≡ Some n
-    → lifetime_under policy status fields ≡ lifetime_with_given (Some n) (lifetime_of fields)
-given_counts policy status fields n none heuristic word =
-    is_some_given (lifetime_of fields) (given_lifetime policy status) n (lifetime_of fields).explicit none (ap (λ (b : Bool). cond b policy.lifetime None) heuristic ∙ word)
+from_400 : (status : ℕ) → 400 ≤ status → nat_le 400 status ≡ true
+from_400 status h = grind (arith, nat_tests)
 
 same_none : (b : Bool) → ◌≡◌ {A = Option ℕ} (cond b None None) None
 same_none true = refl
 same_none false = refl
 
+pub errors_stay : (policy : Policy) (status : ℕ) (fields : List Field) → 400 ≤ status → policy.error_lifetime ≡ None → lifetime_under policy status fields ≡ lifetime_of fields
+errors_stay policy status fields high none =
+    none_given (lifetime_of fields) (given_lifetime policy status) (lifetime_of fields).explicit (rw (from_400 status high) (rw none (same_none (is_heuristic status))))
+
+is_some_given : (l : Lifetime) (o : Option ℕ) (n : ℕ) (b : Bool) → b ≡ false → o ≡ Some n → cond b l (lifetime_with_given o l) ≡ lifetime_with_given (Some n) l
+is_some_given l o n b h k = rw (h, k) refl
+
+pub given_counts : (policy : Policy) (status : ℕ) (fields : List Field) (n : ℕ) → (lifetime_of fields).explicit ≡ false → is_heuristic status ≡ true → status < 400 → policy.lifetime ≡ Some n
+    → lifetime_under policy status fields ≡ lifetime_with_given (Some n) (lifetime_of fields)
+given_counts policy status fields n none heuristic low word =
+    is_some_given (lifetime_of fields) (given_lifetime policy status) n (lifetime_of fields).explicit none (rw heuristic (rw (below_400 status low) word))
+
+pub given_to_errors_counts : (policy : Policy) (status : ℕ) (fields : List Field) (n : ℕ) → (lifetime_of fields).explicit ≡ false → is_heuristic status ≡ true → 400 ≤ status → policy.error_lifetime ≡ Some n
+    → lifetime_under policy status fields ≡ lifetime_with_given (Some n) (lifetime_of fields)
+given_to_errors_counts policy status fields n none heuristic high word =
+    is_some_given (lifetime_of fields) (given_lifetime policy status) n (lifetime_of fields).explicit none (rw heuristic (rw (from_400 status high) word))
+
+none_of_both : (b c : Bool) → ◌≡◌ {A = Option ℕ} (cond b (cond c None None) None) None
+none_of_both b true = same_none b
+none_of_both b false = same_none b
+
 pub plain_lifetime : (caches : Bool) (status : ℕ) (fields : List Field) → lifetime_under (plain caches) status fields ≡ lifetime_of fields
 plain_lifetime caches status fields =
-    none_given (lifetime_of fields) (given_lifetime (plain caches) status) (lifetime_of fields).explicit (same_none (is_heuristic status))
+    none_given (lifetime_of fields) (given_lifetime (plain caches) status) (lifetime_of fields).explicit (none_of_both (is_heuristic status) (is_error status))
 
 -- ---- a line without words
 

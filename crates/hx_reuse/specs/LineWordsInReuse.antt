@@ -41,11 +41,23 @@ abbrev pub OtherStatusesAreUnchanged : Type 0
 OtherStatusesAreUnchanged = (policy : Policy) (status : ℕ) (fields : List Field) →
     is_heuristic status ≡ false → lifetime_under policy status fields ≡ lifetime_of fields
 
--- elsewhere the response is as fresh as if it stated the operator's
+-- elsewhere the response is as fresh as if it stated the operator's: an error his lifetime of errors, and any other
+-- response his lifetime
 abbrev pub GivenLifetimeCounts : Type 0
 GivenLifetimeCounts = (policy : Policy) (status : ℕ) (fields : List Field) (n : ℕ) →
-    (lifetime_of fields).explicit ≡ false → is_heuristic status ≡ true → policy.lifetime ≡ Some n →
+    (lifetime_of fields).explicit ≡ false → is_heuristic status ≡ true → status < 400 → policy.lifetime ≡ Some n →
     lifetime_under policy status fields ≡ record { explicit = true; seconds = capped n }
+
+abbrev pub GivenErrorLifetimeCounts : Type 0
+GivenErrorLifetimeCounts = (policy : Policy) (status : ℕ) (fields : List Field) (n : ℕ) →
+    (lifetime_of fields).explicit ≡ false → is_heuristic status ≡ true → 400 ≤ status →
+    policy.error_lifetime ≡ Some n →
+    lifetime_under policy status fields ≡ record { explicit = true; seconds = capped n }
+
+-- where the operator gives errors no lifetime, they have none but what they state, whatever he gives the others
+abbrev pub ErrorsOfNoLifetimeAreUnchanged : Type 0
+ErrorsOfNoLifetimeAreUnchanged = (policy : Policy) (status : ℕ) (fields : List Field) →
+    400 ≤ status → policy.error_lifetime ≡ None → lifetime_under policy status fields ≡ lifetime_of fields
 
 -- ---- a request's advice
 

@@ -16,7 +16,8 @@ ghost use Rattle.hx_reuse.specs.RuleNames.{reuse_rule_detail, error_rule_word, r
 ghost use Rattle.hx_reuse.specs.PlainLines.{PlainLineGivesNoLifetime, PlainLineAsksTheSame, PlainLineDecidesTheSame};
 ghost use Rattle.hx_reuse.specs.PlainLines.{PlainLineAsksTheSameOnError, PlainLinePermitsTheSameOnError};
 ghost use Rattle.hx_reuse.specs.LineWordsInReuse.{StatedLifetimeIsUnchanged, OtherStatusesAreUnchanged};
-ghost use Rattle.hx_reuse.specs.LineWordsInReuse.{GivenLifetimeCounts};
+ghost use Rattle.hx_reuse.specs.LineWordsInReuse.{GivenLifetimeCounts, GivenErrorLifetimeCounts};
+ghost use Rattle.hx_reuse.specs.LineWordsInReuse.{ErrorsOfNoLifetimeAreUnchanged};
 ghost use Rattle.hx_reuse.specs.LineWordsInReuse.{IgnoredAdviceNeverApplies, IgnoredAdviceNeverAppliesOnError};
 ghost use Rattle.hx_reuse.specs.LineWordsInReuse.{IgnoredAdviceDecidesNothing, OperatorsStaleLimitAllows};
 ghost use Rattle.hx_reuse.specs.LineWordsInReuse.{OperatorsStaleLimitEnds};
@@ -120,15 +121,17 @@ pub fn default_policy_changes_nothing()
 {}
 
 /// The lifetime that a line gives changes nothing of a response that states its own, nor of one
-/// whose status isn't heuristically cacheable.
+/// whose status isn't heuristically cacheable, nor of an error where the line gives errors none.
 pub fn a_stated_lifetime_stays()
     ensures stated { StatedLifetimeIsUnchanged }
     ensures other_status { OtherStatusesAreUnchanged }
+    ensures errors { ErrorsOfNoLifetimeAreUnchanged }
 {}
 
 /// To any other response it gives a lifetime that counts as stated.
 pub fn a_given_lifetime_counts()
-    ensures { GivenLifetimeCounts }
+    ensures others { GivenLifetimeCounts }
+    ensures errors { GivenErrorLifetimeCounts }
 {}
 
 /// Where a line doesn't heed what requests want, no rule on a request's no-cache, max-age or

@@ -36,5 +36,6 @@ pub use crate::worked_cases::{
     least_error_rule, least_reuse_rule, line_without_cache, minute_after_an_error,
     minute_from_the_line, moment_goes_backwards, no_lifetime_is_only_validated,
     of_two_alike_the_later_comes_first, reload_is_ignored, request_max_age_and_only_if_cached,
-    stale_if_error_of_request, stale_if_error_of_response, vary_values_are_compared,
+    seconds_of_errors, stale_if_error_of_request, stale_if_error_of_response,
+    vary_values_are_compared,
 };

@@ -12,6 +12,7 @@ ghost use Rattle.hx_reuse.specs.ErrorRules.{permission_on_error, error_rule_of};
 ghost use Rattle.hx_reuse.specs.Cases.{cache_control_fields, accept_language, get_a_with, get_b, get_a_with_content};
 ghost use Rattle.hx_reuse.specs.Cases.{stored_at, stored_with_cache_control, one_held_with_cache_control};
 ghost use Rattle.hx_reuse.specs.Cases.{one_held_in_german, one_held_with_etag, request_directives, lifetime_policy};
+ghost use Rattle.hx_reuse.specs.Cases.{error_lifetime_policy};
 ghost use Rattle.hx_reuse.specs.Cases.{stale_if_error_policy, ignore_directives_policy, stored_with_status};
 ghost use Rattle.hx_reuse.specs.Cases.{one_held_of_status, variant_made_at, default_made_at, english_and_default};
 ghost use Rattle.hx_reuse.specs.Cases.{get_a_in};
@@ -165,15 +166,16 @@ pub fn least_error_rule()
 {}
 
 /// A response that states no lifetime, under a line that gives it a minute: fresh at 59 and stale
-/// at 60, when a max-stale takes it. One of status 302 isn't given any, and one of 10 seconds keeps
-/// its own.
+/// at 60, when a max-stale takes it. One of status 302 isn't given any, nor a 404 by a line that gives
+/// errors none, and one of 10 seconds keeps its own.
 pub fn minute_from_the_line()
     ensures fresh { decision_of (lifetime_policy 60) (one_held_of_status 200) (get_a_with []) 59 ≡ Decision.Hit 1 }
     ensures stale { decision_of (lifetime_policy 60) (one_held_of_status 200) (get_a_with []) 60
         ≡ Decision.Forward ReuseRule.NoMaxStale (Some 1) }
     ensures taken_stale { decision_of (lifetime_policy 60) (one_held_of_status 200)
         (get_a_with (cache_control_fields (codes "max-stale=5"))) 65 ≡ Decision.Hit 1 }
-    ensures not_found { decision_of (lifetime_policy 60) (one_held_of_status 404) (get_a_with []) 59 ≡ Decision.Hit 1 }
+    ensures not_found { decision_of (lifetime_policy 60) (one_held_of_status 404) (get_a_with []) 0
+        ≡ Decision.Forward ReuseRule.NoLifetime (Some 1) }
     ensures found { decision_of (lifetime_policy 60) (one_held_of_status 302) (get_a_with []) 0
         ≡ Decision.Forward ReuseRule.NoLifetime (Some 1) }
     ensures failed { decision_of (lifetime_policy 60) (one_held_of_status 500) (get_a_with []) 0
@@ -196,6 +198,29 @@ pub fn minute_from_the_line()
     ensures found_on_error { permission_on_error (lifetime_policy 10)
         (stored_with_status 302 (cache_control_fields (codes "stale-if-error=60"))) [] 5
         ≡ Err ErrorRule.NoLifetime }
+{}
+
+/// Under a line that gives a minute, and errors five seconds: a 404 is fresh at 4 and stale at 5,
+/// when a 200 is fresh. A 500 isn't given any, and a 404 of 10 seconds keeps its own.
+pub fn seconds_of_errors()
+    ensures fresh { decision_of (error_lifetime_policy 60 5) (one_held_of_status 404) (get_a_with []) 4
+        ≡ Decision.Hit 1 }
+    ensures stale { decision_of (error_lifetime_policy 60 5) (one_held_of_status 404) (get_a_with []) 5
+        ≡ Decision.Forward ReuseRule.NoMaxStale (Some 1) }
+    ensures gone { decision_of (error_lifetime_policy 60 5) (one_held_of_status 410) (get_a_with []) 5
+        ≡ Decision.Forward ReuseRule.NoMaxStale (Some 1) }
+    ensures not_implemented { decision_of (error_lifetime_policy 60 5) (one_held_of_status 501) (get_a_with []) 4
+        ≡ Decision.Hit 1 }
+    ensures found { decision_of (error_lifetime_policy 60 5) (one_held_of_status 200) (get_a_with []) 5
+        ≡ Decision.Hit 1 }
+    ensures failed { decision_of (error_lifetime_policy 60 5) (one_held_of_status 500) (get_a_with []) 0
+        ≡ Decision.Forward ReuseRule.NoLifetime (Some 1) }
+    ensures stated { decision_of (error_lifetime_policy 60 5)
+        (stored_with_status 404 (cache_control_fields (codes "max-age=10")) ∷ []) (get_a_with []) 9 ≡ Decision.Hit 1 }
+    ensures on_error { permission_on_error (error_lifetime_policy 60 5)
+        (stored_with_status 404 (cache_control_fields (codes "stale-if-error=60"))) [] 65 ≡ Ok tt }
+    ensures past_on_error { permission_on_error (error_lifetime_policy 60 5)
+        (stored_with_status 404 (cache_control_fields (codes "stale-if-error=60"))) [] 66 ≡ Err ErrorRule.TooStale }
 {}
 
 /// A line that heeds no advice of requests, and a response of a minute: what is fresh is sent, what

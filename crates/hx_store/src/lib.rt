@@ -38,3 +38,4 @@ pub use weight_laws::{
     the_list_within_its_bounds_is_what_is_held, the_longest_front_within_its_bounds_stays,
     what_is_held_within_its_bounds, without_a_bound_of_bytes_numbers_decide,
 };
+pub use weights::weight_of_parts;

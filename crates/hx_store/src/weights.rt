@@ -5,6 +5,7 @@
 ghost use Rattle.std.specs.Prelude.{◌≡◌, ◌+◌, ◌-◌, ◌^◌, min, option_copied};
 ghost use Rattle.hx_store.specs.Weights.{weight_of, weight_of_key, weight_of_line, weight_of_lines, length_if_any};
 ghost use Rattle.hx_store.specs.Weights.{total_weight, weight_of_nominated, weight_of_nominated_value};
+ghost use Rattle.hx_store.specs.Weights.{bytes_of_an_entry};
 
 use crate::entries::Entry;
 use hx_fields::{Bytes, Field};
@@ -22,14 +23,33 @@ impl Entry {
     pub fn weight(&self) -> u64
         ensures { result ≡ min (weight_of self.now) (2 ^ 64 - 1) }
     {
-        let key = weight_of_key(&self.key);
-        (self.content.len() as u64)
-            .saturating_add(weight_of_lines(self.fields.as_slice()))
-            .saturating_add(weight_of_nominated(self.nominated.as_slice()))
-            .saturating_add(key)
-            .saturating_add(key)
-            .saturating_add(BYTES_OF_AN_ENTRY)
+        weight_of_parts(
+            &self.key,
+            self.nominated.as_slice(),
+            self.fields.as_slice(),
+            self.content.len(),
+        )
     }
+}
+
+/// The bytes that an entry of this key weighs in the store, with these nominated values, lines and so many bytes of
+/// content; 2^64 - 1 where they are more. No memory is taken.
+pub fn weight_of_parts(
+    key: &Key,
+    nominated: &[NominatedValue],
+    lines: &[Field],
+    content: usize,
+) -> u64
+    ensures { result ≡ min (content + weight_of_lines lines.now + weight_of_nominated nominated.now
+        + weight_of_key key.now + weight_of_key key.now + bytes_of_an_entry) (2 ^ 64 - 1) }
+{
+    let key = weight_of_key(key);
+    (content as u64)
+        .saturating_add(weight_of_lines(lines))
+        .saturating_add(weight_of_nominated(nominated))
+        .saturating_add(key)
+        .saturating_add(key)
+        .saturating_add(BYTES_OF_AN_ENTRY)
 }
 
 fn weight_of_line(line: &Field) -> u64

@@ -56,6 +56,13 @@ impl Nominated {
         }))
     }
 
+    /// These values, as they were kept before. No memory is taken.
+    pub fn from_vec(values: Vec<NominatedValue>) -> Nominated
+        ensures { result ≡ values.items }
+    {
+        Nominated { values }
+    }
+
     /// A copy of these values. Fails only where memory runs out.
     pub fn copy(&self, alloc: Global) -> Result<Nominated, AllocError>
         ensures { IfOk result (λ copied. copied ≡ self.now) }

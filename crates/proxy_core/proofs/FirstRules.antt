@@ -1,5 +1,5 @@
 -- Each answer that isn't a stored response names the first rule against one.
-use Rattle.std.proofs.Common.{◌≡◌, inl, inr, ℕ, Bool, true, false, cond, Option, None, Some, List, map, refl, sym, ◌∙◌, ap, subst}
+use Rattle.std.proofs.Common.{◌≡◌, inl, inr, ℕ, Bool, true, false, cond, Option, None, Some, List, refl, sym, ◌∙◌, ap, subst}
 use Rattle.std.specs.Option.{option_and_then}
 use Rattle.std.proofs.lemmas.Bool.{false≢true}
 use Rattle.std.proofs.lemmas.Option.{same_Some}
@@ -14,6 +14,7 @@ use Rattle.hx_allow.specs.declared.verdicts.Verdict.TheVariants as verdict
 use Rattle.hx_store.specs.Stored.{Stored}
 use Rattle.hx_store.specs.Serials.{Distinct}
 use Rattle.hx_store.specs.Shelf.{serials, find_entry}
+use Rattle.hx_store.specs.WeightedRecency.{changes_of}
 use Rattle.hx_store.proofs.Recency.{Distinct-filter, Distinct-recent}
 use Rattle.hx_reuse.specs.Rules.{decision_of}
 use Rattle.hx_reuse.specs.ErrorRules.{error_rule_on}
@@ -38,7 +39,7 @@ use Rattle.proxy_core.specs.Storing.{is_304_without_condition}
 use Rattle.proxy_core.specs.Awaiting.{leader_of_request}
 use Rattle.proxy_core.specs.Outcomes.{find_exchange, exchange_id_of_event, outcome_of_arrival, outcome_of_allowed_request, outcome_of_waiting_or_forwarding, outcome_without_stored_response, outcome_of_wake, is_only_if_cached, error_rule_at, fallback_with_error_rule, fallback_for, outcome_of_failure, is_error_status, outcome_of_passing_on_or_stale, outcome_of_304, outcome_of_answer, outcome_of}
 use Rattle.proxy_core.specs.Traces.{Item}
-use Rattle.proxy_core.specs.Histories.{IsGoodHistory, store_change_of, held_entries, open_exchanges, next_serial}
+use Rattle.proxy_core.specs.Histories.{IsGoodHistory, store_changes, held_entries, open_exchanges, next_serial}
 use Rattle.proxy_core.specs.Carrying.{RuleWasLeastWhenJudged}
 use Rattle.proxy_core.specs.Naming.{AnswerNamesErrorRule, AnswerNamesFirstRule, EachOtherAnswerNamesTheFirstRule}
 use Rattle.proxy_core.proofs.Carries.{least_when_judged}
@@ -183,7 +184,7 @@ pub held_distinct : (table : Table) (limit first : ℕ) (past : List Item) → I
 held_distinct table limit first past g =
     let p = good_plain table limit first past g in
     subst Distinct (sym (ap serials (sym (entries_are_held table limit first past p)) ∙ (stands_for table limit first past p).serials_are))
-    (Distinct-filter _ _ (Distinct-recent (map store_change_of past)))
+    (Distinct-filter _ _ (Distinct-recent (changes_of (store_changes table limit past))))
 
 pub names_first_rules : EachOtherAnswerNamesTheFirstRule
 names_first_rules table limit first item past g =

@@ -1,6 +1,6 @@
 -- What a 304 freshens is kept where the storing rules let it be, and its head leaves room: in words, and back.
 use Rattle.std.proofs.Common.{◌≡◌, ◌⊎◌, inl, inr, ℕ, Bool, true, false, not, ◌&&◌, ◌||◌, length, refl, sym, ◌∙◌, ap}
-use Rattle.std.specs.Prelude.{codes, Option, Some, None, is_none, ◌==◌}
+use Rattle.std.specs.Prelude.{codes, Option, Some, None, is_none, nat_lt, ◌==◌}
 use Rattle.std.proofs.lemmas.Bool.{and_parts}
 use Rattle.hx_fields.specs.FieldLines.{has_field as has_line}
 use Rattle.hx_directives.specs.Occurrences.{occurrences_of}
@@ -11,6 +11,7 @@ use Rattle.hx_policy.specs.Policies.{is_heuristic}
 use Rattle.hx_allow.specs.TableLines.{Table}
 use Rattle.hx_allow.specs.Matching.{policy_of}
 use Rattle.hx_store.specs.Stored.{Stored}
+use Rattle.hx_store.specs.Weights.{weight_of}
 use Rattle.hx_storable.specs.Rules.{allows_shared, allows_storing, is_understood_status, response_has, storing_rule_applies, storage_rule_of}
 use Rattle.hx_storable.specs.Storable.{NeedsUnderstanding, NoStoreIsAbsentOrLifted, ResponseAllowsShared, ResponseAllowsStoring}
 use Rattle.hx_storable.specs.declared.rule.StoreRule.{StoreRule}
@@ -20,9 +21,9 @@ use Rattle.hx_fields.proofs.JoinedTests.{never, not_false, not_true, left_false,
 use Rattle.hx_storable.proofs.LeastRule.{no_rule_applies, no_rule_found}
 use Rattle.hx_storable.proofs.LineLemmas.{within_the_words, cookie_applies, error_applies}
 use Rattle.proxy_core.specs.declared.open.exchange.Exchange.{Exchange}
-use Rattle.proxy_core.specs.Validating.{as_get_request, head_of_stored, storing_facts_of_freshened}
+use Rattle.proxy_core.specs.Validating.{is_above, as_get_request, head_of_stored, storing_facts_of_freshened}
 use Rattle.proxy_core.specs.StoredAnswers.{FreshenedMayBeKept, FreshenedIsKeptWhereItMayBe, NothingElseIsKept}
-use Rattle.proxy_core.proofs.StoringWords.{can_be_reused, fields_named, fits_in, may_be_released, keeps_all, lasts_or_validates, lists_none, star_absent}
+use Rattle.proxy_core.proofs.StoringWords.{can_be_reused, fields_named, fits_in, may_be_released, not_above, within_bound, keeps_all, lasts_or_validates, lists_none, star_absent}
 
 none_of : {A : Type 0} (o : Option A) → is_none o ≡ true → o ≡ None
 none_of None h = refl
@@ -128,7 +129,8 @@ module _ (table : Table) (x : Exchange) (r : Response) (e : Stored) where
           names_fields = fields_named e.fields (none VaryStar);
           the_304_keeps_its_fields = keeps_all r.fields (none ConnectionField);
           can_be_reused = can_be_reused e.fields (policy_of table.lines x.line) e.status lasts_or_is_validated;
-          fits = may_be_released table.max_stored (length e.content) (none TooLarge);
+          fits = may_be_released table.max_stored (length e.content) (left_false (nat_lt table.max_stored (length e.content)) (is_above table.max_store (weight_of e)) (none TooLarge));
+          fits_the_store = within_bound table.max_store (weight_of e) (right_false (nat_lt table.max_stored (length e.content)) (is_above table.max_store (weight_of e)) (none TooLarge));
           leaves_room = room;
         }
 
@@ -210,7 +212,8 @@ module _ (table : Table) (x : Exchange) (r : Response) (e : Stored) where
   none_applies may VaryStar = star_absent e.fields may.names_fields
   none_applies may ConnectionField = lists_none r.fields may.the_304_keeps_its_fields
   none_applies may NothingToReuse = reuse_applies (lasts_or_validates e.fields (policy_of table.lines x.line) e.status may.can_be_reused)
-  none_applies may TooLarge = fits_in table.max_stored (length e.content) may.fits
+  none_applies may TooLarge =
+      neither (nat_lt table.max_stored (length e.content)) (is_above table.max_store (weight_of e)) (fits_in table.max_stored (length e.content) may.fits) (not_above table.max_store (weight_of e) may.fits_the_store)
   none_applies may Overtaken = refl
   none_applies may Serials = refl
   none_applies may SetCookie = cookie_applies (as_get_request x.asked) (head_of_stored e) (storing_facts_of_freshened table x r e) may.is_within_the_words.cookies

@@ -1,10 +1,12 @@
 -- No serial from the next one on is held: what the steps do to that.
-use Rattle.std.proofs.Common.{◌≡◌, ℕ, ◌+◌, true, false, cond, ◌||◌, eqb, ltb, ◌^◌, Option, None, Some, List, [], ◌∷◌, take, refl, sym, ◌∙◌, ap, subst, arith}
-use Rattle.std.proofs.lemmas.Bool.{false≢true, eqb-true, ne_eqb, false_from_ne_true}
+use Rattle.std.proofs.Common.{◌≡◌, ℕ, ◌+◌, true, false, cond, ◌||◌, eqb, ltb, ◌^◌, Option, None, Some, List, [], ◌∷◌, ◌++◌, refl, sym, ◌∙◌, ap, subst, arith}
+use Rattle.std.proofs.lemmas.Bool.{false≢true, eqb-true, ne_eqb, or_parts, false_from_ne_true}
 use Rattle.std.proofs.lemmas.Option.{same_Some}
 use Rattle.hx_store.specs.Stored.{Stored}
 use Rattle.hx_store.specs.Shelf.{holds_serial, find_entry, without_serials, with_promoted, with_in_front}
-use Rattle.hx_store.proofs.EntryLists.{filter_keeps, take_keeps, find_holds}
+use Rattle.hx_store.specs.Weights.{StoreBounds, cut_to_bounds, weight_of}
+use Rattle.hx_store.proofs.EntryLists.{filter_keeps, find_holds}
+use Rattle.hx_store.proofs.Fronts.{front_of_within}
 use Rattle.proxy_core.specs.declared.replies.pending.Change.{Change}
 use Rattle.proxy_core.specs.declared.replies.pending.Change.TheVariants.{Keep, Use, Freshen, Remove, Store}
 use Rattle.proxy_core.specs.State.{NoSerialIsHeldFrom, entries_without_serials, serial_after_this, next_serial_after}
@@ -22,16 +24,16 @@ NoneFrom-promoted None s es zs e h = tt
 NoneFrom-promoted (Some n) s es zs e h = λ t l.
     ap (holds_serial t) e ∙ front_none t (find_entry s es) es (without_serials (s ∷ []) es) (λ x g. find_holds s es x g) (h t l) (filter_keeps _ t es (h t l))
 
-NoneFrom-put : (limit n : ℕ) (gone : List ℕ) (es zs : List Stored) (x : Stored) → zs ≡ take limit (x ∷ without_serials gone es) → x.serial ≡ n →
+NoneFrom-put : (n : ℕ) (gone : List ℕ) (es zs : List Stored) (x : Stored) → zs ≡ x ∷ without_serials gone es → x.serial ≡ n →
     NoSerialIsHeldFrom (Some n) es → NoSerialIsHeldFrom (Some (n + 1)) zs
-NoneFrom-put limit n gone es zs x e k h = λ s l.
-    ap (holds_serial s) e ∙ take_keeps limit s (x ∷ without_serials gone es)
-    (ap (λ b. b || holds_serial s (without_serials gone es)) (ne_eqb x.serial s (λ q. absurd (omega arith))) ∙ filter_keeps _ s es (h s (omega arith)))
+NoneFrom-put n gone es zs x e k h = λ s l.
+    ap (holds_serial s) e
+    ∙ (ap (λ b. b || holds_serial s (without_serials gone es)) (ne_eqb x.serial s (λ q. absurd (omega arith))) ∙ filter_keeps _ s es (h s (omega arith)))
 
-pub NoneFrom-next : (limit n : ℕ) (gone : List ℕ) (es zs : List Stored) (x : Stored) (last next : Option ℕ) → next ≡ serial_after_this n → zs ≡ take limit (x ∷ without_serials gone es) →
+pub NoneFrom-next : (n : ℕ) (gone : List ℕ) (es zs : List Stored) (x : Stored) (last next : Option ℕ) → next ≡ serial_after_this n → zs ≡ x ∷ without_serials gone es →
     x.serial ≡ n → last ≡ Some n → NoSerialIsHeldFrom last es → NoSerialIsHeldFrom next zs
-NoneFrom-next limit n gone es zs x last next m e k l h =
-    let some : NoSerialIsHeldFrom (Some (n + 1)) zs = NoneFrom-put limit n gone es zs x e k (subst (λ o. NoSerialIsHeldFrom o es) l h) in
+NoneFrom-next n gone es zs x last next m e k l h =
+    let some : NoSerialIsHeldFrom (Some (n + 1)) zs = NoneFrom-put n gone es zs x e k (subst (λ o. NoSerialIsHeldFrom o es) l h) in
     let P : Option ℕ → Type 0 = λ o. NoSerialIsHeldFrom o zs in
     subst P (sym m) (elim (ltb (n + 1) (2 ^ 64)) as (λ b. P (cond b (Some (n + 1)) None)) [ true ↦ some | false ↦ tt ])
 
@@ -46,14 +48,31 @@ NoneFrom-fresh None e es held h = tt
 NoneFrom-fresh (Some n) e es held h = λ t l.
     front_none t (Some e) es (without_serials (e.serial ∷ []) es) (λ x g. ap (λ (z : Stored). holds_serial z.serial es) (sym (same_Some e x g)) ∙ held) (h t l) (filter_keeps _ t es (h t l))
 
+front_keeps : (s : ℕ) (front rest : List Stored) → holds_serial s (front ++ rest) ≡ false → holds_serial s front ≡ false
+front_keeps s [] rest h = refl
+front_keeps s (e ∷ front) rest h =
+    let p = or_parts (eqb e.serial s) (holds_serial s (front ++ rest)) h in
+    ap (λ b. b || holds_serial s front) p.0 ∙ front_keeps s front rest p.1
+
+-- nor is one held once the last ones went
+pub NoneFrom-cut : (next : Option ℕ) (bounds : StoreBounds) (es : List Stored) → NoSerialIsHeldFrom next es → NoSerialIsHeldFrom next (cut_to_bounds bounds es)
+NoneFrom-cut None bounds es h = tt
+NoneFrom-cut (Some n) bounds es h = λ t l.
+    let q = front_of_within bounds weight_of es in
+    front_keeps t (cut_to_bounds bounds es) q.0 (ap (holds_serial t) q.1 ∙ h t l)
+
 -- a pending reply leaves no serial held from the next one on
-pub NoneFrom-finished : (limit : ℕ) (next : Option ℕ) (removed : List ℕ) (c : Change) (es : List Stored) → StoresUnderNextSerial next c → FreshensHeldResponse c es → NoSerialIsHeldFrom next es
-    → NoSerialIsHeldFrom (next_serial_after next (serial_stored_by_change c)) (entries_after_change limit removed c es)
-NoneFrom-finished limit next removed Keep es is held h = NoneFrom-taken next removed es h
-NoneFrom-finished limit next removed (Use serial) es is held h = NoneFrom-taken next removed (with_promoted serial es) (NoneFrom-promoted next serial es _ refl h)
-NoneFrom-finished limit next removed (Freshen e) es is held h = NoneFrom-taken next removed _ (NoneFrom-fresh next e es held.0 h)
-NoneFrom-finished limit next removed (Remove serial) es is held h = NoneFrom-taken next removed _ (NoneFrom-taken next (serial ∷ []) es h)
-NoneFrom-finished limit next removed (Store e) es is held h = NoneFrom-next limit e.serial removed es _ e next _ refl refl refl is h
+pub NoneFrom-finished : (bounds : StoreBounds) (next : Option ℕ) (removed : List ℕ) (c : Change) (es : List Stored) → StoresUnderNextSerial next c → FreshensHeldResponse c es → NoSerialIsHeldFrom next es
+    → NoSerialIsHeldFrom (next_serial_after next (serial_stored_by_change c)) (entries_after_change bounds removed c es)
+NoneFrom-finished bounds next removed Keep es is held h = NoneFrom-taken next removed es h
+NoneFrom-finished bounds next removed (Use serial) es is held h =
+    NoneFrom-cut next bounds _ (NoneFrom-taken next removed (with_promoted serial es) (NoneFrom-promoted next serial es _ refl h))
+NoneFrom-finished bounds next removed (Freshen e) es is held h =
+    NoneFrom-cut next bounds _ (NoneFrom-taken next removed _ (NoneFrom-fresh next e es held.0 h))
+NoneFrom-finished bounds next removed (Remove serial) es is held h =
+    NoneFrom-cut next bounds _ (NoneFrom-taken next removed _ (NoneFrom-taken next (serial ∷ []) es h))
+NoneFrom-finished bounds next removed (Store e) es is held h =
+    NoneFrom-cut (serial_after_this e.serial) bounds _ (NoneFrom-next e.serial removed es _ e next (serial_after_this e.serial) refl refl refl is h)
 
 -- what has the next serial isn't held
 pub next_is_new : (next : Option ℕ) (c : Change) (es : List Stored) → StoresUnderNextSerial next c → NoSerialIsHeldFrom next es → StoresNewSerial c es

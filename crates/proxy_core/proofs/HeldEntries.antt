@@ -1,5 +1,5 @@
 -- Lists of held responses, against what a function gives of each serial.
-use Rattle.std.proofs.Common.{◌≡◌, ℕ, zero, suc, ◌≤◌, Bool, true, false, not, cond, ◌&&◌, ◌||◌, eqb, Option, Some, List, [], ◌∷◌, length, take, refl, sym, ◌∙◌, ap, subst, arith, inl, inr}
+use Rattle.std.proofs.Common.{◌≡◌, ℕ, Bool, true, false, not, cond, ◌&&◌, ◌||◌, eqb, Option, Some, List, [], ◌∷◌, ◌++◌, refl, sym, ◌∙◌, ap, subst, inl, inr}
 use Rattle.std.specs.List.{filter, filter_map, cons_option, list_any}
 use Rattle.std.proofs.lemmas.Bool.{cases_Bool, eqb-true, eq-eqb, or_parts, false_from_ne_true, false≢true}
 use Rattle.std.proofs.lemmas.Option.{same_Some}
@@ -7,10 +7,12 @@ use Rattle.hx_target.specs.declared.keys.Key.{Key}
 use Rattle.hx_target.specs.Keys.{same_key}
 use Rattle.hx_store.specs.Stored.{Stored}
 use Rattle.hx_store.specs.Serials.{serial_is_in}
+use Rattle.hx_store.specs.Weights.{StoreBounds, AreWeightsOf, cut_to_bounds, weight_of}
 use Rattle.hx_store.specs.Shelf.{serials, holds_serial, find_entry, without_serials, serials_of}
 use Rattle.hx_store.proofs.FoundSerials.{finds_those}
-use Rattle.hx_store.proofs.EntryLists.{length-filter_le}
+use Rattle.hx_store.proofs.Fronts.{front_of_within}
 use Rattle.proxy_core.specs.State.{entries_without_serials}
+use Rattle.proxy_core.specs.Histories.{weight_if_any}
 
 pub serials-filter : (p : ℕ → Bool) (es : List Stored) → serials (filter (λ e. p e.serial) es) ≡ filter p (serials es)
 serials-filter p [] = refl
@@ -19,15 +21,6 @@ serials-filter p (e ∷ es) = elim (p e.serial) as (λ b. serials (cond b (e ∷
   | false ↦ serials-filter p es
 ]
 
-pub serials-take : (n : ℕ) (es : List Stored) → serials (take n es) ≡ take n (serials es)
-serials-take zero es = refl
-serials-take (suc n) [] = refl
-serials-take (suc n) (e ∷ es) = ap (λ zs. e.serial ∷ zs) (serials-take n es)
-
-pub length-serials : (es : List Stored) → length (serials es) ≡ length es
-length-serials [] = refl
-length-serials (e ∷ es) = ap suc (length-serials es)
-
 without_nil : (es : List Stored) → without_serials [] es ≡ es
 without_nil [] = refl
 without_nil (e ∷ es) = ap (λ zs. e ∷ zs) (without_nil es)
@@ -35,10 +28,6 @@ without_nil (e ∷ es) = ap (λ zs. e ∷ zs) (without_nil es)
 pub taken_is : (gone : List ℕ) (es : List Stored) → entries_without_serials gone es ≡ without_serials gone es
 taken_is [] es = sym (without_nil es)
 taken_is (s ∷ gone) es = refl
-
-pub length-taken : (rm : List ℕ) (es : List Stored) → length (entries_without_serials rm es) ≤ length es
-length-taken [] es = omega arith
-length-taken (s ∷ rm) es = length-filter_le (λ e. not (serial_is_in e.serial (s ∷ rm))) es
 
 pub serials-taken : (rm : List ℕ) (es : List Stored) → serials (entries_without_serials rm es) ≡ filter (λ s. not (serial_is_in s rm)) (serials es)
 serials-taken rm es = ap serials (taken_is rm es) ∙ serials-filter (λ s. not (serial_is_in s rm)) es
@@ -65,11 +54,21 @@ EachIs-filter look p (e ∷ es) h = elim (p e) as (λ b. EachIs look (cond b (e 
   | false ↦ EachIs-filter look p es h.1
 ]
 
-pub EachIs-take : (look : ℕ → Option Stored) (n : ℕ) (es : List Stored) → EachIs look es → EachIs look (take n es)
+EachIs-front : (look : ℕ → Option Stored) (front rest : List Stored) → EachIs look (front ++ rest) → EachIs look front
 unfolding EachIs
-EachIs-take look zero es h = tt
-EachIs-take look (suc n) [] h = tt
-EachIs-take look (suc n) (e ∷ es) h = (h.0, EachIs-take look n es h.1)
+EachIs-front look [] rest h = tt
+EachIs-front look (e ∷ front) rest h = (h.0, EachIs-front look front rest h.1)
+
+pub EachIs-cut : (look : ℕ → Option Stored) (bounds : StoreBounds) (es : List Stored) → EachIs look es → EachIs look (cut_to_bounds bounds es)
+EachIs-cut look bounds es h =
+    let q = front_of_within bounds weight_of es in
+    EachIs-front look (cut_to_bounds bounds es) q.0 (subst (EachIs look) (sym q.1) h)
+
+-- by these weights of serials each weighs what it does
+pub EachIs-weights : (look : ℕ → Option Stored) (es : List Stored) → EachIs look es → AreWeightsOf (λ s. weight_if_any (look s)) es
+unfolding EachIs
+EachIs-weights look [] h = tt
+EachIs-weights look (e ∷ es) h = (ap weight_if_any h.0, EachIs-weights look es h.1)
 
 pub EachIs-taken : (look : ℕ → Option Stored) (rm : List ℕ) (es : List Stored) → EachIs look es → EachIs look (entries_without_serials rm es)
 EachIs-taken look [] es h = h

@@ -1,18 +1,22 @@
 -- What a bounded list has after a trace is what is held by the count: a trace that is good over the one is good over the other.
-use Rattle.std.proofs.Common.{◌≡◌, ℕ, ◌≤◌, Bool, true, false, not, cond, eqb, Option, None, Some, List, [], ◌∷◌, map, length, take, refl, sym, ◌∙◌, ap, subst, arith, inl, inr}
-use Rattle.std.specs.Prelude.{option_map}
-use Rattle.std.specs.List.{filter, filter_map}
-use Rattle.std.proofs.lemmas.List.{take_all}
+use Rattle.std.proofs.Common.{◌≡◌, ℕ, ◌≤◌, Bool, true, false, not, cond, eqb, Option, None, Some, List, [], ◌∷◌, refl, sym, ◌∙◌, ap, subst, arith, inl, inr}
+use Rattle.std.specs.Prelude.{IfSome, option_map}
+use Rattle.std.specs.List.{filter, filter_map, sum_by}
 use Rattle.std.proofs.lemmas.List.Elements.{filter_agree}
-use Rattle.std.proofs.lemmas.Bool.{false≢true, eq-eqb, eqb-true, false_from_ne_true}
+use Rattle.std.proofs.lemmas.Bool.{and_parts, false≢true, eq-eqb, eqb-true, false_from_ne_true}
 use Rattle.std.proofs.lemmas.Bool.Decides.{nat_tests}
 use Rattle.hx_allow.specs.TableLines.{Table}
 use Rattle.hx_store.specs.Stored.{Stored}
 use Rattle.hx_store.specs.Serials.{serial_is_in}
 use Rattle.hx_store.specs.Shelf.{serials, holds_serial, find_entry, without_serials, with_in_front}
 use Rattle.hx_store.specs.Recency.{is_that_serial, moved_to_front, recent_after_change}
-use Rattle.hx_store.proofs.Recency.{held_more, held_at_most, filter_all}
-use Rattle.hx_store.proofs.EntryLists.{find-serial, find_holds, length-without, without_gone, filter_keeps}
+use Rattle.hx_store.specs.Weights.{StoreBounds, IsWithin, weight_of, front_within, cut_to_bounds}
+use Rattle.hx_store.proofs.Recency.{filter_all}
+use Rattle.hx_store.proofs.EntryLists.{find-serial, find_holds, without_gone, filter_keeps}
+use Rattle.hx_store.proofs.EntryWeights.{filter_is_within, serials_are_cut}
+use Rattle.hx_store.proofs.Fronts.{cut_is_longest, within_stays}
+use Rattle.hx_store.specs.WeightedRecency.{stands_within}
+use Rattle.hx_store.proofs.WeightedRecency.{is_in-within, weighed_held_more}
 use Rattle.proxy_core.specs.declared.open.exchange.Exchange.{Exchange}
 use Rattle.proxy_core.specs.declared.outcome.Outcome.{Outcome}
 use Rattle.proxy_core.specs.declared.event.Event.{Event}
@@ -20,22 +24,23 @@ use Rattle.proxy_core.specs.declared.event.Event.TheVariants.{Arrive, Answer, Fa
 use Rattle.proxy_core.specs.declared.core_fault.CoreFault.{CoreFault}
 use Rattle.proxy_core.specs.Validating.{stored_response_is_answered, freshened_by_304}
 use Rattle.proxy_core.specs.Outcomes.{find_exchange, exchange_id_of_event, outcome_of_event, step_fault}
-use Rattle.proxy_core.specs.State.{State, state_after, open_exchanges_after, entries_after, NoSerialIsHeldFrom, serial_stored_by_outcome, serial_used_by_outcome, serials_removed_by_outcome, next_serial_after, serial_after_this, stored_response_by_answer, stored_response_as_used, entries_after_storing, entries_after_use, entries_without_serials}
+use Rattle.proxy_core.specs.State.{State, state_after, open_exchanges_after, entries_after, NoSerialIsHeldFrom, serial_stored_by_outcome, serial_used_by_outcome, serials_removed_by_outcome, next_serial_after, serial_after_this, stored_response_by_answer, stored_response_as_used, entries_after_storing, entries_after_use, entries_without_serials, bounds_of, cut_where_touched}
 use Rattle.proxy_core.specs.Traces.{Item, initial_state, state_after_trace, IsGood, ItemIsAccepted, RunStopsAt}
-use Rattle.proxy_core.specs.Histories.{store_change_of, held_serials, open_exchanges, held_entry, held_entries, next_serial, IsGoodHistory, stored_response_after, HistoryStopsAt}
-use Rattle.proxy_core.proofs.Held.{NoneFrom-taken, NoneFrom-fresh, NoneFrom-next}
+use Rattle.proxy_core.specs.Histories.{store_change_of, store_changes, weight_if_any, held_serials, open_exchanges, held_entry, held_entries, next_serial, IsGoodHistory, stored_response_after, HistoryStopsAt}
+use Rattle.proxy_core.proofs.Held.{NoneFrom-taken, NoneFrom-fresh, NoneFrom-next, NoneFrom-cut}
 use Rattle.proxy_core.proofs.Leaving.{serial_stays}
-use Rattle.proxy_core.proofs.HeldEntries.{EachIs, EachIs-nil, EachIs-all, EachIs-filter, EachIs-take, EachIs-taken, EachIs-cons, EachIs-but, EachIs-same, EachIs-find, serials-filter, serials-take, serials-taken, length-serials, length-taken}
+use Rattle.proxy_core.proofs.HeldEntries.{EachIs, EachIs-nil, EachIs-all, EachIs-filter, EachIs-cut, EachIs-weights, EachIs-taken, EachIs-cons, EachIs-but, EachIs-same, EachIs-find, serials-filter, serials-taken, taken_is}
 use Rattle.proxy_core.proofs.StepKinds.{Kind, idle, uses, stores, kind_in}
 
--- the list after a step, by what it stored, used and removed
-list_after : ℕ → List Stored → Option Exchange → Event → Option ℕ → Option ℕ → List ℕ → List Stored
-list_after limit es x event st us rm = entries_after_storing x event st rm limit (entries_after_use x event us es)
+-- the list after a step before the last ones go, by what it stored, used and removed
+list_before : List Stored → Option Exchange → Event → Option ℕ → Option ℕ → List ℕ → List Stored
+list_before es x event st us rm = entries_after_storing x event st rm (entries_after_use x event us es)
 
-entries_are : (limit : ℕ) (es : List Stored) (x : Option Exchange) (event : Event) (o : Outcome) →
-    entries_after limit es x event o ≡ list_after limit es x event (serial_stored_by_outcome o) (serial_used_by_outcome o) (serials_removed_by_outcome o)
-unfolding list_after
-entries_are limit es x event o = refl
+entries_are : (bounds : StoreBounds) (es : List Stored) (x : Option Exchange) (event : Event) (o : Outcome) →
+    entries_after bounds es x event o
+    ≡ cut_where_touched bounds (serial_stored_by_outcome o) (serial_used_by_outcome o) (list_before es x event (serial_stored_by_outcome o) (serial_used_by_outcome o) (serials_removed_by_outcome o))
+unfolding list_before
+entries_are bounds es x event o = refl
 
 -- the response of a serial after a step, by what it stored and used
 abbrev pub look_after : Option Exchange → Event → Option ℕ → Option ℕ → (ℕ → Option Stored) → ℕ → Option Stored
@@ -52,41 +57,34 @@ used_serial (Some x) (Fail now id kind) e = refl
 used_serial (Some x) (Wake now id) e = refl
 used_serial (Some x) (Abandon id) e = refl
 
--- what has to be known of the list after a step
-record Kept (limit : ℕ) (next : Option ℕ) (st us : Option ℕ) (rm : List ℕ) (look : ℕ → Option Stored) (es zs : List Stored) : Type 0 where
-  serials_are : serials zs ≡ take limit (filter (λ s. not (serial_is_in s rm)) (moved_to_front st (moved_to_front us (serials es))))
+-- what has to be known of that list
+record Kept (next : Option ℕ) (st us : Option ℕ) (rm : List ℕ) (look : ℕ → Option Stored) (es zs : List Stored) : Type 0 where
+  serials_are : serials zs ≡ filter (λ s. not (serial_is_in s rm)) (moved_to_front st (moved_to_front us (serials es)))
   entries_are : EachIs look zs
   fresh : NoSerialIsHeldFrom next zs
 
-cut : (limit : ℕ) (zs : List Stored) (l : List ℕ) → serials zs ≡ l → length zs ≤ limit → serials zs ≡ take limit l
-cut limit zs l e h = e ∙ sym (take_all limit l (subst (λ n. n ≤ limit) (sym (length-serials zs) ∙ ap length e) h))
-
-kept_idle : (limit : ℕ) (es : List Stored) (x : Option Exchange) (event : Event) (next : Option ℕ) (rm : List ℕ) (look : ℕ → Option Stored) →
-    length es ≤ limit → EachIs look es → NoSerialIsHeldFrom next es →
-    Kept limit (next_serial_after next None) None None rm (look_after x event None None look) es (list_after limit es x event None None rm)
-unfolding list_after
-kept_idle limit es x event next rm look l h n =
-    let k = length-taken rm es in
-    record {
-      serials_are = cut limit (entries_without_serials rm es) _ (serials-taken rm es) (omega arith);
-      entries_are = EachIs-taken look rm es h;
-      fresh = NoneFrom-taken next rm es n;
-    }
+kept_idle : (es : List Stored) (x : Option Exchange) (event : Event) (next : Option ℕ) (rm : List ℕ) (look : ℕ → Option Stored) →
+    EachIs look es → NoSerialIsHeldFrom next es →
+    Kept (next_serial_after next None) None None rm (look_after x event None None look) es (list_before es x event None None rm)
+unfolding list_before
+kept_idle es x event next rm look h n = record {
+  serials_are = serials-taken rm es;
+  entries_are = EachIs-taken look rm es h;
+  fresh = NoneFrom-taken next rm es n;
+}
 
 only : (s t : ℕ) → not (serial_is_in t (s ∷ [])) ≡ not (eqb t s)
 only s t = ap not (grind (arith, nat_tests))
 
-kept_uses : (limit : ℕ) (es : List Stored) (x : Option Exchange) (event : Event) (next : Option ℕ) (s : ℕ) (e : Stored) (rm : List ℕ) (look : ℕ → Option Stored) →
-    find_entry s es ≡ Some e → length es ≤ limit → EachIs look es → NoSerialIsHeldFrom next es →
-    Kept limit (next_serial_after next None) None (Some s) rm (look_after x event None (Some s) look) es (list_after limit es x event None (Some s) rm)
-unfolding list_after
-kept_uses limit es x event next s e rm look f l h n =
+kept_uses : (es : List Stored) (x : Option Exchange) (event : Event) (next : Option ℕ) (s : ℕ) (e : Stored) (rm : List ℕ) (look : ℕ → Option Stored) →
+    find_entry s es ≡ Some e → EachIs look es → NoSerialIsHeldFrom next es →
+    Kept (next_serial_after next None) None (Some s) rm (look_after x event None (Some s) look) es (list_before es x event None (Some s) rm)
+unfolding list_before
+kept_uses es x event next s e rm look f h n =
     let u = stored_response_as_used x event e in
     let rest = without_serials (s ∷ []) es in
     let us : u.serial ≡ s = used_serial x event e ∙ find-serial s es e f in
     let m : holds_serial s es ≡ true = ap (λ z. holds_serial z es) (sym (find-serial s es e f)) ∙ find_holds s es e f in
-    let shorter = length-without s es m in
-    let k = length-taken rm (u ∷ rest) in
     let now : entries_without_serials rm (with_in_front (option_map (stored_response_as_used x event) (find_entry s es)) rest) ≡ entries_without_serials rm (u ∷ rest) =
     ap (λ o. entries_without_serials rm (with_in_front (option_map (stored_response_as_used x event) o) rest)) f
     in
@@ -106,18 +104,18 @@ kept_uses limit es x event next s e rm look f l h n =
     in
     let fresh : NoSerialIsHeldFrom next (u ∷ rest) = subst (λ t. NoSerialIsHeldFrom next (u ∷ without_serials (t ∷ []) es)) us (NoneFrom-fresh next u es (ap (λ z. holds_serial z es) us ∙ m) n) in
     record {
-      serials_are = ap serials now ∙ cut limit (entries_without_serials rm (u ∷ rest)) _ line (omega arith);
+      serials_are = ap serials now ∙ line;
       entries_are = subst (EachIs look') (sym now) (EachIs-taken look' rm (u ∷ rest) (EachIs-cons look' u rest head tail));
       fresh = subst (NoSerialIsHeldFrom next) (sym now) (NoneFrom-taken next rm (u ∷ rest) fresh);
     }
 
-kept_stores : (limit : ℕ) (es : List Stored) (x : Option Exchange) (event : Event) (next : Option ℕ) (s : ℕ) (e : Stored) (rm : List ℕ) (look : ℕ → Option Stored) →
+kept_stores : (es : List Stored) (x : Option Exchange) (event : Event) (next : Option ℕ) (s : ℕ) (e : Stored) (rm : List ℕ) (look : ℕ → Option Stored) →
     next ≡ Some s → stored_response_by_answer x event s ≡ Some e → e.serial ≡ s → serial_is_in s rm ≡ false → EachIs look es → NoSerialIsHeldFrom next es →
-    Kept limit (next_serial_after next (Some s)) (Some s) None rm (look_after x event (Some s) None look) es (list_after limit es x event (Some s) None rm)
-unfolding list_after
-kept_stores limit es x event next s e rm look q f us off h n =
-    let now : take limit (with_in_front (stored_response_by_answer x event s) (without_serials rm es)) ≡ take limit (e ∷ without_serials rm es) =
-    ap (λ o. take limit (with_in_front o (without_serials rm es))) f in
+    Kept (next_serial_after next (Some s)) (Some s) None rm (look_after x event (Some s) None look) es (list_before es x event (Some s) None rm)
+unfolding list_before
+kept_stores es x event next s e rm look q f us off h n =
+    let now : with_in_front (stored_response_by_answer x event s) (without_serials rm es) ≡ e ∷ without_serials rm es =
+    ap (λ o. with_in_front o (without_serials rm es)) f in
     let gone : holds_serial s es ≡ false = subst (λ o. NoSerialIsHeldFrom o es) q n s (omega arith) in
     let look' : ℕ → Option Stored = λ t. cond (eqb s t) (stored_response_by_answer x event t) (look t) in
     let yes : eqb s e.serial ≡ true = eq-eqb s e.serial (sym us) in
@@ -134,30 +132,76 @@ kept_stores limit es x event next s e rm look q f us off h n =
     ∙ sym (ap (λ zs. filter p (s ∷ zs)) alone)
     in
     record {
-      serials_are = ap serials now ∙ serials-take limit (e ∷ without_serials rm es) ∙ ap (take limit) line;
-      entries_are = subst (EachIs look') (sym now) (EachIs-take look' limit (e ∷ without_serials rm es) (EachIs-cons look' e (without_serials rm es) head tail));
-      fresh = NoneFrom-next limit s rm es _ e next (serial_after_this s) refl now us q n;
+      serials_are = ap serials now ∙ line;
+      entries_are = subst (EachIs look') (sym now) (EachIs-cons look' e (without_serials rm es) head tail);
+      fresh = NoneFrom-next s rm es _ e next (serial_after_this s) refl now us q n;
     }
 
-kept : (limit : ℕ) (es : List Stored) (x : Option Exchange) (event : Event) (next st us : Option ℕ) (rm : List ℕ) (look : ℕ → Option Stored) →
-    Kind es x event next st us rm → length es ≤ limit → EachIs look es → NoSerialIsHeldFrom next es →
-    Kept limit (next_serial_after next st) st us rm (look_after x event st us look) es (list_after limit es x event st us rm)
-kept limit es x event next st us rm look (idle a b) l h n =
-    let P : Option ℕ → Option ℕ → Type 0 = λ st us. Kept limit (next_serial_after next st) st us rm (look_after x event st us look) es (list_after limit es x event st us rm) in
-    subst (λ o. P o us) (sym a) (subst (P None) (sym b) (kept_idle limit es x event next rm look l h n))
-kept limit es x event next st us rm look (uses s e a b f) l h n =
-    let P : Option ℕ → Option ℕ → Type 0 = λ st us. Kept limit (next_serial_after next st) st us rm (look_after x event st us look) es (list_after limit es x event st us rm) in
-    subst (λ o. P o us) (sym a) (subst (P None) (sym b) (kept_uses limit es x event next s e rm look f l h n))
-kept limit es x event next st us rm look (stores s e a b q f k off) l h n =
-    let P : Option ℕ → Option ℕ → Type 0 = λ st us. Kept limit (next_serial_after next st) st us rm (look_after x event st us look) es (list_after limit es x event st us rm) in
-    subst (λ o. P o us) (sym a) (subst (P (Some s)) (sym b) (kept_stores limit es x event next s e rm look q f k off h n))
+kept : (es : List Stored) (x : Option Exchange) (event : Event) (next st us : Option ℕ) (rm : List ℕ) (look : ℕ → Option Stored) →
+    Kind es x event next st us rm → EachIs look es → NoSerialIsHeldFrom next es →
+    Kept (next_serial_after next st) st us rm (look_after x event st us look) es (list_before es x event st us rm)
+kept es x event next st us rm look (idle a b) h n =
+    let P : Option ℕ → Option ℕ → Type 0 = λ st us. Kept (next_serial_after next st) st us rm (look_after x event st us look) es (list_before es x event st us rm) in
+    subst (λ o. P o us) (sym a) (subst (P None) (sym b) (kept_idle es x event next rm look h n))
+kept es x event next st us rm look (uses s e a b f) h n =
+    let P : Option ℕ → Option ℕ → Type 0 = λ st us. Kept (next_serial_after next st) st us rm (look_after x event st us look) es (list_before es x event st us rm) in
+    subst (λ o. P o us) (sym a) (subst (P None) (sym b) (kept_uses es x event next s e rm look f h n))
+kept es x event next st us rm look (stores s e a b q f k off) h n =
+    let P : Option ℕ → Option ℕ → Type 0 = λ st us. Kept (next_serial_after next st) st us rm (look_after x event st us look) es (list_before es x event st us rm) in
+    subst (λ o. P o us) (sym a) (subst (P (Some s)) (sym b) (kept_stores es x event next s e rm look q f k off h n))
+
+-- ---- the last ones go
+
+within_nil : (bounds : StoreBounds) → IsWithin bounds weight_of []
+within_nil bounds = record { number = omega arith; weighs = none_weighs bounds.bytes }
+  where
+    none_weighs : (bytes : Option ℕ) → IfSome bytes (λ most. sum_by weight_of [] ≤ most)
+    none_weighs None = tt
+    none_weighs (Some most) = omega arith
+
+within_taken : (bounds : StoreBounds) (rm : List ℕ) (es : List Stored) → IsWithin bounds weight_of es → IsWithin bounds weight_of (entries_without_serials rm es)
+within_taken bounds rm es h = subst (IsWithin bounds weight_of) (sym (taken_is rm es)) (filter_is_within bounds (λ e. not (serial_is_in e.serial rm)) es h)
+
+-- where nothing was stored or used, all that stays is within the bounds as before
+touched_is_cut : (bounds : StoreBounds) (es : List Stored) (x : Option Exchange) (event : Event) (next st us : Option ℕ) (rm : List ℕ) →
+    Kind es x event next st us rm → IsWithin bounds weight_of es →
+    cut_where_touched bounds st us (list_before es x event st us rm) ≡ cut_to_bounds bounds (list_before es x event st us rm)
+unfolding list_before
+touched_is_cut bounds es x event next st us rm (idle a b) h =
+    let P : Option ℕ → Option ℕ → Type 0 = λ st us. cut_where_touched bounds st us (list_before es x event st us rm) ≡ cut_to_bounds bounds (list_before es x event st us rm) in
+    subst (λ o. P o us) (sym a) (subst (P None) (sym b) (sym (within_stays bounds weight_of (entries_without_serials rm es) (within_taken bounds rm es h))))
+touched_is_cut bounds es x event next st us rm (uses s e a b f) h =
+    let P : Option ℕ → Option ℕ → Type 0 = λ st us. cut_where_touched bounds st us (list_before es x event st us rm) ≡ cut_to_bounds bounds (list_before es x event st us rm) in
+    subst (λ o. P o us) (sym a) (subst (P None) (sym b) refl)
+touched_is_cut bounds es x event next st us rm (stores s e a b q f k off) h =
+    let P : Option ℕ → Option ℕ → Type 0 = λ st us. cut_where_touched bounds st us (list_before es x event st us rm) ≡ cut_to_bounds bounds (list_before es x event st us rm) in
+    subst (λ o. P o us) (sym a) refl
+
+-- ---- one item more
+
+-- the weights of an item's responses, by which the last ones go of what was held before with what it did
+pub held_serials_more : (table : Table) (limit : ℕ) (i : Item) (past : List Item) → (weights : ℕ → ℕ)
+    × (held_serials table limit (i ∷ past) ≡ front_within (bounds_of table limit) weights (recent_after_change (store_change_of i) (held_serials table limit past)))
+held_serials_more table limit i past =
+    let weights : ℕ → ℕ = λ s. weight_if_any (stored_response_after (find_exchange (exchange_id_of_event i.event) (open_exchanges table limit past)) i.event i.outcome (held_entry table limit past) s) in
+    (weights, weighed_held_more (bounds_of table limit) (record { change = store_change_of i; weights = weights }) (store_changes table limit past))
+
+-- what is held after an item was held before it, or is what it stored
+pub held_before_cut : (table : Table) (limit : ℕ) (i : Item) (past : List Item) (s : ℕ) → serial_is_in s (held_serials table limit (i ∷ past)) ≡ true →
+    serial_is_in s (recent_after_change (store_change_of i) (held_serials table limit past)) ≡ true
+held_before_cut table limit i past s h =
+    let q = held_serials_more table limit i past in
+    let xs = recent_after_change (store_change_of i) (held_serials table limit past) in
+    (and_parts (serial_is_in s xs) (stands_within (bounds_of table limit) q.0 xs s)
+    (sym (is_in-within (bounds_of table limit) q.0 s xs) ∙ sym (ap (serial_is_in s) q.1) ∙ h)).0
 
 -- the core stands for a trace
 pub record Stands (table : Table) (limit first : ℕ) (past : List Item) (st : State) : Type 0 where
   pub table_is : st.table ≡ table
   pub limit_is : st.limit ≡ limit
-  pub serials_are : serials st.entries ≡ held_serials limit past
+  pub serials_are : serials st.entries ≡ held_serials table limit past
   pub entries_are : EachIs (held_entry table limit past) st.entries
+  pub within : IsWithin (bounds_of table limit) weight_of st.entries
   pub exchanges_are : st.exchanges ≡ open_exchanges table limit past
   pub next_is : st.next ≡ next_serial first past
   pub fresh : NoSerialIsHeldFrom st.next st.entries
@@ -176,27 +220,38 @@ stands_more table limit first past st i p a =
     let look : ℕ → Option Stored = held_entry table limit past in
     let kind : Kind es x event st.next (serial_stored_by_outcome o) (serial_used_by_outcome o) (serials_removed_by_outcome o) = kind_in table st i p.fresh a in
     let item = store_change_of i in
-    let same_length : length es ≡ length (held_serials limit past) = sym (length-serials es) ∙ ap length p.serials_are in
-    let at_most = held_at_most limit (map store_change_of past) in
-    let at_limit : st.limit ≡ limit = p.limit_is in
-    let len : length es ≤ st.limit = omega arith in
-    let k = kept st.limit es x event st.next (serial_stored_by_outcome o) (serial_used_by_outcome o) (serials_removed_by_outcome o) look kind len p.entries_are p.fresh in
-    let e = entries_are st.limit es x event o in
+    let bounds = bounds_of table limit in
+    let raw = list_before es x event (serial_stored_by_outcome o) (serial_used_by_outcome o) (serials_removed_by_outcome o) in
+    let k = kept es x event st.next (serial_stored_by_outcome o) (serial_used_by_outcome o) (serials_removed_by_outcome o) look kind p.entries_are p.fresh in
+    let look' : ℕ → Option Stored = look_after x event (serial_stored_by_outcome o) (serial_used_by_outcome o) look in
+    let bounds_are : bounds_of st.table st.limit ≡ bounds = ap (λ (t : Table). bounds_of t st.limit) p.table_is ∙ ap (bounds_of table) p.limit_is in
+    let e : entries_after (bounds_of st.table st.limit) es x event o ≡ cut_to_bounds bounds raw =
+    entries_are (bounds_of st.table st.limit) es x event o
+    ∙ ap (λ (b : StoreBounds). cut_where_touched b (serial_stored_by_outcome o) (serial_used_by_outcome o) raw) bounds_are
+    ∙ touched_is_cut bounds es x event st.next (serial_stored_by_outcome o) (serial_used_by_outcome o) (serials_removed_by_outcome o) kind p.within
+    in
     record {
       table_is = p.table_is;
       limit_is = p.limit_is;
-      serials_are = ap serials e ∙ k.serials_are
-          ∙ ap (λ n. take n (recent_after_change item (serials es))) p.limit_is
-          ∙ ap (λ xs. take limit (recent_after_change item xs)) p.serials_are
-          ∙ sym (held_more limit item (map store_change_of past));
-      entries_are = EachIs-same (look_after x event (serial_stored_by_outcome o) (serial_used_by_outcome o) look) (stored_response_after (find_exchange (exchange_id_of_event event) (open_exchanges table limit past)) event o look) _
+      serials_are = ap serials e
+          ∙ serials_are_cut bounds (λ s. weight_if_any (look' s)) raw (EachIs-weights look' raw k.entries_are)
+          ∙ ap (front_within bounds (λ s. weight_if_any (look' s))) k.serials_are
+          ∙ ap (λ xs. front_within bounds (λ s. weight_if_any (look' s)) (recent_after_change item xs)) p.serials_are
+          ∙ ap (λ xs. front_within bounds (λ s. weight_if_any (look_after (find_exchange (exchange_id_of_event event) xs) event (serial_stored_by_outcome o) (serial_used_by_outcome o) look s)) (recent_after_change item (held_serials table limit past))) p.exchanges_are
+          ∙ sym (weighed_held_more bounds (record {
+            change = item;
+            weights = λ s. weight_if_any (stored_response_after (find_exchange (exchange_id_of_event event) (open_exchanges table limit past)) event o look s);
+          }) (store_changes table limit past));
+      entries_are = EachIs-same look' (stored_response_after (find_exchange (exchange_id_of_event event) (open_exchanges table limit past)) event o look) _
           (λ s. ap (λ xs. look_after (find_exchange (exchange_id_of_event event) xs) event (serial_stored_by_outcome o) (serial_used_by_outcome o) look s) (sym p.exchanges_are))
-          (subst (EachIs (look_after x event (serial_stored_by_outcome o) (serial_used_by_outcome o) look)) (sym e) k.entries_are);
+          (subst (EachIs look') (sym e) (EachIs-cut look' bounds raw k.entries_are));
+      within = subst (IsWithin bounds weight_of) (sym e) (cut_is_longest bounds weight_of raw).is_within;
       exchanges_are = ap (λ (t : Table). open_exchanges_after t st.entries st.exchanges event o) p.table_is
           ∙ ap (λ zs. open_exchanges_after table zs st.exchanges event o) (held_is table limit first past st p)
           ∙ ap (λ xs. open_exchanges_after table (held_entries table limit past) xs event o) p.exchanges_are;
       next_is = ap (λ n. next_serial_after n (serial_stored_by_outcome o)) p.next_is;
-      fresh = subst (NoSerialIsHeldFrom (next_serial_after st.next (serial_stored_by_outcome o))) (sym e) k.fresh;
+      fresh = subst (NoSerialIsHeldFrom (next_serial_after st.next (serial_stored_by_outcome o))) (sym e)
+          (NoneFrom-cut (next_serial_after st.next (serial_stored_by_outcome o)) bounds raw k.fresh);
     }
 
 -- what a good trace leaves stands for it
@@ -206,6 +261,7 @@ stands_for table limit first [] g = record {
   limit_is = refl;
   serials_are = refl;
   entries_are = EachIs-nil (λ s. None);
+  within = within_nil (bounds_of table limit);
   exchanges_are = refl;
   next_is = refl;
   fresh = λ s l. refl;

@@ -1,5 +1,5 @@
 -- What a pending reply leaves of the held responses is what its step leaves of them.
-use Rattle.std.proofs.Common.{◌≡◌, inl, inr, ℕ, Bool, true, false, not, ◌&&◌, ◌||◌, ◌==◌, eqb, cond, Option, None, Some, is_some, List, [], ◌∷◌, take, refl, sym, ◌∙◌, ap, subst}
+use Rattle.std.proofs.Common.{◌≡◌, inl, inr, ℕ, Bool, true, false, not, ◌&&◌, ◌||◌, ◌==◌, eqb, cond, Option, None, Some, is_some, List, [], ◌∷◌, refl, sym, ◌∙◌, ap, subst}
 use Rattle.std.specs.Option.{option_and_then}
 use Rattle.hx_target.specs.declared.keys.Key.{Key}
 use Rattle.hx_target.specs.Keys.{same_key}
@@ -22,8 +22,9 @@ use Rattle.proxy_core.specs.declared.replies.pending.PendingReply.{PendingReply}
 use Rattle.proxy_core.specs.declared.replies.pending.AfterAnswer.{AfterAnswer}
 use Rattle.proxy_core.specs.declared.replies.pending.AfterAnswer.TheVariants.{Ends, GoesOn}
 use Rattle.proxy_core.specs.Validating.{is_validation, stored_response_is_answered, condition_is_answered, stored_response_asked_about, stored_response_if_answered, stored_response_validated, freshened_by_304}
-use Rattle.proxy_core.specs.State.{entries_without_serials, stored_response_as_used, entries_after_use, entries_after_storing}
-use Rattle.proxy_core.specs.Pending.{serial_stored_by_change, serial_used_by_change, entries_after_change, ChangeIsMadeByAnswer, ChangeStoresNothing, IsChangeAfterFreshening, StoresUnderNextSerial, FreshensHeldResponse, ReplyLeavesHeldAsStepDoes, AnswerLeavesHeldAsStepDoes, AnswerChangeFits, AnswerStoresNothing}
+use Rattle.hx_store.specs.Weights.{StoreBounds}
+use Rattle.proxy_core.specs.State.{cut_where_touched, entries_without_serials, stored_response_as_used, entries_after_use, entries_after_storing}
+use Rattle.proxy_core.specs.Pending.{serial_stored_by_change, serial_used_by_change, entries_before_cut, ChangeIsMadeByAnswer, ChangeStoresNothing, IsChangeAfterFreshening, StoresUnderNextSerial, FreshensHeldResponse, ReplyLeavesHeldAsStepDoes, AnswerLeavesHeldAsStepDoes, AnswerChangeFits, AnswerStoresNothing}
 
 and_left : (a b : Bool) → (a && true) ≡ false → (a && b) ≡ false
 and_left true b h = absurd (cc)
@@ -37,7 +38,7 @@ unanswered_by (Some c) r now e h = and_left (r.status == 304) ((c.serial == e.se
 pub unanswered : (x : Exchange) (r : Response) (now : ℕ) (e : Stored) → is_validation x r ≡ false → stored_response_is_answered x r now e ≡ false
 unanswered x r now e h = unanswered_by x.condition r now e h
 
-module _ (limit : ℕ) (es : List Stored) (x : Exchange) (now id : ℕ) where
+module _ (bounds : StoreBounds) (es : List Stored) (x : Exchange) (now id : ℕ) where
   same_use : (event : Event) (o : Option Stored) → ((e : Stored) → stored_response_as_used (Some x) event e ≡ e) → option_map (stored_response_as_used (Some x) event) o ≡ o
   same_use event None h = refl
   same_use event (Some e) h = ap Some (h e)
@@ -46,20 +47,21 @@ module _ (limit : ℕ) (es : List Stored) (x : Exchange) (now id : ℕ) where
   same_used event serial h = ap (λ (o : Option Stored). with_in_front o (without_serials (serial ∷ []) es)) (sym (same_use event (find_entry serial es) h))
 
   made_by : (r : Response) (removed : List ℕ) (c : Change) → ((e : Stored) → stored_response_as_used (Some x) (Answer now id r) e ≡ e) → ChangeIsMadeByAnswer x r now c
-      → entries_after_change limit removed c es ≡ entries_after_storing (Some x) (Answer now id r) (serial_stored_by_change c) removed limit (entries_after_use (Some x) (Answer now id r) (serial_used_by_change c) es)
+      → entries_before_cut removed c es ≡ entries_after_storing (Some x) (Answer now id r) (serial_stored_by_change c) removed (entries_after_use (Some x) (Answer now id r) (serial_used_by_change c) es)
   made_by r removed Keep h m = refl
   made_by r removed (Use serial) h m = ap (entries_without_serials removed) (same_used (Answer now id r) serial h)
   made_by r removed (Freshen e) h m = absurd m
   made_by r removed (Remove serial) h m = absurd m
-  made_by r removed (Store e) h m = ap (λ (z : Stored). take limit (z ∷ without_serials removed es)) m
+  made_by r removed (Store e) h m = ap (λ (z : Stored). z ∷ without_serials removed es) m
 
   -- an answer that is passed on, or in whose place a held response is sent as it is
-  pub makes_leaves : (r : Response) (t : PendingReply) → is_validation x r ≡ false → ChangeIsMadeByAnswer x r now t.change → ReplyLeavesHeldAsStepDoes limit es x (Answer now id r) t
+  pub makes_leaves : (r : Response) (t : PendingReply) → is_validation x r ≡ false → ChangeIsMadeByAnswer x r now t.change → ReplyLeavesHeldAsStepDoes bounds es x (Answer now id r) t
   makes_leaves r t h m =
-      made_by r t.removed t.change (λ e. ap (λ b. cond b (freshened_by_304 x r now e) e) (unanswered x r now e h)) m
+      ap (cut_where_touched bounds (serial_stored_by_change t.change) (serial_used_by_change t.change))
+      (made_by r t.removed t.change (λ e. ap (λ b. cond b (freshened_by_304 x r now e) e) (unanswered x r now e h)) m)
 
   plain_by : (event : Event) (same : (e : Stored) → stored_response_as_used (Some x) event e ≡ e) (removed : List ℕ) (c : Change) → ChangeStoresNothing c
-      → entries_after_change limit removed c es ≡ entries_after_storing (Some x) event (serial_stored_by_change c) removed limit (entries_after_use (Some x) event (serial_used_by_change c) es)
+      → entries_before_cut removed c es ≡ entries_after_storing (Some x) event (serial_stored_by_change c) removed (entries_after_use (Some x) event (serial_used_by_change c) es)
   plain_by event same removed Keep m = refl
   plain_by event same removed (Use serial) m = ap (entries_without_serials removed) (same_used event serial same)
   plain_by event same removed (Freshen e) m = absurd m
@@ -67,12 +69,12 @@ module _ (limit : ℕ) (es : List Stored) (x : Exchange) (now id : ℕ) where
   plain_by event same removed (Store e) m = absurd m
 
   -- a failure
-  pub fail_leaves : (kind : FailKind) (t : PendingReply) → ChangeStoresNothing t.change → ReplyLeavesHeldAsStepDoes limit es x (Fail now id kind) t
-  fail_leaves kind t m = plain_by (Fail now id kind) (λ e. refl) t.removed t.change m
+  pub fail_leaves : (kind : FailKind) (t : PendingReply) → ChangeStoresNothing t.change → ReplyLeavesHeldAsStepDoes bounds es x (Fail now id kind) t
+  fail_leaves kind t m = ap (cut_where_touched bounds (serial_stored_by_change t.change) (serial_used_by_change t.change)) (plain_by (Fail now id kind) (λ e. refl) t.removed t.change m)
 
   -- a wake
-  pub wake_leaves : (t : PendingReply) → ChangeStoresNothing t.change → ReplyLeavesHeldAsStepDoes limit es x (Wake now id) t
-  wake_leaves t m = plain_by (Wake now id) (λ e. refl) t.removed t.change m
+  pub wake_leaves : (t : PendingReply) → ChangeStoresNothing t.change → ReplyLeavesHeldAsStepDoes bounds es x (Wake now id) t
+  wake_leaves t m = ap (cut_where_touched bounds (serial_stored_by_change t.change) (serial_used_by_change t.change)) (plain_by (Wake now id) (λ e. refl) t.removed t.change m)
 
 -- a pending reply that stores and freshens nothing
 pub plain_makes : (x : Exchange) (r : Response) (now : ℕ) (c : Change) → ChangeStoresNothing c → ChangeIsMadeByAnswer x r now c
@@ -164,7 +166,7 @@ key_stays x r now e = refl
 gone_first : (k : ℕ) (f : Stored) (es : List Stored) → k ≡ f.serial → entries_without_serials (k ∷ []) es ≡ entries_without_serials (k ∷ []) (f ∷ es)
 gone_first k f es h = ap (λ b. cond (not (b || false)) (f ∷ without_serials (k ∷ []) es) (without_serials (k ∷ []) es)) (sym (eq-eqb k f.serial h))
 
-module _ (limit : ℕ) (es : List Stored) (x : Exchange) (now id : ℕ) (r : Response) (e : Stored) (v : IsValidated es x r now e) where
+module _ (bounds : StoreBounds) (es : List Stored) (x : Exchange) (now id : ℕ) (r : Response) (e : Stored) (v : IsValidated es x r now e) where
   -- the response that is sent comes first, as the 304 makes it
   comes_first : (s : ℕ) (f : Stored) → s ≡ e.serial → f ≡ freshened_by_304 x r now e → f ∷ without_serials (s ∷ []) es ≡ entries_after_use (Some x) (Answer now id r) (Some s) es
   comes_first s f h k =
@@ -174,7 +176,7 @@ module _ (limit : ℕ) (es : List Stored) (x : Exchange) (now id : ℕ) (r : Res
       ap (λ (o : Option Stored). with_in_front o (without_serials (s ∷ []) es)) (sym used)
 
   refresh_by : (removed : List ℕ) (kept : Bool) (f : Stored) (c : Change) → f ≡ freshened_by_304 x r now e → IsChangeAfterFreshening kept f c → removed ≡ cond kept [] (f.serial ∷ [])
-      → entries_after_change limit removed c es ≡ entries_after_storing (Some x) (Answer now id r) (serial_stored_by_change c) removed limit (entries_after_use (Some x) (Answer now id r) (serial_used_by_change c) es)
+      → entries_before_cut removed c es ≡ entries_after_storing (Some x) (Answer now id r) (serial_stored_by_change c) removed (entries_after_use (Some x) (Answer now id r) (serial_used_by_change c) es)
   refresh_by removed kept f Keep k h gone = absurd h
   refresh_by removed kept f (Use serial) k h gone = absurd h
   refresh_by removed kept f (Freshen g) k h gone =
@@ -189,8 +191,9 @@ module _ (limit : ℕ) (es : List Stored) (x : Exchange) (now id : ℕ) (r : Res
   refresh_by removed kept f (Store g) k h gone = absurd h
 
   -- a 304 that answers a held response
-  pub refresh_leaves : (kept : Bool) (f : Stored) (t : PendingReply) → f ≡ freshened_by_304 x r now e → IsChangeAfterFreshening kept f t.change → t.removed ≡ cond kept [] (f.serial ∷ []) → ReplyLeavesHeldAsStepDoes limit es x (Answer now id r) t
-  refresh_leaves kept f t k h gone = refresh_by t.removed kept f t.change k h gone
+  pub refresh_leaves : (kept : Bool) (f : Stored) (t : PendingReply) → f ≡ freshened_by_304 x r now e → IsChangeAfterFreshening kept f t.change → t.removed ≡ cond kept [] (f.serial ∷ []) → ReplyLeavesHeldAsStepDoes bounds es x (Answer now id r) t
+  refresh_leaves kept f t k h gone =
+      ap (cut_where_touched bounds (serial_stored_by_change t.change) (serial_used_by_change t.change)) (refresh_by t.removed kept f t.change k h gone)
 
   held_as : ((key : Key) → same_key key key ≡ true) → (g : Stored) → g ≡ freshened_by_304 x r now e → FreshensHeldResponse (Freshen g) es
   held_as itself g k =
@@ -233,7 +236,7 @@ other_serial x (Some c) r now s es e h found = elim (cases_Bool (c.serial == e.s
     and_false true = refl
     and_false false = refl
 
-module _ (limit : ℕ) (es : List Stored) (x : Exchange) (now id : ℕ) (r : Response) (none : stored_response_validated es x r now ≡ None) where
+module _ (bounds : StoreBounds) (es : List Stored) (x : Exchange) (now id : ℕ) (r : Response) (none : stored_response_validated es x r now ≡ None) where
   pub same_at : (s : ℕ) (e : Stored) → find_entry s es ≡ Some e → stored_response_as_used (Some x) (Answer now id r) e ≡ e
   same_at s e found =
       ap (λ b. cond b (freshened_by_304 x r now e) e) (other_serial x x.condition r now s es e (λ f k. none_answered es x r now (stored_response_asked_about es x) none f k) found)
@@ -243,19 +246,19 @@ module _ (limit : ℕ) (es : List Stored) (x : Exchange) (now id : ℕ) (r : Res
   same_all s (Some e) h = ap Some (same_at s e h)
 
   retry_by : (removed : List ℕ) (c : Change) → ChangeStoresNothing c
-      → entries_after_change limit removed c es ≡ entries_after_storing (Some x) (Answer now id r) (serial_stored_by_change c) removed limit (entries_after_use (Some x) (Answer now id r) (serial_used_by_change c) es)
+      → entries_before_cut removed c es ≡ entries_after_storing (Some x) (Answer now id r) (serial_stored_by_change c) removed (entries_after_use (Some x) (Answer now id r) (serial_used_by_change c) es)
   retry_by removed Keep m = refl
   retry_by removed (Use s) m = ap (λ (o : Option Stored). entries_without_serials removed (with_in_front o (without_serials (s ∷ []) es))) (sym (same_all s (find_entry s es) refl))
   retry_by removed (Freshen e) m = absurd m
   retry_by removed (Remove s) m = absurd m
   retry_by removed (Store e) m = absurd m
 
-  retry_after : (c : AfterAnswer) → AnswerStoresNothing c → AnswerLeavesHeldAsStepDoes limit es x (Answer now id r) c
-  retry_after (Ends t) m = retry_by t.removed t.change m
+  retry_after : (c : AfterAnswer) → AnswerStoresNothing c → AnswerLeavesHeldAsStepDoes bounds es x (Answer now id r) c
+  retry_after (Ends t) m = ap (cut_where_touched bounds (serial_stored_by_change t.change) (serial_used_by_change t.change)) (retry_by t.removed t.change m)
   retry_after (GoesOn bytes) m = tt
 
   -- a held response is sent as it is, or the request goes forward once more
-  pub retry_leaves : {E : Type 0} (q : Result AfterAnswer E) → IfOk q AnswerStoresNothing → IfOk q (λ c. AnswerLeavesHeldAsStepDoes limit es x (Answer now id r) c)
+  pub retry_leaves : {E : Type 0} (q : Result AfterAnswer E) → IfOk q AnswerStoresNothing → IfOk q (λ c. AnswerLeavesHeldAsStepDoes bounds es x (Answer now id r) c)
   retry_leaves (Ok c) m = retry_after c m
   retry_leaves (Err error) m = tt
 

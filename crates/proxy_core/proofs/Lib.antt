@@ -42,3 +42,5 @@ pub mod KeyIndices
 pub mod AskedArrivals
 pub mod Overtaking
 pub mod AddedLines
+pub mod Cutting
+pub mod HeldWithin

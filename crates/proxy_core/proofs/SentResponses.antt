@@ -208,7 +208,7 @@ module _ (table : Table) (es : List Stored) (distinct : Distinct (serials es)) w
     validates None (decision.Hit t) y v k =
         let f = found_hit (policy_of table.lines x.line) x.asked now t k in
         λ h. at_serial (Some x) (Answer now id r) (outcome_of_sending_stored table es t now (forwarded_status_info (policy_of table.lines x.line) x (Some r.status) (Some ReuseAfter304)) x.asked) t s (same_Some t s h)
-        (as_held (Some x) (Answer now id r) t now (forwarded_status_info (policy_of table.lines x.line) x (Some r.status) (Some ReuseAfter304)) x.asked f (same_at 0 es x now id r v t f.0 f.1) (refl, refl)
+        (as_held (Some x) (Answer now id r) t now (forwarded_status_info (policy_of table.lines x.line) x (Some r.status) (Some ReuseAfter304)) x.asked f (same_at (record { entries = 0; bytes = None }) es x now id r v t f.0 f.1) (refl, refl)
         (Some ReuseAfter304, refl, (λ some. absurd (false≢true (ap is_some (sym v) ∙ some)), λ is none. refl, λ n. absurd (false≢true (sym n ∙ y)))))
     validates None (decision.Forward rule against) y v k = λ h. absurd (never_one s h)
 

@@ -28,7 +28,7 @@ use Rattle.hx_reuse.specs.declared.rule.ReuseRule.{ReuseRule}
 use Rattle.hx_reuse.specs.declared.decision.Decision.{Decision}
 use Rattle.hx_reuse.specs.declared.decision.Decision.TheVariants as decision
 use Rattle.proxy_core.specs.Validating.{condition_about_serial}
-use Rattle.proxy_core.specs.State.{State, StepIsAccepted, state_after, entries_without_serials, entries_after, exchanges_after_end, key_invalidated_by_response, next_serial_after, exchange_forwarded_again, exchange_sent_forward, exchanges_after_wake, rule_of_decision, serial_named_by_decision}
+use Rattle.proxy_core.specs.State.{State, StepIsAccepted, state_after, entries_without_serials, entries_after, bounds_of, exchanges_after_end, key_invalidated_by_response, next_serial_after, exchange_forwarded_again, exchange_sent_forward, exchanges_after_wake, rule_of_decision, serial_named_by_decision}
 use Rattle.proxy_core.specs.Pending.{serial_stored_by_change, outcome_of_pending_reply, state_after_reply, ChangeStoresNothing, ReplyLeavesHeldAsStepDoes}
 use Rattle.proxy_core.specs.Waking.{IsPreparedForWake}
 use Rattle.proxy_core.specs.declared.steps.waking.AfterWake.TheVariants.{Ends}
@@ -72,19 +72,19 @@ module _ (s : State) (now id : ℕ) (early : moment_too_late_fault now ≡ None)
 
   -- an exchange that an answer ends
   pub answer_done : (x : Exchange) (r : Response) (pending : PendingReply) (gone : Option Key) (o : Outcome) (t : State) → find_exchange id s.exchanges ≡ Some x → fault_if_not_forwarded x.stage ≡ None
-      → outcome_of_pending_reply pending ≡ outcome_of_answer s.table s.entries now x r s.next (decision_of (policy_of s.table.lines x.line) s.entries x.asked now) → ReplyLeavesHeldAsStepDoes s.limit s.entries x (Answer now x.id r) pending
+      → outcome_of_pending_reply pending ≡ outcome_of_answer s.table s.entries now x r s.next (decision_of (policy_of s.table.lines x.line) s.entries x.asked now) → ReplyLeavesHeldAsStepDoes (bounds_of s.table s.limit) s.entries x (Answer now x.id r) pending
       → gone ≡ key_invalidated x r → o ≡ outcome_of_pending_reply pending → t ≡ state_after_reply s id pending gone → StepIsAccepted s (Answer now id r) o t
   answer_done x r pending gone o t here stage reply leaves gone_is is t_is =
       let next = next_serial_after s.next (serial_stored_by_change pending.change) in
       let event : Event = Answer now id r in
-      let left : ReplyLeavesHeldAsStepDoes s.limit s.entries x event pending = subst (λ (k : ℕ). ReplyLeavesHeldAsStepDoes s.limit s.entries x (Answer now k r) pending) (find_id id s.exchanges x here) leaves in
+      let left : ReplyLeavesHeldAsStepDoes (bounds_of s.table s.limit) s.entries x event pending = subst (λ (k : ℕ). ReplyLeavesHeldAsStepDoes (bounds_of s.table s.limit) s.entries x (Answer now k r) pending) (find_id id s.exchanges x here) leaves in
       record {
         allowed = ap (λ (x : Option Exchange). fault_at_exchange x event) here ∙ (ap (λ (a : Option CoreFault). or_fault a (fault_if_not_forwarded x.stage)) early ∙ stage);
         outcome_is = is ∙ (reply ∙ ap (λ (x : Option Exchange). outcome_of s.table s.entries s.exchanges x s.next event) (sym here));
         leaves = t_is
             ∙ (ap (λ (es : List Stored). st s.table s.limit es (exchanges_after_end gone id s.exchanges) next)
-            (left ∙ ap (λ (y : Option Exchange). entries_after s.limit s.entries y event (outcome_of_pending_reply pending)) (sym here))
-            ∙ (ap (λ (key : Option Key). st s.table s.limit (entries_after s.limit s.entries (find_exchange id s.exchanges) event (outcome_of_pending_reply pending)) (exchanges_after_end key id s.exchanges) next)
+            (left ∙ ap (λ (y : Option Exchange). entries_after (bounds_of s.table s.limit) s.entries y event (outcome_of_pending_reply pending)) (sym here))
+            ∙ (ap (λ (key : Option Key). st s.table s.limit (entries_after (bounds_of s.table s.limit) s.entries (find_exchange id s.exchanges) event (outcome_of_pending_reply pending)) (exchanges_after_end key id s.exchanges) next)
             (gone_is ∙ ap (λ (y : Option Exchange). key_invalidated_by_response y r) (sym here))
             ∙ ap (λ (q : Outcome). state_after s event q) (sym is)));
       }
@@ -112,7 +112,7 @@ module _ (s : State) (now id : ℕ) (early : moment_too_late_fault now ≡ None)
         outcome_is = is ∙ (reply ∙ ap (λ (x : Option Exchange). outcome_of s.table s.entries s.exchanges x s.next event) (sym here));
         leaves = t_is
             ∙ (ap (λ (es : List Stored). st s.table s.limit es (exchanges_after_end None id s.exchanges) (next_serial_after s.next (serial_stored_by_change pending.change)))
-            (fail_leaves s.limit s.entries x now id kind pending plain ∙ ap (λ (y : Option Exchange). entries_after s.limit s.entries y event (outcome_of_pending_reply pending)) (sym here))
+            (fail_leaves (bounds_of s.table s.limit) s.entries x now id kind pending plain ∙ ap (λ (y : Option Exchange). entries_after (bounds_of s.table s.limit) s.entries y event (outcome_of_pending_reply pending)) (sym here))
             ∙ ap (λ (q : Outcome). state_after s event q) (sym is));
       }
 
@@ -127,7 +127,7 @@ module _ (s : State) (now id : ℕ) (early : moment_too_late_fault now ≡ None)
         outcome_is = is ∙ (reply ∙ ap (λ (x : Option Exchange). outcome_of s.table s.entries s.exchanges x s.next event) (sym here));
         leaves = t_is
             ∙ (ap (λ (es : List Stored). st s.table s.limit es (exchanges_after_end None id s.exchanges) (next_serial_after s.next (serial_stored_by_change pending.change)))
-            (wake_leaves s.limit s.entries x now id pending plain ∙ ap (λ (y : Option Exchange). entries_after s.limit s.entries y event (outcome_of_pending_reply pending)) (sym here))
+            (wake_leaves (bounds_of s.table s.limit) s.entries x now id pending plain ∙ ap (λ (y : Option Exchange). entries_after (bounds_of s.table s.limit) s.entries y event (outcome_of_pending_reply pending)) (sym here))
             ∙ ap (λ (q : Outcome). state_after s event q) (sym is));
       }
 

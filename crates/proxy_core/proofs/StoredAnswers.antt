@@ -1,6 +1,6 @@
 -- An answer is stored exactly where it may be, and no stored response is sent in its place.
-use Rattle.std.proofs.Common.{◌≡◌, inl, inr, ℕ, Bool, true, false, not, ◌&&◌, cond, List, [], ◌∷◌, length, refl, sym, ap, ◌∙◌, subst}
-use Rattle.std.specs.Prelude.{Option, Some, None, is_none, is_some, ◌==◌, nat_le}
+use Rattle.std.proofs.Common.{◌≡◌, inl, inr, ℕ, ◌≤◌, Bool, true, false, not, ◌&&◌, cond, List, [], ◌∷◌, length, refl, sym, ap, ◌∙◌, subst}
+use Rattle.std.specs.Prelude.{Option, Some, None, IfSome, is_none, is_some, ◌==◌, nat_le, nat_lt, ◌||◌}
 use Rattle.std.proofs.lemmas.Bool.{false_from_ne_true, eqb-true}
 use Rattle.http.specs.Method.{safe_methods, is_among}
 use Rattle.hx_target.specs.declared.keys.Key.{Key}
@@ -10,6 +10,7 @@ use Rattle.hx_allow.specs.TableLines.{Table}
 use Rattle.hx_allow.specs.Matching.{policy_of, verdict_of}
 use Rattle.hx_allow.specs.declared.verdicts.Verdict.{Verdict}
 use Rattle.hx_allow.specs.declared.verdicts.Verdict.TheVariants as verdict
+use Rattle.hx_vary.specs.Vary.{is_star}
 use Rattle.hx_store.specs.Stored.{Stored}
 use Rattle.hx_store.specs.Shelf.{serials_of}
 use Rattle.hx_reuse.specs.Rules.{decision_of}
@@ -23,6 +24,8 @@ use Rattle.hx_storable.specs.Storable.{StatusIsFinal, ResponseMayBeStored}
 use Rattle.hx_storable.specs.declared.known_facts.StoringFacts.{StoringFacts}
 use Rattle.hx_storable.proofs.StorableLemmas.{is_stored, stored_may_be}
 use Rattle.hx_storable.specs.declared.rule.StoreRule.{StoreRule}
+use Rattle.hx_storable.specs.declared.rule.StoreRule.TheVariants.{TooLarge, VaryStar}
+use Rattle.hx_storable.proofs.LeastRule.{no_rule_applies}
 use Rattle.proxy_core.specs.declared.steps.condition.Condition.{Condition}
 use Rattle.proxy_core.specs.declared.open.exchange.Exchange.{Exchange}
 use Rattle.proxy_core.specs.declared.outcome.Outcome.{Outcome}
@@ -34,8 +37,8 @@ use Rattle.proxy_core.specs.declared.steps.fallback.Fallback.TheVariants.{Sends,
 use Rattle.proxy_core.specs.Awaiting.{leader_of_request}
 use Rattle.proxy_core.specs.Outcomes.{outcome_of_allowed_request, outcome_of_answer, outcome_of_arrival, outcome_of_failure, fallback_for, find_exchange, forward_text, forwarded_status_info, exchange_id_of_event, is_error_status, is_only_if_cached, outcome_of, outcome_of_passing_on, outcome_of_passing_on_or_stale, outcome_of_304, outcome_of_sending_stored, outcome_of_waiting_or_forwarding, outcome_of_sending_freshened, serial_of_stored_answer, outcome_without_stored_response, outcome_of_wake, step_fault, fault_at_exchange}
 use Rattle.proxy_core.specs.State.{serial_stored_by_outcome, serial_used_by_outcome, serials_removed_by_outcome}
-use Rattle.proxy_core.specs.Storing.{replaced_by, storing_rule_to_explain, storing_facts_of_answer, is_storable, is_304_without_condition}
-use Rattle.proxy_core.specs.Validating.{stored_response_asked_about, condition_about_serial, stored_response_if_answered, freshened_may_be_kept, is_validation, freshened_by_304, stored_response_validated}
+use Rattle.proxy_core.specs.Storing.{weight_of_answer, replaced_by, storing_rule_to_explain, storing_facts_of_answer, is_storable, is_304_without_condition}
+use Rattle.proxy_core.specs.Validating.{is_above, stored_response_asked_about, condition_about_serial, stored_response_if_answered, freshened_may_be_kept, is_validation, freshened_by_304, stored_response_validated}
 use Rattle.proxy_core.specs.Traces.{Item}
 use Rattle.proxy_core.specs.Histories.{held_entries, IsGoodHistory, next_serial, open_exchanges}
 use Rattle.proxy_core.proofs.Moves.{key_taken_by_answer}
@@ -47,7 +50,8 @@ use Rattle.proxy_core.proofs.UnsafeAnswers.{status_is_shown}
 use Rattle.proxy_core.specs.StoredAnswers.{AnswerMayBeStored, IsAnswerThatMayBeStored, KeyStaysValidSinceItWent, RemovedAfter304, RemovedByStatus, RemovedByAnswer, ThoseAreRemoved, NothingElseIsStored, AnswerIsStoredWhereItMayBe, ItemRemovesExactlyThese}
 use Rattle.proxy_core.proofs.Freshened.{is_kept, may_be_kept}
 use Rattle.proxy_core.proofs.SinceItWent.{at_the_origin, unmarked, stays_valid}
-use Rattle.proxy_core.proofs.StoringWords.{can_be_reused, fields_named, fits_in, may_be_released, keeps_all, lasts_or_validates, lists_none, none_is_not, some_left, star_absent}
+use Rattle.hx_fields.proofs.JoinedTests.{left_false, right_false, neither, second_false, last_absent}
+use Rattle.proxy_core.proofs.StoringWords.{can_be_reused, fields_named, fits_in, may_be_released, not_above, within_bound, keeps_all, lasts_or_validates, lists_none, none_is_not, some_left, star_absent}
 
 none_of : {A : Type 0} (o : Option A) → is_none o ≡ true → o ≡ None
 none_of None h = refl
@@ -72,7 +76,9 @@ module _ (table : Table) (x : Exchange) (r : Response) (now : ℕ) (next : Optio
       not_overtaken = unmarked may.key_stays_valid;
     };
     has_room = record {
-      not_too_large = fits_in table.max_stored (length r.content) may.fits;
+      not_too_large = neither (nat_lt table.max_stored (length r.content)) (not (is_star (answered_of r now).fields) && is_above table.max_store (weight_of_answer x r now))
+          (fits_in table.max_stored (length r.content) may.fits)
+          (last_absent (not (is_star (answered_of r now).fields)) (is_above table.max_store (weight_of_answer x r now)) (not_above table.max_store (weight_of_answer x r now) may.fits_the_store));
       has_serial = none_is_not next may.serial_is_left;
     };
   }
@@ -87,7 +93,10 @@ module _ (table : Table) (x : Exchange) (r : Response) (now : ℕ) (next : Optio
     keeps_its_fields = keeps_all r.fields may.is_of_use.keeps_its_fields;
     can_be_reused = can_be_reused (answered_of r now).fields (policy_of table.lines x.line) r.status may.is_of_use.lasts_or_is_validated;
     key_stays_valid = stays_valid may.is_of_use.not_overtaken;
-    fits = may_be_released table.max_stored (length r.content) may.has_room.not_too_large;
+    fits = may_be_released table.max_stored (length r.content) (left_false (nat_lt table.max_stored (length r.content)) (not (is_star (answered_of r now).fields) && is_above table.max_store (weight_of_answer x r now)) may.has_room.not_too_large);
+    fits_the_store = within_bound table.max_store (weight_of_answer x r now) (second_false (not (is_star (answered_of r now).fields)) (is_above table.max_store (weight_of_answer x r now))
+        (ap not may.is_of_use.names_its_fields)
+        (right_false (nat_lt table.max_stored (length r.content)) (not (is_star (answered_of r now).fields) && is_above table.max_store (weight_of_answer x r now)) may.has_room.not_too_large));
     serial_is_left = some_left next may.has_room.has_serial;
   }
 
@@ -97,6 +106,15 @@ module _ (table : Table) (x : Exchange) (r : Response) (now : ℕ) (next : Optio
   may_be : (past : List Item) → (x.overtaken ≡ false → KeyStaysValidSinceItWent past x) → is_storable table x r now next ≡ true → StatusIsFinal (answered_of r now) → AnswerMayBeStored table next past x r now
   may_be past stays_valid applies final =
       may_by_words past stays_valid (stored_may_be x.asked (answered_of r now) (storing_facts_of_answer table x r now next) final (none_of (storage_rule_of x.asked (answered_of r now) (storing_facts_of_answer table x r now next)) applies))
+
+  -- what is stored weighs no more than the whole store may
+  fits_the_store : is_storable table x r now next ≡ true → IfSome table.max_store (λ most. weight_of_answer x r now ≤ most)
+  fits_the_store applies =
+      let none = none_of (storage_rule_of x.asked (answered_of r now) (storing_facts_of_answer table x r now next)) applies in
+      let fits = right_false (nat_lt table.max_stored (length r.content)) (not (is_star (answered_of r now).fields) && is_above table.max_store (weight_of_answer x r now))
+      (no_rule_applies x.asked (answered_of r now) (storing_facts_of_answer table x r now next) TooLarge none) in
+      within_bound table.max_store (weight_of_answer x r now) (second_false (not (is_star (answered_of r now).fields)) (is_above table.max_store (weight_of_answer x r now))
+      (ap not (no_rule_applies x.asked (answered_of r now) (storing_facts_of_answer table x r now next) VaryStar none)) fits)
 
   -- a 304 is never stored
   no_304 : (past : List Item) → AnswerMayBeStored table next past x r now → (r.status == 304) ≡ false
@@ -185,11 +203,12 @@ stores_where_it_may table limit first now id x r item past good event is_open un
     ∙ stored_answer table x r now next es d past (unmarked table limit first past good.1 x (ap (λ n. find_exchange n xs) same ∙ is_open) out) may (sym (ap serial_used_by_outcome is) ∙ unused)
 
 -- what is stored, at the answer to an exchange, under the next serial
-record IsStored (table : Table) (limit first s : ℕ) (item : Item) (past : List Item) : Type 0 where
-  next_is : next_serial first past ≡ Some s
-  answer : IsAnswerThatMayBeStored table limit first item past
+pub record IsStored (table : Table) (limit first s : ℕ) (item : Item) (past : List Item) : Type 0 where
+  pub next_is : next_serial first past ≡ Some s
+  pub answer : IsAnswerThatMayBeStored table limit first item past
+  pub fits : IfSome table.max_store (λ most. weight_of_answer answer.exchange answer.response answer.now ≤ most)
 
-stored_at : (table : Table) (limit first s : ℕ) (item : Item) (past : List Item) → IsGoodHistory table limit first (item ∷ past) → serial_stored_by_outcome item.outcome ≡ Some s →
+pub stored_at : (table : Table) (limit first s : ℕ) (item : Item) (past : List Item) → IsGoodHistory table limit first (item ∷ past) → serial_stored_by_outcome item.outcome ≡ Some s →
     IsStored table limit first s item past
 stored_at table limit first s item past good stored =
     let es = held_entries table limit past in
@@ -215,6 +234,7 @@ stored_at table limit first s item past good stored =
         nothing_is_sent_instead = ap serial_used_by_outcome is ∙ parts.1;
         may_be_stored = may_be table t.z t.r t.now next past (stays_valid table limit first past good.1 t.z (ap (λ n. find_exchange n xs) carried.1 ∙ found) out carried.0) parts.0;
       };
+      fits = fits_the_store table t.z t.r t.now next parts.0;
     }
 
 pub stores_nowhere_else : NothingElseIsStored

@@ -1,6 +1,6 @@
 -- The facts that the storing rules are handed, and what they say in words.
 use Rattle.std.proofs.Common.{◌≡◌, inl, inr, ◌⊎◌, ℕ, ◌≤◌, Bool, true, false, not, ◌||◌, cond, List, [], ◌∷◌, refl, arith}
-use Rattle.std.specs.Prelude.{All, Option, Some, None, bytes_eq, codes, is_none, is_some, nat_lt}
+use Rattle.std.specs.Prelude.{All, Option, Some, None, IfSome, bytes_eq, codes, is_none, is_some, nat_lt}
 use Rattle.std.specs.List.{list_any}
 use Rattle.std.proofs.lemmas.Bool.Decides.{nat_tests}
 use Rattle.std.proofs.lemmas.List.Elements.{All-nil, All-cons, All-head, All-tail}
@@ -18,6 +18,7 @@ use Rattle.hx_policy.specs.Policies.{given_lifetime}
 use Rattle.hx_policy.specs.declared.words.Policy.{Policy}
 use Rattle.hx_reuse.specs.Lifetimes.{lifetime_with_given, lifetime_under}
 use Rattle.hx_validate.specs.Validators.{has_validator, modified_value, tag_value}
+use Rattle.proxy_core.specs.Validating.{is_above}
 use Rattle.proxy_core.specs.StoredAnswers.{ResponseCanBeReused, ConnectionTookNoCacheField, VaryNamesFields}
 
 neither : (a b : Bool) → a || b ≡ false → (a ≡ false) × (b ≡ false)
@@ -156,6 +157,15 @@ fits_in most n h = grind (arith, nat_tests, h)
 
 pub may_be_released : (most n : ℕ) → nat_lt most n ≡ false → n ≤ most
 may_be_released most n h = grind (arith, nat_tests, h)
+
+-- what fits a bound isn't above it, and what isn't above it fits
+pub not_above : (bound : Option ℕ) (weight : ℕ) → IfSome bound (λ most. weight ≤ most) → is_above bound weight ≡ false
+not_above None weight h = refl
+not_above (Some most) weight h = fits_in most weight h
+
+pub within_bound : (bound : Option ℕ) (weight : ℕ) → is_above bound weight ≡ false → IfSome bound (λ most. weight ≤ most)
+within_bound None weight h = tt
+within_bound (Some most) weight h = may_be_released most weight h
 
 pub some_left : (next : Option ℕ) → is_none next ≡ false → is_some next ≡ true
 some_left None h = absurd cc

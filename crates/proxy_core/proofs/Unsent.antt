@@ -1,5 +1,5 @@
 -- Nothing invalidated is sent.
-use Rattle.std.proofs.Common.{◌≡◌, ℕ, ◌+◌, ◌<◌, ◌≤◌, ◌^◌, Bool, true, false, not, cond, ◌&&◌, ◌||◌, eqb, ltb, Option, None, Some, List, [], ◌∷◌, ◌++◌, map, refl, sym, ◌∙◌, ap, subst, arith, inl, inr}
+use Rattle.std.proofs.Common.{◌≡◌, ℕ, ◌+◌, ◌<◌, ◌≤◌, ◌^◌, Bool, true, false, not, cond, ◌&&◌, ◌||◌, eqb, ltb, Option, None, Some, List, [], ◌∷◌, ◌++◌, refl, sym, ◌∙◌, ap, subst, arith, inl, inr}
 use Rattle.std.specs.Prelude.{option_map, bytes_eq, codes, nat_le}
 use Rattle.std.proofs.lemmas.Bool.{cases_Bool, eqb-true, eq-eqb, false≢true, false_from_ne_true, or_left}
 use Rattle.std.proofs.lemmas.Bool.Decides.{nat_tests}
@@ -17,8 +17,8 @@ use Rattle.hx_allow.specs.declared.verdicts.Verdict.TheVariants as verdict
 use Rattle.hx_store.specs.Stored.{Stored}
 use Rattle.hx_store.specs.Serials.{serial_is_in}
 use Rattle.hx_store.specs.Shelf.{holds_serial, serials_of}
-use Rattle.hx_store.specs.Recency.{is_that_serial, stores_or_uses, recent_after_change}
-use Rattle.hx_store.proofs.Recency.{held_more, is_in-take, is_in-after}
+use Rattle.hx_store.specs.Recency.{is_that_serial, stores_or_uses}
+use Rattle.hx_store.proofs.Recency.{is_in-after}
 use Rattle.hx_store.proofs.EntryLists.{find-serial, find_holds}
 use Rattle.hx_storable.specs.declared.rule.StoreRule.TheVariants.{Operator, Method, Overtaken}
 use Rattle.hx_storable.specs.Rules.{storage_rule_of}
@@ -49,7 +49,7 @@ use Rattle.proxy_core.proofs.Storable.{none_of}
 use Rattle.proxy_core.proofs.Leaving.{key_stays}
 use Rattle.proxy_core.proofs.HeldEntries.{EachIs-find, held_found, some_of_key}
 use Rattle.proxy_core.proofs.StepKinds.{Kind, idle, uses, stores, kind_in}
-use Rattle.proxy_core.proofs.HeldLaw.{look_after, stands_for}
+use Rattle.proxy_core.proofs.HeldLaw.{look_after, held_before_cut, stands_for}
 use Rattle.proxy_core.specs.declared.open.stage.Stage.{Stage}
 use Rattle.proxy_core.specs.declared.open.stage.Stage.TheVariants.{Forwarded, Waiting, Released}
 use Rattle.proxy_core.specs.Moments.{moment_too_late_fault}
@@ -327,11 +327,11 @@ key_kept x event st us look s n =
 module _ (table : Table) (limit first : ℕ) where
   -- an item that a stored and held serial lives through: it was held before, and the item doesn't invalidate its key
   record Executes (s : ℕ) (k : Key) (i : Item) (past : List Item) : Type 0 where
-    held_before : serial_is_in s (held_serials limit past) ≡ true
+    held_before : serial_is_in s (held_serials table limit past) ≡ true
     clean : invalidates_key k i past ≡ false
 
   executes : (s : ℕ) (k : Key) (i : Item) (past : List Item) → IsGood (initial_state table limit first) (i ∷ past) → Below s (state_after_trace (initial_state table limit first) past).next →
-      key_of (held_entry table limit past s) ≡ Some k → serial_is_in s (held_serials limit (i ∷ past)) ≡ true → Executes s k i past
+      key_of (held_entry table limit past s) ≡ Some k → serial_is_in s (held_serials table limit (i ∷ past)) ≡ true → Executes s k i past
   unfolding key_of
   executes s k i past g l q m =
       let p = stands_for table limit first past g.1 in
@@ -340,9 +340,9 @@ module _ (table : Table) (limit first : ℕ) where
       let w = find_exchange (exchange_id_of_event i.event) st.exchanges in
       let d = older s es w i.event st.next (serial_stored_by_outcome i.outcome) (serial_used_by_outcome i.outcome) (serials_removed_by_outcome i.outcome) (kind_in table st i p.fresh g.0) l in
       let item = store_change_of i in
-      let before = held_serials limit past in
+      let before = held_serials table limit past in
       let inside : ((stores_or_uses item s || serial_is_in s before) && not (serial_is_in s (serials_removed_by_outcome i.outcome))) ≡ true =
-      sym (is_in-after s item before) ∙ and_left _ _ (sym (is_in-take s limit (recent_after_change item before)) ∙ sym (ap (serial_is_in s) (held_more limit item (map store_change_of past))) ∙ m)
+      sym (is_in-after s item before) ∙ held_before_cut table limit i past s m
       in
       let stays : not (serial_is_in s (serials_removed_by_outcome i.outcome)) ≡ true = and_right (stores_or_uses item s || serial_is_in s before) (not (serial_is_in s (serials_removed_by_outcome i.outcome))) inside in
       let came : ((is_that_serial (serial_stored_by_outcome i.outcome) s || is_that_serial (serial_used_by_outcome i.outcome) s) || serial_is_in s before) ≡ true = and_left _ _ inside in
@@ -371,7 +371,7 @@ module _ (table : Table) (limit first : ℕ) where
   record Since (s : ℕ) (k : Key) (storing : Item) (past items : List Item) : Type 0 where
     below : Below s (state_after_trace (initial_state table limit first) (items ++ storing ∷ past)).next
     key : key_of (held_entry table limit (items ++ storing ∷ past) s) ≡ Some k
-    clean : serial_is_in s (held_serials limit (items ++ storing ∷ past)) ≡ true → NoItemInvalidates k items (storing ∷ past)
+    clean : serial_is_in s (held_serials table limit (items ++ storing ∷ past)) ≡ true → NoItemInvalidates k items (storing ∷ past)
 
   since : (s : ℕ) (k : Key) (storing : Item) (past : List Item) (items : List Item) → IsGood (initial_state table limit first) (items ++ storing ∷ past) →
       Since s k storing past [] → Since s k storing past items
@@ -462,7 +462,7 @@ nothing_invalidated_is_sent table limit first trace g later middle between befor
     let st = state_after_trace (initial_state table limit first) (middle ++ storing ∷ base) in
     let p = stands_for table limit first (middle ++ storing ∷ base) at_sending.1 in
     let i = since table limit first s d.z.asked.target.key storing base middle at_sending.1 d.since_then in
-    let held : serial_is_in s (held_serials limit (middle ++ storing ∷ base)) ≡ true =
+    let held : serial_is_in s (held_serials table limit (middle ++ storing ∷ base)) ≡ true =
     sym (ap (serial_is_in s) p.serials_are)
     ∙ sent_held st.entries _ sending.event st.next _ _ _ s (kind_in table st sending p.fresh at_sending.0) used
     in

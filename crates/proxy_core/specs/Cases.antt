@@ -53,6 +53,7 @@ table = record {
   capacity = 2;
   max_body = 1000;
   max_stored = 2;
+  max_store = None;
   lines = line_with_no_cache ∷ record line_with_no_cache { policy = plain false } ∷ [];
 }
 

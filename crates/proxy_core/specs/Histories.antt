@@ -2,13 +2,16 @@
 -- its latest item first.
 --
 -- held_serials: what is held          held_entry: the response of a serial     held_entries: those held
+-- store_changes: what was done to the store, with weights
 -- open_exchanges: the open exchanges  next_serial: the next serial
 -- IsGoodHistory: each item is what its case gives over these                   HistoryStopsAt: why a run stopped
-use Rattle.std.specs.Prelude.{◌≡◌, ◌⊎◌, ℕ, List, [], ◌∷◌, map, Option, Some, None, option_map, cond}
+use Rattle.std.specs.Prelude.{◌≡◌, ◌⊎◌, ℕ, List, [], ◌∷◌, Option, Some, None, option_map, cond}
 use Rattle.std.specs.List.{filter_map}
 use Rattle.hx_allow.specs.TableLines.{Table}
 use Rattle.hx_store.specs.Stored.{Stored}
-use Rattle.hx_store.specs.Recency.{StoreChange, is_that_serial, held_of}
+use Rattle.hx_store.specs.Recency.{StoreChange, is_that_serial}
+use Rattle.hx_store.specs.WeightedRecency.{WeighedChange, weighed_held_of}
+use Rattle.hx_store.specs.Weights.{weight_of}
 use Rattle.proxy_core.specs.declared.open.exchange.Exchange.{Exchange}
 use Rattle.proxy_core.specs.declared.outcome.Outcome.{Outcome}
 use Rattle.proxy_core.specs.declared.event.Event.{Event}
@@ -17,7 +20,7 @@ use Rattle.proxy_core.specs.declared.core_fault.CoreFault.TheVariants.{OutOfMemo
 use Rattle.proxy_core.specs.Outcomes.{find_exchange, exchange_id_of_event, step_fault}
 use Rattle.proxy_core.specs.State.{serial_stored_by_outcome, serial_used_by_outcome, serials_removed_by_outcome}
 use Rattle.proxy_core.specs.State.{stored_response_by_answer, stored_response_as_used, open_exchanges_after}
-use Rattle.proxy_core.specs.State.{next_serial_after}
+use Rattle.proxy_core.specs.State.{next_serial_after, bounds_of}
 use Rattle.proxy_core.specs.Traces.{Item, ItemIsAccepted}
 
 -- what an item did to the store
@@ -28,10 +31,6 @@ store_change_of i = record {
   removed = serials_removed_by_outcome i.outcome;
 }
 
--- with room for so many, the serials that are held after a trace, the latest stored or used first
-abbrev pub held_serials : ℕ → List Item → List ℕ
-held_serials limit past = held_of limit (map store_change_of past)
-
 -- the response of a serial after an event with its outcome: what the storing answer makes; a later 304 freshens it
 abbrev pub stored_response_after : Option Exchange → Event → Outcome → (ℕ → Option Stored) → ℕ → Option Stored
 stored_response_after x event o entry s =
@@ -39,21 +38,43 @@ stored_response_after x event o entry s =
     (cond (is_that_serial (serial_used_by_outcome o) s) (option_map (stored_response_as_used x event) (entry s))
     (entry s))
 
--- the open exchanges in the order of arrival, and the response of a serial, held or not
+-- what a response weighs in the store; where there is none, nothing
+abbrev pub weight_if_any : Option Stored → ℕ
+weight_if_any None = 0
+weight_if_any (Some e) = weight_of e
+
+-- the open exchanges in the order of arrival, the response of a serial, held or not, and what was done to the store,
+-- with what the responses weighed once it was done
 pub record ExchangesAndResponses : Type 0 where
   pub exchanges : List Exchange
   pub entry : ℕ → Option Stored
+  pub changes : List WeighedChange
 
 abbrev pub exchanges_and_responses_after : Table → ℕ → List Item → ExchangesAndResponses
-exchanges_and_responses_after table limit [] = record { exchanges = []; entry = λ s. None }
+exchanges_and_responses_after table limit [] = record { exchanges = []; entry = λ s. None; changes = [] }
 exchanges_and_responses_after table limit (i ∷ past) = record {
   exchanges = open_exchanges_after table (filter_map (exchanges_and_responses_after table limit past).entry
-      (held_serials limit past))
+      (weighed_held_of (bounds_of table limit) (exchanges_and_responses_after table limit past).changes))
       (exchanges_and_responses_after table limit past).exchanges i.event i.outcome;
   entry = stored_response_after (find_exchange (exchange_id_of_event i.event)
       (exchanges_and_responses_after table limit past).exchanges) i.event i.outcome
       (exchanges_and_responses_after table limit past).entry;
+  changes = record {
+    change = store_change_of i;
+    weights = λ s. weight_if_any (stored_response_after (find_exchange (exchange_id_of_event i.event)
+        (exchanges_and_responses_after table limit past).exchanges) i.event i.outcome
+        (exchanges_and_responses_after table limit past).entry s);
+  } ∷ (exchanges_and_responses_after table limit past).changes;
 }
+
+-- what was done to the store
+abbrev pub store_changes : Table → ℕ → List Item → List WeighedChange
+store_changes table limit past = (exchanges_and_responses_after table limit past).changes
+
+-- With room for so many, and for the bytes of the table, the serials that are held after a trace, the latest stored or
+-- used first.
+abbrev pub held_serials : Table → ℕ → List Item → List ℕ
+held_serials table limit past = weighed_held_of (bounds_of table limit) (store_changes table limit past)
 
 -- open from the arrival on to the end
 abbrev pub open_exchanges : Table → ℕ → List Item → List Exchange
@@ -64,7 +85,7 @@ held_entry table limit past s = (exchanges_and_responses_after table limit past)
 
 -- the responses that are held after a trace, the latest stored or used first
 abbrev pub held_entries : Table → ℕ → List Item → List Stored
-held_entries table limit past = filter_map (held_entry table limit past) (held_serials limit past)
+held_entries table limit past = filter_map (held_entry table limit past) (held_serials table limit past)
 
 -- the first, and one more for each that was stored, while one is left
 abbrev pub next_serial : ℕ → List Item → Option ℕ

@@ -29,3 +29,4 @@ pub mod ExchangeIndexes
 pub mod Cases
 pub mod WrongTraces
 pub mod ReadAnswers
+pub mod Bounds

@@ -2,13 +2,14 @@
 --
 -- outcome_of_pending_reply: the outcome that it is      entries_after_change: the held responses that it leaves
 -- state_after_reply: the core that it leaves     ReplyLeavesHeldAsStepDoes: it leaves what the step leaves
-use Rattle.std.specs.Prelude.{◌≡◌, ℕ, Bool, true, false, List, [], ◌∷◌, take, Option, Some, None}
+use Rattle.std.specs.Prelude.{◌≡◌, ℕ, Bool, true, false, List, [], ◌∷◌, Option, Some, None}
 use Rattle.std.specs.Option.{ForSome}
 use Rattle.hx_framing.specs.declared.messages.Response.{Response}
 use Rattle.hx_target.specs.declared.keys.Key.{Key}
 use Rattle.hx_target.specs.Keys.{same_key}
 use Rattle.hx_store.specs.Stored.{Stored}
 use Rattle.hx_store.specs.Shelf.{holds_serial, find_entry, without_serials, with_promoted}
+use Rattle.hx_store.specs.Weights.{StoreBounds}
 use Rattle.proxy_core.specs.declared.open.exchange.Exchange.{Exchange}
 use Rattle.proxy_core.specs.declared.outcome.Outcome.{Outcome}
 use Rattle.proxy_core.specs.declared.outcome.Outcome.TheVariants.{Reply, Forward}
@@ -19,7 +20,7 @@ use Rattle.proxy_core.specs.declared.replies.pending.Change.{Change}
 use Rattle.proxy_core.specs.declared.replies.pending.Change.TheVariants.{Keep, Use, Freshen, Remove, Store}
 use Rattle.proxy_core.specs.declared.replies.pending.PendingReply.{PendingReply}
 use Rattle.proxy_core.specs.State.{State, entries_without_serials, exchanges_after_end, next_serial_after}
-use Rattle.proxy_core.specs.State.{entries_after}
+use Rattle.proxy_core.specs.State.{entries_after, bounds_of, cut_where_touched}
 use Rattle.proxy_core.specs.Storing.{stored_response_made}
 
 -- the serial that is stored
@@ -47,22 +48,25 @@ outcome_of_pending_reply p = Reply (record {
   removed = p.removed;
 })
 
--- the held responses after a change, and after these serials are gone
-abbrev pub entries_after_change : ℕ → List ℕ → Change → List Stored → List Stored
-entries_after_change limit removed Keep es = entries_without_serials removed es
-entries_after_change limit removed (Use serial) es = entries_without_serials removed (with_promoted serial es)
-entries_after_change limit removed (Freshen e) es = entries_without_serials removed
-    (e ∷ without_serials (e.serial ∷ []) es)
-entries_after_change limit removed (Remove serial) es = entries_without_serials removed
-    (without_serials (serial ∷ []) es)
-entries_after_change limit removed (Store e) es = take limit (e ∷ without_serials removed es)
+-- the held responses after a change, and after these serials are gone, before any goes for the bounds
+abbrev pub entries_before_cut : List ℕ → Change → List Stored → List Stored
+entries_before_cut removed Keep es = entries_without_serials removed es
+entries_before_cut removed (Use serial) es = entries_without_serials removed (with_promoted serial es)
+entries_before_cut removed (Freshen e) es = entries_without_serials removed (e ∷ without_serials (e.serial ∷ []) es)
+entries_before_cut removed (Remove serial) es = entries_without_serials removed (without_serials (serial ∷ []) es)
+entries_before_cut removed (Store e) es = e ∷ without_serials removed es
+
+-- and once the last ones went
+abbrev pub entries_after_change : StoreBounds → List ℕ → Change → List Stored → List Stored
+entries_after_change bounds removed c es =
+    cut_where_touched bounds (serial_stored_by_change c) (serial_used_by_change c) (entries_before_cut removed c es)
 
 -- the core after a pending reply by which the exchange of this id ends, and by which this key may be invalidated
 abbrev pub state_after_reply : State → ℕ → PendingReply → Option Key → State
 state_after_reply s id p invalidated = record {
   table = s.table;
   limit = s.limit;
-  entries = entries_after_change s.limit p.removed p.change s.entries;
+  entries = entries_after_change (bounds_of s.table s.limit) p.removed p.change s.entries;
   exchanges = exchanges_after_end invalidated id s.exchanges;
   next = next_serial_after s.next (serial_stored_by_change p.change);
 }
@@ -109,9 +113,9 @@ ChangeStoresNothing (Remove serial) = ⊥
 ChangeStoresNothing (Store e) = ⊥
 
 -- a pending reply leaves of the held responses what the step leaves of them
-abbrev pub ReplyLeavesHeldAsStepDoes : ℕ → List Stored → Exchange → Event → PendingReply → Type 0
-ReplyLeavesHeldAsStepDoes limit es x event p = entries_after_change limit p.removed p.change es
-    ≡ entries_after limit es (Some x) event (outcome_of_pending_reply p)
+abbrev pub ReplyLeavesHeldAsStepDoes : StoreBounds → List Stored → Exchange → Event → PendingReply → Type 0
+ReplyLeavesHeldAsStepDoes bounds es x event p = entries_after_change bounds p.removed p.change es
+    ≡ entries_after bounds es (Some x) event (outcome_of_pending_reply p)
 
 -- the outcome of an answer: the exchange ends, or goes forward once more
 abbrev pub outcome_after : Exchange → AfterAnswer → Outcome
@@ -119,9 +123,9 @@ outcome_after x (Ends p) = outcome_of_pending_reply p
 outcome_after x (GoesOn bytes) = Forward x.line bytes
 
 -- what an answer leaves where the exchange ends by it
-abbrev pub AnswerLeavesHeldAsStepDoes : ℕ → List Stored → Exchange → Event → AfterAnswer → Type 0
-AnswerLeavesHeldAsStepDoes limit es x event (Ends p) = ReplyLeavesHeldAsStepDoes limit es x event p
-AnswerLeavesHeldAsStepDoes limit es x event (GoesOn bytes) = Unit {0}
+abbrev pub AnswerLeavesHeldAsStepDoes : StoreBounds → List Stored → Exchange → Event → AfterAnswer → Type 0
+AnswerLeavesHeldAsStepDoes bounds es x event (Ends p) = ReplyLeavesHeldAsStepDoes bounds es x event p
+AnswerLeavesHeldAsStepDoes bounds es x event (GoesOn bytes) = Unit {0}
 
 -- what an answer stores has the next serial, and what it freshens is held
 abbrev pub AnswerChangeFits : Option ℕ → List Stored → AfterAnswer → Type 0

@@ -2,9 +2,10 @@
 --
 -- State: what contracts see of a core
 -- exchanges_after_end: the exchanges that an end leaves
+-- bounds_of: what the store is bounded by
 -- state_after: what a step leaves
 -- StepIsAccepted: a step that was done             StepIsRefusedWith: one that wasn't
-use Rattle.std.specs.Prelude.{◌≡◌, ◌⊎◌, ℕ, ◌+◌, ◌^◌, ◌≤◌, ◌==◌, nat_lt, not, true, false, List, [], ◌∷◌, ◌++◌, take}
+use Rattle.std.specs.Prelude.{◌≡◌, ◌⊎◌, ℕ, ◌+◌, ◌^◌, ◌≤◌, ◌==◌, nat_lt, not, true, false, List, [], ◌∷◌, ◌++◌}
 use Rattle.std.specs.Prelude.{filter, map, Option, Some, None, option_map, cond}
 use Rattle.hx_target.specs.declared.keys.Key.{Key}
 use Rattle.hx_target.specs.Keys.{same_key}
@@ -16,6 +17,7 @@ use Rattle.hx_allow.specs.declared.verdicts.Verdict.{Verdict}
 use Rattle.hx_allow.specs.declared.verdicts.Verdict.TheVariants as verdict
 use Rattle.hx_store.specs.Stored.{Stored}
 use Rattle.hx_store.specs.Shelf.{holds_serial, find_entry, without_serials, with_in_front}
+use Rattle.hx_store.specs.Weights.{StoreBounds, cut_to_bounds}
 use Rattle.hx_reuse.specs.Rules.{decision_of}
 use Rattle.hx_reuse.specs.declared.decision.Decision.{Decision}
 use Rattle.hx_reuse.specs.declared.decision.Decision.TheVariants as decision
@@ -92,16 +94,27 @@ abbrev pub entries_without_serials : List ℕ → List Stored → List Stored
 entries_without_serials [] es = es
 entries_without_serials (s ∷ gone) es = without_serials (s ∷ gone) es
 
--- what is removed goes; what is stored comes first, and beyond the limit the last one goes
-abbrev pub entries_after_storing : Option Exchange → Event → Option ℕ → List ℕ → ℕ → List Stored → List Stored
-entries_after_storing x event None removed limit es = entries_without_serials removed es
-entries_after_storing x event (Some serial) removed limit es =
-    take limit (with_in_front (stored_response_by_answer x event serial) (without_serials removed es))
+-- what is removed goes; what is stored comes first
+abbrev pub entries_after_storing : Option Exchange → Event → Option ℕ → List ℕ → List Stored → List Stored
+entries_after_storing x event None removed es = entries_without_serials removed es
+entries_after_storing x event (Some serial) removed es =
+    with_in_front (stored_response_by_answer x event serial) (without_serials removed es)
 
-abbrev pub entries_after : ℕ → List Stored → Option Exchange → Event → Outcome → List Stored
-entries_after limit es x event o =
-    entries_after_storing x event (serial_stored_by_outcome o) (serials_removed_by_outcome o) limit
-    (entries_after_use x event (serial_used_by_outcome o) es)
+-- the most responses that are held, and the most bytes that they weigh together, where the table bounds those
+abbrev pub bounds_of : Table → ℕ → StoreBounds
+bounds_of table limit = record { entries = limit; bytes = table.max_store }
+
+-- where a response was stored or used the last ones go until both bounds hold
+abbrev pub cut_where_touched : StoreBounds → Option ℕ → Option ℕ → List Stored → List Stored
+cut_where_touched bounds None None es = es
+cut_where_touched bounds None (Some used) es = cut_to_bounds bounds es
+cut_where_touched bounds (Some stored) used es = cut_to_bounds bounds es
+
+abbrev pub entries_after : StoreBounds → List Stored → Option Exchange → Event → Outcome → List Stored
+entries_after bounds es x event o =
+    cut_where_touched bounds (serial_stored_by_outcome o) (serial_used_by_outcome o)
+    (entries_after_storing x event (serial_stored_by_outcome o) (serials_removed_by_outcome o)
+    (entries_after_use x event (serial_used_by_outcome o) es))
 
 -- an exchange that waits for the one of this id waits no longer
 abbrev pub released_exchange : ℕ → Exchange → Exchange
@@ -236,7 +249,8 @@ abbrev pub state_after : State → Event → Outcome → State
 state_after s event outcome = record {
   table = s.table;
   limit = s.limit;
-  entries = entries_after s.limit s.entries (find_exchange (exchange_id_of_event event) s.exchanges) event outcome;
+  entries = entries_after (bounds_of s.table s.limit) s.entries
+      (find_exchange (exchange_id_of_event event) s.exchanges) event outcome;
   exchanges = open_exchanges_after s.table s.entries s.exchanges event outcome;
   next = next_serial_after s.next (serial_stored_by_outcome outcome);
 }

@@ -8,7 +8,7 @@
 -- FreshenedMayBeKept: what is asked of a response that a 304 freshens
 -- ThoseAreRemoved: what an item takes away
 use Rattle.std.specs.Prelude.{◌≡◌, ◌⊎◌, ℕ, ◌≤◌, true, false, bytes_eq, List, [], ◌∷◌, ◌++◌, length, codes, is_some}
-use Rattle.std.specs.Prelude.{All, Option, Some, None}
+use Rattle.std.specs.Prelude.{All, Option, Some, None, IfSome}
 use Rattle.hx_fields.specs.declared.field_line.Field.{Field}
 use Rattle.hx_fields.specs.FieldLines.{has_field as has_line}
 use Rattle.hx_fields.specs.Tokens.{is_token}
@@ -27,6 +27,7 @@ use Rattle.hx_allow.specs.TableLines.{Table}
 use Rattle.hx_allow.specs.Matching.{policy_of}
 use Rattle.hx_store.specs.Stored.{Stored}
 use Rattle.hx_store.specs.Shelf.{serials_of}
+use Rattle.hx_store.specs.Weights.{weight_of}
 use Rattle.hx_storable.specs.Storable.{StatusIsFinal, RequestIsForTheStore, ResponseIsWithinTheWords}
 use Rattle.hx_storable.specs.Storable.{ResponseIsStorable, NeedsUnderstanding, NoStoreIsAbsentOrLifted}
 use Rattle.hx_storable.specs.Storable.{ResponseAllowsShared, ResponseAllowsStoring}
@@ -37,7 +38,7 @@ use Rattle.proxy_core.specs.declared.open.exchange.Exchange.{Exchange}
 use Rattle.proxy_core.specs.declared.outcome.Outcome.{Outcome}
 use Rattle.proxy_core.specs.declared.event.Event.{Event}
 use Rattle.proxy_core.specs.declared.event.Event.TheVariants.{Arrive, Answer, Fail, Wake, Abandon}
-use Rattle.proxy_core.specs.Storing.{replaced_by}
+use Rattle.proxy_core.specs.Storing.{replaced_by, weight_of_answer}
 use Rattle.proxy_core.specs.Validating.{stored_response_validated, freshened_by_304, freshened_may_be_kept}
 use Rattle.proxy_core.specs.Validating.{head_of_stored}
 use Rattle.proxy_core.specs.Outcomes.{find_exchange, exchange_id_of_event}
@@ -87,7 +88,7 @@ pub record KeyStaysValidSinceItWent (past : List Item) (x : Exchange) : Type 0 w
 -- The answer to an exchange may be stored: by the standard's list.
 -- own: and by what this cache asks besides. The operator's line lets it, a GET of the whole asked for
 -- it, it could be reused, nothing of its key was invalidated meanwhile, it isn't longer than the
--- operator's limit, and a serial is left.
+-- operator's limit and alone no heavier than his whole store may be, and a serial is left.
 pub record AnswerMayBeStored (table : Table) (next : Option ℕ) (past : List Item) (x : Exchange) (r : Response)
     (now : ℕ) : Type 0 where
   pub operator_allows : (policy_of table.lines x.line).caches ≡ true
@@ -99,6 +100,7 @@ pub record AnswerMayBeStored (table : Table) (next : Option ℕ) (past : List It
   pub can_be_reused : ResponseCanBeReused (policy_of table.lines x.line) r.status (answered_of r now).fields
   pub key_stays_valid : KeyStaysValidSinceItWent past x
   pub fits : length r.content ≤ table.max_stored
+  pub fits_the_store : IfSome table.max_store (λ most. weight_of_answer x r now ≤ most)
   pub serial_is_left : is_some next ≡ true
 
 -- the event is the answer to an exchange that is open, and may be stored
@@ -139,6 +141,7 @@ pub record FreshenedMayBeKept (table : Table) (x : Exchange) (r : Response) (e :
   pub the_304_keeps_its_fields : ConnectionTookNoCacheField r.fields
   pub can_be_reused : ResponseCanBeReused (policy_of table.lines x.line) e.status e.fields
   pub fits : length e.content ≤ table.max_stored
+  pub fits_the_store : IfSome table.max_store (λ most. weight_of e ≤ most)
   pub leaves_room : head_leaves_room e.fields ≡ true
 
 -- ---- what is taken away

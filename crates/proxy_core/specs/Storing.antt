@@ -1,12 +1,13 @@
 -- Whether an answer is stored (RFC 9111, section 3), what it makes and what it takes the place of.
 --
 -- storing_facts_of_answer: what the storing rules ask beside the two heads     is_storable: no storing rule stands
+-- weight_of_answer: what it would weigh in the store
 -- stored_response_made: the stored response
 -- replaced_by: those that it takes the place of
 -- is_304_without_condition: a 304 that answers nothing
 -- status_invalidates, answer_invalidates: what is held for its key goes
-use Rattle.std.specs.Prelude.{ℕ, ◌==◌, nat_lt, nat_le, ◌&&◌, ◌||◌, not, List, length, codes, Bool, true, false, Option}
-use Rattle.std.specs.Prelude.{Some, None, is_none, cond}
+use Rattle.std.specs.Prelude.{ℕ, ◌+◌, ◌==◌, nat_lt, nat_le, ◌&&◌, ◌||◌, not, List, length, codes, Bool, true, false}
+use Rattle.std.specs.Prelude.{Option, Some, None, is_none, cond}
 use Rattle.http.specs.Method.{safe_methods, is_among}
 use Rattle.hx_fields.specs.FieldLines.{has_field, without_named}
 use Rattle.hx_framing.specs.declared.messages.Response.{Response}
@@ -22,18 +23,36 @@ use Rattle.hx_allow.specs.TableLines.{Table}
 use Rattle.hx_allow.specs.Matching.{policy_of}
 use Rattle.hx_store.specs.Stored.{Stored}
 use Rattle.hx_store.specs.Shelf.{matching_serials}
+use Rattle.hx_store.specs.Weights.{weight_of_lines, weight_of_nominated, weight_of_key, bytes_of_an_entry}
 use Rattle.hx_reuse.specs.Lifetimes.{lifetime_under}
 use Rattle.hx_storable.specs.Rules.{storage_rule_of}
 use Rattle.hx_storable.specs.declared.known_facts.StoringFacts.{StoringFacts}
 use Rattle.hx_storable.specs.declared.rule.StoreRule.{StoreRule}
 use Rattle.hx_validate.specs.Validators.{has_validator}
 use Rattle.proxy_core.specs.declared.open.exchange.Exchange.{Exchange}
-use Rattle.proxy_core.specs.Validating.{is_validation}
+use Rattle.proxy_core.specs.Validating.{is_validation, is_above}
 
 -- no request may be answered by the response but the one that it answered
 abbrev pub nominates_a_star : Nomination → Bool
 nominates_a_star Star = true
 nominates_a_star (Names values) = false
+
+-- What an answer would weigh in the store.
+-- own: with its Age, which isn't kept there ("The store is bounded in bytes")
+abbrev pub weight_of_answer : Exchange → Response → ℕ → ℕ
+weight_of_answer x r now =
+    length r.content + weight_of_lines (answered_of r now).fields
+    + weight_of_nominated (kept_values (answered_of r now).fields x.asked.fields)
+    + weight_of_key x.asked.target.key + weight_of_key x.asked.target.key
+    + bytes_of_an_entry
+
+-- The content is above the operator's limit, or the response alone would be above the bound of the whole store.
+-- own: so what is stored never empties the store ("The store is bounded in bytes"); what nominates a star isn't stored
+-- whatever it weighs
+abbrev pub answer_is_too_large : Table → Exchange → Response → ℕ → Bool
+answer_is_too_large table x r now =
+    nat_lt table.max_stored (length r.content)
+    || (not (is_star (answered_of r now).fields) && is_above table.max_store (weight_of_answer x r now))
 
 -- what the storing rules ask of an answer beside the heads of request and answer
 abbrev pub storing_facts_of_answer : Table → Exchange → Response → ℕ → Option ℕ → StoringFacts
@@ -43,7 +62,7 @@ storing_facts_of_answer table x r now next = record {
   listed = lists_cache_field r.fields;
   explicit = (lifetime_under (policy_of table.lines x.line) r.status (answered_of r now).fields).explicit;
   validator = has_validator (answered_of r now).fields;
-  too_large = nat_lt table.max_stored (length r.content);
+  too_large = answer_is_too_large table x r now;
   overtaken = x.overtaken;
   no_serial = is_none next;
 }

@@ -5,8 +5,8 @@
 -- stored_response_is_answered: the 304 answers a held response
 -- freshened_by_304: what that becomes
 -- freshened_may_be_kept: and whether it is kept, by the storing rules
-use Rattle.std.specs.Prelude.{ℕ, ◌==◌, nat_lt, ◌&&◌, Bool, false, List, length, codes, Option, Some, None, option_map}
-use Rattle.std.specs.Prelude.{is_some, is_none, cond}
+use Rattle.std.specs.Prelude.{ℕ, ◌==◌, nat_lt, ◌&&◌, ◌||◌, Bool, false, List, length, codes, Option, Some, None}
+use Rattle.std.specs.Prelude.{option_map, is_some, is_none, cond}
 use Rattle.std.specs.Option.{option_and_then}
 use Rattle.hx_framing.specs.declared.messages.Response.{Response}
 use Rattle.hx_age.specs.Age.{times_of}
@@ -20,6 +20,7 @@ use Rattle.hx_allow.specs.TableLines.{Table}
 use Rattle.hx_allow.specs.Matching.{policy_of}
 use Rattle.hx_store.specs.Stored.{Stored}
 use Rattle.hx_store.specs.Shelf.{find_entry}
+use Rattle.hx_store.specs.Weights.{weight_of}
 use Rattle.hx_reuse.specs.Lifetimes.{lifetime_under}
 use Rattle.hx_storable.specs.Rules.{storage_rule_of}
 use Rattle.hx_storable.specs.declared.known_facts.StoringFacts.{StoringFacts}
@@ -86,6 +87,15 @@ as_get_request asked = record asked { method = codes "GET" }
 abbrev pub head_of_stored : Stored → Answered
 head_of_stored e = record { status = e.status; fields = e.fields }
 
+-- a weight is above a bound, if there is one
+abbrev pub is_above : Option ℕ → ℕ → Bool
+is_above None weight = false
+is_above (Some most) weight = nat_lt most weight
+
+-- the content is above the operator's limit, or the response alone is above the bound of the whole store
+abbrev pub stored_is_too_large : Table → Stored → Bool
+stored_is_too_large table e = nat_lt table.max_stored (length e.content) || is_above table.max_store (weight_of e)
+
 -- what the storing rules ask of a freshened response
 -- own: it is held already, under its serial, so neither a serial is asked for nor whether it is overtaken
 abbrev pub storing_facts_of_freshened : Table → Exchange → Response → Stored → StoringFacts
@@ -95,7 +105,7 @@ storing_facts_of_freshened table x r e = record {
   listed = lists_cache_field r.fields;
   explicit = (lifetime_under (policy_of table.lines x.line) e.status e.fields).explicit;
   validator = has_validator e.fields;
-  too_large = nat_lt table.max_stored (length e.content);
+  too_large = stored_is_too_large table e;
   overtaken = false;
   no_serial = false;
 }

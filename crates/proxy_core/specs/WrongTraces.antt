@@ -29,6 +29,7 @@ edge_table = record {
   capacity = 2;
   max_body = 1000;
   max_stored = 10;
+  max_store = None;
   lines = record line_with_no_cache { path = codes "/admin"; origin = None }
       ∷ record line_with_no_cache { path = codes "/raw"; policy = plain false } ∷ line_with_no_cache ∷ [];
 }

@@ -7,6 +7,8 @@ ghost use Rattle.proxy_core.specs.TraceMeaning.{StoredResponseHasTheNextSerial, 
 ghost use Rattle.proxy_core.specs.TraceMeaning.{IsGoodOverHeldAndOverList, IsGoodOverTheCoresList};
 ghost use Rattle.proxy_core.specs.TraceMeaning.{CoreKeepsTheHeldResponses, CoreKeepsTheOpenExchanges};
 ghost use Rattle.proxy_core.specs.TraceMeaning.{CoreKeepsTheNextSerial};
+ghost use Rattle.proxy_core.specs.Bounds.{HeldByNumberAlone, HeldIsWithinTheBounds, StoreChangesAreThose};
+ghost use Rattle.proxy_core.specs.Bounds.{StoredIsHeld, StoredWeighsNoMoreThanTheStore};
 ghost use Rattle.proxy_core.specs.Carrying.{OpenExchangeCarriesItsArrival, ExchangesAreOpenInOrderOfArrival};
 ghost use Rattle.proxy_core.specs.Driving.{PromisesOfADrivenCore};
 ghost use Rattle.proxy_core.specs.Headline.{EveryGoodTraceHasTheHeadline, NoOtherTraceHasTheHeadline};
@@ -29,6 +31,7 @@ ghost use Rattle.proxy_core.specs.StoredAnswers.{NothingElseIsKept};
 ghost use Rattle.proxy_core.specs.Uncached.{NothingIsStoredOverUncachedLine, NothingStoredIsSentOverUncachedLine};
 ghost use Rattle.proxy_core.specs.Uncached.{RequestGoesForwardOverUncachedLine};
 
+pub(crate) mod bound_cases;
 pub(crate) mod event_cases;
 pub(crate) mod headline_cases;
 pub(crate) mod promise_cases;
@@ -75,6 +78,16 @@ pub fn a_core_keeps_what_is_held()
     ensures entries { CoreKeepsTheHeldResponses }
     ensures exchanges { CoreKeepsTheOpenExchanges }
     ensures next { CoreKeepsTheNextSerial }
+{}
+
+/// What is held is within both bounds of the store at each moment. What is stored weighs no more than the store may,
+/// and is held behind the item that stores it. Where the table bounds no bytes, what is held is what is held by number.
+pub fn what_is_held_is_within_the_bounds()
+    ensures within { HeldIsWithinTheBounds }
+    ensures stored { StoredIsHeld }
+    ensures weighs { StoredWeighsNoMoreThanTheStore }
+    ensures by_number { HeldByNumberAlone }
+    ensures changes { StoreChangesAreThose }
 {}
 
 /// In a good trace a request goes to the origin of a line exactly where the table allows it by that line, a rule stands

@@ -26,6 +26,9 @@ mod steps;
 pub use crate::core_fault::CoreFault;
 pub use crate::core_state::Core;
 pub use crate::event::Event;
+pub use crate::laws::bound_cases::{
+    what_an_answer_weighs, what_is_held_by_weight, what_is_too_heavy_alone,
+};
 pub use crate::laws::event_cases::{
     worked_counts_of_traces, worked_kinds_of_events, worked_kinds_of_outcomes,
 };
@@ -57,7 +60,8 @@ pub use crate::laws::{
     each_answer_names_its_first_rule, every_good_trace_has_the_headline,
     no_other_trace_has_the_headline, open_from_arrival_to_end, overtaken_where_invalidated,
     requests_for_one_target_wait_for_the_first, serials_are_counted,
-    what_a_304_freshens_is_kept_where_it_may_be, who_waited_is_kept_back_by_the_answer_alone,
+    what_a_304_freshens_is_kept_where_it_may_be, what_is_held_is_within_the_bounds,
+    who_waited_is_kept_back_by_the_answer_alone,
 };
 pub use crate::open::awaited::Awaited;
 pub use crate::open::exchange::Exchange;

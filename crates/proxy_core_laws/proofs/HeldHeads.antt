@@ -1,5 +1,5 @@
 -- Whatever is held has a head of so many lines and bytes, however often it was freshened.
-use Rattle.std.proofs.Common.{◌≡◌, ◌⊎◌, inl, inr, ◌+◌, ℕ, Bool, true, false, not, ◌&&◌, ◌||◌, ◌==◌, cond, List, [], ◌∷◌, length, map, refl, sym, ap, ◌∙◌, subst, arith, nat_le}
+use Rattle.std.proofs.Common.{◌≡◌, ◌⊎◌, inl, inr, ◌+◌, ℕ, Bool, true, false, not, ◌&&◌, ◌||◌, ◌==◌, cond, List, [], ◌∷◌, length, refl, sym, ap, ◌∙◌, subst, arith, nat_le}
 use Rattle.std.specs.Prelude.{Option, Some, None, option_map, is_none}
 use Rattle.std.specs.List.{AllByRecursion}
 use Rattle.std.specs.Option.{option_and_then}
@@ -14,8 +14,8 @@ use Rattle.hx_reuse.specs.declared.decision.Decision.{Decision}
 use Rattle.hx_store.specs.Stored.{Stored}
 use Rattle.hx_store.specs.Serials.{serial_is_in}
 use Rattle.hx_store.specs.Shelf.{find_entry, holds_serial, serials}
-use Rattle.hx_store.specs.Recency.{is_that_serial, recent_after_change, stores_or_uses}
-use Rattle.hx_store.proofs.Recency.{held_more, is_in-after, is_in-take}
+use Rattle.hx_store.specs.Recency.{is_that_serial, stores_or_uses}
+use Rattle.hx_store.proofs.Recency.{is_in-after}
 use Rattle.hx_store.proofs.EntryLists.{find-serial, find_holds}
 use Rattle.hx_storable.specs.Rules.{storage_rule_of}
 use Rattle.hx_validate.specs.Answering.{answers304}
@@ -35,7 +35,7 @@ use Rattle.proxy_core.specs.Storing.{is_304_without_condition}
 use Rattle.proxy_core.specs.Traces.{Item, initial_state, state_after_trace}
 use Rattle.proxy_core.specs.Validating.{as_get_request, head_of_stored, stored_response_if_answered, stored_response_is_answered, condition_is_answered, freshened_may_be_kept, is_validation, storing_facts_of_freshened, freshened_by_304, serial_asked_about, stored_response_validated}
 use Rattle.proxy_core.proofs.HeldEntries.{EachIs-find, held_found}
-use Rattle.proxy_core.proofs.HeldLaw.{entries_are_held, good_plain, stands_for}
+use Rattle.proxy_core.proofs.HeldLaw.{held_before_cut, entries_are_held, good_plain, stands_for}
 use Rattle.proxy_core.proofs.Leaving.{serial_stays, unanswered, validated_is}
 use Rattle.proxy_core.proofs.SentResponses.{sends_what_is_held}
 use Rattle.proxy_core_laws.specs.HeldHeads.{FreshenedHeadLeavesRoom, HeldHeadIsBounded, HeldHeadLeavesRoom, ResponseIsAsStored, HeadIsBounded, FreshenedHeadIsBounded}
@@ -77,14 +77,14 @@ module _ (table : Table) (limit first : ℕ) (past : List Item) (good : IsGoodHi
       EachIs-find (held_entry table limit past) s es e (subst (λ zs. find_entry s zs ≡ Some e) (sym same_list) found)
       (stands_for table limit first past (good_plain table limit first past good)).entries_are
 
-  same_serials : serials (held_entries table limit past) ≡ held_serials limit past
+  same_serials : serials (held_entries table limit past) ≡ held_serials table limit past
   same_serials = ap serials (sym same_list) ∙ (stands_for table limit first past (good_plain table limit first past good)).serials_are
 
-  pub held_in : (s : ℕ) (e : Stored) → find_entry s (held_entries table limit past) ≡ Some e → serial_is_in s (held_serials limit past) ≡ true
+  pub held_in : (s : ℕ) (e : Stored) → find_entry s (held_entries table limit past) ≡ Some e → serial_is_in s (held_serials table limit past) ≡ true
   held_in s e found =
       ap (serial_is_in s) (sym same_serials) ∙ ap (λ n. holds_serial n (held_entries table limit past)) (sym (find-serial s (held_entries table limit past) e found)) ∙ find_holds s (held_entries table limit past) e found
 
-  pub found_again : (s : ℕ) (e : Stored) → serial_is_in s (held_serials limit past) ≡ true → held_entry table limit past s ≡ Some e → find_entry s (held_entries table limit past) ≡ Some e
+  pub found_again : (s : ℕ) (e : Stored) → serial_is_in s (held_serials table limit past) ≡ true → held_entry table limit past s ≡ Some e → find_entry s (held_entries table limit past) ≡ Some e
   found_again s e inside look =
       let some = held_found s (held_entries table limit past) (ap (serial_is_in s) same_serials ∙ inside) in
       let same : some.0 ≡ e = some_same (sym (entry_of s some.0 some.1) ∙ look) in
@@ -177,25 +177,24 @@ the_serial None s h = absurd cc
 the_serial (Some x) s h = ap (λ (n : ℕ). Some n) (eqb-true x s h)
 
 -- among what is held after an item: it isn't removed there, and was held before where the item doesn't touch it
-module _ (table : Table) (limit : ℕ) (item : Item) (past : List Item) (s : ℕ) (inside : serial_is_in s (held_serials limit (item ∷ past)) ≡ true) where
-  left_in : ((stores_or_uses (store_change_of item) s || serial_is_in s (held_serials limit past)) && not (serial_is_in s (serials_removed_by_outcome item.outcome))) ≡ true
+module _ (table : Table) (limit : ℕ) (item : Item) (past : List Item) (s : ℕ) (inside : serial_is_in s (held_serials table limit (item ∷ past)) ≡ true) where
+  left_in : ((stores_or_uses (store_change_of item) s || serial_is_in s (held_serials table limit past)) && not (serial_is_in s (serials_removed_by_outcome item.outcome))) ≡ true
   left_in =
-      sym (is_in-after s (store_change_of item) (held_serials limit past))
-      ∙ (and_parts (serial_is_in s (recent_after_change (store_change_of item) (held_serials limit past))) _
-      (sym (is_in-take s limit (recent_after_change (store_change_of item) (held_serials limit past))) ∙ ap (serial_is_in s) (sym (held_more limit (store_change_of item) (map store_change_of past))) ∙ inside)).0
+      sym (is_in-after s (store_change_of item) (held_serials table limit past))
+      ∙ held_before_cut table limit item past s inside
 
-  stays_in : (serial_is_in s (serials_removed_by_outcome item.outcome) ≡ false) × (stores_or_uses (store_change_of item) s ≡ false → serial_is_in s (held_serials limit past) ≡ true)
-  stays_in = after_parts (stores_or_uses (store_change_of item) s) (serial_is_in s (held_serials limit past)) (serial_is_in s (serials_removed_by_outcome item.outcome)) left_in
+  stays_in : (serial_is_in s (serials_removed_by_outcome item.outcome) ≡ false) × (stores_or_uses (store_change_of item) s ≡ false → serial_is_in s (held_serials table limit past) ≡ true)
+  stays_in = after_parts (stores_or_uses (store_change_of item) s) (serial_is_in s (held_serials table limit past)) (serial_is_in s (serials_removed_by_outcome item.outcome)) left_in
 
   not_removed : serial_is_in s (serials_removed_by_outcome item.outcome) ≡ false
   not_removed = stays_in.0
 
 module _ (table : Table) (limit first : ℕ) where
   abbrev Earlier : ℕ → List Item → Type 0
-  Earlier s past = (f : Stored) → serial_is_in s (held_serials limit past) ≡ true → held_entry table limit past s ≡ Some f → IsEither s f
+  Earlier s past = (f : Stored) → serial_is_in s (held_serials table limit past) ≡ true → held_entry table limit past s ≡ Some f → IsEither s f
 
   held_either : (trace : List Item) → IsGoodHistory table limit first trace → AllByRecursion (λ item. EventIsReadFromAStream item.event) trace → (s : ℕ) (e : Stored)
-      → serial_is_in s (held_serials limit trace) ≡ true → held_entry table limit trace s ≡ Some e → IsEither s e
+      → serial_is_in s (held_serials table limit trace) ≡ true → held_entry table limit trace s ≡ Some e → IsEither s e
   held_either [] good read s e inside h = absurd cc
   held_either (item ∷ past) good read s e inside h =
       by_tests (λ f k look. held_either past good.1 read.1 s f k look) (is_that_serial (serial_stored_by_outcome item.outcome) s) refl (is_that_serial (serial_used_by_outcome item.outcome) s) refl h

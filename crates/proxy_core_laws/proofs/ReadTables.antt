@@ -12,7 +12,7 @@ use Rattle.httparse.specs.Grammar.{IsToken, is_token_byte}
 use Rattle.toml.specs.Data.{Members, get_member, as_integer}
 use Rattle.hx_allow.specs.Keys.{key_text}
 use Rattle.hx_allow.specs.TableLines.{Table}
-use Rattle.hx_allow.specs.Tables.{fault_or_table_read, is_name, is_name_byte, judge_table, number_at, table_fault, table_read, TableWasRead}
+use Rattle.hx_allow.specs.Tables.{fault_or_table_read, is_name, is_name_byte, judge_table, number_at, table_fault, table_read, TableWasRead, version_of}
 use Rattle.hx_allow.specs.Values.{first_unknown, is_some_and, text_at, within}
 use Rattle.hx_allow.specs.declared.config_faults.ConfigFault.{ConfigFault}
 use Rattle.hx_allow.specs.declared.config_faults.ConfigFault.TheVariants.{UnknownKey, BadName}
@@ -59,13 +59,13 @@ text_is_token (Some text) h = name_is_token text h
 
 name_is_present : (t : Members) → table_fault t ≡ None → is_some_and is_name (text_at (codes "name") t) ≡ true
 unfolding table_fault
-name_is_present t none = by_keys (first_unknown Top t) refl
+name_is_present t none = by_keys (first_unknown (Top (version_of t)) t) refl
   where
     so : (b : Bool) → not b ≡ false → b ≡ true
     so true e = refl
     so false e = cc
 
-    by_keys : (o : Option (List ℕ)) → first_unknown Top t ≡ o → is_some_and is_name (text_at (codes "name") t) ≡ true
+    by_keys : (o : Option (List ℕ)) → first_unknown (Top (version_of t)) t ≡ o → is_some_and is_name (text_at (codes "name") t) ≡ true
     by_keys (Some key) e = let bad : table_fault t ≡ Some (UnknownKey key) = rw e refl in absurd cc
     by_keys None e = so (is_some_and is_name (text_at (codes "name") t)) (by_name (is_some_and is_name (text_at (codes "name") t)) refl)
       where

@@ -280,7 +280,7 @@ sends_one_message_each_time table limit first item past table_read good read =
 
     held_so : (s : ℕ) (e : Stored) → find_entry s es ≡ Some e → StoredIsSendable e × (length e.content < 2 ^ 64)
     held_so s e found =
-        let at = found_held (held_entry table limit past) (held_serials limit past) s e found in
+        let at = found_held (held_entry table limit past) (held_serials table limit past) s e found in
         let fits = fits_after table limit first past good.1 answers.1 at.0 e at.1 in
         let small = stores_none_too_long table table_read in
         (holds_sendable table limit first past good.1 answers.1 at.0 e at.1, omega (arith, fits, small))

@@ -151,7 +151,7 @@ sends_what_leaves_room table limit first serial e item past reply table_read goo
     let is = sends_what_is_held table limit first serial item past good used in
     let answers : AllByRecursion (λ i. EventIsReadFromAStream i.event) (item ∷ past) = answers_of (item ∷ past) read in
     let same : e ≡ is.response = some_same (sym found ∙ is.is_held) in
-    let at = found_held (held_entry table limit past) (held_serials limit past) serial is.response is.is_held in
+    let at = found_held (held_entry table limit past) (held_serials table limit past) serial is.response is.is_held in
     let fits = fits_after table limit first past good.1 answers.1 at.0 is.response at.1 in
     let most = stores_none_too_long table table_read in
     let sendable = left_so x item.event is.response good.0.allowed answers.0 (holds_sendable table limit first past good.1 answers.1 at.0 is.response at.1) in

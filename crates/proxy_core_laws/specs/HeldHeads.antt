@@ -82,7 +82,7 @@ FreshenedHeadLeavesRoom =
     → IsGoodHistory table limit first (item ∷ past) → item.event ≡ Answer now id r
     → find_exchange id (open_exchanges table limit past) ≡ Some x
     → stored_response_validated (held_entries table limit past) x r now ≡ Some e → serial_is_in e.serial
-    (held_serials limit (item ∷ past))
+    (held_serials table limit (item ∷ past))
     ≡ true
     → head_leaves_room (freshened_by_304 x r now e).fields ≡ true
 
@@ -99,14 +99,14 @@ pub record ResponseIsAsStored (serial : ℕ) (e : Stored) : Type 0 where
 abbrev pub HeldHeadLeavesRoom : Type 0
 HeldHeadLeavesRoom = (table : Table) (limit first : ℕ) (trace : List Item) → IsGoodHistory table limit first trace
     → AllByRecursion (λ item. EventIsReadFromAStream item.event) trace → (serial : ℕ) (e : Stored)
-    → serial_is_in serial (held_serials limit trace) ≡ true → held_entry table limit trace serial ≡ Some e
+    → serial_is_in serial (held_serials table limit trace) ≡ true → held_entry table limit trace serial ≡ Some e
     → (head_leaves_room e.fields ≡ true) ⊎ ResponseIsAsStored serial e
 
 -- and has such a head
 abbrev pub HeldHeadIsBounded : Type 0
 HeldHeadIsBounded = (table : Table) (limit first : ℕ) (trace : List Item) → IsGoodHistory table limit first trace
     → AllByRecursion (λ item. EventIsReadFromAStream item.event) trace → (serial : ℕ) (e : Stored)
-    → serial_is_in serial (held_serials limit trace) ≡ true → held_entry table limit trace serial ≡ Some e
+    → serial_is_in serial (held_serials table limit trace) ≡ true → held_entry table limit trace serial ≡ Some e
     → HeadIsBounded e
 
 -- What leaves room is within the limits of a reader as it is sent, with whatever the proxy adds. The name of a table

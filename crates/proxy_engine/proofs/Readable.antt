@@ -19,6 +19,7 @@ use Rattle.proxy_engine.specs.Room.{HappeningFindsMemory}
 use Rattle.proxy_script.specs.declared.happening.Happening.{Happening}
 use Rattle.proxy_engine.specs.ReadyList.{entries_below}
 use Rattle.proxy_engine.specs.Held.{flagged_places, has_flag, connection_is_open, connection_may_send, link_failed, link_may_send}
+use Rattle.proxy_engine.specs.Pairing.{activity_of}
 use Rattle.proxy_engine.specs.Reading.{places_with_flag, connection_is_open_in_model, connection_may_send_request, link_has_failed, link_end_at}
 use Rattle.proxy_engine.specs.declared.endpoints.activities.Activity.{Activity}
 use Rattle.proxy_engine.specs.declared.endpoints.ends.Connection.{Connection}
@@ -177,7 +178,7 @@ module _ (xs : List (Option Link)) (ss : List LinkModel) (both : RelatesLists Li
   answer_places = both_places LinkRepresents (has_flag link_may_send) keeps_answer answer_same xs ss both 0
 
 -- at one place, also beyond the end
-flag_at : {A B : Type 0} (R : Option A → B → Type 0) (f : Option A → Bool) (g : B → Bool) (d : B) → ((x : Option A) (y : B) → R x y → f x ≡ g y) → f None ≡ g d → (xs : List (Option A)) (ys : List B) → RelatesLists R xs ys → (i : ℕ) → f (get_or xs i None) ≡ g (get_or ys i d)
+flag_at : {A B C : Type 0} (R : Option A → B → Type 0) (f : Option A → C) (g : B → C) (d : B) → ((x : Option A) (y : B) → R x y → f x ≡ g y) → f None ≡ g d → (xs : List (Option A)) (ys : List B) → RelatesLists R xs ys → (i : ℕ) → f (get_or xs i None) ≡ g (get_or ys i d)
 flag_at R f g d agree none [] [] h i = none
 flag_at R f g d agree none [] (y ∷ ys) h i = absurd h
 flag_at R f g d agree none (x ∷ xs) [] h i = absurd h
@@ -186,6 +187,13 @@ flag_at R f g d agree none (x ∷ xs) (y ∷ ys) h (suc i) = flag_at R f g d agr
 
 pub read_at : (xs : List (Option Connection)) (ss : List ConnectionModel) → RelatesLists ConnectionRepresents xs ss → (i : ℕ) → has_flag connection_may_send (get_or xs i None) ≡ connection_may_send_request (get_or ss i no_connection)
 read_at = flag_at ConnectionRepresents (has_flag connection_may_send) connection_may_send_request no_connection read_same refl
+
+activity_same : (o : Option Connection) (c : ConnectionModel) → ConnectionRepresents o c → activity_of o ≡ c.activity
+activity_same None c h = sym h.1
+activity_same (Some k) c h = h.activity
+
+pub activity_read_at : (xs : List (Option Connection)) (ss : List ConnectionModel) → RelatesLists ConnectionRepresents xs ss → (i : ℕ) → activity_of (get_or xs i None) ≡ (get_or ss i no_connection).activity
+activity_read_at = flag_at ConnectionRepresents activity_of (λ (c : ConnectionModel). c.activity) no_connection activity_same refl
 
 pub answer_at : (xs : List (Option Link)) (ss : List LinkModel) → RelatesLists LinkRepresents xs ss → (j : ℕ) → has_flag link_may_send (get_or xs j None) ≡ keeps_answer (get_or ss j no_link)
 answer_at = flag_at LinkRepresents (has_flag link_may_send) keeps_answer no_link answer_same refl

@@ -2,7 +2,8 @@
 -- exchange; it stands in the list of connections at a place from 0 on. Links have numbers from that of the first on.
 --
 -- connection_number, connection_place: of a connection      link_number, link_place: of a link, behind the first number
-use Rattle.std.specs.Prelude.{ℕ, ◌+◌, ◌-◌}
+-- link_with_number: the number of the link at a place, where there is one
+use Rattle.std.specs.Prelude.{ℕ, ◌+◌, ◌-◌, ◌^◌, nat_lt, if◌then◌else◌, Option, None, Some}
 
 abbrev pub connection_number : ℕ → ℕ
 connection_number place = place + 1
@@ -15,3 +16,8 @@ link_number first place = first + place
 
 abbrev pub link_place : ℕ → ℕ → ℕ
 link_place first number = number - first
+
+-- numbers end with the greatest of 64 bits
+abbrev pub link_with_number : ℕ → ℕ → Option ℕ
+link_with_number first place =
+    if nat_lt (link_number first place) (2 ^ 64) then Some (link_number first place) else None

@@ -5,11 +5,14 @@
 -- readable_ends_of, failed_links, open_connection_count, next_connection_number: of a model
 -- end_may_send: whether bytes may come from an end
 -- IsBetweenRequests: a client is between two requests
+-- link_of_connection: the link on which the request of a client went forward
 use Rattle.std.specs.Prelude.{◌≡◌, ℕ, ◌+◌, ◌^◌, List, [], ◌∷◌, ◌++◌, map, length, Bool, true, false, ◌&&◌, ◌||◌}
 use Rattle.std.specs.Prelude.{not, nat_lt, nat_le, Option, None, Some, is_some, if◌then◌else◌}
+use Rattle.std.specs.Option.{option_and_then}
 use Rattle.hx_framing.specs.RequestStream.{StreamSpells}
 use Rattle.proxy_engine.specs.ConnectionNumbers.{connection_number, connection_place, link_number, link_place}
-use Rattle.proxy_engine.specs.Activities.{has_exchange}
+use Rattle.proxy_engine.specs.ConnectionNumbers.{link_with_number}
+use Rattle.proxy_engine.specs.Activities.{has_exchange, link_place_of_activity}
 use Rattle.proxy_engine.specs.EngineModel.{EngineModel, ConnectionModel, LinkModel, connection_at, link_at}
 use Rattle.proxy_engine.specs.EngineModel.{keeps_bytes, keeps_answer}
 use Rattle.proxy_engine.specs.declared.work.End.{End}
@@ -68,3 +71,9 @@ next_connection_number s =
 pub record IsBetweenRequests (c : ConnectionModel) : Type 0 where
   pub read : connection_may_send_request c ≡ true
   pub used : StreamSpells c.progress.max_body c.progress.stream c.progress.given []
+
+-- the link on which the request of a client went forward, if one did that isn't answered
+abbrev pub link_of_connection : EngineModel → ℕ → Option ℕ
+link_of_connection s n =
+    option_and_then (link_with_number s.first)
+    (link_place_of_activity (connection_at s (connection_place n)).activity)

@@ -4,6 +4,7 @@ ghost use Rattle.proxy_engine.specs.EngineModel.{EngineModel, connection_at, hap
 ghost use Rattle.proxy_engine.specs.Happenings.{plain_happening, happening_takes_memory};
 ghost use Rattle.proxy_engine.specs.Reading.{readable_ends_of, failed_links, open_connection_count};
 ghost use Rattle.proxy_engine.specs.Reading.{next_connection_number, end_may_send, IsBetweenRequests};
+ghost use Rattle.proxy_engine.specs.Reading.{link_of_connection};
 ghost use Rattle.proxy_engine.specs.Room.{HappeningFindsMemory, NextHappeningFindsMemory, ClientRoomIsGivenBack};
 ghost use Rattle.proxy_engine.specs.State.{State, EngineRepresents, EngineTakesHappening, IsFaultOfTaking};
 ghost use Rattle.proxy_engine.specs.State.{new_engine_model};
@@ -208,6 +209,17 @@ impl<S: Shelf> Engine<S> {
                 let place = LinkPlace::of_number(l, first);
                 first <= l && self.ends.links.may_read(place)
             }
+        }
+    }
+
+    /// The link on which the request of a client went forward, if one did that isn't answered.
+    pub fn link_of_client(&self, n: u64) -> Option<u64>
+        ensures { (s : EngineModel) → EngineRepresents self.now s → result ≡ link_of_connection s n }
+    {
+        let place = ConnectionPlace::of_number(n);
+        match self.ends.connections.link_of(place) {
+            Some(link) => link.checked_number(self.ends.first_link),
+            None => None,
         }
     }
 

@@ -1,7 +1,8 @@
 -- How connections that were taken are counted.
 --
--- names_no_descriptor: of the numbers of the system's errors, those of no descriptor left
--- accepts_with_taken, accepts_with_full, accepts_with_refused, accepts_without_link: counts, with one more
+-- names_no_descriptor, names_no_port: of the numbers of the system's errors, those of no descriptor left, of no port
+-- accepts_with_taken, accepts_with_full, accepts_with_refused, accepts_without_link, accepts_without_port: counts, with
+--     one more
 use Rattle.std.specs.Prelude.{◌==◌, ◌||◌, ℤ, pos, Bool, false, if◌then◌else◌, Option, Some}
 use Rattle.std.specs.IoError.{error_kind, raw_os_error}
 use Rattle.std.specs.declared.io.Error.{Error}
@@ -14,6 +15,11 @@ use Rattle.proxy_figures.specs.declared.accept_counts.AcceptCounts.{AcceptCounts
 abbrev pub names_no_descriptor : Option ℤ → Bool
 names_no_descriptor (Some (pos n)) = (n == 23) || (n == 24)
 names_no_descriptor _ = false
+
+-- EADDRNOTAVAIL
+abbrev pub names_no_port : Option ℤ → Bool
+names_no_port (Some (pos n)) = n == 99
+names_no_port _ = false
 
 abbrev pub accepts_with_taken : AcceptCounts → AcceptCounts
 accepts_with_taken counts = record counts { accepted = count_plus_one counts.accepted }
@@ -34,3 +40,6 @@ accepts_with_refused counts error = if names_no_descriptor (raw_os_error error)
 
 abbrev pub accepts_without_link : AcceptCounts → AcceptCounts
 accepts_without_link counts = record counts { no_link = count_plus_one counts.no_link }
+
+abbrev pub accepts_without_port : AcceptCounts → AcceptCounts
+accepts_without_port counts = record counts { no_port = count_plus_one counts.no_port }

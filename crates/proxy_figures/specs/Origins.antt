@@ -14,6 +14,7 @@ use Rattle.std.specs.Prelude.{◌∷◌, Option, None, Some, string_bytes, optio
 use Rattle.std.specs.Net.Text.{socket_v4_text}
 use Rattle.std.specs.declared.net.socket_addr.SocketAddrV4.{SocketAddrV4}
 use Rattle.proxy_figures.specs.Counts.{count_plus_one, count_plus, counts_with_one_more}
+use Rattle.proxy_figures.specs.ReplyCounts.{no_times, times_with}
 use Rattle.proxy_figures.specs.Sorts.{is_covered}
 use Rattle.proxy_figures.specs.declared.limits.TheConstants.{SILENT_EXCHANGES}
 use Rattle.proxy_figures.specs.declared.origins.Admission.{Admission}
@@ -102,9 +103,9 @@ origin_with_link AsProbe origin =
 abbrev pub origin_without_link : Admission → ℕ → Origin → Origin
 origin_without_link No lasted origin = origin
 origin_without_link Yes lasted origin =
-    record origin { «open» = origin.open - 1; lasted = count_plus origin.lasted lasted }
+    record origin { «open» = origin.open - 1; times = times_with lasted origin.times }
 origin_without_link AsProbe lasted origin =
-    record origin { «open» = origin.open - 1; lasted = count_plus origin.lasted lasted; is_probed = false }
+    record origin { «open» = origin.open - 1; times = times_with lasted origin.times; is_probed = false }
 
 -- an exchange was timed out, or couldn't connect
 abbrev pub origin_silent_once_more : Origin → Origin
@@ -132,7 +133,7 @@ pub record IsNewOrigin (address : SocketAddrV4) (origin : Origin) : Type 0 where
     name = origin.name;
     begun = 0;
     «open» = 0;
-    lasted = 0;
+    times = no_times;
     received = 0;
     written = 0;
     answers = no_answers;

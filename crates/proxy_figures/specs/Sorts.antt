@@ -1,5 +1,6 @@
 -- The words by which replies are counted: those of Cache-Status (RFC 9211, section 2) and of Refusal.
 use Rattle.std.specs.Prelude.{ℕ, List, [], ◌∷◌, ◌++◌, codes, Bool, true, false, not, ◌&&◌, if◌then◌else◌, is_some}
+use Rattle.std.specs.Prelude.{find, bytes_eq, unwrap_or}
 use Rattle.hx_framing.specs.declared.frame_fault.FrameFault.TheVariants as frame
 use Rattle.hx_target.specs.declared.target_fault.TargetFault.TheVariants as target
 use Rattle.hx_status.specs.declared.cause.FailKind.TheVariants.{Refused, TimedOut, Closed, BadAnswer, TooLarge}
@@ -49,6 +50,25 @@ detail_name detail.StaleIfError = codes "stale-if-error"
 detail_name detail.ReuseAfterError = codes "reuse-after-error"
 detail_name detail.ReuseAfter304 = codes "reuse-after-304"
 detail_name detail.Other = codes "other"
+
+-- what tells rules of one reason apart
+abbrev pub details_of_rules : List Detail
+details_of_rules =
+    detail.Operator ∷ (detail.Content ∷ (detail.Range ∷ (detail.Precondition ∷ (detail.ResponseNoCache
+    ∷ (detail.MustRevalidate ∷ (detail.NoLifetime ∷ (detail.NoCache ∷ (detail.MaxStale ∷ (detail.MaxAge
+    ∷ (detail.MinFresh ∷ []))))))))))
+
+-- what tells that a stored response was sent after all
+abbrev pub details_of_steps : List Detail
+details_of_steps = detail.StaleIfError ∷ (detail.ReuseAfterError ∷ (detail.ReuseAfter304 ∷ []))
+
+abbrev pub detail_of_step : List ℕ → Detail
+detail_of_step word = unwrap_or (find (λ detail. bytes_eq word (detail_name detail)) details_of_steps) detail.Other
+
+-- by what a word is counted: the detail of that name, or else `other`
+abbrev pub detail_of_word : List ℕ → Detail
+detail_of_word word =
+    unwrap_or (find (λ detail. bytes_eq word (detail_name detail)) details_of_rules) (detail_of_step word)
 
 -- what an origin did, and what is wrong with a message or its target, have the words of Refusal
 abbrev pub cause_name : Cause → List ℕ

@@ -2,7 +2,8 @@
 ghost use Rattle.std.specs.Prelude.{◌≡◌};
 ghost use Rattle.std.specs.IoError.{raw_os_error};
 ghost use Rattle.proxy_figures.specs.AcceptCounts.{names_no_descriptor, accepts_with_refused, accepts_with_taken};
-ghost use Rattle.proxy_figures.specs.AcceptCounts.{accepts_with_full, accepts_without_link};
+ghost use Rattle.proxy_figures.specs.AcceptCounts.{accepts_with_full, accepts_without_link, accepts_without_port};
+ghost use Rattle.proxy_figures.specs.AcceptCounts.{names_no_port};
 
 use crate::counts::count_plus_one;
 use std::io;
@@ -13,6 +14,13 @@ pub fn is_out_of_descriptors(error: &io::Error) -> bool
     ensures { result ≡ names_no_descriptor (raw_os_error error.now) }
 {
     matches!(error.raw_os_error(), Some(23 | 24))
+}
+
+/// Whether a connection couldn't be begun since no local port is left (EADDRNOTAVAIL).
+pub fn is_out_of_ports(error: &io::Error) -> bool
+    ensures { result ≡ names_no_port (raw_os_error error.now) }
+{
+    matches!(error.raw_os_error(), Some(99))
 }
 
 /// How often connections were taken and begun, or couldn't be.
@@ -28,6 +36,8 @@ pub struct AcceptCounts {
     pub failed: u64,
     /// No descriptor was left for a link.
     pub no_link: u64,
+    /// No local port was left for a link.
+    pub no_port: u64,
 }
 
 impl AcceptCounts {
@@ -39,6 +49,7 @@ impl AcceptCounts {
           no_memory = 0;
           failed = 0;
           no_link = 0;
+          no_port = 0;
         } }
     {
         AcceptCounts {
@@ -48,6 +59,7 @@ impl AcceptCounts {
             no_memory: 0,
             failed: 0,
             no_link: 0,
+            no_port: 0,
         }
     }
 
@@ -84,6 +96,13 @@ impl AcceptCounts {
     {
         self.no_link = count_plus_one(self.no_link);
     }
+
+    /// Counts a link for which no local port was left.
+    pub fn count_no_port(&mut self)
+        ensures { self.new ≡ accepts_without_port self.old }
+    {
+        self.no_port = count_plus_one(self.no_port);
+    }
 }
 
 /// What an operator is to know at once.
@@ -94,6 +113,8 @@ pub struct Troubles {
     /// How often no descriptor was left for a connection of a client, and for one to an origin.
     pub no_descriptor: u64,
     pub no_link: u64,
+    /// How often no local port was left for a connection to an origin.
+    pub no_port: u64,
     /// How often a connection to an origin was refused at once, since as many were open to it as may be.
     pub beyond_bound: u64,
     /// How often an origin became silent, so that it is asked by one request at a time; 0 where it isn't.

@@ -15,6 +15,10 @@ pub struct StoreCounts {
     held: Cell<u64>,
     weight: Cell<u64>,
     evicted: Cell<u64>,
+    /// Seconds for which those had been stored, all together.
+    evicted_seconds: Cell<u64>,
+    /// When a response was stored last, in Unix seconds.
+    latest: Cell<u64>,
     removed: Cell<u64>,
 }
 
@@ -28,6 +32,8 @@ impl StoreCounts {
             held: Cell::new(0),
             weight: Cell::new(0),
             evicted: Cell::new(0),
+            evicted_seconds: Cell::new(0),
+            latest: Cell::new(0),
             removed: Cell::new(0),
         }
     }
@@ -45,6 +51,11 @@ impl StoreCounts {
     /// Responses that went since the store was full.
     pub fn evicted(&self) -> u64 {
         self.evicted.get()
+    }
+
+    /// Seconds for which those had been stored since they were received or freshened, all together.
+    pub fn evicted_seconds(&self) -> u64 {
+        self.evicted_seconds.get()
     }
 
     /// Responses that were replaced, invalidated or not kept.
@@ -73,6 +84,23 @@ impl<'a, S: Shelf + Drop> CountedShelf<'a, S> {
         self.counts.weight.set(self.shelf.weight());
     }
 
+    /// Counts a response that went since the store was full, and for how long it had been stored.
+    fn count_evicted(&self, out: &Option<Entry>) {
+        let Some(entry) = out else {
+            return;
+        };
+        add(&self.counts.evicted, 1);
+        let seconds = self
+            .counts
+            .latest
+            .get()
+            .saturating_sub(entry.times.response_time);
+        let before = self.counts.evicted_seconds.get();
+        self.counts
+            .evicted_seconds
+            .set(before.saturating_add(seconds));
+    }
+
     /// Counts what went out where a response was stored; so many were held before.
     fn count_put(&self, before: usize, put: &Result<Option<Entry>, Entry>) {
         let Ok(out) = put else {
@@ -80,7 +108,7 @@ impl<'a, S: Shelf + Drop> CountedShelf<'a, S> {
         };
         let evicted = usize::from(out.is_some());
         let kept = self.shelf.len().saturating_add(evicted);
-        add(&self.counts.evicted, evicted);
+        self.count_evicted(out);
         add(
             &self.counts.removed,
             before.saturating_add(1).saturating_sub(kept),
@@ -141,6 +169,7 @@ impl<'a, S: Shelf + Drop> Shelf for CountedShelf<'a, S> {
 
     fn put(&mut self, entry: Entry, replaced: &[u64]) -> Result<Option<Entry>, Entry> {
         let before = self.shelf.len();
+        self.counts.latest.set(entry.times.response_time);
         let put = self.shelf.put(entry, replaced);
         self.count_put(before, &put);
         put
@@ -170,7 +199,7 @@ impl<'a, S: Shelf + Drop> Shelf for CountedShelf<'a, S> {
 
     fn shed(&mut self, most: u64) -> Option<Entry> {
         let out = self.shelf.shed(most);
-        add(&self.counts.evicted, usize::from(out.is_some()));
+        self.count_evicted(&out);
         self.count_held();
         out
     }

@@ -8,7 +8,7 @@ use crate::counts::{count_plus, count_plus_one};
 /// Why a connection is closed early.
 #[derive(Clone, Copy, Debug, PartialEq, Eq)]
 pub enum CutReason {
-    /// It was idle, and its room is wanted.
+    /// It was idle, or its request was incomplete and no byte of it came for a second, and its room is wanted.
     Room,
     /// More is held for requests and answers than may be, and the most for this one.
     Content,

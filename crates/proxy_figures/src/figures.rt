@@ -8,11 +8,14 @@ use crate::accept_counts::AcceptCounts;
 use crate::counted_shelf::StoreCounts;
 use crate::endings::Endings;
 use crate::link_timeouts::LinkTimeouts;
+use crate::not_stored::{ALL_STORING_RULES, storing_rule_name};
 use crate::origins::{FAILURE_KINDS, Origin, Origins, STATUS_CLASSES};
 use crate::page::{Kind, Page};
+use crate::process::{ProcessFigures, push_process};
 use crate::reply_counts::{FIRST_STATUS, ReplyCounts, ReplyTimes, STATUSES, TIME_BOUNDS};
 use crate::sorts::{ALL_CAUSES, ALL_DETAILS, ALL_REASONS, Detail, Reason};
 use crate::turn_counts::Turns;
+use crate::unanswered::{ALL_UNANSWERED_CAUSES, UnansweredCounts};
 use itoa::Buffer;
 use std::alloc::{AllocError, Global};
 
@@ -24,12 +27,15 @@ pub struct ServerFacts<'a> {
     pub commit: &'a str,
     /// When it began, in milliseconds since 1970.
     pub began: u64,
-    /// The most responses that are stored.
+    /// The most responses that are stored, and the most bytes that they weigh together, where those are bounded.
     pub capacity: u64,
+    pub capacity_bytes: Option<u64>,
     /// What the store counts.
     pub store: &'a StoreCounts,
     /// Lines of the log that couldn't be written.
     pub lost_lines: u64,
+    /// What the system tells of the process.
+    pub process: ProcessFigures,
 }
 
 /// Connections of clients.
@@ -42,6 +48,8 @@ pub struct ClientFigures<'a> {
     pub limit: usize,
     pub accepts: &'a AcceptCounts,
     pub endings: &'a Endings,
+    /// Requests that were never answered.
+    pub unanswered: &'a UnansweredCounts,
     /// Bytes of replies that wait for clients.
     pub unsent: usize,
 }
@@ -125,6 +133,7 @@ fn push_server_facts(
         "When this page was written, in Unix seconds.",
     )?;
     page.time("revcache_stats_time_seconds", now)?;
+    push_process(page, &about.process)?;
     push_store(page, about)
 }
 
@@ -135,6 +144,14 @@ fn push_store(page: &mut Page<'_>, about: &ServerFacts<'_>) -> Result<(), AllocE
         "The most responses that are stored.",
         about.capacity,
     )?;
+    if let Some(bytes) = about.capacity_bytes {
+        page.single_sample_family(
+            "revcache_store_capacity_bytes",
+            Kind::Gauge,
+            "The most bytes that stored responses weigh together.",
+            bytes,
+        )?;
+    }
     page.single_sample_family(
         "revcache_store_responses",
         Kind::Gauge,
@@ -152,6 +169,12 @@ fn push_store(page: &mut Page<'_>, about: &ServerFacts<'_>) -> Result<(), AllocE
         Kind::Counter,
         "Stored responses that went since the store was full.",
         about.store.evicted(),
+    )?;
+    page.single_sample_family(
+        "revcache_store_evicted_seconds_total",
+        Kind::Counter,
+        "Seconds for which those had been stored, since they were received or freshened.",
+        about.store.evicted_seconds(),
     )?;
     page.single_sample_family(
         "revcache_store_removals_total",
@@ -200,7 +223,23 @@ fn push_reasons(page: &mut Page<'_>, replies: &ReplyCounts) -> Result<(), AllocE
         Kind::Counter,
         "Answers of origins that were stored.",
         replies.stored,
-    )
+    )?;
+    push_storing_rules(page, replies)
+}
+
+/// Answers that weren't stored, where a line tells by which rule.
+fn push_storing_rules(page: &mut Page<'_>, replies: &ReplyCounts) -> Result<(), AllocError> {
+    let name = "revcache_not_stored_responses_total";
+    page.family(
+        name,
+        Kind::Counter,
+        "Answers of origins that were not stored, by storing rule, of lines that tell it.",
+    )?;
+    for rule in &ALL_STORING_RULES {
+        let n = replies.with_storing_rule(*rule);
+        page.sample_with_label(name, "rule", storing_rule_name(*rule), n)?;
+    }
+    Ok(())
 }
 
 fn push_statuses(page: &mut Page<'_>, replies: &ReplyCounts) -> Result<(), AllocError> {
@@ -229,36 +268,42 @@ fn push_statuses(page: &mut Page<'_>, replies: &ReplyCounts) -> Result<(), Alloc
     Ok(())
 }
 
-fn push_times(page: &mut Page<'_>, source: &str, times: &ReplyTimes) -> Result<(), AllocError> {
+/// The names of the samples of a histogram.
+#[derive(Clone, Copy)]
+struct Histogram<'a> {
+    bucket: &'a str,
+    sum: &'a str,
+    count: &'a str,
+}
+
+const REQUEST_TIMES: Histogram<'static> = Histogram {
+    bucket: "revcache_request_duration_seconds_bucket",
+    sum: "revcache_request_duration_seconds_sum",
+    count: "revcache_request_duration_seconds_count",
+};
+
+const EXCHANGE_TIMES: Histogram<'static> = Histogram {
+    bucket: "revcache_origin_exchange_duration_seconds_bucket",
+    sum: "revcache_origin_exchange_duration_seconds_sum",
+    count: "revcache_origin_exchange_duration_seconds_count",
+};
+
+/// The samples of a histogram that have this label.
+fn push_times(
+    page: &mut Page<'_>,
+    names: Histogram<'_>,
+    whose: (&str, &str),
+    times: &ReplyTimes,
+) -> Result<(), AllocError> {
     let mut sum = 0u64;
     for i in 0..TIME_BOUNDS.len() {
         sum = sum.saturating_add(times.buckets[i]);
-        page.sample_with_two_labels(
-            "revcache_request_duration_seconds_bucket",
-            ("source", source),
-            ("le", TIME_BOUNDS[i]),
-            sum,
-        )?;
+        page.sample_with_two_labels(names.bucket, whose, ("le", TIME_BOUNDS[i]), sum)?;
     }
     sum = sum.saturating_add(times.buckets[TIME_BOUNDS.len()]);
-    page.sample_with_two_labels(
-        "revcache_request_duration_seconds_bucket",
-        ("source", source),
-        ("le", "+Inf"),
-        sum,
-    )?;
-    page.time_with_label(
-        "revcache_request_duration_seconds_sum",
-        "source",
-        source,
-        times.sum,
-    )?;
-    page.sample_with_label(
-        "revcache_request_duration_seconds_count",
-        "source",
-        source,
-        sum,
-    )
+    page.sample_with_two_labels(names.bucket, whose, ("le", "+Inf"), sum)?;
+    page.time_with_label(names.sum, whose.0, whose.1, times.sum)?;
+    page.sample_with_label(names.count, whose.0, whose.1, sum)
 }
 
 fn push_replies(page: &mut Page<'_>, replies: &ReplyCounts) -> Result<(), AllocError> {
@@ -269,9 +314,24 @@ fn push_replies(page: &mut Page<'_>, replies: &ReplyCounts) -> Result<(), AllocE
         Kind::Histogram,
         "From the first byte of a request to the turn in which its reply was written.",
     )?;
-    push_times(page, "store", &replies.from_store)?;
-    push_times(page, "origin", &replies.from_origin)?;
-    push_times(page, "proxy", &replies.from_proxy)
+    push_times(
+        page,
+        REQUEST_TIMES,
+        ("source", "store"),
+        &replies.from_store,
+    )?;
+    push_times(
+        page,
+        REQUEST_TIMES,
+        ("source", "origin"),
+        &replies.from_origin,
+    )?;
+    push_times(
+        page,
+        REQUEST_TIMES,
+        ("source", "proxy"),
+        &replies.from_proxy,
+    )
 }
 
 fn push_endings(page: &mut Page<'_>, endings: &Endings) -> Result<(), AllocError> {
@@ -346,7 +406,27 @@ fn push_accept_counts(page: &mut Page<'_>, accepts: &AcceptCounts) -> Result<(),
         Kind::Counter,
         "Connections to origins that could not be begun since no descriptor was left.",
         accepts.no_link,
+    )?;
+    page.single_sample_family(
+        "revcache_links_without_port_total",
+        Kind::Counter,
+        "Connections to origins that could not be begun since no local port was left.",
+        accepts.no_port,
     )
+}
+
+/// Requests that were never answered.
+fn push_unanswered(page: &mut Page<'_>, unanswered: &UnansweredCounts) -> Result<(), AllocError> {
+    let name = "revcache_unanswered_requests_total";
+    page.family(
+        name,
+        Kind::Counter,
+        "Requests that were never answered, by cause.",
+    )?;
+    for cause in &ALL_UNANSWERED_CAUSES {
+        page.sample_with_label(name, "cause", cause.name(), unanswered.with(*cause))?;
+    }
+    Ok(())
 }
 
 /// Bytes of clients.
@@ -388,6 +468,7 @@ fn push_clients(page: &mut Page<'_>, figures: &Figures<'_>) -> Result<(), AllocE
     push_states(page, clients)?;
     push_accept_counts(page, clients.accepts)?;
     push_endings(page, clients.endings)?;
+    push_unanswered(page, clients.unanswered)?;
     push_timeouts(page, clients.endings, figures.links.timeouts)?;
     push_bytes(page, figures)
 }
@@ -490,7 +571,20 @@ fn push_exchange_times(page: &mut Page<'_>, origins: &Origins) -> Result<(), All
         "Seconds of the links to an origin that have ended.",
     )?;
     for origin in origins.as_slice() {
-        page.time_with_label(name, "origin", origin.name(), origin.lasted)?;
+        page.time_with_label(name, "origin", origin.name(), origin.times.sum)?;
+    }
+    page.family(
+        "revcache_origin_exchange_duration_seconds",
+        Kind::Histogram,
+        "How long the links to an origin lasted that have ended.",
+    )?;
+    for origin in origins.as_slice() {
+        push_times(
+            page,
+            EXCHANGE_TIMES,
+            ("origin", origin.name()),
+            &origin.times,
+        )?;
     }
     Ok(())
 }

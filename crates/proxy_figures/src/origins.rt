@@ -14,6 +14,7 @@ ghost use Rattle.proxy_figures.specs.KnownOrigins.{refused_beyond_bound};
 
 use crate::counts::{count, count_plus, count_plus_one, count_plus_one_if};
 use crate::limits::SILENT_EXCHANGES;
+use crate::reply_counts::ReplyTimes;
 use crate::sorts::{Cause, ReplySort};
 use std::alloc::{AllocError, Global};
 use std::marker::Model;
@@ -28,8 +29,8 @@ pub struct Origin {
     /// Links that were begun, and of these the ones that are open.
     pub begun: u64,
     pub open: u64,
-    /// Milliseconds of the links that have ended.
-    pub lasted: u64,
+    /// How long the links lasted that have ended.
+    pub times: ReplyTimes,
     /// Bytes that have come, and that the system has taken.
     pub received: u64,
     pub written: u64,
@@ -79,7 +80,7 @@ impl Origin {
             name: format!(in alloc; "{address}")?,
             begun: 0,
             open: 0,
-            lasted: 0,
+            times: ReplyTimes::new(),
             received: 0,
             written: 0,
             answers: [0; 4],
@@ -154,7 +155,7 @@ impl Origin {
             Admission::AsProbe => self.is_probed = false,
         }
         self.open = self.open.saturating_sub(1);
-        self.lasted = count_plus(self.lasted, milliseconds);
+        self.times.add(milliseconds);
     }
 
     /// So many bytes came from it: it isn't silent.

@@ -1,6 +1,7 @@
 //! Counts of replies: by reason, status and cause, and how long they took.
 ghost use Rattle.std.specs.Prelude.{◌≡◌, ◌-◌, unwrap_or, slice_get, replicate};
 ghost use Rattle.proxy_figures.specs.Counts.{counts_with_one_more, count_plus_one_if};
+ghost use Rattle.proxy_figures.specs.NotStored.{not_stored_with, storing_rule_place};
 ghost use Rattle.proxy_figures.specs.ReplyCounts.{reply_place, cause_place, causes_with, no_times, times_with};
 ghost use Rattle.proxy_figures.specs.ReplyCounts.{store_times_with, origin_times_with, proxy_times_with};
 ghost use Rattle.proxy_figures.specs.Sorts.{source_of};
@@ -8,6 +9,7 @@ ghost use Rattle.proxy_figures.specs.Times.{time_bucket_of};
 
 use crate::counts::{count, count_at, count_plus_one_if};
 use crate::sorts::{Cause, DETAIL_COUNT, Detail, Reason, ReplySort, Source};
+use hx_storable::StoreRule;
 
 /// The least status of a reply, and how many there may be.
 pub(crate) const FIRST_STATUS: u16 = 200;
@@ -19,7 +21,7 @@ pub(crate) const TIME_BOUNDS: [&str; 11] = [
     "0.001", "0.005", "0.01", "0.05", "0.1", "0.5", "1", "5", "10", "30", "60",
 ];
 
-/// How many replies took how long, of one source.
+/// How many replies of one source, or links to one origin, took how long.
 #[derive(Clone, Copy, Debug)]
 pub struct ReplyTimes {
     /// By the first bound that isn't below it.
@@ -34,6 +36,8 @@ pub struct ReplyCounts {
     /// By reason, and in a row of each by detail.
     reasons: [u64; 176],
     causes: [u64; 24],
+    /// Answers that weren't stored, by storing rule.
+    not_stored: [u64; 18],
     statuses: [u64; 400],
     pub stored: u64,
     pub collapsed: u64,
@@ -71,7 +75,7 @@ fn place_of(reason: Reason, detail: Detail) -> usize
 }
 
 impl ReplyTimes {
-    fn new() -> ReplyTimes
+    pub(crate) fn new() -> ReplyTimes
         ensures { result ≡ no_times }
     {
         ReplyTimes {
@@ -80,7 +84,7 @@ impl ReplyTimes {
         }
     }
 
-    fn add(&mut self, milliseconds: u64)
+    pub(crate) fn add(&mut self, milliseconds: u64)
         ensures { self.new ≡ times_with milliseconds self.old }
     {
         count(&mut self.buckets, time_bucket_of(milliseconds));
@@ -92,6 +96,7 @@ impl ReplyCounts {
     pub fn new() -> ReplyCounts
         ensures reasons { result.reasons ≡ replicate 176 0 }
         ensures causes { result.causes ≡ replicate 24 0 }
+        ensures not_stored { result.not_stored ≡ replicate 18 0 }
         ensures statuses { result.statuses ≡ replicate 400 0 }
         ensures words { (result.stored ≡ 0) × (result.collapsed ≡ 0) }
         ensures from_store { result.from_store ≡ no_times }
@@ -101,6 +106,7 @@ impl ReplyCounts {
         ReplyCounts {
             reasons: [0; 176],
             causes: [0; 24],
+            not_stored: [0; 18],
             statuses: [0; 400],
             stored: 0,
             collapsed: 0,
@@ -115,6 +121,7 @@ impl ReplyCounts {
         ensures reasons { self.new.reasons ≡ counts_with_one_more self.old.reasons
             (reply_place sort.now.reason sort.now.detail) }
         ensures causes { self.new.causes ≡ causes_with sort.now.cause self.old.causes }
+        ensures not_stored { self.new.not_stored ≡ not_stored_with sort.now.not_stored self.old.not_stored }
         ensures statuses { self.new.statuses ≡ counts_with_one_more self.old.statuses (status - 200) }
         ensures stored { self.new.stored ≡ count_plus_one_if sort.now.stored self.old.stored }
         ensures collapsed { self.new.collapsed ≡ count_plus_one_if sort.now.collapsed self.old.collapsed }
@@ -132,6 +139,9 @@ impl ReplyCounts {
         );
         if let Some(cause) = sort.cause {
             count(&mut self.causes, cause as usize);
+        }
+        if let Some(rule) = sort.not_stored {
+            count(&mut self.not_stored, rule as usize);
         }
         self.stored = count_plus_one_if(sort.stored, self.stored);
         self.collapsed = count_plus_one_if(sort.collapsed, self.collapsed);
@@ -152,6 +162,12 @@ impl ReplyCounts {
         ensures { result ≡ unwrap_or (slice_get self.now.causes (cause_place cause)) 0 }
     {
         count_at(&self.causes, cause as usize)
+    }
+
+    pub(crate) fn with_storing_rule(&self, rule: StoreRule) -> u64
+        ensures { result ≡ unwrap_or (slice_get self.now.not_stored (storing_rule_place rule)) 0 }
+    {
+        count_at(&self.not_stored, rule as usize)
     }
 
     pub(crate) fn with_status(&self, status: u16) -> u64

@@ -4,7 +4,10 @@
 ghost use Rattle.std.specs.Prelude.{◌≡◌, find, bytes_eq};
 ghost use Rattle.proxy_figures.specs.Sorts.{reason_name, detail_name, cause_name, forward_reasons, origin_failures};
 ghost use Rattle.proxy_figures.specs.Sorts.{failure_name, source_of, is_covered, is_answered};
+ghost use Rattle.proxy_figures.specs.Sorts.{detail_of_word, detail_of_step, details_of_rules};
 
+use crate::not_stored::named_storing_rule;
+use hx_storable::StoreRule;
 use std::str;
 
 /// Why a request was answered as it was.
@@ -203,13 +206,59 @@ impl Detail {
     }
 
     /// The detail of this word; another word is `Other`.
-    fn of(word: &[u8]) -> Detail {
-        for detail in &ALL_DETAILS {
-            if detail.name().as_bytes() == word {
-                return *detail;
-            }
+    fn of(word: &[u8]) -> Detail
+        ensures { result ≡ detail_of_word word.now }
+    {
+        match Detail::of_rule(word) {
+            Some(detail) => detail,
+            None => Detail::of_step(word),
         }
-        Detail::Other
+    }
+
+    /// The detail of this word, which tells rules of one reason apart.
+    fn of_rule(word: &[u8]) -> Option<Detail>
+        ensures { result ≡ find (λ detail. bytes_eq word.now (detail_name detail)) details_of_rules }
+    {
+        if word == b"operator".as_slice() {
+            Some(Detail::Operator)
+        } else if word == b"content".as_slice() {
+            Some(Detail::Content)
+        } else if word == b"range".as_slice() {
+            Some(Detail::Range)
+        } else if word == b"precondition".as_slice() {
+            Some(Detail::Precondition)
+        } else if word == b"response-no-cache".as_slice() {
+            Some(Detail::ResponseNoCache)
+        } else if word == b"must-revalidate".as_slice() {
+            Some(Detail::MustRevalidate)
+        } else if word == b"no-lifetime".as_slice() {
+            Some(Detail::NoLifetime)
+        } else if word == b"no-cache".as_slice() {
+            Some(Detail::NoCache)
+        } else if word == b"max-stale".as_slice() {
+            Some(Detail::MaxStale)
+        } else if word == b"max-age".as_slice() {
+            Some(Detail::MaxAge)
+        } else if word == b"min-fresh".as_slice() {
+            Some(Detail::MinFresh)
+        } else {
+            None
+        }
+    }
+
+    /// The detail of this word, where a stored response was sent after all; another word is `Other`.
+    fn of_step(word: &[u8]) -> Detail
+        ensures { result ≡ detail_of_step word.now }
+    {
+        if word == b"stale-if-error".as_slice() {
+            Detail::StaleIfError
+        } else if word == b"reuse-after-error".as_slice() {
+            Detail::ReuseAfterError
+        } else if word == b"reuse-after-304".as_slice() {
+            Detail::ReuseAfter304
+        } else {
+            Detail::Other
+        }
     }
 }
 
@@ -287,6 +336,8 @@ pub struct ReplySort {
     pub fwd_status: Option<u16>,
     pub stored: bool,
     pub collapsed: bool,
+    /// The storing rule that it names, where it wasn't stored.
+    pub not_stored: Option<StoreRule>,
 }
 
 /// Who an answer comes from.
@@ -310,6 +361,7 @@ impl ReplySort {
             fwd_status: None,
             stored: false,
             collapsed: false,
+            not_stored: None,
         }
     }
 
@@ -328,6 +380,7 @@ impl ReplySort {
             self.collapsed = true;
         } else if let Some(word) = part.strip_prefix(b"detail=".as_slice()) {
             self.detail = Detail::of(word);
+            self.not_stored = named_storing_rule(word);
         } else if let Some(digits) = part.strip_prefix(b"fwd-status=".as_slice()) {
             self.fwd_status = number_of(digits);
         }

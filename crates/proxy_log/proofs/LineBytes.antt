@@ -6,7 +6,7 @@ use Rattle.std.proofs.lemmas.List.Folds.{list_all-append}
 use Rattle.std.specs.List.{list_all}
 use Rattle.std.specs.Char.{is_ascii_digit}
 use Rattle.hx_framing.proofs.WrittenFields.{decimal_back}
-use Rattle.proxy_log.specs.Line.{stands_for_itself, hex_digit, logged_byte, logged_text, logged_word, log_line_text}
+use Rattle.proxy_log.specs.Line.{stands_for_itself, hex_digit, logged_byte, logged_text, logged_word, log_line_text, status_word}
 use Rattle.proxy_log.specs.OneLine.{TextIsOneLine, LineIsInRange, is_byte, is_visible, is_log_word}
 use Rattle.proxy_log.specs.Seconds.{seconds_text, three_digits}
 use Rattle.proxy_log.specs.declared.line.Line.{Line}
@@ -83,6 +83,13 @@ word_is_visible bs all =
 number_is_visible : (n : ℕ) → n < 2 ^ 64 → list_all is_visible (decimal n) ≡ true
 number_is_visible n below = all_weaker is_ascii_digit is_visible digit_is_visible (decimal n) (decimal_back n below).1
 
+by_zero : (b : Bool) (zeros text : List ℕ) → list_all is_visible zeros ≡ true → list_all is_visible text ≡ true → list_all is_visible (cond b zeros text) ≡ true
+by_zero true zeros text first second = first
+by_zero false zeros text first second = second
+
+status_is_visible : (n : ℕ) → n < 2 ^ 64 → list_all is_visible (status_word n) ≡ true
+status_is_visible n below = by_zero (n == 0) (codes "000") (decimal n) refl (number_is_visible n below)
+
 below_ten : (n : ℕ) → n < 1000 → (n / 100 < 10) × (n / 10 % 10 < 10) × (n % 10 < 10)
 below_ten n below = (grind (arith, common_steps), grind (arith, common_steps), grind (arith, common_steps))
 
@@ -111,7 +118,7 @@ word_behind {xs} {ys} first second =
 
 words_are_visible : (line : Line) → LineIsInRange line
     → AreVisible (seconds_text line.moment ++ codes " " ++ logged_word line.client ++ codes " " ++ logged_word line.method ++ codes " " ++ logged_word line.target
-    ++ codes " " ++ decimal line.status ++ codes " " ++ decimal line.length ++ codes " " ++ logged_text true line.reason ++ codes " "
+    ++ codes " " ++ status_word line.status ++ codes " " ++ decimal line.length ++ codes " " ++ logged_text true line.reason ++ codes " "
     ++ seconds_text line.took ++ codes " " ++ logged_word line.origin)
 words_are_visible line given =
     word_behind (word_behind (word_behind (word_behind (word_behind (word_behind (word_behind (word_behind
@@ -119,7 +126,7 @@ words_are_visible line given =
     (record { are = word_is_visible line.client given.client }))
     (record { are = word_is_visible line.method given.method }))
     (record { are = word_is_visible line.target given.target }))
-    (record { are = number_is_visible line.status given.status }))
+    (record { are = status_is_visible line.status given.status }))
     (record { are = number_is_visible line.length given.length }))
     (record { are = text_is_visible line.reason given.reason }))
     (record { are = time_is_visible line.took given.took }))

@@ -1,7 +1,7 @@
 -- A line is its three parts, and a part is its words.
 use Rattle.std.proofs.Common.{◌≡◌, ◌<◌, ◌≤◌, ◌+◌, ℕ, Bool, List, ◌++◌, length, ap, sym, ◌∙◌, arith, Result, Ok, Err, OnOk, OnErr, codes, decimal, true}
 use Rattle.std.proofs.lemmas.List.{append_assoc, length-append}
-use Rattle.proxy_log.specs.Line.{logged_byte, logged_text, logged_word, log_line_text, log_line_front, log_line_answer, log_line_end}
+use Rattle.proxy_log.specs.Line.{logged_byte, logged_text, logged_word, log_line_text, log_line_front, log_line_answer, log_line_end, status_word}
 use Rattle.proxy_log.specs.Seconds.{seconds_text}
 use Rattle.proxy_log.specs.declared.line.Line.{Line}
 
@@ -28,8 +28,8 @@ pub line_is : (line : Line) → log_line_front line ++ (log_line_answer line ++ 
 unfolding log_line_front log_line_answer log_line_end
 line_is line =
     sym (append_assoc (log_line_front line) (log_line_answer line) (log_line_end line))
-    ∙ ap (λ (z : List ℕ). z ++ log_line_end line) (before_six (log_line_front line) (decimal line.status) (codes " ") (decimal line.length) (logged_text true line.reason))
-    ∙ before_four (log_line_front line ++ decimal line.status ++ codes " " ++ decimal line.length ++ codes " " ++ logged_text true line.reason ++ codes " ")
+    ∙ ap (λ (z : List ℕ). z ++ log_line_end line) (before_six (log_line_front line) (status_word line.status) (codes " ") (decimal line.length) (logged_text true line.reason))
+    ∙ before_four (log_line_front line ++ status_word line.status ++ codes " " ++ decimal line.length ++ codes " " ++ logged_text true line.reason ++ codes " ")
     (seconds_text line.took) (codes " ") (logged_word line.origin) (codes "\n")
 
 -- a word and what stands behind it, written behind a text

@@ -3,7 +3,9 @@
 --
 -- stands_for_itself, logged_byte, logged_text: bytes as they stand in a line, so that none of them breaks it
 -- logged_word: a word, which is never empty
+-- status_word: a status
 -- log_line_text: the line
+-- unanswered_reason: what stands in the place of the reason where a request was never answered
 use Rattle.std.specs.Prelude.{ℕ, ◌+◌, ◌/◌, ◌%◌, ◌==◌, Bool, true, false, not, ◌&&◌, ◌||◌, nat_lt, if◌then◌else◌, List}
 use Rattle.std.specs.Prelude.{[], ◌∷◌, ◌++◌, codes, decimal}
 use Rattle.proxy_log.specs.Seconds.{seconds_text}
@@ -31,15 +33,23 @@ abbrev pub logged_word : List ℕ → List ℕ
 logged_word [] = codes "-"
 logged_word (b ∷ bs) = logged_text false (b ∷ bs)
 
+-- a status; zeros where none was sent
+abbrev pub status_word : ℕ → List ℕ
+status_word status = if status == 0 then codes "000" else decimal status
+
 -- moment, client, method, target, status, bytes of content, what Cache-Status or Refusal says, how long it took, and
 -- the origin
 abbrev pub log_line_text : Line → List ℕ
 log_line_text line =
     seconds_text line.moment ++ codes " " ++ logged_word line.client ++ codes " " ++ logged_word line.method ++ codes " "
     ++ logged_word line.target
-    ++ codes " " ++ decimal line.status ++ codes " " ++ decimal line.length ++ codes " " ++ logged_text true line.reason
-    ++ codes " "
+    ++ codes " " ++ status_word line.status ++ codes " " ++ decimal line.length ++ codes " "
+    ++ logged_text true line.reason ++ codes " "
     ++ seconds_text line.took ++ codes " " ++ logged_word line.origin ++ codes "\n"
+
+-- in the place of the reason where a request was never answered: `left`, and why
+abbrev pub unanswered_reason : List ℕ → List ℕ
+unanswered_reason cause = codes "left;cause=" ++ cause
 
 -- the same in three parts: who asked for what, what it was told, and what that took
 unfoldable pub log_line_front : Line → List ℕ
@@ -49,7 +59,7 @@ log_line_front line =
 
 unfoldable pub log_line_answer : Line → List ℕ
 log_line_answer line =
-    decimal line.status ++ codes " " ++ decimal line.length ++ codes " " ++ logged_text true line.reason ++ codes " "
+    status_word line.status ++ codes " " ++ decimal line.length ++ codes " " ++ logged_text true line.reason ++ codes " "
 
 unfoldable pub log_line_end : Line → List ℕ
 log_line_end line = seconds_text line.took ++ codes " " ++ logged_word line.origin ++ codes "\n"

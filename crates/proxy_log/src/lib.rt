@@ -15,7 +15,7 @@ mod seconds;
 mod text_lines;
 pub mod worked_cases;
 
-pub use crate::about::{SeenOfReply, line_about};
+pub use crate::about::{SeenOfReply, line_about, line_about_unanswered};
 pub use crate::asked::{Question, UnansweredRequests};
 pub use crate::line::{Line, log_line_text};
 pub use crate::pending_lines::Lines;

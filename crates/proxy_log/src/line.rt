@@ -2,7 +2,7 @@
 ghost use Rattle.std.specs.Prelude.{◌≡◌, ◌+◌, ◌<◌, ◌≤◌, ◌++◌, codes, decimal, false, length, take, vec_capacity};
 ghost use Rattle.std.specs.Prelude.{IfOk, OnErr, OnOk, IsTrue};
 ghost use Rattle.proxy_log.specs.Line.{stands_for_itself, hex_digit, logged_byte, logged_text, logged_word};
-ghost use Rattle.proxy_log.specs.Line.{log_line_text};
+ghost use Rattle.proxy_log.specs.Line.{log_line_text, status_word};
 ghost use Rattle.proxy_log.specs.Line.{log_line_front, log_line_answer, log_line_end};
 ghost use Rattle.proxy_log.specs.Seconds.{seconds_text};
 
@@ -23,12 +23,13 @@ pub struct Line {
     /// The target URI (RFC 9110, section 7.1), or the target as it came where it is none; empty where none could be
     /// read.
     pub target: Bytes,
+    /// 0 where none was sent, and the line has `000`.
     pub status: u16,
     /// The bytes of content that were sent.
     pub length: u64,
     /// What the proxy's member of Cache-Status says behind the proxy's name, or the text of Refusal.
     pub reason: Bytes,
-    /// From the request's first byte to the reply, in milliseconds.
+    /// From the request's first byte to the reply, or until its client had gone, in milliseconds.
     pub took: u64,
     /// The address of the origin that was asked; empty where none was.
     pub origin: Bytes,
@@ -126,6 +127,20 @@ fn push_number(text: &mut Vec<u8>, n: u64) -> Result<(), AllocError>
     text.extend_from_slice(b" ")
 }
 
+/// A status, zeros where none was sent.
+fn push_status(text: &mut Vec<u8>, status: u16) -> Result<(), AllocError>
+    ensures ok { OnOk result (text.new.items ≡ text.old.items ++ (status_word status ++ codes " ")) }
+    ensures full { OnErr result (vec_capacity text.old < length text.old.items + length
+        (status_word status ++ codes " ")) }
+    ensures capacity { vec_capacity text.old ≤ vec_capacity text.new }
+    ensures front { take (length text.old.items) text.new.items ≡ text.old.items }
+{
+    if status == 0 {
+        return text.extend_from_slice(b"000 ");
+    }
+    push_number(text, u64::from(status))
+}
+
 /// The last word, and the end of the line.
 fn push_last(text: &mut Vec<u8>, bytes: &[u8]) -> Result<(), AllocError>
     ensures ok { OnOk result (text.new.items ≡ text.old.items ++ (logged_word bytes.now ++ codes "\n")) }
@@ -163,7 +178,7 @@ fn push_answer(text: &mut Vec<u8>, line: &Line) -> Result<(), AllocError>
     ensures capacity { vec_capacity text.old ≤ vec_capacity text.new }
     ensures front { take (length text.old.items) text.new.items ≡ text.old.items }
 {
-    push_number(text, u64::from(line.status))?;
+    push_status(text, line.status)?;
     push_number(text, line.length)?;
     push_shown(text, true, line.reason.as_slice())?;
     text.extend_from_slice(b" ")

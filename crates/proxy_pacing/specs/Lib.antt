@@ -1,2 +1,3 @@
 pub mod MomentOrder
+pub mod Queues
 pub mod RestBytes

@@ -1,8 +1,11 @@
-//! What the definitions of moments give on worked cases, computed from them.
+//! What the definitions of moments and of queues give on worked cases, computed from them.
 
 ghost use Rattle.std.specs.Prelude.{◌≡◌, ◌∷◌, [], None, Some, true, false};
 ghost use Rattle.proxy_pacing.specs.MomentOrder.{due_moment, with_moment, without_due, without_moment};
+ghost use Rattle.proxy_pacing.specs.Queues.{first_from, queue_of_streams};
 ghost use Rattle.proxy_pacing.specs.RestBytes.{is_nothing};
+ghost use Rattle.proxy_pacing.specs.declared.stream_queues.StreamQueue.TheVariants.{Leaving, Lingering};
+ghost use Rattle.proxy_pacing.specs.declared.stream_queues.StreamQueues.{StreamQueues};
 
 /// The earliest stands first, and of one moment the least holder; each stands once. The earliest is due at its moment
 /// and behind it, and no other is.
@@ -26,4 +29,14 @@ pub fn worked_moments()
     ensures all_left { without_due 4 (record { at = 5; id = 1 } ∷ []) ≡ record { at = 5; id = 1 } ∷ [] }
     ensures nothing { is_nothing [] ≡ true }
     ensures something { is_nothing (0 ∷ []) ≡ false }
+{}
+
+/// Each queue is its own; the first from a stamp on may have that stamp.
+pub fn worked_queues()
+    ensures leaving { (q : StreamQueues) → queue_of_streams Leaving q ≡ q.leaving }
+    ensures lingering { (q : StreamQueues) → queue_of_streams Lingering q ≡ q.lingering }
+    ensures from { first_from 3 ((2, 9) ∷ (5, 1) ∷ (6, 7) ∷ []) ≡ Some (5, 1) }
+    ensures at { first_from 5 ((2, 9) ∷ (5, 1) ∷ (6, 7) ∷ []) ≡ Some (5, 1) }
+    ensures of_all { first_from 0 ((2, 9) ∷ (5, 1) ∷ []) ≡ Some (2, 9) }
+    ensures behind_all { first_from 7 ((2, 9) ∷ (5, 1) ∷ []) ≡ None }
 {}

@@ -1,12 +1,15 @@
-//! How much of what a client sent is handed in at a time, and who comes next by moments. No socket is used here.
+//! How much of what a client sent is handed in at a time, who comes next by moments, and the queues of those that were
+//! closed. No socket is used here.
 #![tactic(auto)]
 
 mod laws;
 mod moments;
 mod pieces;
 mod rest;
+mod stream_queues;
 
-pub use crate::laws::worked_moments;
+pub use crate::laws::{worked_moments, worked_queues};
 pub use crate::moments::{Moment, Moments};
 pub use crate::pieces::{LEAST_HANDED_IN, head_end};
 pub use crate::rest::Rest;
+pub use crate::stream_queues::{StreamQueue, StreamQueues};

@@ -1,13 +1,18 @@
 -- What the bounds of a table and of a server come to in memory, in bytes, as docs/LIMITS.md has it.
-use Rattle.std.specs.Prelude.{ℕ, Bool, ◌+◌, ◌-◌, ◌*◌, ◌/◌, ◌%◌, ◌^◌, ◌==◌, min, if◌then◌else◌}
+use Rattle.std.specs.Prelude.{ℕ, Option, None, Some, Bool, ◌+◌, ◌-◌, ◌*◌, ◌/◌, ◌%◌, ◌^◌, ◌==◌, min, if◌then◌else◌}
 
 -- the greatest number that is told
 abbrev pub greatest : ℕ
 greatest = 2 ^ 64 - 1
 
 -- each response with the most content, and 80,000 bytes for its head, its target twice and its nominated values
-abbrev pub most_stored : ℕ → ℕ → ℕ
-most_stored capacity max_stored = min ((max_stored + 80000) * capacity) greatest
+abbrev pub most_by_number : ℕ → ℕ → ℕ
+most_by_number capacity max_stored = min ((max_stored + 80000) * capacity) greatest
+
+-- and no more than all may weigh, with a tenth for what a weight leaves out
+abbrev pub most_stored : ℕ → ℕ → Option ℕ → ℕ
+most_stored capacity max_stored None = most_by_number capacity max_stored
+most_stored capacity max_stored (Some weight) = min (most_by_number capacity max_stored) (weight + weight / 10)
 
 -- contents and heads in progress, whose room grows by doubling, held once more where a log is kept; and 16 KiB a
 -- connection

@@ -2,15 +2,17 @@
 //! meets.
 
 use crate::fault::Fault;
-use crate::meeting::{Question, target_of};
+use crate::meeting::{Met, Question, met_in, target_of};
 use crate::memory::print_store;
+use crate::questions::stored_word;
+use crate::trial::{Trial, try_answer};
 use http::Method;
 use hx_allow::{Config, Verdict};
 use hx_policy::Policy;
-use hx_target::{Target, TargetFault};
+use hx_target::{Key, Target, TargetFault};
 use std::alloc::AllocError;
-use std::io;
 use std::rt::Files;
+use std::{io, str};
 
 fn default_or_word(is_default: bool, word: &'static str) -> &'static str {
     if is_default { "" } else { word }
@@ -24,6 +26,9 @@ fn print_policy<R: Print>(rt: &R, policy: Policy) -> io::Result<()> {
     println!(rt; "    cache = \"on\"")?;
     if let Some(seconds) = policy.lifetime {
         println!(rt; "    lifetime = {seconds}")?;
+    }
+    if let Some(seconds) = policy.error_lifetime {
+        println!(rt; "    error-lifetime = {seconds}")?;
     }
     if let Some(seconds) = policy.stale_if_error {
         println!(rt; "    stale-if-error = {seconds}")?;
@@ -63,6 +68,37 @@ fn print_verdict<R: Print>(
     }
 }
 
+/// Tells the key of a request, by which a stored response is found, and where its scheme can't come.
+fn print_key<R: Print>(rt: &R, question: &Question<'_>, key: &Key) -> io::Result<()> {
+    let host = str::from_utf8(key.host.as_slice()).unwrap_or("-");
+    let path = str::from_utf8(key.path_query.as_slice()).unwrap_or("-");
+    println!(rt; "    key {host}:{}{path}", key.port)?;
+    if question.is_secure() {
+        println!(rt;
+            "    https comes by a front alone, which takes it away; a request that names it itself is refused: scheme"
+        )?;
+    }
+    Ok(())
+}
+
+/// Tells what becomes of an answer to a request, if that is allowed.
+fn print_tried<R: Print + AllocGlobal>(
+    rt: &R,
+    config: &Config,
+    question: &Question<'_>,
+    trial: &Trial<'_>,
+) -> Result<(), Fault> {
+    let Met::Allowed(_) = met_in(rt.alloc(), config, question)? else {
+        return Ok(());
+    };
+    let tried = try_answer(rt.alloc(), question, trial)?;
+    let (reason, word) = (tried.reason.as_str(), stored_word(tried.is_stored));
+    match println!(rt; "    with this answer: {word}, {reason}") {
+        Ok(()) => Ok(()),
+        Err(_) => Err(Fault::Write(None)),
+    }
+}
+
 /// Tells what a request meets.
 fn print_answer<R: Print + AllocGlobal>(
     rt: &R,
@@ -73,7 +109,10 @@ fn print_answer<R: Print + AllocGlobal>(
         return Err(Fault::Usage(None));
     };
     let shown = match target_of(rt.alloc(), question) {
-        Ok(target) => print_verdict(rt, config, question.text, &method, &target),
+        Ok(target) => match print_verdict(rt, config, question.text, &method, &target) {
+            Ok(()) => print_key(rt, question, &target.key),
+            Err(e) => Err(e),
+        },
         Err(TargetFault::OutOfMemory) => return Err(Fault::NoMemory),
         Err(fault) => println!(rt;
             "{} is refused before the table is asked: {fault}",
@@ -107,18 +146,23 @@ fn print_table<R: Print + Files + AllocGlobal>(rt: &R, config: &Config) -> io::R
     print_idle(rt, config)
 }
 
-/// Tells what a table says, and what a request meets where one is asked about.
+/// Tells what a table says, and what a request meets where one is asked about, and an answer to it.
 pub(crate) fn print_checked<R: Print + Files + AllocGlobal>(
     rt: &R,
     config: &Config,
     question: Option<&Question<'_>>,
+    trial: Option<&Trial<'_>>,
 ) -> Result<(), Fault> {
     match print_table(rt, config) {
         Ok(()) => {}
         Err(_) => return Err(Fault::Write(None)),
     }
-    match question {
-        Some(question) => print_answer(rt, config, question),
+    let Some(question) = question else {
+        return Ok(());
+    };
+    print_answer(rt, config, question)?;
+    match trial {
+        Some(trial) => print_tried(rt, config, question, trial),
         None => Ok(()),
     }
 }

@@ -2,6 +2,7 @@
 
 use crate::fault::Fault;
 use crate::meeting::{Question, question_of};
+use crate::trial::is_answer;
 use clap::builder::ValueParser;
 use clap::{Arg, ArgAction, ArgMatches, Command, Error};
 use proxy_server::{Limits, ListenAt};
@@ -57,6 +58,8 @@ pub(crate) struct Checking<'a> {
     pub(crate) question: Option<Question<'a>>,
     /// A file of questions, with what is expected of each.
     pub(crate) questions: Option<&'a str>,
+    /// What an origin answers to what is asked.
+    pub(crate) answer: Option<&'a str>,
     /// Another table, and a log of whose requests it is told which they decide differently.
     pub(crate) against: Option<(&'a str, &'a str)>,
 }
@@ -121,6 +124,12 @@ fn check<'a>(alloc: Global) -> Result<Command<'a>, Error> {
         ))?
         .arg(option_with_value(
             alloc,
+            "answer",
+            "LINES",
+            "an origin's answer to what is asked, as 'Cache-Control: max-age=60' or '404 | Set-Cookie: a=b': tells whether it is stored",
+        ))?
+        .arg(option_with_value(
+            alloc,
             "against",
             "OLD",
             "another table: tells which requests of --log are decided otherwise than by that",
@@ -141,9 +150,11 @@ A line on standard error names a fault; what it was about, and what to do, stand
 
 const CHECK_HELP: &str = "Example:
   revcache check /etc/revcache/table.toml --ask 'GET http://shop.example/cart'
+  revcache check /etc/revcache/table.toml --ask 'GET http://shop.example/' --answer 'Cache-Control: max-age=60'
   revcache check new.toml --against /etc/revcache/table.toml --log /var/log/revcache/access.log
 
-What may stand behind => of a question: line N, denied, denied by line N, no line, refused.
+What may stand behind => of a question: line N, denied, denied by line N, no line, refused, stored, not stored.
+The last two are of --answer, or of a line in front as 'answer: Cache-Control: max-age=60'.
 
 Exit statuses:
   0   the table is good
@@ -479,10 +490,17 @@ fn check_of<'a>(alloc: Global, matches: &ArgMatches<'a>) -> Result<Form<'a>, Fau
         },
         None => None,
     };
+    let answer = matches.get_str("answer");
+    if let Some(text) = answer {
+        if !is_answer(text) {
+            return Err(answer_fault(alloc, text));
+        }
+    }
     Ok(Form::Check(Checking {
         table: path,
         question,
         questions: matches.get_str("ask-file"),
+        answer,
         against,
     }))
 }
@@ -490,6 +508,14 @@ fn check_of<'a>(alloc: Global, matches: &ArgMatches<'a>) -> Result<Form<'a>, Fau
 /// What is said of one of the two options that belong together.
 fn against_fault(alloc: Global) -> Fault {
     let words = format!(in alloc; "error: '--against <OLD>' and '--log <FILE>' go together");
+    Fault::Usage(words.ok())
+}
+
+/// What is said of a text that is no answer.
+fn answer_fault(alloc: Global, text: &str) -> Fault {
+    let words = format!(in alloc;
+        "error: invalid value '{text}' for '--answer <LINES>': lines of a head with | between them, and a status in front if it isn't 200, as in '404 | Cache-Control: max-age=60'"
+    );
     Fault::Usage(words.ok())
 }
 

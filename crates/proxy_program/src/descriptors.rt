@@ -2,7 +2,7 @@
 
 use crate::files::read_front;
 use std::rt::Files;
-use std::str;
+use std::{fs, str};
 
 /// The listener, the log, the record, the table, and what the system wants besides.
 const OTHER_DESCRIPTORS: u64 = 16;
@@ -32,6 +32,13 @@ fn number_of(text: &str) -> Option<u64> {
         }
     }
     None
+}
+
+/// The descriptors that are open, where the system tells: since Linux 6.2 it is the size of this folder, else 0. To go
+/// over its names would hold everything up where there are tens of thousands.
+pub(crate) fn descriptors_open<R: Files>(rt: &R) -> Option<u64> {
+    let size = fs::metadata(rt, "/proc/self/fd").ok()?.len();
+    if size > 0 { Some(size) } else { None }
 }
 
 /// The descriptors that the process may have, where the system tells.

@@ -1,6 +1,7 @@
 //! The figures of a server, written once a second.
 
 use crate::command_line::VERSION;
+use crate::process::process_figures;
 use crate::stats_file::StatsFile;
 use crate::warnings::RareWarning;
 use hx_store::Shelf;
@@ -10,12 +11,24 @@ use std::io::{ErrorKind, Write};
 use std::net::Net;
 use std::rt::Files;
 
-/// Where the figures go, and what a server can't know of itself.
+/// What a server can't know of itself, and what doesn't change while it runs.
+#[derive(Clone, Copy)]
+pub(crate) struct FixedFacts {
+    /// When it began, in milliseconds since 1970.
+    pub(crate) began: u64,
+    /// When the process began, and how many descriptors it may have, where the system tells.
+    pub(crate) process_began: Option<u64>,
+    pub(crate) most_descriptors: Option<u64>,
+    /// The most stored responses, and the most bytes of all of them, where the table bounds those.
+    pub(crate) capacity: u64,
+    pub(crate) capacity_bytes: Option<u64>,
+}
+
+/// Where the figures go, and what they say beside what the server tells.
 #[derive(Drop)]
 pub(crate) struct Figures<'a> {
     file: StatsFile<'a>,
-    began: u64,
-    capacity: u64,
+    facts: FixedFacts,
     commit: String,
     store: &'a StoreCounts,
     /// The second in which they were written last.
@@ -26,15 +39,13 @@ pub(crate) struct Figures<'a> {
 impl<'a> Figures<'a> {
     pub(crate) fn new(
         file: StatsFile<'a>,
-        began: u64,
-        capacity: u64,
+        facts: FixedFacts,
         commit: String,
         store: &'a StoreCounts,
     ) -> Figures<'a> {
         Figures {
             file,
-            began,
-            capacity,
+            facts,
             commit,
             store,
             written: None,
@@ -49,13 +60,16 @@ impl<'a> Figures<'a> {
         server: &Server<'s, S, R, W>,
         lost_lines: u64,
     ) -> io::Result<()> {
+        let facts = self.facts;
         let about = ServerFacts {
             version: VERSION,
             commit: self.commit.as_str(),
-            began: self.began,
-            capacity: self.capacity,
+            began: facts.began,
+            capacity: facts.capacity,
+            capacity_bytes: facts.capacity_bytes,
             store: self.store,
             lost_lines,
+            process: process_figures(rt, facts.process_began, facts.most_descriptors),
         };
         match server.stats(rt.alloc(), &about) {
             Ok(page) => self.file.write(rt, page.as_slice()),

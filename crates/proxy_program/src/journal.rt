@@ -30,8 +30,14 @@ pub(crate) struct Journal<F: Write + Drop, P: Write + Drop> {
     lost: u64,
     /// The last write failed, and may have left a part of a line.
     torn: bool,
-    /// Why a write failed, the last one that did.
+    /// Nothing names the file any more, and it can't be opened anew: what is written to it is read by nobody.
+    is_gone: bool,
+    /// Why a write failed, the last one that did, or why the file can't be opened anew.
     why: Option<io::Error>,
+    /// How many bytes the file has behind the last line of ours, where that is known.
+    length: Option<u64>,
+    /// The file was once longer than that.
+    is_shared: bool,
 }
 
 /// The file of a log, to whose end lines are added.
@@ -50,13 +56,24 @@ fn has_moved<R: Files>(rt: &R, path: &str, file: &R::File) -> bool {
     }
 }
 
+/// Whether no name is left of this file.
+fn is_removed<R: Files>(_rt: &R, file: &R::File) -> bool {
+    match file.metadata() {
+        Ok(open) => open.nlink() == 0,
+        Err(_) => false,
+    }
+}
+
 impl<F: Write + Drop, P: Write + Drop> Journal<F, P> {
     pub(crate) fn new(target: Target<F, P>) -> Journal<F, P> {
         Journal {
             target,
             lost: 0,
             torn: false,
+            is_gone: false,
             why: None,
+            length: None,
+            is_shared: false,
         }
     }
 
@@ -73,9 +90,35 @@ impl<F: Write + Drop, P: Write + Drop> Journal<F, P> {
     /// Writes whole lines; an LF in front of them ends what a failed write has left.
     fn write_whole(&mut self, lines: &[u8]) -> io::Result<()> {
         if self.torn {
+            // (what was written of the line before isn't known)
+            self.length = None;
             self.target.write_all(b"\n")?;
         }
-        self.target.write_all(lines)
+        self.target.write_all(lines)?;
+        self.length = match self.length {
+            Some(length) => Some(length.saturating_add(lines.len() as u64)),
+            None => None,
+        };
+        Ok(())
+    }
+
+    /// Whether it is seen for the first time that another program adds lines to the file: it is longer than what stood
+    /// there at the last look and the lines since.
+    pub(crate) fn finds_other_lines(&mut self) -> bool
+    where
+        F: OpenFile,
+    {
+        let Target::File(file) = &self.target else {
+            return false;
+        };
+        let Ok(open) = file.metadata() else {
+            return false;
+        };
+        let is_longer = self.length.is_some_and(|it| open.len() > it);
+        self.length = Some(open.len());
+        let is_new = is_longer && !self.is_shared;
+        self.is_shared = self.is_shared || is_longer;
+        is_new
     }
 
     /// Writes whole lines, or counts them as lost.
@@ -83,12 +126,19 @@ impl<F: Write + Drop, P: Write + Drop> Journal<F, P> {
         if lines.is_empty() {
             return;
         }
-        let Err(e) = self.write_whole(lines) else {
-            self.torn = false;
-            return;
-        };
-        self.torn = true;
-        self.why = Some(e);
+        if !self.is_gone {
+            let Err(e) = self.write_whole(lines) else {
+                self.torn = false;
+                return;
+            };
+            self.torn = true;
+            self.why = Some(e);
+        }
+        self.count_lost(lines);
+    }
+
+    /// Counts whole lines as lost.
+    fn count_lost(&mut self, lines: &[u8]) {
         for b in lines {
             if *b == b'\n' {
                 self.lost = self.lost.saturating_add(1);
@@ -96,7 +146,8 @@ impl<F: Write + Drop, P: Write + Drop> Journal<F, P> {
         }
     }
 
-    /// Opens the file anew where its path doesn't name it any more. Where that fails, lines go on into the old one.
+    /// Opens the file anew where its path doesn't name it any more. Where that fails, lines go on into the old one, or
+    /// are lost if that was removed.
     pub(crate) fn follow<R: Files<File = F>>(&mut self, rt: &R, path: &str) {
         let Target::File(file) = &self.target else {
             return;
@@ -104,9 +155,19 @@ impl<F: Write + Drop, P: Write + Drop> Journal<F, P> {
         if !has_moved(rt, path, file) {
             return;
         }
-        if let Ok(file) = log_file(rt, path) {
-            self.target = Target::File(file);
-            self.torn = false;
+        let is_removed = is_removed(rt, file);
+        match log_file(rt, path) {
+            Ok(file) => {
+                self.target = Target::File(file);
+                self.torn = false;
+                self.is_gone = false;
+                self.length = None;
+            }
+            Err(e) if is_removed => {
+                self.is_gone = true;
+                self.why = Some(e);
+            }
+            Err(_) => {}
         }
     }
 }

@@ -17,10 +17,12 @@ mod journal;
 mod meeting;
 mod memory;
 mod mistakes;
+mod process;
 mod program;
 mod questions;
 mod serving;
 mod stats_file;
+mod trial;
 mod warnings;
 mod watch;
 

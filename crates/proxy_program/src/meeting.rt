@@ -17,9 +17,9 @@ pub(crate) struct Question<'a> {
     /// As it was typed: a method, a blank and a URL.
     pub(crate) text: &'a str,
     pub(crate) method: &'a str,
-    host: &'a str,
+    pub(crate) host: &'a str,
     /// The path and the query.
-    path: &'a str,
+    pub(crate) path: &'a str,
 }
 
 /// The host and the path of a URL. A front takes https away, so both schemes are one here.
@@ -44,6 +44,16 @@ pub(crate) fn question_of(text: &str) -> Option<Question<'_>> {
         host,
         path,
     })
+}
+
+impl<'a> Question<'a> {
+    /// Whether its URL is one of https.
+    pub(crate) fn is_secure(&self) -> bool {
+        match self.text.split_once(' ') {
+            Some((_, url)) => url.starts_with("https://"),
+            None => false,
+        }
+    }
 }
 
 pub(crate) fn target_of(alloc: Global, question: &Question<'_>) -> Result<Target, TargetFault> {

@@ -33,12 +33,16 @@ pub(crate) fn megabytes(bytes: u64) -> u64
     }
 }
 
-/// Bytes that the store takes, at most.
+/// Bytes that the store takes, at most: by the number of its responses, and by what they weigh, where that is bounded.
 pub(crate) fn most_stored(config: &Config) -> u64
-    ensures { result ≡ most_stored config.now.capacity config.now.max_stored }
+    ensures { result ≡ most_stored config.now.capacity config.now.max_stored config.now.max_store }
 {
     let each = (config.max_stored() as u64).saturating_add(BESIDE_CONTENT);
-    each.saturating_mul(config.capacity() as u64)
+    let by_number = each.saturating_mul(config.capacity() as u64);
+    match config.max_store() {
+        Some(weight) => by_number.min(weight + weight / 10),
+        None => by_number,
+    }
 }
 
 /// Bytes that are held beside the store, at most: what is in progress, whose room is up to twice its size and which a
@@ -186,7 +190,7 @@ pub(crate) fn print_store<R: Print + Files + AllocGlobal>(
     println!(rt; "the store takes {} MB at most", megabytes(most))?;
     match memory_allowed(rt) {
         Some(allowed) if allowed.bytes() < most => println!(rt;
-            "that is more than the {} MB that {}: lower capacity or max_stored",
+            "that is more than the {} MB that {}: lower capacity, max_stored or max_store",
             megabytes(allowed.bytes()),
             allowed.owner()
         ),

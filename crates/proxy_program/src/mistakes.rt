@@ -44,11 +44,17 @@ fn line_with(table: &Table, key: &str) -> Option<usize> {
     None
 }
 
+/// Whether the top of a table has a key: `max_store` is one of version 4.
+fn is_known_at_top(table: &Table, key: &str) -> bool {
+    TOP_KEYS.contains(&key)
+        || (key == "max_store" && table.get("version").and_then(Value::as_integer) == Some(4))
+}
+
 /// Where a key that isn't known stands.
 fn place_of_key(alloc: Global, table: &[u8], key: &[u8]) -> Option<String> {
     let table = toml::table_from_slice(alloc, table).ok()?;
     let key = str::from_utf8(key).ok()?;
-    if table.contains_key(key) && !TOP_KEYS.contains(&key) {
+    if table.contains_key(key) && !is_known_at_top(&table, key) {
         return format!(in alloc; "the key {key} stands at the top of the table").ok();
     }
     let line = line_with(&table, key)?;

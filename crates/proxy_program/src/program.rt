@@ -9,6 +9,7 @@ use crate::files::{read_questions, read_table};
 use crate::mistakes::config_of;
 use crate::questions::ask_all;
 use crate::serving::serve;
+use crate::trial::Trial;
 use clap::Error;
 use clap::error::ErrorKind;
 use hx_allow::Config;
@@ -19,6 +20,14 @@ use std::random::RandomSource;
 use std::rt::{Clock, Env, Files};
 use std::{env, io};
 
+/// Unix seconds now; 0 where the clock can't be read, or before 1970.
+fn seconds_now<R: Clock>(rt: &R) -> u64 {
+    match rt.since_1970() {
+        Ok(now) => now.as_secs(),
+        Err(_) => 0,
+    }
+}
+
 /// The table in a file.
 fn table_in<R: Files + AllocGlobal>(rt: &R, path: &str) -> Result<Config, Fault> {
     let table = read_table(rt, path)?;
@@ -26,14 +35,28 @@ fn table_in<R: Files + AllocGlobal>(rt: &R, path: &str) -> Result<Config, Fault>
 }
 
 /// Checks a table, and tells what it says, what it would change, and which questions it answers otherwise.
-fn check<R: Files + Print + AllocGlobal>(rt: &R, checking: &Checking<'_>) -> Result<(), Fault> {
-    let config = table_in(rt, checking.table)?;
-    print_checked(rt, &config, checking.question.as_ref())?;
+fn check<R: Files + Print + Clock + AllocGlobal>(
+    rt: &R,
+    checking: &Checking<'_>,
+) -> Result<(), Fault> {
+    let table = read_table(rt, checking.table)?;
+    let config = config_of(rt.alloc(), table.as_slice())?;
+    let trial = Trial {
+        table: table.as_slice(),
+        now: seconds_now(rt),
+        answer: checking.answer.unwrap_or(""),
+    };
+    let told = if checking.answer.is_some() {
+        Some(&trial)
+    } else {
+        None
+    };
+    print_checked(rt, &config, checking.question.as_ref(), told)?;
     if let Some((old, log)) = checking.against {
         print_compared(rt, &config, &table_in(rt, old)?, log)?;
     }
     match checking.questions {
-        Some(path) => ask_all(rt, &config, read_questions(rt, path)?.as_str()),
+        Some(path) => ask_all(rt, &config, read_questions(rt, path)?.as_str(), &trial),
         None => Ok(()),
     }
 }
@@ -94,7 +117,7 @@ impl From<Fault> for EndedEarly {
     }
 }
 
-fn checked<R: Files + Print + AllocGlobal>(
+fn checked<R: Files + Print + Clock + AllocGlobal>(
     rt: &R,
     checking: &Checking<'_>,
 ) -> Result<(), EndedEarly> {

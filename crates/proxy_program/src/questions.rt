@@ -1,12 +1,14 @@
 //! Tests of a table: a file of questions, each with what is expected of it.
 //!
 //! A line of it is a method, a blank, a URL, `=>` and one of `line N` (allowed by it), `denied`, `denied by line N`,
-//! `no line` and `refused` (before the table is asked). An empty line, and one that begins with `#`, is passed over.
+//! `no line`, `refused` (before the table is asked), `stored` and `not stored` (an answer to it). That answer stands in
+//! a line in front, behind `answer:`. An empty line, and one that begins with `#`, is passed over.
 ghost use Rattle.std.specs.Prelude.{◌≡◌};
 ghost use Rattle.proxy_program.specs.Meeting.{expectation_is_met};
 
 use crate::fault::Fault;
 use crate::meeting::{Met, Question, met_in, question_of};
+use crate::trial::{Trial, is_answer, try_answer};
 use hx_allow::Config;
 use std::alloc::Global;
 
@@ -53,6 +55,29 @@ impl Expected {
     }
 }
 
+/// What is asked for of a request, or of an answer to it.
+#[derive(Clone, Copy, Debug, PartialEq, Eq)]
+enum Wanted {
+    Meets(Expected),
+    /// Whether an answer to it is stored.
+    Stores(bool),
+}
+
+impl Wanted {
+    fn of(text: &str) -> Option<Wanted> {
+        match text {
+            "stored" => Some(Wanted::Stores(true)),
+            "not stored" => Some(Wanted::Stores(false)),
+            _ => Some(Wanted::Meets(Expected::of(text)?)),
+        }
+    }
+}
+
+/// How it is told whether an answer is stored.
+pub(crate) fn stored_word(is_stored: bool) -> &'static str {
+    if is_stored { "stored" } else { "not stored" }
+}
+
 /// A line of questions that is none.
 fn question_fault(alloc: Global, number: usize, line: &str) -> Fault {
     let words = format!(in alloc;
@@ -62,9 +87,9 @@ fn question_fault(alloc: Global, number: usize, line: &str) -> Fault {
 }
 
 /// A question and what is expected of it.
-fn test_of(line: &str) -> Option<(Question<'_>, Expected)> {
-    let (asked, expected) = line.split_once("=>")?;
-    Some((question_of(asked.trim())?, Expected::of(expected.trim())?))
+fn test_of(line: &str) -> Option<(Question<'_>, Wanted)> {
+    let (asked, wanted) = line.split_once("=>")?;
+    Some((question_of(asked.trim())?, Wanted::of(wanted.trim())?))
 }
 
 /// What was asked, and how often it was answered otherwise.
@@ -74,43 +99,95 @@ struct Tally {
     differ: u64,
 }
 
+/// What is wrong with what a request meets, if anything is.
+fn met_otherwise(alloc: Global, met: Met, expected: Expected) -> Result<Option<String>, Fault> {
+    if expected.is_met(met) {
+        return Ok(None);
+    }
+    Ok(Some(format!(in alloc; "{met}")?))
+}
+
+/// What is wrong with whether an answer is stored, if anything is.
+fn stored_otherwise(
+    alloc: Global,
+    met: Met,
+    question: &Question<'_>,
+    trial: &Trial<'_>,
+    wanted: bool,
+) -> Result<Option<String>, Fault> {
+    let Met::Allowed(_) = met else {
+        return Ok(Some(format!(in alloc; "{met}")?));
+    };
+    let tried = try_answer(alloc, question, trial)?;
+    if tried.is_stored == wanted {
+        return Ok(None);
+    }
+    let (word, reason) = (stored_word(tried.is_stored), tried.reason.as_str());
+    Ok(Some(format!(in alloc; "{word}, {reason}")?))
+}
+
 /// Asks what a line of the questions asks, and tells where the answer isn't the one that is expected.
 fn ask_line<R: Print + AllocGlobal>(
     rt: &R,
     config: &Config,
     number: usize,
     line: &str,
+    trial: &Trial<'_>,
     tally: &mut Tally,
 ) -> Result<(), Fault> {
-    let Some((question, expected)) = test_of(line) else {
-        return Err(question_fault(rt.alloc(), number, line));
+    let alloc = rt.alloc();
+    let Some((question, wanted)) = test_of(line) else {
+        return Err(question_fault(alloc, number, line));
     };
-    let met = met_in(rt.alloc(), config, &question)?;
+    let met = met_in(alloc, config, &question)?;
     tally.asked = tally.asked.saturating_add(1);
-    if expected.is_met(met) {
+    let otherwise = match wanted {
+        Wanted::Meets(expected) => met_otherwise(alloc, met, expected)?,
+        Wanted::Stores(is_stored) => stored_otherwise(alloc, met, &question, trial, is_stored)?,
+    };
+    let Some(otherwise) = otherwise else {
         return Ok(());
-    }
+    };
     tally.differ = tally.differ.saturating_add(1);
-    match println!(rt; "line {number}: {line}: it is {met}") {
+    let otherwise = otherwise.as_str();
+    match println!(rt; "line {number}: {line}: it is {otherwise}") {
         Ok(()) => Ok(()),
         Err(_) => Err(Fault::Write(None)),
     }
 }
 
 /// Asks all of a file's questions, and tells each answer that isn't the one that is expected. Fails where there is one.
+/// An origin's answer is that of the trial, until a line says another one.
 pub(crate) fn ask_all<R: Print + AllocGlobal>(
     rt: &R,
     config: &Config,
     text: &str,
+    trial: &Trial<'_>,
 ) -> Result<(), Fault> {
+    let mut answer = String::from_str(rt.alloc(), trial.answer)?;
     let mut tally = Tally {
         asked: 0,
         differ: 0,
     };
     for (place, line) in text.lines().enumerate() {
         let line = line.trim();
-        if !line.is_empty() && !line.starts_with('#') {
-            ask_line(rt, config, place.saturating_add(1), line, &mut tally)?;
+        let number = place.saturating_add(1);
+        if line.is_empty() || line.starts_with('#') {
+            continue;
+        }
+        match line.strip_prefix("answer:") {
+            Some(told) if is_answer(told.trim()) => {
+                answer = String::from_str(rt.alloc(), told.trim())?;
+            }
+            Some(_) => return Err(question_fault(rt.alloc(), number, line)),
+            None => {
+                let by = Trial {
+                    table: trial.table,
+                    now: trial.now,
+                    answer: answer.as_str(),
+                };
+                ask_line(rt, config, number, line, &by, &mut tally)?;
+            }
         }
     }
     let Tally { asked, differ } = tally;

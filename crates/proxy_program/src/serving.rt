@@ -6,12 +6,13 @@ use crate::command_line::Service;
 use crate::commit::commit_of;
 use crate::descriptors::{connections_within, descriptors_allowed, descriptors_wanted};
 use crate::fault::{Fault, fault_of, system_call_words};
-use crate::figures::Figures;
+use crate::figures::{Figures, FixedFacts};
 use crate::files::read_table;
 use crate::journal::{Journal, Target, log_file};
 use crate::memory::{megabytes, memory_allowed, most_held, most_stored};
 use crate::mistakes::config_of;
-use crate::stats_file::StatsFile;
+use crate::process::process_start;
+use crate::stats_file::{StatsFile, warn_of_other_writer};
 use crate::warnings::Warnings;
 use crate::watch::{ServerState, Watch};
 use hx_allow::Config;
@@ -113,7 +114,7 @@ fn announce_memory<R: Files + Eprint + AllocGlobal>(rt: &R, stored: u64, held: u
         Some(allowed) if allowed.bytes() < most => {
             let (bound, owner) = (megabytes(allowed.bytes()), allowed.owner());
             let _ = eprintln!(rt;
-                "warning: that is more than the {bound} MB that {owner}: lower capacity, max_stored, --content-limit or --connections"
+                "warning: that is more than the {bound} MB that {owner}: lower capacity, max_stored, max_store, --content-limit or --connections"
             );
         }
         _ => {}
@@ -175,6 +176,11 @@ where
             ServerState::On => {}
             ServerState::Draining => {
                 let _ = eprintln!(rt; "draining");
+                if let Some(path) = watch.left_drain_file() {
+                    let _ = eprintln!(rt;
+                        "warning: {path} was there at the start, so it ends at once: remove that file before a start"
+                    );
+                }
             }
             ServerState::Over => return Ok(()),
         }
@@ -236,9 +242,15 @@ fn figures_of<'a, 'n, R: Net + Clock + Files + AllocGlobal>(
     let whole = now.as_secs().saturating_mul(1000);
     let began = whole.saturating_add(u64::from(now.subsec_millis()));
     let file = StatsFile::new(rt, path)?;
-    let capacity = config.capacity() as u64;
+    let facts = FixedFacts {
+        began,
+        process_began: process_start(rt, began),
+        most_descriptors: descriptors_allowed(rt),
+        capacity: config.capacity() as u64,
+        capacity_bytes: config.max_store(),
+    };
     let commit = commit_of(rt)?;
-    Ok(Some(Figures::new(file, began, capacity, commit, store)))
+    Ok(Some(Figures::new(file, facts, commit, store)))
 }
 
 /// A number that nobody can foresee, for what tells variants apart before they are looked at.
@@ -364,6 +376,7 @@ fn serve_table<'n, R: Net + Clock + Files + Print + Eprint + AllocGlobal + Rando
     }
     let mut figures = figures_of(rt, service.stats, &config, &store, &mut sockets)?;
     warn_of_loops(rt, &config, start.address);
+    warn_of_other_writer(rt, service.stats, start.address);
     let mut server = Server::new(rt.alloc(), config, shelf, sockets, record);
     begin_figures(rt, &figures, &server)?;
     announce_memory(rt, start.stored, start.held);

@@ -41,12 +41,14 @@ pub(crate) struct Warnings {
     silent: RareWarning,
     no_descriptor: RareWarning,
     no_link: RareWarning,
+    no_port: RareWarning,
     cut: RareWarning,
     clock: ClockWatch,
     record_reported: bool,
     refused: u64,
     without_descriptor: u64,
     links: u64,
+    without_port: u64,
     refused_links: u64,
     silences: u64,
 }
@@ -59,12 +61,14 @@ impl Warnings {
             silent: RareWarning::new(),
             no_descriptor: RareWarning::new(),
             no_link: RareWarning::new(),
+            no_port: RareWarning::new(),
             cut: RareWarning::new(),
             clock: ClockWatch::new(),
             record_reported: false,
             refused: 0,
             without_descriptor: 0,
             links: 0,
+            without_port: 0,
             refused_links: 0,
             silences: 0,
         }
@@ -121,7 +125,18 @@ impl Warnings {
             );
         }
         self.links = troubles.no_link;
+        self.look_at_ports(rt, &troubles, second);
         self.look_at_origins(rt, &troubles, second);
+    }
+
+    /// Tells that no local port was left since the last look.
+    fn look_at_ports<R: Eprint>(&mut self, rt: &R, troubles: &Troubles, second: u64) {
+        if troubles.no_port > self.without_port && self.no_port.is_due(second) {
+            let _ = eprintln!(rt;
+                "warning: no local port is left for a connection to an origin: the request is answered 502"
+            );
+        }
+        self.without_port = troubles.no_port;
     }
 
     /// Tells that connects to origins were refused at once since the last look.

@@ -18,6 +18,8 @@ pub(crate) struct Watch<'a> {
     looked: Option<u64>,
     /// The second from which on nothing is waited for.
     ends: Option<u64>,
+    /// The file that has it end was there from the start.
+    is_early: bool,
 }
 
 /// Whether a server goes on.
@@ -27,6 +29,13 @@ pub(crate) enum ServerState {
     /// It begins to end.
     Draining,
     Over,
+}
+
+/// Tells that another program adds lines to the log.
+fn tell_of_other_lines<R: Eprint>(rt: &R, path: &str) {
+    let _ = eprintln!(rt;
+        "warning: another program adds lines to {path}, too: give each a log of its own"
+    );
 }
 
 impl<'a> Watch<'a> {
@@ -41,6 +50,7 @@ impl<'a> Watch<'a> {
             log,
             looked: None,
             ends: None,
+            is_early: false,
         }
     }
 
@@ -53,6 +63,11 @@ impl<'a> Watch<'a> {
             },
             None => false,
         }
+    }
+
+    /// The file that has it end, where that was there at the first look: it may be one that an earlier end has left.
+    pub(crate) fn left_drain_file(&self) -> Option<&'a str> {
+        if self.is_early { self.drain } else { None }
     }
 
     /// Says on standard output why lines of the log are lost, unless the log itself is there.
@@ -74,7 +89,7 @@ impl<'a> Watch<'a> {
     }
 
     /// Looks behind a turn.
-    pub(crate) fn look<'s, R: Net + Files + Clock, S: Shelf + Drop, P: Write + Drop>(
+    pub(crate) fn look<'s, R: Net + Files + Clock + Eprint, S: Shelf + Drop, P: Write + Drop>(
         &mut self,
         rt: &R,
         server: &mut Server<'s, S, R, R::File>,
@@ -89,11 +104,16 @@ impl<'a> Watch<'a> {
         if self.looked == Some(now) {
             return ServerState::On;
         }
+        let is_first = self.looked.is_none();
         self.looked = Some(now);
         if let (Some(journal), Some(path)) = (journal, self.log) {
             journal.follow(rt, path);
+            if journal.finds_other_lines() {
+                tell_of_other_lines(rt, path);
+            }
         }
         if self.ends.is_none() && self.is_to_end(rt) {
+            self.is_early = is_first;
             self.ends = Some(now.saturating_add(self.drain_timeout));
             server.drain();
             return ServerState::Draining;

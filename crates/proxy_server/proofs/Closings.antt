@@ -9,13 +9,14 @@ use Rattle.std.specs.Ordering.{nat_cmp}
 use Rattle.slab.proofs.SlabLemmas.{Updates-with_value}
 use Rattle.slab.specs.Slab as slab
 use Rattle.slab.specs.Slab.{Slab}
-use Rattle.proxy_server.specs.Closing.{FirstGivesWay, ClosedStreamsAreBounded, AtMostOneOtherStreamGoes, StreamIsClosedByNumber, StandsInQueue, QueuesOrGoes, TakesFirst, LeavesWhereUnsent, longest_waiting_in_queue}
+use Rattle.proxy_server.specs.Closing.{FirstGivesWay, ClosedStreamsAreBounded, AtMostOneOtherStreamGoes, StreamIsClosedByNumber, StandsInQueue, QueuesOrGoes, TakesFirst, LeavesWhereUnsent}
+use Rattle.proxy_pacing.specs.Queues.{longest_waiting_in_queue}
 use Rattle.proxy_server.specs.OtherEntries.{OtherSlabKeysStay}
 use Rattle.proxy_server.specs.Streams.{client_at, stream_at_number}
 use Rattle.proxy_server.specs.declared.clients.client.Client.{Client}
 use Rattle.proxy_server.specs.declared.clients.client.Place.{Place}
-use Rattle.proxy_server.specs.declared.clients.stream_queues.StreamQueue.{StreamQueue}
-use Rattle.proxy_server.specs.declared.clients.stream_queues.StreamQueue.TheVariants.{Leaving}
+use Rattle.proxy_pacing.specs.declared.stream_queues.StreamQueue.{StreamQueue}
+use Rattle.proxy_pacing.specs.declared.stream_queues.StreamQueue.TheVariants.{Leaving}
 
 pub none_goes : {A : Type 0} (key : ℕ) (old new : Slab A) → OtherSlabKeysStay key old new → AtMostOneOtherStreamGoes key old new
 none_goes key old new stay = record { other = key; gone = λ other. absurd (other refl); others = λ k not_key not_other. stay k not_key }

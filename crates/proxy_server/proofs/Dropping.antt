@@ -5,12 +5,12 @@ use Rattle.std.specs.declared.io.Error.{Error}
 use Rattle.proxy_turn.specs.declared.sockets.Received.{Received}
 use Rattle.proxy_turn.specs.declared.sockets.Received.TheVariants as received
 use Rattle.proxy_server.specs.Closing.{still_to_wait, InputIsDropped}
-use Rattle.proxy_server.specs.Peers.{PeerReadOutcome, Nothing, peer_read_outcome, is_last_read, is_passing_reason, IsFailure}
-use Rattle.proxy_server.specs.Streams.{PeerIsRead}
+use Rattle.proxy_streams.specs.PeerCalls.{PeerIsRead}
+use Rattle.proxy_streams.specs.Peers.{PeerReadOutcome, Nothing, peer_read_outcome, is_last_read, is_passing_reason, IsFailure}
 use Rattle.proxy_server.specs.declared.clients.client.Client.{Client}
 use Rattle.proxy_server.specs.declared.clients.closing.StillToWait.{StillToWait}
 use Rattle.proxy_server.specs.declared.clients.closing.StillToWait.TheVariants.{Yes, No}
-use Rattle.proxy_server.specs.declared.sockets.peer.Peer.{Peer}
+use Rattle.proxy_streams.specs.declared.peer.Peer.{Peer}
 
 by_last : (b : Bool) (w more : StillToWait) (target : StillToWait) → (if b then No else w) ≡ Yes → (w ≡ Yes → more ≡ target) → (if b then No else more) ≡ target
 by_last true w more target h rest = absurd (cc)

@@ -2,5 +2,3 @@ mod Closings
 mod Dropping
 mod Living
 mod Losing
-mod Peering
-mod Streaming

@@ -2,11 +2,12 @@
 use Rattle.std.specs.Prelude.{ℕ, List, [], Bool, true, false, Option, None, Some, length}
 use Rattle.std.specs.declared.alloc.Global.{Global}
 use Rattle.proxy_figures.specs.declared.origins.Admission.TheVariants as admission
-use Rattle.proxy_server.specs.Streams.{new_client, new_peer}
+use Rattle.proxy_streams.specs.PeerCalls.{new_peer}
+use Rattle.proxy_server.specs.Streams.{new_client}
 use Rattle.proxy_server.specs.declared.clients.client.Client.{Client}
 use Rattle.proxy_server.specs.declared.limits.Limits.{Limits}
 use Rattle.proxy_server.specs.declared.links.link.Link.{Link}
-use Rattle.proxy_server.specs.declared.sockets.peer.Peer.{Peer}
+use Rattle.proxy_streams.specs.declared.peer.Peer.{Peer}
 
 abbrev pub limits : Limits
 limits = record {

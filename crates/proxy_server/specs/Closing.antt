@@ -1,6 +1,5 @@
 -- Which streams go where one is closed.
 --
--- longest_waiting_in_queue: who has stood longest in a queue      queue_of_streams: a queue of those that were closed
 -- ClosedStreamsAreBounded: beyond as many as may be closed already the first of them goes
 -- ClientStandsInQueue: a client stands in a line
 -- AtMostOneOtherStreamGoes: of all streams but one, at most one goes
@@ -10,31 +9,23 @@
 -- FirstLingeringGoes: the first of those that have taken all makes room
 -- still_to_wait, InputIsDropped: what still comes is read and dropped, until the end or a failure
 use Rattle.std.specs.Prelude.{◌≡◌, ◌≢◌, ◌<◌, ◌≤◌, ℕ, Bool, true, if◌then◌else◌, List, [], ◌∷◌}
-use Rattle.std.specs.Prelude.{length, Option, None, Some, slice_get}
-use Rattle.std.specs.Option.{option_map}
+use Rattle.std.specs.Prelude.{length, Option, None, Some}
 use Rattle.std.specs.Ordering.{nat_cmp}
 use Rattle.std.specs.BTreeMap.{get, btree_map_len, BTreeMap}
 use Rattle.slab.specs.Slab as slab
 use Rattle.slab.specs.Slab.{Slab}
 use Rattle.proxy_server.specs.OtherEntries.{OtherEntriesStay, OtherSlabKeysStay}
-use Rattle.proxy_server.specs.Peers.{PeerReadOutcome, is_last_read}
+use Rattle.proxy_pacing.specs.Queues.{longest_waiting_in_queue}
+use Rattle.proxy_pacing.specs.declared.stream_queues.StreamQueue.{StreamQueue}
+use Rattle.proxy_pacing.specs.declared.stream_queues.StreamQueue.TheVariants.{Leaving}
+use Rattle.proxy_pacing.specs.declared.stream_queues.StreamQueues.{StreamQueues}
+use Rattle.proxy_streams.specs.Peers.{PeerReadOutcome, is_last_read}
+use Rattle.proxy_streams.specs.declared.peer.Peer.{Peer}
 use Rattle.proxy_server.specs.declared.clients.client.Client.{Client}
 use Rattle.proxy_server.specs.declared.clients.client.Place.{Place}
 use Rattle.proxy_server.specs.declared.clients.client.Place.TheVariants as place
 use Rattle.proxy_server.specs.declared.clients.closing.StillToWait.{StillToWait}
 use Rattle.proxy_server.specs.declared.clients.closing.StillToWait.TheVariants.{Yes, No}
-use Rattle.proxy_server.specs.declared.clients.stream_queues.StreamQueue.{StreamQueue}
-use Rattle.proxy_server.specs.declared.clients.stream_queues.StreamQueue.TheVariants.{Leaving}
-use Rattle.proxy_server.specs.declared.clients.stream_queues.StreamQueue.TheVariants.{Lingering}
-use Rattle.proxy_server.specs.declared.clients.stream_queues.StreamQueues.{StreamQueues}
-use Rattle.proxy_server.specs.declared.sockets.peer.Peer.{Peer}
-
-abbrev pub queue_of_streams : StreamQueue → StreamQueues → BTreeMap ℕ ℕ
-queue_of_streams Leaving queues = queues.leaving
-queue_of_streams Lingering queues = queues.lingering
-
-abbrev pub longest_waiting_in_queue : BTreeMap ℕ ℕ → Option ℕ
-longest_waiting_in_queue line = option_map (λ e. e.1) (slice_get line.entries 0)
 
 abbrev pub FirstGivesWay : {A : Type 0} → Option ℕ → Slab A → Slab A → Type 0
 FirstGivesWay None old new = new ≡ old

@@ -6,24 +6,24 @@
 -- client_is_silent, client_has_left_or_gone: of the client of a number; who isn't there is, and has
 -- age_of_link: of a link, 0 where there is none
 -- link_time_may_be_over_at: the first moment of a link at which a time of it may be
--- end_is_silent: of an end                         link_overtime: which time of a link is over
+-- link_overtime: which time of a link is over
 -- IsIdleSince, IsIdleNumber, IsUnmarkedClient: of who may be let go
-use Rattle.std.specs.Prelude.{◌≡◌, ℕ, ◌-◌, ◌==◌, min, max, nat_lt, Bool, true, false, not, ◌&&◌, ◌||◌, List, length}
+use Rattle.std.specs.Prelude.{◌≡◌, ℕ, ◌-◌, min, max, nat_lt, Bool, true, false, not, ◌&&◌, ◌||◌}
 use Rattle.std.specs.Prelude.{Option, None, Some, is_some, cond, if◌then◌else◌}
 use Rattle.std.specs.Option.{option_and_then}
 use Rattle.proxy_figures.specs.Counts.{count_plus}
+use Rattle.proxy_streams.specs.Silence.{end_is_silent}
 use Rattle.proxy_server.specs.Streams.{client_may_give, client_is_idle, number_of_place}
 use Rattle.proxy_server.specs.declared.clients.client.Client.{Client}
 use Rattle.proxy_server.specs.declared.limits.Limits.{Limits}
 use Rattle.proxy_server.specs.declared.limits.TheConstants.{PATIENCE_MILLISECONDS}
 use Rattle.proxy_server.specs.declared.limits.TheConstants.{QUIET_MILLISECONDS}
 use Rattle.proxy_server.specs.declared.links.link.Link.{Link}
-use Rattle.proxy_server.specs.declared.sockets.peer.Peer.{Peer}
+use Rattle.proxy_streams.specs.declared.peer.Peer.{Peer}
 use Rattle.proxy_figures.specs.declared.link_timeouts.Overtime.{Overtime}
 use Rattle.proxy_figures.specs.declared.link_timeouts.Overtime.TheVariants.{Connect, Silence, Exchange}
-use Rattle.proxy_server.specs.declared.clients.stream_queues.StreamQueue.{StreamQueue}
-use Rattle.proxy_server.specs.declared.clients.stream_queues.StreamQueue.TheVariants.{Leaving}
-use Rattle.proxy_server.specs.declared.clients.stream_queues.StreamQueue.TheVariants.{Lingering}
+use Rattle.proxy_pacing.specs.declared.stream_queues.StreamQueue.{StreamQueue}
+use Rattle.proxy_pacing.specs.declared.stream_queues.StreamQueue.TheVariants.{Leaving, Lingering}
 
 -- since then, if at all, for more than so many milliseconds
 abbrev pub has_lasted_longer : ℕ → Option ℕ → ℕ → Bool
@@ -46,11 +46,6 @@ closed_time_is_over Lingering limits now heard closed =
 abbrev pub incomplete_since : ℕ → Option ℕ → Option ℕ
 incomplete_since now None = Some now
 incomplete_since now (Some since) = Some since
-
--- An end is silent: no byte came or went for more than so many milliseconds. Where something may
--- have come that wasn't read it isn't, unless it isn't read since it still has something to take.
-abbrev pub end_is_silent : Bool → List ℕ → ℕ → ℕ → ℕ → Bool
-end_is_silent readable unsent now heard limit = not (readable && (length unsent == 0)) && nat_lt limit (now - heard)
 
 -- Which time is over: of a link as a whole, else, while its connection isn't made, of that, else of
 -- the origin's silence.

@@ -1,6 +1,5 @@
 -- What was done with the stream of a client or a link.
 --
--- PeerIsWritten, PeerIsRead: with a write to a peer, with a read of it
 -- IsDoneToClientsPeer: it was done to the peer of a client
 -- IsDoneToLinksPeer: to the stream of a link, where it has one
 -- peer_of_link: of a link
@@ -12,7 +11,7 @@
 -- number_to_list, link_is_to_be_listed: who is to be put among the ends that are read next
 -- listed_client, listed_link: who is to be put there is marked
 -- unlisted_client, unlisted_link: who is taken from there is not
--- new_peer, new_client: one with which nothing was done
+-- new_client: one with which nothing was done
 -- client_is_idle: a client is between two requests      bytes_held_of_peer: what is held for a peer
 use Rattle.std.specs.Prelude.{◌≡◌, ◌<◌, ◌+◌, ◌-◌, ◌^◌, ℕ, min, Bool, true, false, not, ◌&&◌, ◌||◌, ◌==◌}
 use Rattle.std.specs.Prelude.{if◌then◌else◌, nat_lt}
@@ -30,30 +29,13 @@ use Rattle.proxy_turn.specs.declared.sockets.Received.{Received}
 use Rattle.proxy_turn.specs.declared.sockets.Received.TheVariants as received
 use Rattle.proxy_figures.specs.Counts.{count_plus}
 use Rattle.proxy_pacing.specs.RestBytes.{is_nothing}
-use Rattle.proxy_server.specs.Peers.{PeerReadOutcome, UnsentBytes, peer_read_outcome, BytesAreHandedOn}
-use Rattle.proxy_server.specs.Peers.{BytesAreHandedOnInPart}
-use Rattle.proxy_server.specs.Peers.{Nothing, Bytes, Ended, IsFailure}
-use Rattle.proxy_server.specs.Peers.{MoreMayBeLeft}
+use Rattle.proxy_streams.specs.PeerCalls.{PeerIsRead}
+use Rattle.proxy_streams.specs.Peers.{PeerReadOutcome, Nothing, Bytes, Ended, IsFailure}
 use Rattle.proxy_server.specs.declared.clients.client.Client.{Client}
 use Rattle.proxy_server.specs.declared.clients.client.Place.{Place}
 use Rattle.proxy_server.specs.declared.clients.client.Place.TheVariants as place
 use Rattle.proxy_server.specs.declared.links.link.Link.{Link}
-use Rattle.proxy_server.specs.declared.sockets.peer.Peer.{Peer}
-
--- What a write to a peer does: the stream took of what is to be written the front, and the rest is kept, or else is
--- lost, and nothing more is written.
-pub record PeerIsWritten {S : Type 0} (Passed : S → List ℕ → List PeerReadOutcome → S → Type 0) (bytes : List ℕ)
-    (old new : Peer S) : Type 0 where
-  pub in_part : BytesAreHandedOnInPart (λ took. Passed old.stream took [] new.stream) (old.unsent.bytes ++ bytes)
-  pub whole : new.broken ≡ false
-      → BytesAreHandedOn (λ took. Passed old.stream took [] new.stream) (old.unsent.bytes ++ bytes) new.unsent.bytes
-
--- What a read of it does: where something may have come its stream was read, else nothing.
-pub record PeerIsRead {S : Type 0} (Passed : S → List ℕ → List PeerReadOutcome → S → Type 0) (room : ℕ)
-    (result : Result Received Error) (buf : List ℕ) (old new : Peer S) : Type 0 where
-  pub passed : old.readable ≡ true → Passed old.stream [] (peer_read_outcome new.readable result buf ∷ []) new.stream
-  pub left : old.readable ≡ true → MoreMayBeLeft old.hung room result new.readable
-  pub unread : old.readable ≡ false → (new ≡ old) × (result ≡ Ok received.Nothing)
+use Rattle.proxy_streams.specs.declared.peer.Peer.{Peer}
 
 -- What a read does of a client that was closed: its peer alone is read, unless that still has to take something.
 pub record ClientIsReadOn {S : Type 0} (Passed : S → List ℕ → List PeerReadOutcome → S → Type 0) (room : ℕ)
@@ -223,22 +205,6 @@ abbrev pub bytes_held_of_peer : {S : Type 0} → Option (Peer S) → ℕ
 bytes_held_of_peer None = 0
 bytes_held_of_peer (Some peer) = count_plus peer.unsent.held peer.received
 
--- a peer from which something may have come, and to which nothing was written
-abbrev pub new_peer : {S : Type 0} → S → UnsentBytes → ℕ → Peer S
-new_peer stream unsent now = record {
-  stream = stream;
-  connecting = false;
-  readable = true;
-  hung = false;
-  ended = false;
-  broken = false;
-  unsent = unsent;
-  heard = now;
-  half_closed = false;
-  received = 0;
-  written = 0;
-}
-
 -- a client from which nothing has come, under its number
 abbrev pub new_client : {S : Type 0} → Global → Peer S → ℕ → ℕ → Client S
 new_client alloc peer n now = record {
@@ -255,6 +221,7 @@ new_client alloc peer n now = record {
   is_listed = false;
   idle_since = now;
   idle_mark = None;
+  begun_mark = None;
   look = 0;
   closed = 0;
   logged = None;

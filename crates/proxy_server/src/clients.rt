@@ -3,7 +3,7 @@
 //! A stream keeps its key, which is its token, and its number from its accept to its end.
 ghost use Rattle.std.specs.Prelude.{◌≡◌, ◌<◌, ◌+◌, ◌-◌, ◌^◌, ◌++◌, ◌==◌, min, true, false, length, vec_len};
 ghost use Rattle.std.specs.Prelude.{option_copied, option_map, option_to_list, is_some, IsSome, IfSome, IfOk, Ok, Some};
-ghost use Rattle.std.specs.Prelude.{None, ◌≤◌, ℕ, IsTrue};
+ghost use Rattle.std.specs.Prelude.{None, ◌≤◌, ℕ, IsTrue, vec_capacity};
 ghost use Rattle.std.specs.Option.{option_copied_mut, option_and_then};
 ghost use Rattle.std.specs.Bool.{OnTrue, OnFalse};
 ghost use Rattle.std.specs.Ordering.{nat_cmp};
@@ -12,29 +12,33 @@ ghost use Rattle.slab.specs.Slab as slab;
 ghost use Rattle.slab.specs.Slab.{slab_len};
 ghost use Rattle.proxy_turn.specs.Received.{FitsTheBuffer};
 ghost use Rattle.proxy_server.specs.OtherEntries.{OtherEntriesStay, OtherSlabKeysStay, ChangesOnlyAtNumber};
-ghost use Rattle.proxy_server.specs.Streams.{PeerIsWritten, IsDoneToClientsPeer, stream_at_number, client_is_cut};
+ghost use Rattle.proxy_streams.specs.PeerCalls.{PeerIsWritten};
+ghost use Rattle.proxy_server.specs.Streams.{IsDoneToClientsPeer, stream_at_number, client_is_cut};
 ghost use Rattle.proxy_server.specs.Streams.{client_at, unsent_of_client, handed_of_client, unsent_where_changed};
 ghost use Rattle.proxy_server.specs.Streams.{ClientIsRead, IsDoneToClient, number_to_list, listed_client};
 ghost use Rattle.proxy_server.specs.Streams.{unlisted_client, looked_at_next};
 ghost use Rattle.proxy_server.specs.Closing.{ClientStandsInQueue, ClientLeavesItsPlace, QueuesOrGoes};
 ghost use Rattle.proxy_server.specs.Closing.{FirstLingeringGoes};
 ghost use Rattle.proxy_server.specs.Patience.{milliseconds_since, IsIdleSince, IsUnmarkedClient};
+ghost use Rattle.proxy_figures.specs.Counts.{counts_with_one_more};
 ghost use Rattle.proxy_figures.specs.EndingCounts.{endings_with_cut};
+ghost use Rattle.proxy_figures.specs.Unanswered.{cause_of_cut, unanswered_place};
+ghost use Rattle.proxy_server.specs.Departures.{departure_of, departed_client, ClientIsKept, LossIsTold, LostIsKept};
 
 pub(crate) mod client;
 mod closing;
+pub(crate) mod departures;
+mod giving_way;
 mod patience;
-pub(crate) mod stream_queues;
 
 use crate::clients::client::{Client, Place};
-use crate::clients::stream_queues::{StreamQueue, StreamQueues};
+use crate::clients::departures::{Departure, LostClient};
 use crate::limits::Limits;
-use crate::sockets::peer::{Peer, held_after};
-use crate::sockets::stream::Stream;
 use mio::event::Event;
 use mio::net::TcpStream;
-use proxy_figures::{CutReason, Endings};
-use proxy_pacing::Moments;
+use proxy_figures::{CutReason, Endings, UnansweredCause, UnansweredCounts};
+use proxy_pacing::{Moments, StreamQueue, StreamQueues};
+use proxy_streams::{Peer, Stream, held_after};
 use proxy_turn::Received;
 use slab::Slab;
 use std::alloc::Global;
@@ -57,8 +61,11 @@ pub(crate) struct Clients<S: Stream + Drop = TcpStream> {
     pub(crate) looks: Moments,
     /// Those that have sent their end, by the moment when that was seen.
     departed: Moments,
-    /// The numbers of those that failed since the last turn.
-    lost: Vec<u64>,
+    /// Those whose request isn't answered yet, by the moment when a byte of them last came or went. One of which more
+    /// came later, or that was answered, stands by the earlier moment until somebody looks.
+    begun: Moments,
+    /// Those that failed since the last turn.
+    lost: Vec<LostClient>,
     /// Bytes that are kept for clients.
     unsent: usize,
     /// Bytes that were handed in of requests that aren't answered yet.
@@ -67,6 +74,10 @@ pub(crate) struct Clients<S: Stream + Drop = TcpStream> {
     /// A closed one may have more to be dropped that no event will tell of.
     pub(crate) more: bool,
     pub(crate) endings: Endings,
+    /// Requests that were never answered.
+    pub(crate) unanswered: UnansweredCounts,
+    /// Lines of the log about such requests that had no memory, and weren't counted there yet.
+    pub(crate) lost_lines: u64,
 }
 
 impl<S: Stream + Drop> Clients<S> {
@@ -85,12 +96,15 @@ impl<S: Stream + Drop> Clients<S> {
             idle: Moments::new(alloc),
             looks: Moments::new(alloc),
             departed: Moments::new(alloc),
+            begun: Moments::new(alloc),
             lost: Vec::new(alloc),
             unsent: 0,
             handed: 0,
             limits,
             more: false,
             endings: Endings::new(),
+            unanswered: UnansweredCounts::new(),
+            lost_lines: 0,
         }
     }
 
@@ -188,6 +202,7 @@ impl<S: Stream + Drop> Clients<S> {
         ensures counts { self.new.endings ≡ self.old.endings }
         ensures unsent { self.new.unsent ≡ self.old.unsent }
         ensures handed { self.new.handed ≡ self.old.handed }
+        ensures lost { (self.new.lost ≡ self.old.lost) × (self.new.lost_lines ≡ self.old.lost_lines) }
     {
         self.open.remove(&n)
     }
@@ -202,7 +217,8 @@ impl<S: Stream + Drop> Clients<S> {
         if self.open.insert(n, key).is_ok() && self.mark_idle(key) && self.look_at(key, now) {
             return Some(key);
         }
-        self.forget(n);
+        // It has asked for nothing.
+        let _ = self.forget(n, UnansweredCause::Closed);
         let _ = self.streams.try_remove(key);
         None
     }
@@ -247,6 +263,7 @@ impl<S: Stream + Drop> Clients<S> {
         ensures unsent { self.new.unsent ≡ self.old.unsent - unsent_of_client (client_at self.old.streams key) }
         ensures handed { self.new.handed ≡ self.old.handed - handed_of_client (client_at self.old.streams key) }
         ensures counts { self.new.endings ≡ self.old.endings }
+        ensures lost { (self.new.lost ≡ self.old.lost) × (self.new.lost_lines ≡ self.old.lost_lines) }
         ensures others { OtherSlabKeysStay key self.old.streams self.new.streams }
     {
         let client = self.streams.try_remove(key)?;
@@ -257,9 +274,46 @@ impl<S: Stream + Drop> Clients<S> {
         if let Some(mark) = client.departed_mark {
             self.departed.remove(mark, key as u64);
         }
+        if let Some(mark) = client.begun_mark {
+            self.begun.remove(mark, key as u64);
+        }
         self.unsent = self.unsent.saturating_sub(client.peer.unsent());
         self.handed = self.handed.saturating_sub(client.handed);
         Some(client)
+    }
+
+    /// Counts a client that goes where its request isn't answered; what is told of it.
+    fn count_departure(
+        &mut self,
+        client: &mut Client<S>,
+        cause: UnansweredCause,
+    ) -> Option<Departure>
+        ensures told { result ≡ departure_of cause client.old }
+        ensures rest { self.new ≡ record self.old { unanswered = self.new.unanswered } }
+        ensures counted { is_some (departure_of cause client.old) ≡ true → self.new.unanswered.counts
+            ≡ counts_with_one_more self.old.unanswered.counts (unanswered_place cause) }
+        ensures not_counted { is_some (departure_of cause client.old) ≡ false → self.new.unanswered
+            ≡ self.old.unanswered }
+    {
+        let departure = client.depart(cause);
+        if departure.is_some() {
+            self.unanswered.add(cause);
+        }
+        departure
+    }
+
+    /// The engine is told of a client whose stream was dropped before the next turn.
+    fn keep_lost(&mut self, number: u64, departure: Option<Departure>)
+        ensures kept { LostIsKept number departure self.old self.new }
+        ensures room { vec_len self.old.lost < vec_capacity self.old.lost
+            → ClientIsKept number departure self.old self.new }
+        ensures rest { self.new ≡ record self.old { lost = self.new.lost; lost_lines = self.new.lost_lines } }
+    {
+        let has_line = departure.is_some();
+        // Where there is no memory for it, it counts as silent, and its line is lost.
+        if self.lost.push(LostClient { number, departure }).is_err() && has_line {
+            self.lost_lines = self.lost_lines.saturating_add(1);
+        }
     }
 
     /// Drops a stream, wherever it stands. The engine is told before the next turn where it knows it.
@@ -269,23 +323,40 @@ impl<S: Stream + Drop> Clients<S> {
         ensures open { ClientLeavesItsPlace (client_at self.old.streams key) self.old.open self.new.open }
         ensures unsent { self.new.unsent ≡ self.old.unsent - unsent_of_client (client_at self.old.streams key) }
         ensures handed { self.new.handed ≡ self.old.handed - handed_of_client (client_at self.old.streams key) }
+        ensures told { LossIsTold UnansweredCause.Closed (client_at self.old.streams key) self.old self.new }
         ensures others { OtherSlabKeysStay key self.old.streams self.new.streams }
     {
-        let Some(client) = self.take_stream(key) else {
+        self.drop_stream_for(key, UnansweredCause::Closed);
+    }
+
+    /// Drops a stream, wherever it stands, for this cause.
+    fn drop_stream_for(&mut self, key: usize, cause: UnansweredCause)
+        ensures counts { self.new.endings ≡ self.old.endings }
+        ensures gone { slab.get self.new.streams key ≡ None }
+        ensures open { ClientLeavesItsPlace (client_at self.old.streams key) self.old.open self.new.open }
+        ensures unsent { self.new.unsent ≡ self.old.unsent - unsent_of_client (client_at self.old.streams key) }
+        ensures handed { self.new.handed ≡ self.old.handed - handed_of_client (client_at self.old.streams key) }
+        ensures told { LossIsTold cause (client_at self.old.streams key) self.old self.new }
+        ensures others { OtherSlabKeysStay key self.old.streams self.new.streams }
+    {
+        let Some(mut client) = self.take_stream(key) else {
             return;
         };
         match client.place {
             Place::Open(n) => {
                 let _ = self.remove_number(n);
-                // Where there is no memory for it, it counts as silent.
-                let _ = self.lost.push(n);
+                let departure = self.count_departure(&mut *client, cause);
+                self.keep_lost(n, departure);
             }
             Place::In(queue, stamp) => self.queues.remove(queue, stamp),
         }
     }
 
-    /// Drops the stream of a number, of which the engine is told otherwise.
-    pub(crate) fn forget(&mut self, n: u64)
+    /// Drops the stream of a number, of which the engine is told otherwise, for this cause; what is told of it where
+    /// its request isn't answered.
+    pub(crate) fn forget(&mut self, n: u64, cause: UnansweredCause) -> Option<Departure>
+        ensures told { result ≡ option_and_then (departure_of cause)
+            (stream_at_number self.old.open self.old.streams n) }
         ensures gone { get nat_cmp self.new.open n ≡ None }
         ensures dropped { stream_at_number self.old.open self.new.streams n ≡ None }
         ensures unsent { self.new.unsent ≡ self.old.unsent
@@ -295,9 +366,9 @@ impl<S: Stream + Drop> Clients<S> {
         ensures open { OtherEntriesStay n self.old.open self.new.open }
         ensures others { ChangesOnlyAtNumber self.old.open n self.old.streams self.new.streams }
     {
-        if let Some(key) = self.remove_number(n) {
-            let _ = self.take_stream(key);
-        }
+        let key = self.remove_number(n)?;
+        let mut client = self.take_stream(key)?;
+        self.count_departure(&mut *client, cause)
     }
 
     /// Drops a stream for a reason that is counted.
@@ -307,10 +378,11 @@ impl<S: Stream + Drop> Clients<S> {
         ensures open { ClientLeavesItsPlace (client_at self.old.streams key) self.old.open self.new.open }
         ensures unsent { self.new.unsent ≡ self.old.unsent - unsent_of_client (client_at self.old.streams key) }
         ensures handed { self.new.handed ≡ self.old.handed - handed_of_client (client_at self.old.streams key) }
+        ensures told { LossIsTold (cause_of_cut cut) (client_at self.old.streams key) self.old self.new }
         ensures others { OtherSlabKeysStay key self.old.streams self.new.streams }
     {
         self.endings.count_cut(cut);
-        self.drop_stream(key);
+        self.drop_stream_for(key, UnansweredCause::of_cut(cut));
     }
 
     /// Bytes that are kept for clients.
@@ -334,8 +406,28 @@ impl<S: Stream + Drop> Clients<S> {
         self.lost.len()
     }
 
-    /// The number of one that failed since the last turn.
-    pub(crate) fn next_lost(&mut self) -> Option<u64>
+    /// What is told of the client of a number that is closed with a request that isn't answered: that is told once, and
+    /// counted.
+    pub(crate) fn depart(&mut self, n: u64) -> Option<Departure>
+        ensures told { result ≡ option_and_then (departure_of UnansweredCause.Closed)
+            (stream_at_number self.old.open self.old.streams n) }
+        ensures left { stream_at_number self.new.open self.new.streams n
+            ≡ option_map departed_client (stream_at_number self.old.open self.old.streams n) }
+        ensures counted { IfSome result (λ departure. self.new.unanswered.counts
+            ≡ counts_with_one_more self.old.unanswered.counts (unanswered_place UnansweredCause.Closed)) }
+        ensures not_counted { result ≡ None → self.new.unanswered ≡ self.old.unanswered }
+        ensures rest { self.new ≡ record self.old { streams = self.new.streams; unanswered = self.new.unanswered } }
+        ensures others { ChangesOnlyAtNumber self.old.open n self.old.streams self.new.streams }
+    {
+        let key = self.key_of(n)?;
+        let client = self.streams.get_mut(key)?;
+        let departure = client.depart(UnansweredCause::Closed)?;
+        self.unanswered.add(UnansweredCause::Closed);
+        Some(departure)
+    }
+
+    /// One that failed since the last turn.
+    pub(crate) fn next_lost(&mut self) -> Option<LostClient>
         ensures taken { self.old.lost.items ≡ self.new.lost.items ++ option_to_list result }
         ensures rest { self.new ≡ record self.old { lost = self.new.lost } }
     {
@@ -559,14 +651,6 @@ impl<S: Stream + Drop> Clients<S> {
             return true;
         }
         self.drop_idle(now)
-    }
-
-    /// The client for which the most is held, and how much.
-    pub(crate) fn largest(&self) -> Option<(usize, usize)> {
-        self.streams
-            .iter()
-            .map(|(key, client)| (key, client.peer.unsent().saturating_add(client.handed)))
-            .max_by_key(|(_, held)| *held)
     }
 
     /// Puts a client among the ends that are read next, where it may give something and doesn't stand there. Its number

@@ -24,6 +24,6 @@ pub use crate::server_cases::{
     worked_streams, worked_times_of_clients, worked_times_of_links, worked_turns,
 };
 pub use crate::sockets::live_sockets::LiveSockets;
-pub use proxy_figures::{CountedShelf, ServerFacts, StoreCounts, Troubles};
+pub use proxy_figures::{CountedShelf, ProcessFigures, ServerFacts, StoreCounts, Troubles};
 pub use proxy_listener::ListenAt;
 pub use proxy_record::{RecordFault, Recorder, Recording};

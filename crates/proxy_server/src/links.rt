@@ -1,6 +1,7 @@
 //! The links to origins, by number, and what was counted of each origin.
 ghost use Rattle.std.specs.Prelude.{◌≡◌, true, false, length, option_map, option_copied, IfOk, IfErr, Ok, Err, Some};
 ghost use Rattle.std.specs.Prelude.{None, IsTrue, ◌↔◌, is_some, slice_get};
+ghost use Rattle.std.specs.Option.{option_and_then};
 ghost use Rattle.std.specs.Ordering.{nat_cmp};
 ghost use Rattle.std.specs.BTreeMap.{get, btree_map_len, values};
 ghost use Rattle.std.specs.Bool.{OnTrue, OnFalse};
@@ -8,20 +9,19 @@ ghost use Rattle.proxy_turn.specs.Received.{FitsTheBuffer};
 ghost use Rattle.proxy_server.specs.Connecting.{link_is_connecting};
 ghost use Rattle.proxy_server.specs.OtherEntries.{OtherEntriesStay};
 ghost use Rattle.proxy_server.specs.Patience.{link_time_is_over, age_of_link};
-ghost use Rattle.proxy_server.specs.Streams.{PeerIsRead, PeerIsWritten, IsDoneToLinksPeer, peer_of_link};
-ghost use Rattle.proxy_server.specs.Streams.{peer_is_broken, peer_is_lost};
+ghost use Rattle.proxy_streams.specs.PeerCalls.{PeerIsRead, PeerIsWritten};
+ghost use Rattle.proxy_server.specs.Streams.{IsDoneToLinksPeer, peer_is_broken, peer_is_lost, peer_of_link};
 ghost use Rattle.proxy_server.specs.Streams.{link_is_to_be_listed, listed_link, unlisted_link};
 
 pub(crate) mod link;
 
 use crate::limits::{Limits, SECOND};
 use crate::links::link::{Link, mark_peer_ready};
-use crate::sockets::peer::held_after;
-use crate::sockets::stream::Stream;
 use mio::event::Event;
 use mio::net::TcpStream;
 use proxy_figures::{LinkTimeouts, Origins};
 use proxy_pacing::Moments;
+use proxy_streams::{Stream, held_after};
 use proxy_turn::Received;
 use std::alloc::Global;
 use std::collections::BTreeMap;
@@ -83,6 +83,16 @@ impl<S: Stream + Drop> Links<S> {
         ensures { option_copied result ≡ get nat_cmp self.now.items number }
     {
         self.items.get(&number)
+    }
+
+    /// The place of the origin of a link, if it is there.
+    pub(crate) fn origin_of(&self, number: Option<u64>) -> Option<usize>
+        ensures { result ≡ option_map (λ link. link.origin) (option_and_then (get nat_cmp self.now.items) number) }
+    {
+        match self.get(number?) {
+            Some(link) => Some(link.origin),
+            None => None,
+        }
     }
 
     /// Reads from a link; from one without a stream nothing comes.
@@ -241,6 +251,9 @@ impl<S: Stream + Drop> Links<S> {
     {
         if let Some(link) = self.items.get_mut(&number) {
             self.held = self.held.saturating_sub(link.held());
+            if let Some(peer) = &mut link.peer {
+                peer.reset();
+            }
             link.peer = None;
         }
     }
@@ -251,9 +264,12 @@ impl<S: Stream + Drop> Links<S> {
         ensures gone { get nat_cmp self.new.items number ≡ None }
         ensures others { OtherEntriesStay number self.old.items self.new.items }
     {
-        let link = self.items.remove(&number)?;
+        let mut link = self.items.remove(&number)?;
         self.looks.remove(link.look, number);
         self.held = self.held.saturating_sub(link.held());
+        if let Some(peer) = &mut link.peer {
+            peer.reset();
+        }
         self.origins.end(link.origin, link.admission, now.saturating_sub(link.began));
         Some(link.origin)
     }

@@ -318,7 +318,11 @@ impl<'a, S: Shelf + Drop, R: Net, W: Write + Drop> Server<'a, S, R, W> {
         engines_go_on();
         a_turn_is_served_behind_losses();
         if let Some(happening) = happening_of_lost_end(end, kind) {
-            self.ends.sockets.note_lost(end);
+            let link = match end {
+                End::Client(n) => self.engine.link_of_client(n),
+                _ => None,
+            };
+            self.ends.sockets.note_lost(end, link);
             // It takes no memory, and the end was there.
             if self.engine.take(self.alloc, happening).is_ok() {
                 // Where that can't be recorded, the server ends behind this turn.
@@ -376,6 +380,7 @@ impl<'a, S: Shelf + Drop, R: Net, W: Write + Drop> Server<'a, S, R, W> {
         self.hand_in_lost();
         self.hand_in_overdue();
         self.give_up_departed();
+        self.give_way();
         self.let_go();
     }
 
@@ -481,6 +486,52 @@ impl<'a, S: Shelf + Drop, R: Net, W: Write + Drop> Server<'a, S, R, W> {
                 return;
             };
             self.give_up(n);
+        }
+    }
+
+    /// The next client that may give its place to one that waits to be taken, if it can be handed in.
+    fn next_to_give_way(&mut self) -> Option<u64>
+        ensures same { self.new ≡ self.old }
+        ensures may { IfSome result (λ n. may_take_one self.old ≡ true) }
+    {
+        if !self.ends.may_happen() {
+            return None;
+        }
+        self.ends.sockets.next_to_give_way()
+    }
+
+    /// Drops the stream of a client that gives its place to another: the engine takes that it is gone.
+    fn release_place(&mut self, n: u64)
+        requires { may_take_one self.old ≡ true }
+        ensures loses { EndIsLost (End.Client n) FailKind.Closed self.old self.new }
+        ensures on { ServerTakesLosses self.old self.new }
+    {
+        self.ends.sockets.cut_off(n);
+        self.disconnect(End::Client(n), FailKind::Closed);
+    }
+
+    /// Closes the connection of a client whose request isn't whole. One whose request is whole waits for its answer:
+    /// that one stays.
+    fn cut_incomplete(&mut self, n: u64)
+        requires { may_take_one self.old ≡ true }
+        ensures { ServerTakesLosses self.old self.new }
+    {
+        a_turn_is_served_behind_losses();
+        if self.engine.may_read(End::Client(n)) {
+            self.release_place(n);
+        }
+    }
+
+    /// Where a connection waits to be taken for which there is no room, an incomplete request gives way to it.
+    fn give_way(&mut self)
+        ensures { ServerTakesLosses self.old self.new }
+    {
+        a_turn_is_served_behind_losses();
+        for _ in 0..MOST_LOOKS {
+            let Some(n) = self.next_to_give_way() else {
+                return;
+            };
+            self.cut_incomplete(n);
         }
     }
 

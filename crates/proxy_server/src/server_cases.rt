@@ -11,25 +11,24 @@ ghost use Rattle.proxy_turn.specs.declared.sockets.Received.TheVariants as recei
 ghost use Rattle.proxy_server.specs.Cases.{client_heard_at_100, limits, link_begun_at_90, link_without_stream};
 ghost use Rattle.proxy_server.specs.Cases.{peer_heard_at_100};
 ghost use Rattle.proxy_server.specs.Closing.{StandsInQueue};
+ghost use Rattle.proxy_streams.specs.Peers.{Bytes, Ended};
 ghost use Rattle.proxy_server.specs.Connecting.{link_is_connecting};
 ghost use Rattle.proxy_server.specs.Losses.{AtMostOneLoss};
 ghost use Rattle.proxy_server.specs.Paces.{milliseconds_of_moment, next_turn_must_not_wait};
 ghost use Rattle.proxy_server.specs.Patience.{age_of_link, client_has_left, client_has_left_or_gone, client_is_silent};
-ghost use Rattle.proxy_server.specs.Patience.{closed_time_is_over, end_is_silent, has_lasted_longer, incomplete_since};
+ghost use Rattle.proxy_server.specs.Patience.{closed_time_is_over, has_lasted_longer, incomplete_since};
 ghost use Rattle.proxy_server.specs.Patience.{link_overtime, link_time_is_over, link_time_may_be_over_at};
 ghost use Rattle.proxy_server.specs.Patience.{milliseconds_since};
-ghost use Rattle.proxy_server.specs.Peers.{Bytes, Ended, Nothing, bytes_taken_by_write, read_outcome_of_result};
 ghost use Rattle.proxy_server.specs.Serving.{TurnHadLinkNumbersLeft, turn_settles};
 ghost use Rattle.proxy_server.specs.Streams.{OneReadIsTold, bytes_held_of_peer, bytes_of_outcomes, client_has_rest};
 ghost use Rattle.proxy_server.specs.Streams.{client_is_cut, client_is_idle, client_may_give, link_is_to_be_listed};
 ghost use Rattle.proxy_server.specs.Streams.{number_to_list, peer_is_broken, peer_is_lost, received_bytes};
 ghost use Rattle.proxy_server.specs.Streams.{rest_bytes};
 ghost use Rattle.proxy_server.specs.declared.clients.client.Place.TheVariants as place;
-ghost use Rattle.proxy_server.specs.declared.clients.stream_queues.StreamQueue.TheVariants.{Leaving, Lingering};
+ghost use Rattle.proxy_pacing.specs.declared.stream_queues.StreamQueue.TheVariants.{Leaving, Lingering};
 ghost use Rattle.proxy_server.specs.declared.pace.Pace.{Pace};
 
-/// A time is over where it was passed, and not where it is just reached. What has something to be read isn't silent,
-/// but where it doesn't take what it has to take first.
+/// A time is over where it was passed, and not where it is just reached. Who has sent something isn't silent.
 pub fn worked_times_of_clients()
     ensures reached { has_lasted_longer 100 (Some 95) 5 ≡ false }
     ensures passed { has_lasted_longer 100 (Some 94) 5 ≡ true }
@@ -47,10 +46,6 @@ pub fn worked_times_of_clients()
     ensures sends { closed_time_is_over Lingering limits 30100 30000 100 ≡ false }
     ensures begins { incomplete_since 7 None ≡ Some 7 }
     ensures goes_on { incomplete_since 9 (Some 7) ≡ Some 7 }
-    ensures waits_to_be_read { end_is_silent true [] 100 0 5 ≡ false }
-    ensures takes_not { end_is_silent true (1 ∷ []) 100 0 5 ≡ true }
-    ensures silent { end_is_silent false [] 100 94 5 ≡ true }
-    ensures silent_just { end_is_silent false [] 100 95 5 ≡ false }
     ensures lasted { milliseconds_since 100 (Some 93) ≡ 7 }
     ensures lasted_not { milliseconds_since 100 None ≡ 0 }
     ensures nobody { client_is_silent {S = ℕ} 5 100 None ≡ true }
@@ -86,7 +81,7 @@ pub fn worked_times_of_links()
 {}
 
 /// Who may give something: who has taken everything, and of whom something is left to be read or to be handed in. What
-/// a read and a write told.
+/// reads told.
 pub fn worked_streams()
     ensures gives { (alloc : Global) → client_may_give (client_heard_at_100 alloc true [] None) ≡ true }
     ensures gives_rest { (alloc : Global)
@@ -110,10 +105,6 @@ pub fn worked_streams()
     ensures of_reads { bytes_of_outcomes (Bytes (1 ∷ []) ∷ Ended ∷ Bytes (2 ∷ (3 ∷ [])) ∷ []) ≡ 1 ∷ (2 ∷ (3 ∷ [])) }
     ensures handed_in { received_bytes (received.Bytes 2) (1 ∷ (2 ∷ (3 ∷ []))) ≡ 1 ∷ (2 ∷ []) }
     ensures none_handed_in { received_bytes received.End (1 ∷ []) ≡ [] }
-    ensures end { read_outcome_of_result (Ok 0) (1 ∷ []) ≡ Ended }
-    ensures bytes { read_outcome_of_result (Ok 1) (1 ∷ (2 ∷ [])) ≡ Bytes (1 ∷ []) }
-    ensures written { bytes_taken_by_write {E = ℕ} (Ok 1) (1 ∷ (2 ∷ [])) ≡ 1 ∷ [] }
-    ensures not_written { bytes_taken_by_write {E = ℕ} (Err 0) (1 ∷ (2 ∷ [])) ≡ [] }
     ensures no_read { OneReadIsTold [] received.End [] → ⊥ }
     ensures two_reads { OneReadIsTold (Ended ∷ Ended ∷ []) received.End [] → ⊥ }
     ensures stands { StandsInQueue Leaving (place.In Leaving 3) }

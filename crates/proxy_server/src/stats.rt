@@ -27,6 +27,7 @@ impl<'a, S: Shelf + Drop, R: Net, W: Write + Drop> Server<'a, S, R, W> {
                 limit: sockets.limits.connections,
                 accepts: &sockets.accept_counts,
                 endings: &clients.endings,
+                unanswered: &clients.unanswered,
                 unsent: clients.unsent(),
             },
             links: LinkFigures {

@@ -36,6 +36,7 @@ ghost use Rattle.proxy_core.specs.Outcomes.{is_error_status, outcome_of_passing_
 ghost use Rattle.proxy_core.specs.Outcomes.{serials_removed_by_answer, outcome_of_sending_freshened, outcome_of_wake};
 ghost use Rattle.proxy_core.specs.State.{next_serial_after, serial_after_this, open_exchanges_after};
 ghost use Rattle.proxy_core.specs.State.{serials_removed_by_outcome, serial_stored_by_outcome, entries_after_storing};
+ghost use Rattle.proxy_core.specs.State.{cut_where_touched};
 ghost use Rattle.proxy_core.specs.State.{serial_used_by_outcome};
 ghost use Rattle.proxy_core.specs.State.{entries_after_use};
 ghost use Rattle.proxy_core.specs.Cases.{response_with, revalidates_e, request_for, get_a_with_authorization};
@@ -255,6 +256,10 @@ pub fn what_the_words_of_a_line_change()
         (forwarded_on_miss (get_a_with [])) (response_with 200 first_answer_fields) 101 (Some 4)
         ≡ None }
     ensures given { ttl_of_stored lifetime_60_policy stored_without_lifetime 110 ≡ pos 50 }
+    ensures given_to_errors { ttl_of_stored (record lifetime_60_policy { error_lifetime = Some 15 })
+        (record stored_without_lifetime { status = 404 }) 110 ≡ pos 5 }
+    ensures none_given_to_errors { ttl_of_stored lifetime_60_policy
+        (record stored_without_lifetime { status = 404 }) 110 ≡ negsuc 9 }
     ensures none_given { ttl_of_stored (plain true) stored_without_lifetime 110 ≡ negsuc 9 }
     ensures stated { ttl_of_stored lifetime_60_policy (stored_with 1 (cache_control (codes "max-age=20") ∷ [])) 110 ≡ pos 10 }
     ensures cookie_kept { freshened_may_be_kept table (revalidates_e (get_a_with [])) (response_with 304 [])
@@ -529,7 +534,10 @@ pub fn what_a_step_leaves_open()
 pub fn what_a_step_leaves_stored()
     ensures stored { serials (entries_after_storing (Some (forwarded_on_miss (get_a_with [])))
         (Answer 101 1 (response_with 200 first_answer_fields)) (Some 4)
-        (3 ∷ []) 2 three_held) ≡ 4 ∷ 2 ∷ [] }
+        (3 ∷ []) three_held) ≡ 4 ∷ 2 ∷ 1 ∷ [] }
+    ensures cut { serials (cut_where_touched (record { entries = 2; bytes = None }) (Some 4) None
+        (entries_after_storing (Some (forwarded_on_miss (get_a_with [])))
+        (Answer 101 1 (response_with 200 first_answer_fields)) (Some 4) (3 ∷ []) three_held)) ≡ 4 ∷ 2 ∷ [] }
     ensures used { serials (entries_after_use (Some waiting) (Wake 130 2) (Some 2) three_held) ≡ 2 ∷ 3 ∷ 1 ∷ [] }
     ensures freshened { entries_after_use (Some (revalidates_e (get_a_with [])))
         (Answer 105 1 (response_with 304 lines_of_304)) (Some 1)

@@ -12,6 +12,7 @@ ghost use Rattle.proxy_core.specs.Outcomes.{serial_of_stored_answer};
 ghost use Rattle.proxy_core.specs.declared.event.Event.TheVariants.{Answer};
 ghost use Rattle.proxy_core.specs.State.{StepIsAccepted, StepIsRefusedWith};
 ghost use Rattle.proxy_core.specs.Pending.{outcome_of_pending_reply, StoresUnderNextSerial, ChangeIsMadeByAnswer};
+ghost use Rattle.proxy_core.specs.State.{bounds_of};
 ghost use Rattle.proxy_core.specs.Pending.{outcome_after, AnswerLeavesHeldAsStepDoes, AnswerChangeFits};
 
 use crate::core_fault::CoreFault;
@@ -188,7 +189,8 @@ impl<S: Shelf> Core<S> {
             answer.now.response.now self.now.next (decision_of (policy_of self.now.table.lines
             answer.now.exchange.now.line) self.now.entries answer.now.exchange.now.asked answer.now.response_time)) }
         ensures leaves { IfOk result
-            (λ after. AnswerLeavesHeldAsStepDoes self.now.limit self.now.entries answer.now.exchange.now
+            (λ after. AnswerLeavesHeldAsStepDoes (bounds_of self.now.table self.now.limit) self.now.entries
+            answer.now.exchange.now
             (Answer answer.now.response_time answer.now.exchange.now.id answer.now.response.now) after) }
         ensures fits { IfOk result (λ after. AnswerChangeFits self.now.next self.now.entries after) }
     {

@@ -24,6 +24,7 @@ use crate::open::stage::Stage;
 use crate::outcome::Outcome;
 use crate::replies::stored_reply::CacheStatusInfo;
 use crate::steps::condition::condition_about_serial;
+use crate::steps::finishing::cut;
 use crate::steps::sending::{forward_text, refuse};
 use hx_allow::Verdict;
 use hx_directives::{Directive, Directives};
@@ -124,6 +125,7 @@ impl<S: Shelf> Core<S> {
             Decision::Hit(serial) => {
                 let pending = self.send(alloc, serial, now, hit_status_info(policy), asked)?;
                 self.shelf.promote(serial);
+                cut(&mut self.shelf, self.config.max_store());
                 Ok(pending.into_outcome())
             }
             Decision::Forward(rule, named) => {

@@ -1,6 +1,7 @@
 //! What a pending reply does to the core.
-ghost use Rattle.std.specs.Prelude.{◌≡◌, ◌∷◌, [], take, map, false, IfOk, OnOk, OnErr, option_copied};
+ghost use Rattle.std.specs.Prelude.{◌≡◌, ◌<◌, ◌-◌, ◌^◌, ◌∷◌, [], map, false, IfOk, IfSome, OnOk, OnErr, option_copied};
 ghost use Rattle.hx_store.specs.Shelf.{holds_serial, without_serials};
+ghost use Rattle.hx_store.specs.Weights.{cut_to_bounds, front_of_weight_if_any, weight_of};
 ghost use Rattle.proxy_core.specs.State.{entries_without_serials, next_serial_after, exchange_forwarded_again};
 ghost use Rattle.proxy_core.specs.State.{exchange_sent_forward};
 ghost use Rattle.proxy_core.specs.Pending.{outcome_of_pending_reply, entries_after_change, state_after_reply};
@@ -11,20 +12,54 @@ use crate::open::serial_numbers::serial_after;
 use crate::outcome::{Outcome, Reply};
 use crate::replies::pending::{Change, PendingReply};
 use hx_fields::Bytes;
-use hx_store::{Entry, Shelf};
+use hx_store::{Entry, Shelf, shed_to};
 use hx_target::Key;
 use std::alloc::AllocError;
 
+/// Lets the least recently used go until the others weigh no more than `most` bytes together. No memory is taken.
+fn shed<S: Shelf>(shelf: &mut S, most: Option<u64>)
+    requires { IfSome most (λ most. most < 2 ^ 64 - 1) }
+    ensures entries { S.entries shelf.new ≡ front_of_weight_if_any weight_of most (S.entries shelf.old) }
+    ensures limit { S.limit shelf.new ≡ S.limit shelf.old }
+{
+    if let Some(most) = most {
+        shed_to(shelf, most);
+    }
+}
+
+/// Lets the least recently used go until both bounds of the store hold. No memory is taken.
+#[tactic(auto, using(crate::proofs::Cutting::shed_is_cut))]
+pub(crate) fn cut<S: Shelf>(shelf: &mut S, most: Option<u64>)
+    requires { IfSome most (λ most. most < 2 ^ 64 - 1) }
+    ensures entries { S.entries shelf.new
+        ≡ cut_to_bounds (record { entries = S.limit shelf.old; bytes = most }) (S.entries shelf.old) }
+    ensures limit { S.limit shelf.new ≡ S.limit shelf.old }
+{
+    // A shelf keeps to its capacity of itself.
+    let _held = shelf.len();
+    shed(shelf, most);
+}
+
 /// Stores an entry. What is evicted is let go.
-fn put_in<S: Shelf>(shelf: &mut S, entry: Entry, removed: &[u64]) -> Result<(), AllocError>
-    requires { holds_serial entry.serial (S.entries shelf.old) ≡ false }
+fn put_in<S: Shelf>(
+    shelf: &mut S,
+    entry: Entry,
+    removed: &[u64],
+    most: Option<u64>,
+) -> Result<(), AllocError>
+    requires new { holds_serial entry.serial (S.entries shelf.old) ≡ false }
+    requires bounded { IfSome most (λ most. most < 2 ^ 64 - 1) }
     ensures ok { OnOk result (S.entries shelf.new
-        ≡ take (S.limit shelf.old) (entry ∷ without_serials removed.now (S.entries shelf.old))) }
+        ≡ cut_to_bounds (record { entries = S.limit shelf.old; bytes = most })
+        (entry ∷ without_serials removed.now (S.entries shelf.old))) }
     ensures err { OnErr result (S.entries shelf.new ≡ S.entries shelf.old) }
     ensures limit { S.limit shelf.new ≡ S.limit shelf.old }
 {
     match shelf.put(entry, removed) {
-        Ok(_) => Ok(()),
+        Ok(_) => {
+            shed(shelf, most);
+            Ok(())
+        }
         Err(_) => Err(AllocError),
     }
 }
@@ -39,12 +74,19 @@ fn remove_each<S: Shelf>(shelf: &mut S, removed: &[u64])
     }
 }
 
-/// Changes what is held. Where memory runs out nothing has changed.
-fn change_shelf<S: Shelf>(shelf: &mut S, change: Change, removed: &[u64]) -> Result<(), AllocError>
+/// Changes what is held, within the capacity and so many bytes. Where memory runs out nothing has changed.
+fn change_shelf<S: Shelf>(
+    shelf: &mut S,
+    change: Change,
+    removed: &[u64],
+    most: Option<u64>,
+) -> Result<(), AllocError>
     requires new { StoresNewSerial change (S.entries shelf.old) }
     requires held { FreshensHeldResponse change (S.entries shelf.old) }
+    requires bounded { IfSome most (λ most. most < 2 ^ 64 - 1) }
     ensures ok { OnOk result (S.entries shelf.new
-        ≡ entries_after_change (S.limit shelf.old) removed.now change (S.entries shelf.old)) }
+        ≡ entries_after_change (record { entries = S.limit shelf.old; bytes = most }) removed.now change
+        (S.entries shelf.old)) }
     ensures err { OnErr result (S.entries shelf.new ≡ S.entries shelf.old) }
     ensures limit { S.limit shelf.new ≡ S.limit shelf.old }
 {
@@ -56,19 +98,22 @@ fn change_shelf<S: Shelf>(shelf: &mut S, change: Change, removed: &[u64]) -> Res
         Change::Use(serial) => {
             shelf.promote(serial);
             remove_each(shelf, removed);
+            cut(shelf, most);
             Ok(())
         }
         Change::Freshen(entry) => {
             shelf.freshen(entry);
             remove_each(shelf, removed);
+            cut(shelf, most);
             Ok(())
         }
         Change::Remove(serial) => {
             shelf.remove(serial);
             remove_each(shelf, removed);
+            cut(shelf, most);
             Ok(())
         }
-        Change::Store(entry) => put_in(shelf, entry, removed),
+        Change::Store(entry) => put_in(shelf, entry, removed, most),
     }
 }
 
@@ -124,7 +169,8 @@ impl<S: Shelf> Core<S> {
         } = pending;
         let stored = change.stored();
         let used = change.used();
-        match change_shelf(&mut self.shelf, change, removed.as_slice()) {
+        let most = self.config.max_store();
+        match change_shelf(&mut self.shelf, change, removed.as_slice(), most) {
             Ok(()) => {}
             Err(error) => return Err(error),
         }

@@ -1,11 +1,12 @@
 //! Whether an answer is stored, the stored response that it makes, and what goes for it.
-ghost use Rattle.std.specs.Prelude.{◌≡◌, ◌<◌, Some, None, IfOk, IfSome, option_map};
+ghost use Rattle.std.specs.Prelude.{◌≡◌, ◌<◌, ◌-◌, ◌^◌, ℕ, min, Some, None, IfOk, IfSome, option_map};
 ghost use Rattle.hx_directives.specs.Occurrences.{occurrences_of};
 ghost use Rattle.hx_hop.specs.Answering.{answered_of};
 ghost use Rattle.hx_vary.specs.Vary.{kept_values, nominated_of};
 ghost use Rattle.hx_storable.specs.Rules.{storage_rule_of};
 ghost use Rattle.proxy_core.specs.Storing.{nominates_a_star, storing_facts_of_answer, storing_rule_to_explain};
-ghost use Rattle.proxy_core.specs.Storing.{stored_response_made, replaced_by};
+ghost use Rattle.proxy_core.specs.Storing.{stored_response_made, replaced_by, answer_is_too_large};
+ghost use Rattle.proxy_core.specs.Validating.{is_above};
 ghost use Rattle.proxy_core.specs.Outcomes.{serial_of_stored_answer, serials_removed_by_answer};
 
 use crate::core_state::Core;
@@ -15,7 +16,7 @@ use hx_directives::Directives;
 use hx_hop::{Answered, Asked, lists_cache_field};
 use hx_reuse::lifetime_under;
 use hx_storable::{StoreRule, StoringFacts, first_rule_against, the_least_storage_rule_is_named};
-use hx_store::{Entry, Serials, Shelf};
+use hx_store::{Entry, Serials, Shelf, weight_of_parts};
 use hx_validate::has_validator;
 use hx_vary::{Nominated, Nomination};
 use std::alloc::{AllocError, Global};
@@ -95,7 +96,45 @@ fn nominates_a_star_there(nomination: &Nomination) -> bool
     }
 }
 
+/// Whether a weight, of which 2^64 - 1 stands for what is more, is above a bound.
+#[tactic(auto, using(crate::proofs::Cutting::above_counted))]
+pub(crate) fn is_above(most: Option<u64>, weight: u64) -> bool
+    requires { IfSome most (λ most. most < 2 ^ 64 - 1) }
+    ensures { (exact : ℕ) → weight ≡ min exact (2 ^ 64 - 1) → result ≡ is_above most exact }
+{
+    match most {
+        Some(most) => weight > most,
+        None => false,
+    }
+}
+
 impl<S: Shelf> Core<S> {
+    /// Whether an answer is above the limit of one content, or alone above that of the whole store.
+    fn is_too_large(
+        &self,
+        answer: &OriginAnswer<'_>,
+        head: &Answered,
+        nomination: &Nomination,
+    ) -> bool
+        requires head { head.now ≡ answered_of answer.now.response.now answer.now.response_time }
+        requires nomination { nomination.now ≡ nominated_of head.now.fields answer.now.exchange.now.asked.fields }
+        ensures { result ≡ answer_is_too_large self.now.table answer.now.exchange.now answer.now.response.now
+            answer.now.response_time }
+    {
+        let content = answer.response.content.len();
+        if content as u64 > self.config.max_stored() {
+            return true;
+        }
+        let nominated = match nomination {
+            Nomination::Star => return false,
+            Nomination::Names(nominated) => nominated,
+        };
+        let key = &answer.exchange.asked.target.key;
+        let lines = head.fields.as_slice();
+        let weight = weight_of_parts(key, nominated.as_slice(), lines, content);
+        is_above(self.config.max_store(), weight)
+    }
+
     /// What the storing rules ask of an answer beside the heads. What it nominates is handed in.
     fn facts(
         &self,
@@ -119,7 +158,7 @@ impl<S: Shelf> Core<S> {
             listed: lists_cache_field(&response.fields),
             explicit: lifetime.explicit,
             validator: has_validator(&head.fields),
-            too_large: response.content.len() as u64 > self.config.max_stored(),
+            too_large: self.is_too_large(answer, head, nomination),
             overtaken: answer.exchange.overtaken,
             no_serial: self.next.is_none(),
         }

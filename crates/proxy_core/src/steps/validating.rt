@@ -11,7 +11,8 @@ ghost use Rattle.proxy_core.specs.Pending.{AnswerChangeFits, AnswerStoresNothing
 ghost use Rattle.proxy_core.specs.Validating.{stored_response_is_answered, stored_response_asked_about};
 ghost use Rattle.proxy_core.specs.Validating.{stored_response_validated, freshened_by_304, as_get_request};
 ghost use Rattle.proxy_core.specs.Validating.{head_of_stored};
-ghost use Rattle.proxy_core.specs.Validating.{storing_facts_of_freshened, freshened_may_be_kept};
+ghost use Rattle.proxy_core.specs.Validating.{storing_facts_of_freshened, freshened_may_be_kept, stored_is_too_large};
+ghost use Rattle.proxy_core.specs.State.{bounds_of};
 
 use crate::core_state::Core;
 use crate::open::exchange::Exchange;
@@ -20,6 +21,7 @@ use crate::replies::pending::{AfterAnswer, Change, PendingReply};
 use crate::replies::stored_reply::{CacheStatusInfo, StoredReply};
 use crate::steps::judging::judge;
 use crate::steps::sending::forward_text;
+use crate::steps::storing::is_above;
 use http::Method;
 use hx_age::Times;
 use hx_allow::Config;
@@ -112,6 +114,13 @@ fn head_of_stored(alloc: Global, entry: &Entry) -> Result<Answered, AllocError>
     })
 }
 
+/// Whether a response is above the limit of one content, or alone above that of the whole store.
+fn stored_is_too_large(config: &Config, entry: &Entry) -> bool
+    ensures { result ≡ stored_is_too_large config.now entry.now }
+{
+    entry.content.len() as u64 > config.max_stored() || is_above(config.max_store(), entry.weight())
+}
+
 /// What the storing rules ask of a freshened response.
 fn storing_facts_of_freshened(
     alloc: Global,
@@ -130,7 +139,7 @@ fn storing_facts_of_freshened(
         listed: lists_cache_field(&response.fields),
         explicit: lifetime.explicit,
         validator: has_validator(&entry.fields),
-        too_large: entry.content.len() as u64 > config.max_stored(),
+        too_large: stored_is_too_large(config, entry),
         overtaken: false,
         no_serial: false,
     })
@@ -240,7 +249,8 @@ impl<S: Shelf> Core<S> {
             answer.now.response_time) (decision_of (policy_of self.now.table.lines answer.now.exchange.now.line)
             self.now.entries answer.now.exchange.now.asked answer.now.response_time)) }
         ensures leaves { IfOk result
-            (λ after. AnswerLeavesHeldAsStepDoes self.now.limit self.now.entries answer.now.exchange.now
+            (λ after. AnswerLeavesHeldAsStepDoes (bounds_of self.now.table self.now.limit) self.now.entries
+            answer.now.exchange.now
             (Answer answer.now.response_time answer.now.exchange.now.id answer.now.response.now) after) }
         ensures fits { IfOk result (λ after. AnswerChangeFits self.now.next self.now.entries after) }
     {

@@ -116,6 +116,17 @@ impl Connections {
         }
     }
 
+    /// The place of the link on which the request of the client at a place went forward, if one did.
+    pub(crate) fn link_of(&self, i: ConnectionPlace) -> Option<LinkPlace>
+        ensures { (ss : List ConnectionModel) → RelatesLists ConnectionRepresents self.now.items ss
+            → result ≡ link_place_of_activity (slice_index_or ss i no_connection).activity }
+    {
+        match self.ends.get(i) {
+            Some(connection) => connection.activity.link(),
+            None => None,
+        }
+    }
+
     /// The connection at a place, to be changed, if it isn't over. Something may be due there afterwards.
     pub(crate) fn at_mut(&mut self, i: ConnectionPlace) -> Option<&mut Connection>
         requires { i < length self.old.items }

@@ -2,6 +2,7 @@
 //! exchange; it stands at a place from 0 on. Links have numbers from that of the first on.
 ghost use Rattle.std.specs.Prelude.{◌≡◌, ◌<◌, ◌^◌, nat_lt, if◌then◌else◌, Some, None};
 ghost use Rattle.proxy_engine.specs.ConnectionNumbers.{connection_number, connection_place, link_number, link_place};
+ghost use Rattle.proxy_engine.specs.ConnectionNumbers.{link_with_number};
 
 use std::marker::{Model, PhantomData};
 
@@ -76,6 +77,13 @@ impl Place<OfLinks> {
         ensures { result ≡ link_place first number }
     {
         Place::at(number.saturating_sub(first))
+    }
+
+    /// The number of the link at this place, where the first link has this one, if there is one.
+    pub(crate) fn checked_number(self, first: u64) -> Option<u64>
+        ensures { result ≡ link_with_number first self }
+    {
+        first.checked_add(self.index)
     }
 
     /// The number of the link at this place, where the first link has this one.

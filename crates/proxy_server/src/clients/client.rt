@@ -2,18 +2,21 @@
 ghost use Rattle.std.specs.Prelude.{◌≡◌, ◌<◌, ◌≤◌, ◌++◌, length, take, drop, false, [], Some, None, Ok, IfOk, OnOk};
 ghost use Rattle.std.specs.Prelude.{OnErr};
 ghost use Rattle.proxy_server.specs.Patience.{client_has_left, has_lasted_longer, milliseconds_since};
+ghost use Rattle.proxy_server.specs.GivingWay.{client_is_quiet, client_takes_nothing};
 ghost use Rattle.proxy_turn.specs.Received.{FitsTheBuffer};
+ghost use Rattle.proxy_server.specs.Departures.{departure_of, departed_client};
 ghost use Rattle.proxy_server.specs.Logging.{IsLineAboutReply, logged_address};
 ghost use Rattle.proxy_server.specs.Streams.{client_has_rest, client_may_give, rest_bytes, ClientIsRead};
 ghost use Rattle.proxy_server.specs.Streams.{number_of_place, client_is_idle, new_client, ClientIsReadOn};
 
-use crate::clients::stream_queues::StreamQueue;
-use crate::sockets::peer::Peer;
+use crate::clients::departures::Departure;
+use crate::limits::SECOND;
 use crate::sockets::reply_log::Reply;
-use crate::sockets::stream::Stream;
 use mio::net::TcpStream;
+use proxy_figures::UnansweredCause;
 use proxy_log::{SeenOfReply, UnansweredRequests, line_about};
-use proxy_pacing::{LEAST_HANDED_IN, Rest, head_end};
+use proxy_pacing::{LEAST_HANDED_IN, Rest, StreamQueue, head_end};
+use proxy_streams::{Peer, Stream};
 use proxy_turn::Received;
 use std::alloc::{AllocError, Global};
 use std::io;
@@ -30,10 +33,10 @@ pub(crate) enum Place {
 
 /// What a log needs of a client.
 #[derive(Drop)]
-struct Logged {
-    address: SocketAddr,
+pub(crate) struct Logged {
+    pub(crate) address: SocketAddr,
     /// What it asks for.
-    asked: UnansweredRequests,
+    pub(crate) asked: UnansweredRequests,
 }
 
 /// A client's stream. Moments are milliseconds of the clock that never goes back.
@@ -62,6 +65,8 @@ pub(crate) struct Client<S: Stream + Drop = TcpStream> {
     pub(crate) idle_since: u64,
     /// By which moment it stands among those that were between two requests.
     pub(crate) idle_mark: Option<u64>,
+    /// By which moment it stands among those whose request isn't answered yet.
+    pub(crate) begun_mark: Option<u64>,
     /// When it is looked at next.
     pub(crate) look: u64,
     /// When it was closed.
@@ -89,6 +94,7 @@ impl<S: Stream + Drop> Client<S> {
             is_listed: false,
             idle_since: now,
             idle_mark: None,
+            begun_mark: None,
             look: 0,
             closed: 0,
             logged: None,
@@ -125,6 +131,22 @@ impl<S: Stream + Drop> Client<S> {
             // Without memory for it, lines about what follows on this connection don't name what was asked.
             let _ = logged.asked.read_piece(alloc, piece);
         }
+    }
+
+    /// What is told of it where it goes with a request that isn't answered.
+    pub(crate) fn depart(&mut self, cause: UnansweredCause) -> Option<Departure>
+        ensures told { result ≡ departure_of cause self.old }
+        ensures rest { self.new ≡ departed_client self.old }
+    {
+        if !self.is_begun {
+            return None;
+        }
+        self.is_begun = false;
+        Some(Departure {
+            cause,
+            asked: self.asked,
+            logged: self.logged.take(),
+        })
     }
 
     /// Milliseconds since the first byte of the request came that is being answered.
@@ -213,6 +235,20 @@ impl<S: Stream + Drop> Client<S> {
             Some(left) => now.saturating_sub(left.max(self.peer.heard)) > limit,
             None => false,
         }
+    }
+
+    /// Whether no byte of it came or went for a second at least.
+    pub(crate) fn is_quiet(&self, now: u64) -> bool
+        ensures { result ≡ client_is_quiet now self.now }
+    {
+        now.saturating_sub(self.peer.heard) >= SECOND
+    }
+
+    /// Whether it has taken nothing for a second at least of what it is to take.
+    pub(crate) fn takes_nothing(&self, now: u64) -> bool
+        ensures { result ≡ client_takes_nothing now self.now }
+    {
+        self.peer.has_unsent() && self.is_quiet(now)
     }
 
     /// Whether there is something that a read would give, or may.

@@ -12,9 +12,9 @@ ghost use Rattle.proxy_server.specs.Streams.{client_at, stream_at_number};
 
 use crate::clients::Clients;
 use crate::clients::client::Client;
-use crate::clients::stream_queues::StreamQueue;
 use crate::limits::MOST_LINGERING;
-use crate::sockets::stream::Stream;
+use proxy_pacing::StreamQueue;
+use proxy_streams::Stream;
 use proxy_turn::{PIECE, Received};
 
 /// How many pieces are read and dropped at a time.

@@ -7,11 +7,11 @@ ghost use Rattle.proxy_server.specs.Streams.{stream_at_number, client_at};
 
 use crate::clients::Clients;
 use crate::clients::client::{Client, Place};
-use crate::clients::stream_queues::StreamQueue;
 use crate::limits::{
     FIRST_REQUEST_MILLISECONDS, Limits, PATIENCE_MILLISECONDS, QUIET_MILLISECONDS, SECOND,
 };
-use proxy_figures::{CutReason, Lateness};
+use proxy_figures::{CutReason, Lateness, UnansweredCause};
+use proxy_pacing::StreamQueue;
 
 /// Whether a client that was closed has had its time.
 fn closed_time_is_over(client: &Client, queue: StreamQueue, limits: &Limits, now: u64) -> bool
@@ -125,22 +125,24 @@ impl Clients {
         None
     }
 
-    /// Counts why the engine is told that a client is gone.
-    pub(crate) fn count_forgotten(&mut self, n: u64, now: u64)
+    /// Counts why the engine is told that a client is gone; the cause that its request has, if it isn't answered.
+    pub(crate) fn count_forgotten(&mut self, n: u64, now: u64) -> UnansweredCause
         ensures open { self.new.open ≡ self.old.open }
         ensures streams { self.new.streams ≡ self.old.streams }
     {
         let limits = self.limits;
         let Some(client) = self.get(n) else {
-            return;
+            return UnansweredCause::Closed;
         };
-        if client.left.is_some() {
-            self.endings.count_lateness(Lateness::Abandon);
+        let lateness = if client.left.is_some() {
+            Lateness::Abandon
         } else if client.is_late(now, limits.request_timeout) {
-            self.endings.count_lateness(Lateness::Request);
+            Lateness::Request
         } else {
-            self.endings.count_lateness(Lateness::Client);
-        }
+            Lateness::Client
+        };
+        self.endings.count_lateness(lateness);
+        UnansweredCause::of_lateness(lateness)
     }
 
     /// Whether a client that is between two requests has been silent for too long, and nothing of it waits to be read.

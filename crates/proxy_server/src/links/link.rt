@@ -4,11 +4,10 @@ ghost use Rattle.proxy_server.specs.Patience.{link_overtime, link_time_may_be_ov
 ghost use Rattle.proxy_server.specs.Streams.{bytes_held_of_peer};
 
 use crate::limits::Limits;
-use crate::sockets::peer::Peer;
-use crate::sockets::stream::Stream;
 use mio::event::Event;
 use mio::net::TcpStream;
 use proxy_figures::{Admission, Overtime};
+use proxy_streams::{Peer, Stream};
 use std::io;
 
 /// A link.

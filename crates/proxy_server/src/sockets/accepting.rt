@@ -2,13 +2,19 @@
 ghost use Rattle.std.specs.Prelude.{◌≡◌, ◌&&◌, is_some};
 
 use crate::sockets::live_sockets::LiveSockets;
-use crate::sockets::peer::Peer;
 use crate::sockets::socket_tokens::Holder;
+use mio::Poll;
 use mio::net::TcpStream;
-use proxy_figures::is_out_of_descriptors;
+use proxy_figures::{UnansweredCause, is_out_of_descriptors};
+use proxy_streams::Peer;
 use std::io;
 use std::io::ErrorKind;
 use std::net::{Net, SocketAddr};
+
+/// Asks the system for the events of the stream of this key.
+fn register_client(peer: &mut Peer<TcpStream>, poll: &Poll, key: usize) -> io::Result<()> {
+    peer.register(poll, Holder::Client(key).token()?)
+}
 
 impl<'a, R: Net> LiveSockets<'a, R> {
     /// Whether a connection may wait to be taken.
@@ -56,6 +62,7 @@ impl<'a, R: Net> LiveSockets<'a, R> {
         let is_taken = self.take_stream(n, stream, address);
         if self.in_hand.is_some() {
             self.accept_counts.count_full();
+            self.may_give_way = true;
         }
         is_taken
     }
@@ -120,11 +127,11 @@ impl<'a, R: Net> LiveSockets<'a, R> {
         let max_body = self.limits.max_body;
         if let Some(client) = self.clients.stream_mut(key) {
             if self.log.is_some() && client.keep_log(address, max_body).is_err() {
-                self.clients.forget(n);
+                let _ = self.clients.forget(n, UnansweredCause::Closed);
                 return Err(io::Error::from(ErrorKind::OutOfMemory));
             }
-            if let Err(e) = client.peer.register(&self.poll, Holder::Client(key)) {
-                self.clients.forget(n);
+            if let Err(e) = register_client(&mut client.peer, &self.poll, key) {
+                let _ = self.clients.forget(n, UnansweredCause::Closed);
                 return Err(e);
             }
         }

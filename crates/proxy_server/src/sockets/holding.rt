@@ -7,8 +7,9 @@ use proxy_figures::CutReason;
 use std::net::Net;
 
 impl<'a, R: Net> LiveSockets<'a, R> {
-    /// Where more is held for requests and answers than may be, the end gives way for which the most is: that is no
-    /// less than what came last.
+    /// Where more is held for requests and answers than may be, an end gives way: of the clients that have taken
+    /// nothing for a second the one for which the most is held; or else the end for which the most is, no less than
+    /// what came last.
     pub(crate) fn keep_within(&mut self)
         ensures calls { self.new.calls ≡ self.old.calls }
     {
@@ -17,16 +18,17 @@ impl<'a, R: Net> LiveSockets<'a, R> {
         }
     }
 
-    /// Drops the end for which the most is held. The engine is told before the next turn.
+    /// Drops the end that gives way. The engine is told before the next turn.
     fn drop_largest(&mut self)
         ensures calls { self.new.calls ≡ self.old.calls }
     {
-        let of_clients = self.clients.largest();
+        let of_clients = self.clients.largest(self.now);
         match (of_clients, self.links.largest()) {
-            (Some((key, of_client)), Some((_, of_link))) if of_client >= of_link => {
-                self.clients.cut_stream(key, CutReason::Content);
-            }
-            (Some((key, _)), None) => self.clients.cut_stream(key, CutReason::Content),
+            (Some(client), Some((_, of_link))) if client.takes_nothing || client.held >= of_link =>
+                {
+                    self.clients.cut_stream(client.key, CutReason::Content);
+                }
+            (Some(client), None) => self.clients.cut_stream(client.key, CutReason::Content),
             (_, Some((l, _))) => self.cut_link(l),
             (None, None) => {}
         }

@@ -12,20 +12,21 @@ ghost use Rattle.proxy_server.specs.Closing.{StreamIsClosedByNumber};
 ghost use Rattle.proxy_server.specs.Paces.{milliseconds_of_moment};
 ghost use Rattle.proxy_server.specs.Patience.{link_time_is_over, client_is_silent, client_has_left_or_gone};
 ghost use Rattle.proxy_server.specs.Streams.{stream_at_number};
+ghost use Rattle.std.specs.Prelude.{nat_lt};
+ghost use Rattle.slab.specs.Slab.{slab_len};
 
 use crate::clients::Clients;
+use crate::clients::departures::Departure;
 use crate::limits::{LONGEST_WAIT, Limits, MOST_EVENTS, MOST_READ, SECOND};
 use crate::links::Links;
-use crate::links::link::Link;
 use crate::sockets::call_counts::CallCounts;
-use crate::sockets::peer::Peer;
 use crate::sockets::socket_tokens::Holder;
 use hx_allow::Config;
 use hx_status::FailKind;
 use mio::net::{TcpListener, TcpStream};
 use mio::{Events, Interest, Poll};
 use proxy_figures::{
-    AcceptCounts, Admission, Asked, CutReason, ReplyCounts, Troubles, Turns, is_out_of_descriptors,
+    AcceptCounts, Asked, CutReason, ReplyCounts, Troubles, Turns, UnansweredCause,
 };
 use proxy_listener::{ListenAt, listen};
 use proxy_log::Lines;
@@ -39,7 +40,7 @@ use std::time::Duration;
 /// A listener, its clients and the links to origins. No call waits but `wait`.
 #[derive(Drop)]
 pub struct LiveSockets<'a, R: Net> {
-    net: &'a R,
+    pub(crate) net: &'a R,
     pub(crate) alloc: Global,
     pub(crate) poll: Poll,
     events: Events,
@@ -52,6 +53,8 @@ pub struct LiveSockets<'a, R: Net> {
     pub(crate) in_hand: Option<(TcpStream, SocketAddr)>,
     /// A client has come between two requests since room was looked for.
     pub(crate) may_have_room: bool,
+    /// A client may give its place to the one in hand.
+    pub(crate) may_give_way: bool,
     /// Who waits now is taken, and nobody else.
     pub(crate) is_draining: bool,
     pub(crate) clients: Clients,
@@ -60,6 +63,8 @@ pub struct LiveSockets<'a, R: Net> {
     ready: VecDeque<End>,
     /// Links that failed since the last turn, and how.
     pub(crate) lost: Vec<(u64, FailKind)>,
+    /// What is told of the client of which the engine is told next.
+    departing: Option<Departure>,
     pub(crate) limits: Limits,
     /// Lines about replies, where a log is kept.
     pub(crate) log: Option<Lines>,
@@ -76,24 +81,6 @@ pub struct LiveSockets<'a, R: Net> {
     pub(crate) calls: CallCounts,
 }
 
-/// Begins a connection to an origin. A refusal near by is known at once.
-fn begin_link<R: Net>(
-    net: &R,
-    alloc: Global,
-    poll: &Poll,
-    l: u64,
-    address: SocketAddrV4,
-    now: u64,
-) -> io::Result<Peer<TcpStream>> {
-    let stream = TcpStream::connect(net, SocketAddr::V4(address))?;
-    let mut peer = Peer::connecting(alloc, stream, now);
-    if let Some(e) = peer.take_error()? {
-        return Err(e);
-    }
-    peer.register(poll, Holder::Link(l))?;
-    Ok(peer)
-}
-
 /// Reads from the link of a number. After a failure its stream is dropped; of one without a stream nothing comes.
 fn read_link(links: &mut Links, l: u64, buf: &mut [u8], now: u64) -> Result<Received, SocketFailed>
     ensures within { IfOk result (FitsTheBuffer (length buf.old)) }
@@ -107,9 +94,11 @@ fn read_link(links: &mut Links, l: u64, buf: &mut [u8], now: u64) -> Result<Rece
     Err(SocketFailed)
 }
 
-/// Reads from the client of a number. After a failure its stream is dropped; of one that isn't there nothing comes.
+/// Reads from the client of a number. After a failure its stream is dropped, and it has departed; of one that isn't
+/// there nothing comes.
 fn read_client(
     clients: &mut Clients,
+    departed: &mut Option<Departure>,
     n: u64,
     buf: &mut [u8],
     now: u64,
@@ -122,7 +111,7 @@ fn read_client(
     if let Ok(received) = clients.read(n, buf, now) {
         return Ok(received);
     }
-    clients.forget(n);
+    *departed = clients.forget(n, UnansweredCause::Closed);
     Err(SocketFailed)
 }
 
@@ -183,11 +172,13 @@ impl<'a, R: Net> LiveSockets<'a, R> {
             acceptable: true,
             in_hand: None,
             may_have_room: false,
+            may_give_way: false,
             is_draining: false,
             clients: Clients::new(alloc, limits),
             links: Links::new(alloc, &limits),
             ready: VecDeque::new(alloc),
             lost: Vec::new(alloc),
+            departing: None,
             limits,
             log: None,
             replies: None,
@@ -311,6 +302,8 @@ impl<'a, R: Net> LiveSockets<'a, R> {
     pub fn refresh(&mut self, now: u64) -> bool {
         let ticked = now / SECOND != self.now / SECOND;
         self.now = now;
+        // Who was not quiet for long enough may be now.
+        self.may_give_way = self.may_give_way || ticked && self.in_hand.is_some();
         self.take_events();
         self.clients.drop_inputs(now);
         ticked
@@ -348,7 +341,10 @@ impl<'a, R: Net> LiveSockets<'a, R> {
             End::Listener => false,
             End::Link(l) => self.links.begin_listing(l),
             End::Client(n) => match self.clients.key_of(n) {
-                Some(key) => self.clients.begin_listing(key).is_some(),
+                Some(key) => {
+                    self.clients.mark_begun(key, self.now);
+                    self.clients.begin_listing(key).is_some()
+                }
                 None => false,
             },
         };
@@ -357,13 +353,47 @@ impl<'a, R: Net> LiveSockets<'a, R> {
         }
     }
 
+    /// Whether one more client may be taken.
+    fn has_room(&self) -> bool
+        ensures { result ≡ nat_lt (slab_len self.entry.now.clients.streams) self.entry.now.limits.connections }
+    {
+        self.clients.len() < self.limits.connections
+    }
+
+    /// While a connection waits to be taken for which there is no room: a client that may give way to it.
+    pub fn next_to_give_way(&mut self) -> Option<u64>
+        ensures nobody { self.old.in_hand ≡ None → result ≡ None }
+        ensures rest { self.new ≡ record self.old {
+          clients = self.new.clients;
+          may_give_way = self.new.may_give_way;
+        } }
+    {
+        if self.in_hand.is_none() || self.has_room() {
+            return None;
+        }
+        let number = self.clients.next_to_give_way(self.now);
+        self.may_give_way = number.is_some();
+        number
+    }
+
+    /// Drops the stream of a client that gives its place to another.
+    pub fn cut_off(&mut self, n: u64)
+        ensures client { ClientIsForgotten (End.Client n) self.old.clients self.new.clients }
+        ensures links { self.new.links ≡ self.old.links }
+    {
+        self.clients.endings.count_cut(CutReason::Room);
+        let cause = UnansweredCause::of_cut(CutReason::Room);
+        self.departing = self.clients.forget(n, cause);
+        self.asked.disconnect_client();
+    }
+
     /// Whether an end is read next, or a connection may be taken, of which no event will tell.
     pub fn has_more(&self) -> bool {
         if !self.ready.is_empty() {
             return true;
         }
         match &self.in_hand {
-            Some(_) => self.may_have_room || self.clients.len() < self.limits.connections,
+            Some(_) => self.may_have_room || self.may_give_way || self.has_room(),
             None => self.may_accept(),
         }
     }
@@ -408,22 +438,35 @@ impl<'a, R: Net> LiveSockets<'a, R> {
           lost = self.new.lost;
           clients = self.new.clients;
           asked = self.new.asked;
+          departing = self.new.departing;
         } }
     {
         if let Some((l, kind)) = self.lost.pop() {
             return Some((End::Link(l), kind));
         }
-        let n = self.clients.next_lost()?;
+        let lost = self.clients.next_lost()?;
         self.asked.disconnect_client();
-        Some((End::Client(n), FailKind::Closed))
+        self.departing = lost.departure;
+        Some((End::Client(lost.number), FailKind::Closed))
     }
 
-    /// The engine was told that an end is lost: no call on it follows.
-    pub fn note_lost(&mut self, end: End)
-        ensures { self.new ≡ record self.old { links = self.new.links; asked = self.new.asked } }
+    /// The engine is told that an end is lost: no call on it follows. The request of a client had gone forward on this
+    /// link, if it wasn't answered.
+    pub fn note_lost(&mut self, end: End, link: Option<u64>)
+        ensures { self.new ≡ record self.old {
+          links = self.new.links;
+          asked = self.new.asked;
+          departing = self.new.departing;
+          log = self.new.log;
+        } }
     {
-        if let End::Link(l) = end {
-            self.end_failed(l);
+        match end {
+            End::Listener => {}
+            End::Link(l) => self.end_failed(l),
+            End::Client(_) => {
+                let departure = self.departing.take();
+                self.log_departure(departure, link);
+            }
         }
     }
 
@@ -450,6 +493,7 @@ impl<'a, R: Net> LiveSockets<'a, R> {
             self.list_again(*end);
         }
         self.turns.count(reported);
+        self.count_lost_lines();
         if let Ok(report) = reported {
             // All that was due was done.
             if report.works < MOST_WORKS {
@@ -552,6 +596,7 @@ impl<'a, R: Net> LiveSockets<'a, R> {
             full: self.accept_counts.full,
             no_descriptor: self.accept_counts.no_descriptor,
             no_link: self.accept_counts.no_link,
+            no_port: self.accept_counts.no_port,
             beyond_bound: origins.beyond_bound(),
             silent: if self.limits.origin_probe {
                 origins.fallen_silent()
@@ -578,8 +623,8 @@ impl<'a, R: Net> LiveSockets<'a, R> {
         match end {
             End::Listener => {}
             End::Client(n) => {
-                self.clients.count_forgotten(n, self.now);
-                self.clients.forget(n);
+                let cause = self.clients.count_forgotten(n, self.now);
+                self.departing = self.clients.forget(n, cause);
                 self.asked.disconnect_client();
             }
             End::Link(l) => {
@@ -631,7 +676,7 @@ impl<'a, R: Net> LiveSockets<'a, R> {
     }
 
     /// Keeps until the next turn begins that a link has failed.
-    fn disconnect_link(&mut self, l: u64, kind: FailKind) -> Result<(), SocketFailed>
+    pub(crate) fn disconnect_link(&mut self, l: u64, kind: FailKind) -> Result<(), SocketFailed>
         ensures calls { self.new.calls ≡ self.old.calls }
     {
         if self.lost.push((l, kind)).is_ok() {
@@ -639,67 +684,6 @@ impl<'a, R: Net> LiveSockets<'a, R> {
         }
         self.end_failed(l);
         Err(SocketFailed)
-    }
-
-    /// Begins a link. Where no descriptor is left an idle client gives way to it.
-    fn begin(&mut self, l: u64, address: SocketAddrV4) -> io::Result<Peer<TcpStream>>
-        ensures calls { self.new.calls ≡ self.old.calls }
-    {
-        match begin_link(self.net, self.alloc, &self.poll, l, address, self.now) {
-            Err(e) if is_out_of_descriptors(&e) && self.clients.drop_idle(self.now) => {
-                begin_link(self.net, self.alloc, &self.poll, l, address, self.now)
-            }
-            begun => begun,
-        }
-    }
-
-    fn connect_link(&mut self, l: u64, address: SocketAddrV4) -> Result<(), SocketFailed>
-        ensures calls { self.new.calls ≡ self.old.calls }
-    {
-        // What was shut last has no reply: its request goes forward once more.
-        self.asked.shut(None);
-        let Ok(origin) = self.links.origins.place(address) else {
-            self.asked.disconnect_any();
-            return Err(SocketFailed);
-        };
-        let admission = self.links.origins.admit(origin, self.limits.origin_probe);
-        let peer = self.begin_admitted(l, address, origin, admission);
-        let is_lost = peer.is_none();
-        let link = Link::new(peer, self.now, origin, admission);
-        if !self.links.put(l, link, self.now.saturating_add(SECOND)) {
-            self.asked.disconnect_link(l, origin);
-            return Err(SocketFailed);
-        }
-        if is_lost {
-            return self.disconnect_link(l, FailKind::Refused);
-        }
-        Ok(())
-    }
-
-    /// Begins a link, where it may be begun and can be.
-    fn begin_admitted(
-        &mut self,
-        l: u64,
-        address: SocketAddrV4,
-        origin: usize,
-        admission: Admission,
-    ) -> Option<Peer<TcpStream>>
-        ensures calls { self.new.calls ≡ self.old.calls }
-    {
-        if admission == Admission::No {
-            return None;
-        }
-        match self.begin(l, address) {
-            Ok(peer) => Some(peer),
-            Err(e) => {
-                if is_out_of_descriptors(&e) {
-                    self.accept_counts.count_no_link();
-                } else {
-                    self.links.origins.note_silence(origin);
-                }
-                None
-            }
-        }
     }
 
     /// Reads from a link. That it has failed is kept until the next turn begins.
@@ -713,6 +697,29 @@ impl<'a, R: Net> LiveSockets<'a, R> {
         }
         self.disconnect_link(l, FailKind::Closed)?;
         Ok(Received::Nothing)
+    }
+}
+
+impl<'a, R: Net> LiveSockets<'a, R> {
+    /// Reads from a client. One that has broken off had no request that went forward.
+    fn read_from_client(&mut self, n: u64, buf: &mut [u8]) -> Result<Received, SocketFailed>
+        ensures within { IfOk result (FitsTheBuffer (length buf.old)) }
+        ensures length { length buf.new ≡ length buf.old }
+        ensures calls { self.new.calls ≡ self.old.calls }
+    {
+        let mut departed = None;
+        let received = read_client(&mut self.clients, &mut departed, n, buf, self.now);
+        self.log_departure(departed, None);
+        received
+    }
+
+    /// Closes a client's connection. What it began to ask for has no answer.
+    fn close_client(&mut self, n: u64)
+        ensures calls { self.new.calls ≡ self.old.calls }
+    {
+        let departed = self.clients.depart(n);
+        self.clients.close(n, self.now);
+        self.log_departure(departed, None);
     }
 }
 
@@ -739,7 +746,7 @@ impl<'a, R: Net> Sockets for LiveSockets<'a, R> {
         self.calls.reads = self.calls.reads.saturating_add(1);
         let received = match end {
             End::Listener => Ok(Received::Nothing),
-            End::Client(n) => read_client(&mut self.clients, n, buf, self.now),
+            End::Client(n) => self.read_from_client(n, buf),
             End::Link(l) => self.read_from_link(l, buf),
         };
         if self.log.is_some() {
@@ -771,7 +778,7 @@ impl<'a, R: Net> Sockets for LiveSockets<'a, R> {
 
     fn shut(&mut self, end: End) -> Result<(), SocketFailed> {
         match end {
-            End::Client(n) => self.clients.close(n, self.now),
+            End::Client(n) => self.close_client(n),
             End::Link(l) => self.asked.shut(self.links.remove(l, self.now)),
             End::Listener => {}
         }

@@ -53,6 +53,7 @@ fn each_line_says_its_words(rt: HostRuntime) -> Result<(), Fail> {
     let policy = config.policy(1);
     assert!(rt; policy.caches);
     assert!(rt; policy.lifetime == Some(60));
+    assert!(rt; policy.error_lifetime == Some(60));
     assert!(rt; policy.stale_if_error == Some(600));
     assert!(rt; !policy.stores_cookies);
     assert!(rt; !policy.stores_errors);

@@ -13,3 +13,7 @@ returns-clause-max_body c = refl
 pub returns-clause-max_stored : goal.returns-clause-max_stored
 unfolding digits
 returns-clause-max_stored c = refl
+
+pub returns-clause-max_store : goal.returns-clause-max_store
+unfolding digits
+returns-clause-max_store c = refl

@@ -9,3 +9,7 @@ returns-clause-lifetime c line = refl
 pub returns-clause-stale_if_error : goal.returns-clause-stale_if_error
 unfolding digits
 returns-clause-stale_if_error c line = refl
+
+pub returns-clause-error_lifetime : goal.returns-clause-error_lifetime
+unfolding digits
+returns-clause-error_lifetime c line = refl

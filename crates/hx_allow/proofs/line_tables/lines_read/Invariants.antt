@@ -6,5 +6,5 @@ use Rattle.hx_allow.proofs.line_tables.lines_read.Given as goal
 abbrev pub invariant-loop-value : goal.invariant-loop-value
 invariant-loop-value l = record {
   few : length l.lines.items ≤ l.value-index;
-  so_far : l.lines.items ++ lines_read (items_view (drop l.value-index l.values)) ≡ lines_read (items_view l.values);
+  so_far : l.lines.items ++ lines_read l.version (items_view (drop l.value-index l.values)) ≡ lines_read l.version (items_view l.values);
 }

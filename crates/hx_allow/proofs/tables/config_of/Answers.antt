@@ -6,4 +6,5 @@ use Rattle.hx_allow.proofs.tables.config_of.Goals as goal
 
 pub invariant_of-result : goal.invariant_of-result
 unfolding table_read
-invariant_of-result c = (search rules, search rules, said_by_a_text (table_view c.args.table.now) _ c.requires.toml c.requires.faultless (search rules))
+invariant_of-result c =
+    (search rules, search rules, said_by_a_text (table_view c.args.table.now) _ c.requires.toml c.requires.faultless (search rules), search rules)

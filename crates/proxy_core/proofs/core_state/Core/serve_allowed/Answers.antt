@@ -1,4 +1,4 @@
-use Rattle.std.proofs.Common.{rules, false, ◌≡◌, ◌∷◌, [], ◌++◌, IfOk, OnOk}
+use Rattle.std.proofs.Common.{rules, false, sym, subst, ◌≡◌, ◌∷◌, [], ◌++◌, IfOk, OnOk}
 use Rattle.hx_allow.specs.Matching.{policy_of}
 use Rattle.hx_reuse.specs.Rules.{decision_of}
 use Rattle.hx_reuse.specs.declared.decision.Decision.TheVariants as decision
@@ -9,13 +9,15 @@ use Rattle.proxy_core.specs.declared.outcome.Outcome.{Outcome}
 use Rattle.proxy_core.specs.Leading.{leader_if_awaited}
 use Rattle.proxy_core.specs.Validating.{condition_about_serial}
 use Rattle.proxy_core.specs.Outcomes.{outcome_of_waiting_or_forwarding}
-use Rattle.proxy_core.specs.State.{State, exchange_with_leader}
-use Rattle.proxy_core.proofs.Held.{NoneFrom-promoted}
+use Rattle.proxy_core.specs.State.{State, NoSerialIsHeldFrom, exchange_with_leader}
+use Rattle.proxy_core.proofs.Held.{NoneFrom-promoted, NoneFrom-cut}
 use Rattle.proxy_core.proofs.Openings.{both, opens_by}
 use Rattle.proxy_core.proofs.core_state.Core.serve_allowed.Goals as goal
 
 pub invariant_of-self : goal.invariant_of-self
-invariant_of-self g c = NoneFrom-promoted c.self.inside.next _ _ _ c.promote.ensures.entries c.self.invariant
+invariant_of-self g c =
+    subst (NoSerialIsHeldFrom c.self.inside.next) (sym c.cut.ensures.entries)
+    (NoneFrom-cut c.self.inside.next _ _ (NoneFrom-promoted c.self.inside.next _ _ _ c.promote.ensures.entries c.self.invariant))
 
 pub returns-clause-after : goal.returns-clause-after
 returns-clause-after g c =

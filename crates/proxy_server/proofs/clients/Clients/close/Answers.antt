@@ -2,10 +2,10 @@ use Rattle.std.proofs.Common.{◌≡◌, ◌<◌, length, [], sym, ap, subst, �
 use Rattle.std.specs.Global.{Box}
 use Rattle.slab.specs.Slab.{Slab}
 use Rattle.proxy_server.specs.Closing.{LeavesWhereUnsent}
-use Rattle.proxy_server.specs.Peers.{UnsentBytes}
+use Rattle.proxy_streams.specs.Peers.{UnsentBytes}
 use Rattle.proxy_server.specs.Streams.{stream_at_number}
 use Rattle.proxy_server.specs.declared.clients.client.Client.{Client}
-use Rattle.proxy_server.specs.declared.clients.stream_queues.StreamQueue.TheVariants.{Leaving}
+use Rattle.proxy_pacing.specs.declared.stream_queues.StreamQueue.TheVariants.{Leaving}
 use Rattle.proxy_server.proofs.Closings.{closes_leaving}
 use Rattle.proxy_server.proofs.clients.Clients.close.Goals as goal
 use Rattle.proxy_server.proofs.clients.Clients.close.Goals.{then-has_unsent, else-has_unsent}

@@ -1,0 +1,17 @@
+use Rattle.hx_allow.proofs.Versions.{never_refused_for_bound, read_unbounded, never_refused_for_new_words, each_is_of_three, same_fault_of_three}
+use Rattle.hx_allow.proofs.laws.version_three_reads_as_before.Goals as goal
+
+pub returns-clause-never : goal.returns-clause-never
+returns-clause-never c = never_refused_for_bound
+
+pub returns-clause-unbounded : goal.returns-clause-unbounded
+returns-clause-unbounded c = read_unbounded
+
+pub returns-clause-never_for_words : goal.returns-clause-never_for_words
+returns-clause-never_for_words c = never_refused_for_new_words
+
+pub returns-clause-words : goal.returns-clause-words
+returns-clause-words c = each_is_of_three
+
+pub returns-clause-alike : goal.returns-clause-alike
+returns-clause-alike c = same_fault_of_three

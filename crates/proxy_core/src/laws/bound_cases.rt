@@ -1,0 +1,58 @@
+//! What answers weigh, which of them are too large, and what is held within a bound of bytes, worked out by hand: each
+//! function's contract is the cases, and its body is empty.
+
+ghost use Rattle.std.specs.Prelude.{◌≡◌, ◌∷◌, [], Some, None, true, false, codes};
+ghost use Rattle.hx_fields.specs.Examples.{line};
+ghost use Rattle.proxy_core.specs.Bounds.{one_was_freshened, table_with_store, two_were_stored};
+ghost use Rattle.proxy_core.specs.Cases.{accept_language, cache_control, date_101, forwarded_on_miss, get_a_with};
+ghost use Rattle.proxy_core.specs.Cases.{response_with, stored_with, vary_field};
+ghost use Rattle.proxy_core.specs.Histories.{held_serials};
+ghost use Rattle.proxy_core.specs.Storing.{answer_is_too_large, weight_of_answer};
+ghost use Rattle.proxy_core.specs.Validating.{stored_is_too_large};
+
+/// An answer to a GET of `/a` at `h` with two bytes of content, a Date of 37 bytes with its end and a Cache-Control of
+/// 27. Vary has 23 more, and what it names of the request 17; Age has 8.
+#[tactic(auto, unfolding(httpdate::proofs::OnLiterals::httpdate_on_literals))]
+pub fn what_an_answer_weighs()
+    ensures plain { weight_of_answer (forwarded_on_miss (get_a_with []))
+        (response_with 200 (date_101 ∷ cache_control (codes "max-age=60") ∷ [])) 130 ≡ 1272 }
+    ensures nominating { weight_of_answer (forwarded_on_miss (get_a_with (accept_language (codes "en") ∷ [])))
+        (response_with 200 (vary_field (codes "Accept-Language") ∷ date_101 ∷ cache_control (codes "max-age=60") ∷ []))
+        130 ≡ 1312 }
+    ensures aged { weight_of_answer (forwarded_on_miss (get_a_with []))
+        (response_with 200 (line (codes "Age") (codes "5") ∷ date_101 ∷ cache_control (codes "max-age=60") ∷ [])) 130
+        ≡ 1280 }
+{}
+
+/// What weighs as much as the whole store may isn't too large, and a byte more is. What nominates a star isn't asked
+/// for its weight, and without a bound nothing is too heavy.
+#[tactic(auto, unfolding(httpdate::proofs::OnLiterals::httpdate_on_literals))]
+pub fn what_is_too_heavy_alone()
+    ensures just { answer_is_too_large (table_with_store (Some 1272)) (forwarded_on_miss (get_a_with []))
+        (response_with 200 (date_101 ∷ cache_control (codes "max-age=60") ∷ [])) 130 ≡ false }
+    ensures a_byte_less { answer_is_too_large (table_with_store (Some 1271)) (forwarded_on_miss (get_a_with []))
+        (response_with 200 (date_101 ∷ cache_control (codes "max-age=60") ∷ [])) 130 ≡ true }
+    ensures unbounded { answer_is_too_large (table_with_store None) (forwarded_on_miss (get_a_with []))
+        (response_with 200 (date_101 ∷ cache_control (codes "max-age=60") ∷ [])) 130 ≡ false }
+    ensures star { answer_is_too_large (table_with_store (Some 1)) (forwarded_on_miss (get_a_with []))
+        (response_with 200 (vary_field (codes "*") ∷ date_101 ∷ [])) 130 ≡ false }
+    ensures kept { stored_is_too_large (table_with_store (Some 1235))
+        (stored_with 1 (cache_control (codes "max-age=60") ∷ [])) ≡ false }
+    ensures not_kept { stored_is_too_large (table_with_store (Some 1234))
+        (stored_with 1 (cache_control (codes "max-age=60") ∷ [])) ≡ true }
+    ensures kept_unbounded { stored_is_too_large (table_with_store None)
+        (stored_with 1 (cache_control (codes "max-age=60") ∷ [])) ≡ false }
+{}
+
+/// 1 weighs 1,282 bytes and 2 weighs 1,272. Both are held where there is room for 2,554, and the first goes where there
+/// is a byte less, or room for one by number. The 304 makes the first a byte heavier, and it comes first: then the
+/// second goes, unless there is room for that byte.
+#[tactic(auto, unfolding(hx_validate::specs::Answering::freshened_of, httpdate::proofs::OnLiterals::httpdate_on_literals, hx_allow::specs::Matching::policy_of, hx_reuse::specs::Rules::reuse_rule_of, hx_reuse::specs::Rules::decision_of, hx_age::specs::Lifetime::lifetime_of))]
+pub fn what_is_held_by_weight()
+    ensures just { held_serials (table_with_store (Some 2554)) 5 two_were_stored ≡ 2 ∷ 1 ∷ [] }
+    ensures a_byte_less { held_serials (table_with_store (Some 2553)) 5 two_were_stored ≡ 2 ∷ [] }
+    ensures unbounded { held_serials (table_with_store None) 5 two_were_stored ≡ 2 ∷ 1 ∷ [] }
+    ensures by_number { held_serials (table_with_store (Some 2554)) 1 two_were_stored ≡ 2 ∷ [] }
+    ensures freshened { held_serials (table_with_store (Some 2554)) 5 one_was_freshened ≡ 1 ∷ [] }
+    ensures freshened_with_room { held_serials (table_with_store (Some 2555)) 5 one_was_freshened ≡ 1 ∷ 2 ∷ [] }
+{}

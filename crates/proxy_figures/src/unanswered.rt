@@ -1,0 +1,102 @@
+//! Requests that were never answered: how many, and why.
+ghost use Rattle.std.specs.Prelude.{◌≡◌, unwrap_or, slice_get, replicate};
+ghost use Rattle.proxy_figures.specs.Counts.{counts_with_one_more};
+ghost use Rattle.proxy_figures.specs.Unanswered.{unanswered_place, unanswered_name, cause_of_cut, cause_of_lateness};
+
+use crate::counts::{count, count_at};
+use crate::endings::{CutReason, Lateness};
+
+/// Why a request was never answered.
+#[derive(Clone, Copy, Debug, PartialEq, Eq)]
+pub enum UnansweredCause {
+    /// Its client broke the connection off, or closed it before the request was whole.
+    Closed,
+    /// Its client had closed the connection, and nothing was written for as long as is waited then.
+    AbandonTimeout,
+    /// The request took too long to come.
+    RequestTimeout,
+    /// The client was silent in the middle of the request.
+    ClientTimeout,
+    /// More is held for requests and answers than may be, and the most for this one.
+    ContentLimit,
+    Memory,
+    /// It was incomplete, no byte of it came for a second, and its connection's place was wanted for another.
+    Room,
+}
+
+pub(crate) const ALL_UNANSWERED_CAUSES: [UnansweredCause; 7] = [
+    UnansweredCause::Closed,
+    UnansweredCause::AbandonTimeout,
+    UnansweredCause::RequestTimeout,
+    UnansweredCause::ClientTimeout,
+    UnansweredCause::ContentLimit,
+    UnansweredCause::Memory,
+    UnansweredCause::Room,
+];
+
+impl UnansweredCause {
+    /// Its word in figures and in the log.
+    pub fn name(self) -> &'static str
+        ensures { result.now ≡ unanswered_name self }
+    {
+        match self {
+            UnansweredCause::Closed => "closed",
+            UnansweredCause::AbandonTimeout => "abandon-timeout",
+            UnansweredCause::RequestTimeout => "request-timeout",
+            UnansweredCause::ClientTimeout => "client-timeout",
+            UnansweredCause::ContentLimit => "content-limit",
+            UnansweredCause::Memory => "memory",
+            UnansweredCause::Room => "room",
+        }
+    }
+
+    /// Of a connection that was cut.
+    pub fn of_cut(cut: CutReason) -> UnansweredCause
+        ensures { result ≡ cause_of_cut cut }
+    {
+        match cut {
+            CutReason::Room => UnansweredCause::Room,
+            CutReason::Content => UnansweredCause::ContentLimit,
+            CutReason::Memory => UnansweredCause::Memory,
+        }
+    }
+
+    /// Of a client whose time was over.
+    pub fn of_lateness(lateness: Lateness) -> UnansweredCause
+        ensures { result ≡ cause_of_lateness lateness }
+    {
+        match lateness {
+            Lateness::Client => UnansweredCause::ClientTimeout,
+            Lateness::Request => UnansweredCause::RequestTimeout,
+            Lateness::Abandon => UnansweredCause::AbandonTimeout,
+        }
+    }
+}
+
+/// How many requests were never answered, by cause.
+#[derive(Clone, Copy, Debug)]
+pub struct UnansweredCounts {
+    counts: [u64; 7],
+}
+
+impl UnansweredCounts {
+    pub fn new() -> UnansweredCounts
+        ensures { result.counts ≡ replicate 7 0 }
+    {
+        UnansweredCounts { counts: [0; 7] }
+    }
+
+    /// One more was not answered.
+    pub fn add(&mut self, cause: UnansweredCause)
+        ensures { self.new.counts ≡ counts_with_one_more self.old.counts (unanswered_place cause) }
+    {
+        count(&mut self.counts, cause as usize);
+    }
+
+    /// How many weren't for this cause.
+    pub fn with(&self, cause: UnansweredCause) -> u64
+        ensures { result ≡ unwrap_or (slice_get self.now.counts (unanswered_place cause)) 0 }
+    {
+        count_at(&self.counts, cause as usize)
+    }
+}

@@ -1,0 +1,101 @@
+//! How links to origins are begun.
+ghost use Rattle.std.specs.Prelude.{◌≡◌};
+
+use crate::limits::SECOND;
+use crate::links::link::Link;
+use crate::sockets::live_sockets::LiveSockets;
+use crate::sockets::socket_tokens::Holder;
+use hx_status::FailKind;
+use mio::Poll;
+use mio::net::TcpStream;
+use proxy_figures::{Admission, is_out_of_descriptors, is_out_of_ports};
+use proxy_streams::Peer;
+use proxy_turn::SocketFailed;
+use std::alloc::Global;
+use std::io;
+use std::net::{Net, SocketAddr, SocketAddrV4};
+
+/// Begins a connection to an origin. A refusal near by is known at once.
+fn begin_link<R: Net>(
+    net: &R,
+    alloc: Global,
+    poll: &Poll,
+    l: u64,
+    address: SocketAddrV4,
+    now: u64,
+) -> io::Result<Peer<TcpStream>> {
+    let stream = TcpStream::connect(net, SocketAddr::V4(address))?;
+    let mut peer = Peer::connecting(alloc, stream, now);
+    if let Some(e) = peer.take_error()? {
+        return Err(e);
+    }
+    peer.register(poll, Holder::Link(l).token()?)?;
+    Ok(peer)
+}
+
+impl<'a, R: Net> LiveSockets<'a, R> {
+    /// Begins a link. Where no descriptor is left an idle client gives way to it.
+    fn begin(&mut self, l: u64, address: SocketAddrV4) -> io::Result<Peer<TcpStream>>
+        ensures calls { self.new.calls ≡ self.old.calls }
+    {
+        match begin_link(self.net, self.alloc, &self.poll, l, address, self.now) {
+            Err(e) if is_out_of_descriptors(&e) && self.clients.drop_idle(self.now) => {
+                begin_link(self.net, self.alloc, &self.poll, l, address, self.now)
+            }
+            begun => begun,
+        }
+    }
+
+    /// Begins a link to an origin under this number, where one may be begun and can be.
+    pub(crate) fn connect_link(&mut self, l: u64, address: SocketAddrV4) -> Result<(), SocketFailed>
+        ensures calls { self.new.calls ≡ self.old.calls }
+    {
+        // What was shut last has no reply: its request goes forward once more.
+        self.asked.shut(None);
+        let Ok(origin) = self.links.origins.place(address) else {
+            self.asked.disconnect_any();
+            return Err(SocketFailed);
+        };
+        let admission = self.links.origins.admit(origin, self.limits.origin_probe);
+        let peer = self.begin_admitted(l, address, origin, admission);
+        let is_lost = peer.is_none();
+        let link = Link::new(peer, self.now, origin, admission);
+        if !self.links.put(l, link, self.now.saturating_add(SECOND)) {
+            self.asked.disconnect_link(l, origin);
+            return Err(SocketFailed);
+        }
+        if is_lost {
+            return self.disconnect_link(l, FailKind::Refused);
+        }
+        Ok(())
+    }
+
+    /// Begins a link, where it may be begun and can be.
+    fn begin_admitted(
+        &mut self,
+        l: u64,
+        address: SocketAddrV4,
+        origin: usize,
+        admission: Admission,
+    ) -> Option<Peer<TcpStream>>
+        ensures calls { self.new.calls ≡ self.old.calls }
+    {
+        if admission == Admission::No {
+            return None;
+        }
+        match self.begin(l, address) {
+            Ok(peer) => Some(peer),
+            Err(e) => {
+                // Where it is the system that has none left, the origin isn't silent.
+                if is_out_of_descriptors(&e) {
+                    self.accept_counts.count_no_link();
+                } else if is_out_of_ports(&e) {
+                    self.accept_counts.count_no_port();
+                } else {
+                    self.links.origins.note_silence(origin);
+                }
+                None
+            }
+        }
+    }
+}

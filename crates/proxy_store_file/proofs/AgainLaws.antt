@@ -1,0 +1,206 @@
+-- A store that is spelled is read as it was.
+use Rattle.std.proofs.Common.{◌≡◌, ℕ, zero, suc, ◌+◌, ◌-◌, ◌<◌, ◌≤◌, ◌^◌, List, [], ◌∷◌, ◌++◌, length, take, refl, ap, sym, ◌∙◌, subst, Bool, true, false, cond, ◌==◌, ◌&&◌, ◌||◌, nat_le, nat_lt, Option, None, Some, Ok, Err, arith, append_assoc, add-one}
+use Rattle.std.specs.Prelude.{bytes_eq}
+use Rattle.std.specs.List.{flat_map, AllByRecursion}
+use Rattle.std.proofs.Math.Dec.{eqb-suc-zero}
+use Rattle.std.proofs.lemmas.Bool.{le-leb, lt-leb}
+use Rattle.std.proofs.lemmas.List.{append-nil, length-append}
+use Rattle.std.proofs.Math.Seq.{take-append_seam}
+use Rattle.hx_fields.specs.declared.field_line.Field.{Field}
+use Rattle.hx_target.specs.declared.keys.Key.{Key}
+use Rattle.hx_age.specs.declared.moments.Times.{Times}
+use Rattle.hx_vary.specs.declared.nominated_values.NominatedValue.{NominatedValue}
+use Rattle.hx_store.specs.Stored.{Stored}
+use Rattle.hx_store.specs.Serials.{serial_is_in}
+use Rattle.hx_store.specs.Shelf.{serials}
+use Rattle.hx_store.specs.Weights.{StoreBounds, total_weight}
+use Rattle.proxy_store_file.specs.declared.heads.Head.{Head}
+use Rattle.proxy_store_file.specs.declared.store_faults.EntryPart.{EntryPart}
+use Rattle.proxy_store_file.specs.declared.store_faults.StoreFault.{StoreFault}
+use Rattle.proxy_store_file.specs.Texts.{number_spelling, text_spelling, number_of, is_number, number_in_front, text_in_front, cut, after}
+use Rattle.proxy_store_file.specs.Heads.{times_spelling, key_spelling, value_spelling, kept_spelling, nominated_spelling, line_spelling, lines_spelling, numbers_spelling, head_spelling, below, number_below_in_front, times_with_response, times_with_request, times_with_age, times_with_date, times_in_front, key_with_path, key_with_host, key_with_port, key_in_front, some_value, value_behind, value_in_front, kept_with_value, kept_with_name, kept_in_front, values_behind, nominated_in_front, line_with_value, line_with_name, line_in_front, lines_behind, lines_in_front, whole, no_head, head_with_lines, head_with_nominated, head_with_key, head_with_times, head_with_length, head_with_status, head_with_serial, head_in, head_of}
+use Rattle.proxy_store_file.specs.Parts.{most_head_bytes, part_at_fault}
+use Rattle.proxy_store_file.specs.Fits.{TextFits, ValueFits, KeptFits, LineFits, EntryFits, EntryCanStand, EntriesCanStand, StoreCanBeTold}
+use Rattle.proxy_store_file.specs.Stores.{StoreContents, entry_spelling, entries_spelling, first_line, opening_spelling, body_spelling, digest_spelling, store_spelling, EntryRead, Found, entry_in_front, entry_fault, fault_of_part, standing_fault, is_too_heavy, StoreReading, or_short, digest_read, end_read, entry_taken, entry_read, entries_read, counted_read, line_read, read_store}
+use Rattle.proxy_store_file.proofs.TextLaws.{same_bytes, cut_again, length-number_spelling, number_of_spelled, is_number_spelled, number_again, text_again}
+use Rattle.proxy_store_file.proofs.EntryLaws.{entry_found}
+
+below_again : (bound n : ℕ) (more : List ℕ) → n < bound → n < 2 ^ 64 → number_below_in_front bound (number_spelling n ++ more) ≡ Some (n, more)
+below_again bound n more less fits =
+    let t : nat_lt n bound ≡ true = le-leb (suc n) bound less in
+    ap (λ (o : Option (ℕ × List ℕ)). after o (below bound)) (number_again n more fits) ∙ rw t refl
+
+times_regroup : (a b c d more : List ℕ) → (((a ++ b) ++ c) ++ d) ++ more ≡ a ++ (b ++ (c ++ (d ++ more)))
+times_regroup a b c d more = simp append_assoc
+
+times_again : (t : Times) (more : List ℕ) → t.date < 2 ^ 64 → t.age_value < 2 ^ 32 → t.request_time < 2 ^ 64 → t.response_time < 2 ^ 64
+    → times_in_front (times_spelling t ++ more) ≡ Some (t, more)
+times_again t more f1 f2 f3 f4 =
+    let d = number_spelling t.date in let a = number_spelling t.age_value in
+    let r = number_spelling t.request_time in let s = number_spelling t.response_time in
+    let wide : t.age_value < 2 ^ 64 = omega (arith, f2) in
+    ap times_in_front (times_regroup d a r s more)
+    ∙ (ap (λ (o : Option (ℕ × List ℕ)). after o times_with_date) (number_again t.date (a ++ (r ++ (s ++ more))) f1)
+    ∙ (ap (λ (o : Option (ℕ × List ℕ)). after o (times_with_age t.date)) (below_again (2 ^ 32) t.age_value (r ++ (s ++ more)) f2 wide)
+    ∙ (ap (λ (o : Option (ℕ × List ℕ)). after o (times_with_request t.date t.age_value)) (number_again t.request_time (s ++ more) f3)
+    ∙ ap (λ (o : Option (ℕ × List ℕ)). after o (times_with_response t.date t.age_value t.request_time)) (number_again t.response_time more f4))))
+
+three_regroup : (a b c more : List ℕ) → ((a ++ b) ++ c) ++ more ≡ a ++ (b ++ (c ++ more))
+three_regroup a b c more = simp append_assoc
+
+key_again : (k : Key) (more : List ℕ) → k.port < 2 ^ 16 → TextFits k.host → TextFits k.path_query → key_in_front (key_spelling k ++ more) ≡ Some (k, more)
+key_again k more f1 f2 f3 =
+    let p = number_spelling k.port in let h = text_spelling k.host in let q = text_spelling k.path_query in
+    let wide : k.port < 2 ^ 64 = omega (arith, f1) in
+    ap key_in_front (three_regroup p h q more)
+    ∙ (ap (λ (o : Option (ℕ × List ℕ)). after o key_with_port) (below_again (2 ^ 16) k.port (h ++ (q ++ more)) f1 wide)
+    ∙ (ap (λ (o : Option (List ℕ × List ℕ)). after o (key_with_host k.port)) (text_again k.host (q ++ more) f2)
+    ∙ ap (λ (o : Option (List ℕ × List ℕ)). after o (key_with_path k.port k.host)) (text_again k.path_query more f3)))
+
+line_again : (l : Field) (more : List ℕ) → LineFits l → line_in_front (line_spelling l ++ more) ≡ Some (l, more)
+line_again l more fits =
+    ap line_in_front (append_assoc (text_spelling l.name) (text_spelling l.value) more)
+    ∙ (ap (λ (o : Option (List ℕ × List ℕ)). after o line_with_name) (text_again l.name (text_spelling l.value ++ more) fits.0)
+    ∙ ap (λ (o : Option (List ℕ × List ℕ)). after o (line_with_value l.name)) (text_again l.value more fits.1))
+
+value_behind_again : (n : ℕ) (value more : List ℕ) → n ≡ length value + 1 → value_behind n (value ++ more) ≡ Some (Some value, more)
+value_behind_again n value more e =
+    let some : (n == 0) ≡ false = ap (λ k. k == 0) (e ∙ add-one (length value)) ∙ eqb-suc-zero (length value) in
+    let one : length value ≡ n - 1 = omega (arith, e) in
+    rw some (ap (λ (o : Option (List ℕ × List ℕ)). after o some_value) (cut_again value more (n - 1) one))
+
+value_again : (v : Option (List ℕ)) (more : List ℕ) → ValueFits v → value_in_front (value_spelling v ++ more) ≡ Some (v, more)
+value_again None more fits = ap (λ (o : Option (ℕ × List ℕ)). after o value_behind) (number_again 0 more (omega arith))
+value_again (Some v) more fits =
+    ap value_in_front (append_assoc (number_spelling (length v + 1)) v more)
+    ∙ (ap (λ (o : Option (ℕ × List ℕ)). after o value_behind) (number_again (length v + 1) (v ++ more) fits)
+    ∙ value_behind_again (length v + 1) v more refl)
+
+kept_again : (k : NominatedValue) (more : List ℕ) → KeptFits k → kept_in_front (kept_spelling k ++ more) ≡ Some (k, more)
+kept_again k more fits =
+    ap kept_in_front (append_assoc (text_spelling k.name) (value_spelling k.value) more)
+    ∙ (ap (λ (o : Option (List ℕ × List ℕ)). after o kept_with_name) (text_again k.name (value_spelling k.value ++ more) fits.0)
+    ∙ ap (λ (o : Option (Option (List ℕ) × List ℕ)). after o (kept_with_value k.name)) (value_again k.value more fits.1))
+
+lines_behind_again : (read ls : List Field) (more : List ℕ) → AllByRecursion LineFits ls
+    → lines_behind read (length ls) (flat_map line_spelling ls ++ more) ≡ Some (read ++ ls, more)
+lines_behind_again read [] more fits = ap (λ (xs : List Field). Some (xs, more)) (sym (append-nil read))
+lines_behind_again read (l ∷ ls) more fits =
+    ap (λ b. lines_behind read (suc (length ls)) b) (append_assoc (line_spelling l) (flat_map line_spelling ls) more)
+    ∙ (ap (λ (o : Option (Field × List ℕ)). after o (λ line rest. lines_behind (read ++ line ∷ []) (length ls) rest)) (line_again l (flat_map line_spelling ls ++ more) fits.0)
+    ∙ (lines_behind_again (read ++ l ∷ []) ls more fits.1
+    ∙ ap (λ (xs : List Field). Some (xs, more)) (append_assoc read (l ∷ []) ls)))
+
+values_behind_again : (read ks : List NominatedValue) (more : List ℕ) → AllByRecursion KeptFits ks
+    → values_behind read (length ks) (flat_map kept_spelling ks ++ more) ≡ Some (read ++ ks, more)
+values_behind_again read [] more fits = ap (λ (xs : List NominatedValue). Some (xs, more)) (sym (append-nil read))
+values_behind_again read (k ∷ ks) more fits =
+    ap (λ b. values_behind read (suc (length ks)) b) (append_assoc (kept_spelling k) (flat_map kept_spelling ks) more)
+    ∙ (ap (λ (o : Option (NominatedValue × List ℕ)). after o (λ kept rest. values_behind (read ++ kept ∷ []) (length ks) rest)) (kept_again k (flat_map kept_spelling ks ++ more) fits.0)
+    ∙ (values_behind_again (read ++ k ∷ []) ks more fits.1
+    ∙ ap (λ (xs : List NominatedValue). Some (xs, more)) (append_assoc read (k ∷ []) ks)))
+
+lines_again : (ls : List Field) (more : List ℕ) → length ls < 2 ^ 64 → AllByRecursion LineFits ls → lines_in_front (lines_spelling ls ++ more) ≡ Some (ls, more)
+lines_again ls more few fits =
+    ap lines_in_front (append_assoc (number_spelling (length ls)) (flat_map line_spelling ls) more)
+    ∙ (ap (λ (o : Option (ℕ × List ℕ)). after o (lines_behind [])) (number_again (length ls) (flat_map line_spelling ls ++ more) few)
+    ∙ lines_behind_again [] ls more fits)
+
+nominated_again : (ks : List NominatedValue) (more : List ℕ) → length ks < 2 ^ 64 → AllByRecursion KeptFits ks → nominated_in_front (nominated_spelling ks ++ more) ≡ Some (ks, more)
+nominated_again ks more few fits =
+    ap nominated_in_front (append_assoc (number_spelling (length ks)) (flat_map kept_spelling ks) more)
+    ∙ (ap (λ (o : Option (ℕ × List ℕ)). after o (values_behind [])) (number_again (length ks) (flat_map kept_spelling ks ++ more) few)
+    ∙ values_behind_again [] ks more fits)
+
+head_regroup : (a b c t k n l : List ℕ) → (((((a ++ b) ++ c) ++ t) ++ k) ++ n) ++ l ≡ a ++ (b ++ (c ++ (t ++ (k ++ (n ++ (l ++ []))))))
+head_regroup a b c t k n l = rw (append-nil l) (simp append_assoc)
+
+head_again : (e : Stored) → EntryFits e → head_in (head_spelling (head_of e)) ≡ Some (head_of e)
+unfolding head_in
+head_again e fits =
+    let a = number_spelling e.serial in let b = number_spelling e.status in let c = number_spelling (length e.content) in
+    let t = times_spelling e.times in let k = key_spelling e.key in let n = nominated_spelling e.nominated in let l = lines_spelling e.fields in
+    let h1 : Head = record no_head { serial = e.serial } in
+    let h2 : Head = record h1 { status = e.status } in
+    let h3 : Head = record h2 { content_length = length e.content } in
+    let h4 : Head = record h3 { times = e.times } in
+    let h5 : Head = record h4 { key = e.key } in
+    let h6 : Head = record h5 { nominated = e.nominated } in
+    let wide : e.status < 2 ^ 64 = omega (arith, fits.status) in
+    ap (λ bytes. after (number_in_front bytes) head_with_serial) (head_regroup a b c t k n l)
+    ∙ (ap (λ (o : Option (ℕ × List ℕ)). after o head_with_serial) (number_again e.serial (b ++ (c ++ (t ++ (k ++ (n ++ (l ++ [])))))) fits.serial)
+    ∙ (ap (λ (o : Option (ℕ × List ℕ)). after o (head_with_status h1)) (below_again (2 ^ 16) e.status (c ++ (t ++ (k ++ (n ++ (l ++ []))))) fits.status wide)
+    ∙ (ap (λ (o : Option (ℕ × List ℕ)). after o (head_with_length h2)) (number_again (length e.content) (t ++ (k ++ (n ++ (l ++ [])))) fits.content)
+    ∙ (ap (λ (o : Option (Times × List ℕ)). after o (head_with_times h3)) (times_again e.times (k ++ (n ++ (l ++ []))) fits.date fits.age fits.request fits.response)
+    ∙ (ap (λ (o : Option (Key × List ℕ)). after o (head_with_key h4)) (key_again e.key (n ++ (l ++ [])) fits.port fits.host fits.path_query)
+    ∙ (ap (λ (o : Option (List NominatedValue × List ℕ)). after o (head_with_nominated h5)) (nominated_again e.nominated (l ++ []) fits.values fits.nominated)
+    ∙ ap (λ (o : Option (List Field × List ℕ)). after o (head_with_lines h6)) (lines_again e.fields [] fits.lines fits.fields)))))))
+
+entry_again : (e : Stored) (more : List ℕ) → EntryFits e → length (head_spelling (head_of e)) ≤ most_head_bytes → entry_in_front (entry_spelling e ++ more) ≡ Found e more
+entry_again e more fits short =
+    let head = head_spelling (head_of e) in
+    let wide : length head < 2 ^ 64 = omega (arith, short) in
+    let number = number_of_spelled (length head) wide in
+    entry_found (number_spelling (length head)) head e.content more (head_of e) (length-number_spelling (length head)) (is_number_spelled (length head) wide)
+    (subst (λ n. n ≤ most_head_bytes) (sym number) short) (sym number) (head_again e fits) refl
+
+no_fault_by : (o : Option EntryPart) (a b c : Bool) (n : ℕ) (f g : Option StoreFault) → o ≡ None → a ≡ false → b ≡ false → c ≡ false
+    → fault_of_part n o (cond {A = Option StoreFault} (a || b) f (cond {A = Option StoreFault} c g None)) ≡ None
+no_fault_by o a b c n f g e1 e2 e3 e4 = rw (e1, e2, e3, e4) refl
+
+no_fault : (n : ℕ) (most : Option ℕ) (next : ℕ) (held : List Stored) (e : Stored) → EntryCanStand most next held e → entry_fault n most next held e ≡ None
+no_fault n most next held e stands =
+    no_fault_by (part_at_fault e) (serial_is_in e.serial (serials held)) (nat_le next e.serial) (is_too_heavy most (total_weight (e ∷ held))) n _ _
+    stands.parts stands.is_new (lt-leb next e.serial stands.below_next) stands.weighs
+
+entries_again : (es : List Stored) (n left : ℕ) (text : List ℕ) (most : Option ℕ) (next : ℕ) (rest : List ℕ) → n ≡ length es + left → EntriesCanStand most next es
+    → entries_read text most next n [] (entries_spelling es ++ rest) ≡ entries_read text most next left es rest
+entries_again [] n left text most next rest e stand =
+    let same : n ≡ left = omega (arith, e) in ap (λ k. entries_read text most next k [] rest) same
+entries_again (x ∷ xs) n left text most next rest e stand =
+    let later : n ≡ length xs + suc left = omega (arith, e) in
+    ap (λ b. entries_read text most next n [] b) (append_assoc (entries_spelling xs) (entry_spelling x) rest)
+    ∙ (entries_again xs n (suc left) text most next (entry_spelling x ++ rest) later stand.1
+    ∙ (ap (entry_read most next xs (λ y more. entries_read text most next left (y ∷ xs) more)) (entry_again x rest stand.0.fits stand.0.short)
+    ∙ ap (λ (f : Option StoreFault). entry_taken f (entries_read text most next left (x ∷ xs) rest)) (no_fault (length xs + 1) most next xs x stand.0)))
+
+length-digest_spelling : (body : List ℕ) → length (digest_spelling body) ≡ 8
+unfolding digest_spelling
+length-digest_spelling body = length-number_spelling _
+
+digest_again : (body digest : List ℕ) (store : StoreContents) → digest ≡ digest_spelling body → digest_read body store digest [] ≡ Ok store
+digest_again body digest store e = rw (same_bytes digest (digest_spelling body) e) refl
+
+end_again : (text body : List ℕ) (store : StoreContents) → text ≡ body ++ digest_spelling body → end_read text store (digest_spelling body) ≡ Ok store
+end_again text body store split =
+    let digest = digest_spelling body in
+    let n = length-digest_spelling body in
+    let long : length text - length digest ≡ length body = omega (arith, ap length split ∙ length-append body digest) in
+    let front : take (length text - length digest) text ≡ body =
+    ap (λ k. take k text) long ∙ (ap (λ x. take (length body) x) split ∙ take-append_seam body digest) in
+    let all : cut 8 digest ≡ Some (digest, []) = ap (cut 8) (sym (append-nil digest)) ∙ cut_again digest [] 8 n in
+    ap (λ (o : Option (List ℕ × List ℕ)). or_short (length store.entries) o (digest_read (take (length text - length digest) text) store)) all
+    ∙ digest_again (take (length text - length digest) text) digest store (ap digest_spelling (sym front))
+
+counted_again : (bounds : StoreBounds) (text a b rest : List ℕ) (n m : ℕ) → is_number a ≡ true → is_number b ≡ true → number_of a ≡ n → number_of b ≡ m
+    → m ≤ bounds.entries → counted_read bounds text a b rest ≡ entries_read text bounds.bytes n m [] rest
+counted_again bounds text a b rest n m sa sb na nb few =
+    let within : nat_le m bounds.entries ≡ true = le-leb m bounds.entries few in
+    rw (sa, sb, na, nb, within) refl
+
+store_regroup : (a b c es d : List ℕ) → (((a ++ b) ++ c) ++ es) ++ d ≡ a ++ (b ++ (c ++ (es ++ d)))
+store_regroup a b c es d = simp append_assoc
+
+pub told_stores_are_read : (bounds : StoreBounds) (store : StoreContents) → StoreCanBeTold bounds store → read_store bounds (store_spelling store) ≡ Ok store
+unfolding read_store
+told_stores_are_read bounds store told =
+    let text = store_spelling store in
+    let next = number_spelling store.next_serial in let number = number_spelling (length store.entries) in
+    let es = entries_spelling store.entries in let digest = digest_spelling (body_spelling store) in
+    ap (λ (o : Option (List ℕ × List ℕ)). or_short 0 o (line_read bounds text)) (ap (cut 17) (store_regroup first_line next number es digest) ∙ cut_again first_line (next ++ (number ++ (es ++ digest))) 17 refl)
+    ∙ (ap (λ (o : Option (List ℕ × List ℕ)). or_short 0 o (λ a more. or_short 0 (cut 8 more) (counted_read bounds text a))) (cut_again next (number ++ (es ++ digest)) 8 (length-number_spelling store.next_serial))
+    ∙ (ap (λ (o : Option (List ℕ × List ℕ)). or_short 0 o (counted_read bounds text next)) (cut_again number (es ++ digest) 8 (length-number_spelling (length store.entries)))
+    ∙ (counted_again bounds text next number (es ++ digest) store.next_serial (length store.entries) (is_number_spelled store.next_serial told.next_serial)
+    (is_number_spelled (length store.entries) told.number) (number_of_spelled store.next_serial told.next_serial) (number_of_spelled (length store.entries) told.number) told.few
+    ∙ (entries_again store.entries (length store.entries) 0 text bounds.bytes store.next_serial digest (omega arith) told.entries
+    ∙ end_again text (body_spelling store) store refl))))

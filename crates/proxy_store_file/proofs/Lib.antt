@@ -1,0 +1,13 @@
+pub mod AgainLaws
+pub mod Emptied
+pub mod EntryLaws
+pub mod EntrySteps
+pub mod Fronts
+pub mod Given
+pub mod HeadLaws
+pub mod ListSteps
+pub mod ReadingSteps
+pub mod SoundLaws
+pub mod StoreLaws
+pub mod TextLaws
+pub mod Written

@@ -1,0 +1,195 @@
+-- The head of an entry in the file of a store: all of it but its content.
+--
+-- times_spelling, key_spelling, kept_spelling, line_spelling: its parts       listed: a list, its length in front
+-- head_spelling: the whole       head_in: the head that bytes spell, if they do
+use Rattle.std.specs.Prelude.{ℕ, ◌+◌, ◌-◌, ◌^◌, ◌==◌, nat_lt, zero, suc, if◌then◌else◌, List, [], ◌∷◌, ◌++◌, length}
+use Rattle.std.specs.Prelude.{Option, None, Some}
+use Rattle.std.specs.List.{flat_map}
+use Rattle.hx_fields.specs.declared.field_line.Field.{Field}
+use Rattle.hx_target.specs.declared.keys.Key.{Key}
+use Rattle.hx_age.specs.declared.moments.Times.{Times}
+use Rattle.hx_vary.specs.declared.nominated_values.NominatedValue.{NominatedValue}
+use Rattle.hx_store.specs.Stored.{Stored}
+use Rattle.proxy_store_file.specs.declared.heads.Head.{Head}
+use Rattle.proxy_store_file.specs.Texts.{number_spelling, text_spelling, number_in_front, text_in_front, cut, after}
+
+abbrev pub times_spelling : Times → List ℕ
+times_spelling times =
+    number_spelling times.date ++ number_spelling times.age_value ++ number_spelling times.request_time
+    ++ number_spelling times.response_time
+
+abbrev pub key_spelling : Key → List ℕ
+key_spelling key = number_spelling key.port ++ text_spelling key.host ++ text_spelling key.path_query
+
+-- 0 where there is no value, else its length and one more, and the value
+abbrev pub value_spelling : Option (List ℕ) → List ℕ
+value_spelling None = number_spelling 0
+value_spelling (Some value) = number_spelling (length value + 1) ++ value
+
+abbrev pub kept_spelling : NominatedValue → List ℕ
+kept_spelling kept = text_spelling kept.name ++ value_spelling kept.value
+
+abbrev pub nominated_spelling : List NominatedValue → List ℕ
+nominated_spelling values = number_spelling (length values) ++ flat_map kept_spelling values
+
+abbrev pub line_spelling : Field → List ℕ
+line_spelling line = text_spelling line.name ++ text_spelling line.value
+
+abbrev pub lines_spelling : List Field → List ℕ
+lines_spelling lines = number_spelling (length lines) ++ flat_map line_spelling lines
+
+abbrev pub numbers_spelling : Head → List ℕ
+numbers_spelling head =
+    number_spelling head.serial ++ number_spelling head.status ++ number_spelling head.content_length
+    ++ times_spelling head.times
+
+-- numbers of one length first, and then what has its length in front
+abbrev pub head_spelling : Head → List ℕ
+head_spelling head =
+    numbers_spelling head ++ key_spelling head.key ++ nominated_spelling head.nominated ++ lines_spelling head.fields
+
+-- the number at the front, where it is below a bound
+abbrev pub below : ℕ → ℕ → List ℕ → Option (ℕ × List ℕ)
+below bound n rest = if nat_lt n bound then Some (n, rest) else None
+
+abbrev pub number_below_in_front : ℕ → List ℕ → Option (ℕ × List ℕ)
+number_below_in_front bound bytes = after (number_in_front bytes) (below bound)
+
+-- the times behind those that were read
+abbrev pub times_with_response : ℕ → ℕ → ℕ → ℕ → List ℕ → Option (Times × List ℕ)
+times_with_response date age request response rest =
+    Some (record { date = date; age_value = age; request_time = request; response_time = response }, rest)
+
+abbrev pub times_with_request : ℕ → ℕ → ℕ → List ℕ → Option (Times × List ℕ)
+times_with_request date age request rest = after (number_in_front rest) (times_with_response date age request)
+
+abbrev pub times_with_age : ℕ → ℕ → List ℕ → Option (Times × List ℕ)
+times_with_age date age rest = after (number_in_front rest) (times_with_request date age)
+
+abbrev pub times_with_date : ℕ → List ℕ → Option (Times × List ℕ)
+times_with_date date rest = after (number_below_in_front (2 ^ 32) rest) (times_with_age date)
+
+abbrev pub times_in_front : List ℕ → Option (Times × List ℕ)
+times_in_front bytes = after (number_in_front bytes) times_with_date
+
+abbrev pub key_with_path : ℕ → List ℕ → List ℕ → List ℕ → Option (Key × List ℕ)
+key_with_path port host path_query rest = Some (record { host = host; port = port; path_query = path_query }, rest)
+
+abbrev pub key_with_host : ℕ → List ℕ → List ℕ → Option (Key × List ℕ)
+key_with_host port host rest = after (text_in_front rest) (key_with_path port host)
+
+abbrev pub key_with_port : ℕ → List ℕ → Option (Key × List ℕ)
+key_with_port port rest = after (text_in_front rest) (key_with_host port)
+
+abbrev pub key_in_front : List ℕ → Option (Key × List ℕ)
+key_in_front bytes = after (number_below_in_front (2 ^ 16) bytes) key_with_port
+
+abbrev pub some_value : List ℕ → List ℕ → Option (Option (List ℕ) × List ℕ)
+some_value value rest = Some (Some value, rest)
+
+abbrev pub value_behind : ℕ → List ℕ → Option (Option (List ℕ) × List ℕ)
+value_behind n rest = if n == 0 then Some (None, rest) else after (cut (n - 1) rest) some_value
+
+abbrev pub value_in_front : List ℕ → Option (Option (List ℕ) × List ℕ)
+value_in_front bytes = after (number_in_front bytes) value_behind
+
+abbrev pub kept_with_value : List ℕ → Option (List ℕ) → List ℕ → Option (NominatedValue × List ℕ)
+kept_with_value name value rest = Some (record { name = name; value = value }, rest)
+
+abbrev pub kept_with_name : List ℕ → List ℕ → Option (NominatedValue × List ℕ)
+kept_with_name name rest = after (value_in_front rest) (kept_with_value name)
+
+abbrev pub kept_in_front : List ℕ → Option (NominatedValue × List ℕ)
+kept_in_front bytes = after (text_in_front bytes) kept_with_name
+
+-- so many more, behind those that were read
+abbrev pub values_behind : List NominatedValue → ℕ → List ℕ → Option (List NominatedValue × List ℕ)
+values_behind read zero bytes = Some (read, bytes)
+values_behind read (suc n) bytes = after (kept_in_front bytes) (λ kept rest. values_behind (read ++ kept ∷ []) n rest)
+
+abbrev pub nominated_in_front : List ℕ → Option (List NominatedValue × List ℕ)
+nominated_in_front bytes = after (number_in_front bytes) (values_behind [])
+
+abbrev pub line_with_value : List ℕ → List ℕ → List ℕ → Option (Field × List ℕ)
+line_with_value name value rest = Some (record { name = name; value = value }, rest)
+
+abbrev pub line_with_name : List ℕ → List ℕ → Option (Field × List ℕ)
+line_with_name name rest = after (text_in_front rest) (line_with_value name)
+
+abbrev pub line_in_front : List ℕ → Option (Field × List ℕ)
+line_in_front bytes = after (text_in_front bytes) line_with_name
+
+-- so many more, behind those that were read
+abbrev pub lines_behind : List Field → ℕ → List ℕ → Option (List Field × List ℕ)
+lines_behind read zero bytes = Some (read, bytes)
+lines_behind read (suc n) bytes = after (line_in_front bytes) (λ line rest. lines_behind (read ++ line ∷ []) n rest)
+
+abbrev pub lines_in_front : List ℕ → Option (List Field × List ℕ)
+lines_in_front bytes = after (number_in_front bytes) (lines_behind [])
+
+-- nothing follows it
+abbrev pub whole : {A : Type 0} → A → List ℕ → Option A
+whole read rest = if length rest == 0 then Some read else None
+
+-- nothing of a head was read
+abbrev pub no_head : Head
+no_head = record {
+  serial = 0;
+  status = 0;
+  content_length = 0;
+  times = record { date = 0; age_value = 0; request_time = 0; response_time = 0 };
+  key = record { host = []; port = 0; path_query = [] };
+  nominated = [];
+  fields = [];
+}
+
+-- the head behind its parts that were read
+abbrev pub head_with_lines : Head → List Field → List ℕ → Option Head
+head_with_lines head fields rest = whole (record head { fields = fields }) rest
+
+abbrev pub head_with_nominated : Head → List NominatedValue → List ℕ → Option Head
+head_with_nominated head nominated rest =
+    after (lines_in_front rest) (head_with_lines (record head { nominated = nominated }))
+
+abbrev pub head_with_key : Head → Key → List ℕ → Option Head
+head_with_key head key rest = after (nominated_in_front rest) (head_with_nominated (record head { key = key }))
+
+abbrev pub head_with_times : Head → Times → List ℕ → Option Head
+head_with_times head times rest = after (key_in_front rest) (head_with_key (record head { times = times }))
+
+abbrev pub head_with_length : Head → ℕ → List ℕ → Option Head
+head_with_length head n rest = after (times_in_front rest) (head_with_times (record head { content_length = n }))
+
+abbrev pub head_with_status : Head → ℕ → List ℕ → Option Head
+head_with_status head status rest =
+    after (number_in_front rest) (head_with_length (record head { status = status }))
+
+abbrev pub head_with_serial : ℕ → List ℕ → Option Head
+head_with_serial serial rest =
+    after (number_below_in_front (2 ^ 16) rest) (head_with_status (record no_head { serial = serial }))
+
+unfoldable pub head_in : List ℕ → Option Head
+head_in bytes = after (number_in_front bytes) head_with_serial
+
+-- an entry without its content, and with it
+abbrev pub head_of : Stored → Head
+head_of e = record {
+  serial = e.serial;
+  status = e.status;
+  content_length = length e.content;
+  times = e.times;
+  key = e.key;
+  nominated = e.nominated;
+  fields = e.fields;
+}
+
+abbrev pub stored_of : Head → List ℕ → Stored
+stored_of head content = record {
+  serial = head.serial;
+  key = head.key;
+  nominated = head.nominated;
+  status = head.status;
+  fields = head.fields;
+  content = content;
+  times = head.times;
+}

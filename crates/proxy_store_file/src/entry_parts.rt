@@ -1,0 +1,155 @@
+//! Whether an entry is one that can have been stored (`specs/Parts.antt`).
+ghost use Rattle.std.specs.Prelude.{◌≡◌, ◌==◌, slice_index};
+ghost use Rattle.std.specs.List.{list_all};
+ghost use Rattle.proxy_store_file.specs.Parts.{part_at_fault, is_final_status, is_stored_key, is_moment};
+ghost use Rattle.proxy_store_file.specs.Parts.{are_stored_times};
+ghost use Rattle.proxy_store_file.specs.Parts.{is_value_byte, are_value_bytes, is_stored_name, is_kept_value, is_kept};
+ghost use Rattle.proxy_store_file.specs.Parts.{are_nominated, is_stored_line, are_stored_lines, has_capital};
+
+use crate::limits::{MOST_HEAD_BYTES, MOST_PATH_BYTES};
+use crate::store_faults::EntryPart;
+use hx_age::Times;
+use hx_directives::MOST_SECONDS;
+use hx_fields::{Bytes, END_OF_TIME, Field, is_token, trim_blanks};
+use hx_store::Entry;
+use hx_target::{Key, is_host};
+use hx_vary::NominatedValue;
+
+fn is_final_status(status: u16) -> bool
+    ensures { result ≡ is_final_status status }
+{
+    200 <= status && status <= 999
+}
+
+fn has_capital(text: &[u8]) -> bool
+    ensures { result ≡ has_capital text.now }
+{
+    text.iter().any(|b| b.is_ascii_uppercase())
+}
+
+fn is_absolute(path_query: &[u8]) -> bool
+    ensures { result ≡ (slice_index path_query.now 0 == 47) }
+{
+    path_query.first() == Some(&b'/')
+}
+
+fn is_stored_key(key: &Key) -> bool
+    ensures { result ≡ is_stored_key key.now }
+{
+    let host = key.host.as_slice();
+    let path_query = key.path_query.as_slice();
+    is_host(host)
+        && host.len() <= 253
+        && !has_capital(host)
+        && 1 <= key.port
+        && is_absolute(path_query)
+        && path_query.len() <= MOST_PATH_BYTES
+}
+
+fn is_moment(seconds: u64) -> bool
+    ensures { result ≡ is_moment seconds }
+{
+    seconds < END_OF_TIME
+}
+
+fn are_stored_times(times: Times) -> bool
+    ensures { result ≡ are_stored_times times }
+{
+    is_moment(times.date)
+        && is_moment(times.request_time)
+        && is_moment(times.response_time)
+        && (times.age_value as u64) <= MOST_SECONDS
+}
+
+fn is_value_byte(b: u8) -> bool
+    ensures { result ≡ is_value_byte b }
+{
+    b == b'\t' || (32 <= b && b != 127)
+}
+
+fn all_value_bytes(value: &[u8]) -> bool
+    ensures { result ≡ list_all is_value_byte value.now }
+{
+    value.iter().all(|b| is_value_byte(*b))
+}
+
+fn are_value_bytes(value: &[u8]) -> bool
+    ensures { result ≡ are_value_bytes value.now }
+{
+    value.len() <= MOST_HEAD_BYTES && all_value_bytes(value)
+}
+
+fn is_stored_name(name: &[u8]) -> bool
+    ensures { result ≡ is_stored_name name.now }
+{
+    name.len() <= MOST_HEAD_BYTES && is_token(name)
+}
+
+fn is_kept_value(value: &Option<Bytes>) -> bool
+    ensures { result ≡ is_kept_value value.now }
+{
+    match value {
+        Some(value) => are_value_bytes(value.as_slice()),
+        None => true,
+    }
+}
+
+fn is_kept(kept: &NominatedValue) -> bool
+    ensures { result ≡ is_kept kept.now }
+{
+    is_stored_name(kept.name.as_slice()) && is_kept_value(&kept.value)
+}
+
+fn all_are_kept(values: &[NominatedValue]) -> bool
+    ensures { result ≡ list_all is_kept values.now }
+{
+    values.iter().all(|kept| is_kept(kept))
+}
+
+fn are_nominated(values: &[NominatedValue]) -> bool
+    ensures { result ≡ are_nominated values.now }
+{
+    values.len() <= MOST_HEAD_BYTES && all_are_kept(values)
+}
+
+fn is_stored_line(line: &Field) -> bool
+    ensures { result ≡ is_stored_line line.now }
+{
+    let value = line.value.as_slice();
+    is_stored_name(line.name.as_slice()) && are_value_bytes(value) && trim_blanks(value) == value
+}
+
+fn all_are_stored_lines(lines: &[Field]) -> bool
+    ensures { result ≡ list_all is_stored_line lines.now }
+{
+    lines.iter().all(|line| is_stored_line(line))
+}
+
+fn are_stored_lines(lines: &[Field]) -> bool
+    ensures { result ≡ are_stored_lines lines.now }
+{
+    lines.len() <= MOST_HEAD_BYTES && all_are_stored_lines(lines)
+}
+
+/// The first part of an entry that isn't what it must be. No memory is taken.
+#[tactic(auto, unfolding(crate::specs::Parts::part_at_fault))]
+pub(crate) fn part_at_fault(entry: &Entry) -> Option<EntryPart>
+    ensures { result ≡ part_at_fault entry.now }
+{
+    if !is_final_status(entry.status) {
+        return Some(EntryPart::Status);
+    }
+    if !are_stored_times(entry.times) {
+        return Some(EntryPart::Times);
+    }
+    if !is_stored_key(&entry.key) {
+        return Some(EntryPart::Key);
+    }
+    if !are_nominated(entry.nominated.as_slice()) {
+        return Some(EntryPart::Nominated);
+    }
+    if !are_stored_lines(entry.fields.as_slice()) {
+        return Some(EntryPart::Lines);
+    }
+    None
+}

@@ -1,0 +1,2 @@
+mod Peering
+mod Streaming

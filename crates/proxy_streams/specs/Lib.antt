@@ -1,0 +1,3 @@
+pub mod PeerCalls
+pub mod Peers
+pub mod Silence

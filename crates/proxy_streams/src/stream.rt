@@ -1,0 +1,69 @@
+//! A stream that never waits.
+ghost use Rattle.std.specs.Prelude.{◌≡◌, ℕ, List, [], ◌∷◌, ◌++◌, length};
+ghost use Rattle.std.specs.Io.{ReadsAtMost, WritesAtMost};
+ghost use Rattle.proxy_streams.specs.Peers.{PeerReadOutcome, read_outcome_of_result, bytes_taken_by_write};
+
+use mio::net::TcpStream;
+use proxy_listener::reset;
+use std::io;
+use std::io::{Read, Write};
+use std::net::Shutdown;
+
+/// A stream to a client or an origin. No call waits.
+pub trait Stream {
+    /// From one state to another the stream took these bytes, and each of its reads gave this, the oldest first.
+    ghost Passed: { Self → List ℕ → List PeerReadOutcome → Self → Type 0 };
+
+    /// From one state to another nothing happened but that its peer was told that nothing more comes.
+    ghost WasShut: { Self → Self → Type 0 };
+
+    /// Reads what has come, at most as many bytes as there is room for.
+    fn read(&mut self, buf: &mut [u8]) -> io::Result<usize>
+        ensures bound { ReadsAtMost result buf.new }
+        ensures passed { Passed self.old [] (read_outcome_of_result result buf.new ∷ []) self.new };
+
+    /// Writes of the front of the bytes as many as it takes; answers how many.
+    fn write(&mut self, bytes: &[u8]) -> io::Result<usize>
+        ensures bound { WritesAtMost result bytes.now }
+        ensures passed { Passed self.old (bytes_taken_by_write result bytes.now) [] self.new };
+
+    /// Tells the peer that nothing more comes.
+    fn shut_down(&mut self) -> io::Result<()>
+        ensures shut { WasShut self.old self.new };
+
+    /// Ends the connection at once, so that nothing of it stays with the system. Nothing is read or written behind it.
+    fn reset(&mut self);
+
+    /// With no call it stays the same state.
+    ghost none: { (s : Self) → Passed s [] [] s };
+
+    ghost joined: { (s t u : Self) (a b : List ℕ) (c d : List PeerReadOutcome) → Passed s a c t → Passed t b d u
+        → Passed s (a ++ b) (c ++ d) u };
+}
+
+impl Stream for TcpStream {
+    // No contract can say what a socket of the system gives or takes.
+    ghost Passed = { λ s took gave t. Unit {0} };
+
+    ghost WasShut = { λ s t. Unit {0} };
+
+    ghost none = { λ s. tt };
+
+    ghost joined = { λ s t u a b c d first then. tt };
+
+    fn read(&mut self, buf: &mut [u8]) -> io::Result<usize> {
+        Read::read(self, buf)
+    }
+
+    fn write(&mut self, bytes: &[u8]) -> io::Result<usize> {
+        Write::write(self, bytes)
+    }
+
+    fn shut_down(&mut self) -> io::Result<()> {
+        self.shutdown(Shutdown::Write)
+    }
+
+    fn reset(&mut self) {
+        reset(self);
+    }
+}
