@@ -71,6 +71,15 @@ def an_incomplete_request_gives_its_place(stage):
     stage.lines = 1
 
 
+def got_whole(client, content):
+    """Whether a client that now reads on gets its whole answer before its connection ends. What is kept open has no end to wait for."""
+    client.open_window()
+    while len(client.received) <= len(content) and client.read_some():
+        pass
+    client.settle()
+    return client.received.endswith(content)
+
+
 @scenario
 def who_takes_nothing_goes_before_who_takes(stage):
     """`--content-limit` is full of answers that their clients don't take. An honest client asks for a larger one, and gets it whole: one of the
@@ -88,9 +97,6 @@ def who_takes_nothing_goes_before_who_takes(stage):
     time.sleep(1.5)
     for _ in range(5):
         expect_answer(proxy.client().ask("/large"), 200, HIT, pages["/large"])
-    for it in stuck:
-        it.open_window()
-        it.drain()
-    whole_ones = sum(len(it.received) > 6000000 for it in stuck)
+    whole_ones = sum(got_whole(it, pages["/modest"]) for it in stuck)
     if whole_ones not in (1, 2):
         raise Unexpected("of those that took nothing", "one cut off, or two", f"{3 - whole_ones}")
