@@ -1,7 +1,7 @@
 //! Readers and writers that give and take few bytes at a time, are interrupted or fail.
 ghost use Rattle.std.specs.Prelude.{Some};
 
-use super::files::{GIVEN, NEXT, file, filled};
+use crate::files::{GIVEN, NEXT, file, filled};
 use hx_store::{IndexedShelf, Shelf};
 use proxy_store_file::{StoreFault, WriteFault, read_store, write_store};
 use std::alloc::Global;

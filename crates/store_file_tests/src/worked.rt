@@ -1,7 +1,7 @@
 //! A file as another program writes it: its bytes were made from docs/STORE_FILE.md, with a SipHash that gives what
 //! CPython's `hash` gives under the seed 0.
 
-use super::files::{Given, NEXT, file, read};
+use crate::files::{Given, NEXT, file, read};
 use std::test::Fail;
 
 /// An entry of three bytes, whose request had no value for the field that its Vary names.

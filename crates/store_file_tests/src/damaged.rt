@@ -1,7 +1,7 @@
 //! Files that were cut, changed or made longer, of another version, or above a bound. None of them is read, and nothing
 //! of one stays in the shelf.
 
-use super::files::{GIVEN, NEXT, entry, file, filled, put, read};
+use crate::files::{GIVEN, NEXT, entry, file, filled, put, read};
 use hx_store::ListShelf;
 use proxy_store_file::{EntryPart, StoreFault, WriteFault, write_store};
 use std::alloc::Global;
