@@ -246,18 +246,19 @@ def figures_that_another_program_writes(stage):
 
 @scenario
 def figures_that_cannot_be_written(stage):
-    """A start fails where there is no place for them; one that serves goes on, and says so once."""
-    table = f"{stage.room.name}/table.toml"
-    with open(table, "w", encoding="utf-8") as it:
-        it.write(table_of(["127.0.0.1:1"]))
-    words = [stage.program, "serve", table, "--listen", "127.0.0.1:0", "--turns", "1", "--stats", f"{stage.room.name}/none/figures"]
-    ran = subprocess.run(words, stdin=subprocess.DEVNULL, capture_output=True, timeout=PATIENCE)
-    expect("status and the fault", (1, "write fault"), (ran.returncode, ran.stderr.decode().splitlines()[-1]))
-    folder = f"{stage.room.name}/there"
+    """Where there is no place for them, at the start or later, or their disk is full, that is told once, and the program serves. They come once
+    they can be written."""
+    folder, full = f"{stage.room.name}/there", f"{stage.room.name}/full"
     os.mkdir(folder)
+    os.symlink("/dev/full", f"{full}.tmp")
     stage.origin(Origin({"/a": whole(200, KEPT, content=b"hello")}))
-    client = stage.proxy(options=["--stats", f"{folder}/figures"]).client()
+    clients = [stage.proxy(options=["--stats", it], records=False).client() for it in (f"{folder}/figures", f"{stage.room.name}/none/figures", full)]
     shutil.rmtree(folder)
     time.sleep(3)
-    expect_answer(client.ask("/a"), 200, "edge;fwd=uri-miss;ttl=600;stored", b"hello")
+    for it in clients:
+        expect_answer(it.ask("/a"), 200, "edge;fwd=uri-miss;ttl=600;stored", b"hello")
+    expect("whether there is a file of what a full disk took", False, os.path.exists(full))
+    os.remove(f"{full}.tmp")
+    time.sleep(2.2)
+    figures_with(full, of("connections_accepted_total"), 1)
     stage.lines = 1

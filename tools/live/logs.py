@@ -205,6 +205,23 @@ def a_log_that_cannot_be_written(stage):
 
 
 @scenario
+def who_may_read_what_is_written(stage):
+    """Whatever the umask, a log is read by its user and group alone (a query may have a password in it), a record by its user, and the figures
+    by all; nobody else writes any of them."""
+    stage.origin(Origin({"/a": whole(200, KEPT, content=b"hello")}))
+    log, figures = f"{stage.room.name}/log", f"{stage.room.name}/figures"
+    before = os.umask(0)
+    try:
+        proxy = stage.proxy(options=["--log", log, "--stats", figures])
+    finally:
+        os.umask(before)
+    expect_answer(proxy.client().ask("/a"), 200, "edge;fwd=uri-miss;ttl=600;stored", b"hello")
+    lines_of(log, 1)
+    modes = [oct(os.stat(it).st_mode & 0o777) for it in (log, figures, proxy.record)]
+    expect("rights of log, figures and record", ["0o640", "0o644", "0o600"], modes)
+
+
+@scenario
 def a_log_whose_folder_is_removed(stage):
     """The file of a log and its folder are removed: once that is seen, which takes a second, its lines are lost, which is told and counted. Where
     the folder is there again so is the log."""

@@ -2,7 +2,7 @@
 
 use std::fs::{OpenFile, OpenOptions};
 use std::io::Write;
-use std::os::unix::fs::MetadataExt;
+use std::os::unix::fs::{MetadataExt, OpenOptionsExt};
 use std::rt::Files;
 use std::{fs, io};
 
@@ -40,10 +40,11 @@ pub(crate) struct Journal<F: Write + Drop, P: Write + Drop> {
     is_shared: bool,
 }
 
-/// The file of a log, to whose end lines are added.
+/// The file of a log, to whose end lines are added. A new one is read by its user and group alone: a query may have a
+/// password in it.
 pub(crate) fn log_file<R: Files>(rt: &R, path: &str) -> io::Result<R::File> {
     let mut how = OpenOptions::new();
-    how.append(true).create(true);
+    how.append(true).create(true).mode(0o640);
     how.open(rt, path)
 }
 

@@ -297,30 +297,6 @@ fn sockets_of<'n, R: Net + AllocGlobal>(
     }
 }
 
-/// Writes the first page of figures, if they are asked for.
-fn begin_figures<'a, R: Net + Files + AllocGlobal, S: Shelf + Drop, W: Write + Drop>(
-    rt: &R,
-    figures: &Option<Figures<'_>>,
-    server: &Server<'a, S, R, W>,
-) -> Result<(), Fault> {
-    let Some(figures) = figures else {
-        return Ok(());
-    };
-    match figures.write(rt, server, 0) {
-        Ok(()) => Ok(()),
-        Err(e) => {
-            let words = system_call_words(
-                rt.alloc(),
-                "the file of --stats",
-                "",
-                " can't be written",
-                &e,
-            );
-            Err(fault_of(&e, Fault::Write(words)))
-        }
-    }
-}
-
 /// What is told of a server at its start.
 #[derive(Clone, Copy, Debug)]
 struct Start {
@@ -378,7 +354,10 @@ fn serve_table<'n, R: Net + Clock + Files + Print + Eprint + AllocGlobal + Rando
     warn_of_loops(rt, &config, start.address);
     warn_of_other_writer(rt, service.stats, start.address);
     let mut server = Server::new(rt.alloc(), config, shelf, sockets, record);
-    begin_figures(rt, &figures, &server)?;
+    if let Some(figures) = &figures {
+        // Where they can't be written, as on a full disk, that is told behind the first turn.
+        let _ = figures.write(rt, &server, 0);
+    }
     announce_memory(rt, start.stored, start.held);
     announce(rt, start.address, &service.limits, start.allows);
     serve_to_its_end(rt, service, &mut server, &mut journal, &mut figures)

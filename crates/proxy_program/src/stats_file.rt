@@ -6,6 +6,7 @@ use std::alloc::AllocError;
 use std::fs::OpenOptions;
 use std::io::Write;
 use std::net::SocketAddr;
+use std::os::unix::fs::OpenOptionsExt;
 use std::rt::{Clock, Files};
 use std::{fs, io, str};
 
@@ -75,7 +76,8 @@ impl<'a> StatsFile<'a> {
     /// Writes a page in place of the one before.
     pub(crate) fn write<R: Files>(&self, rt: &R, page: &[u8]) -> io::Result<()> {
         let mut how = OpenOptions::new();
-        how.write(true).create(true).truncate(true);
+        // Whoever watches may read it, and nobody else write it, whatever the umask.
+        how.write(true).create(true).truncate(true).mode(0o644);
         let mut file = how.open(rt, self.part.as_str())?;
         file.write_all(page)?;
         fs::rename(rt, self.part.as_str(), self.path)

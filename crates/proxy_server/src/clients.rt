@@ -35,10 +35,9 @@ use crate::clients::client::{Client, Place};
 use crate::clients::departures::{Departure, LostClient};
 use crate::limits::Limits;
 use mio::event::Event;
-use mio::net::TcpStream;
 use proxy_figures::{CutReason, Endings, UnansweredCause, UnansweredCounts};
 use proxy_pacing::{Moments, StreamQueue, StreamQueues};
-use proxy_streams::{Peer, Stream, held_after};
+use proxy_streams::{Peer, Socket, Stream, held_after};
 use proxy_turn::Received;
 use slab::Slab;
 use std::alloc::Global;
@@ -46,7 +45,7 @@ use std::collections::BTreeMap;
 use std::io;
 
 #[derive(Drop)]
-pub(crate) struct Clients<S: Stream + Drop = TcpStream> {
+pub(crate) struct Clients<S: Stream + Drop = Socket> {
     alloc: Global,
     /// Each in memory of its own: the list keeps places for as many again.
     pub(crate) streams: Slab<Box<Client<S>>>,

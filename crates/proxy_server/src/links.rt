@@ -18,10 +18,9 @@ pub(crate) mod link;
 use crate::limits::{Limits, SECOND};
 use crate::links::link::{Link, mark_peer_ready};
 use mio::event::Event;
-use mio::net::TcpStream;
 use proxy_figures::{LinkTimeouts, Origins};
 use proxy_pacing::Moments;
-use proxy_streams::{Stream, held_after};
+use proxy_streams::{Socket, Stream, held_after};
 use proxy_turn::Received;
 use std::alloc::Global;
 use std::collections::BTreeMap;
@@ -29,7 +28,7 @@ use std::io;
 
 /// Links by their numbers.
 #[derive(Drop)]
-pub(crate) struct Links<S: Stream + Drop = TcpStream> {
+pub(crate) struct Links<S: Stream + Drop = Socket> {
     pub(crate) items: BTreeMap<u64, Link<S>>,
     pub(crate) origins: Origins,
     /// When each is looked at next.

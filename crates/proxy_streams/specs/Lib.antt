@@ -1,3 +1,4 @@
 pub mod PeerCalls
 pub mod Peers
+pub mod Resets
 pub mod Silence

@@ -6,9 +6,11 @@
 
 mod peer;
 mod peer_cases;
+mod socket;
 mod stream;
 mod unsent;
 
 pub use crate::peer::{Peer, held_after};
 pub use crate::peer_cases::worked_peers;
+pub use crate::socket::Socket;
 pub use crate::stream::Stream;

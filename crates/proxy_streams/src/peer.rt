@@ -1,18 +1,21 @@
 //! A stream of the system, and what is known of it. No call waits.
 ghost use Rattle.std.specs.Prelude.{◌≡◌, ◌<◌, ◌≤◌, ◌-◌, ◌||◌, true, false, not, [], ◌∷◌, ◌++◌, length, IfOk, OnOk};
-ghost use Rattle.std.specs.Prelude.{OnErr, IfErr, min, ◌+◌, ◌^◌, ◌⊎◌};
+ghost use Rattle.std.specs.Prelude.{OnErr, IfErr, IfSome, min, ◌+◌, ◌^◌, ◌⊎◌};
+ghost use Rattle.std.specs.IoError.{error_kind};
 ghost use Rattle.proxy_turn.specs.Received.{FitsTheBuffer};
 ghost use Rattle.proxy_streams.specs.Silence.{end_is_silent};
 ghost use Rattle.proxy_streams.specs.Peers.{peer_read_outcome, BytesAreHandedOn, BytesAreHandedOnInPart, MoreMayBeLeft};
 ghost use Rattle.proxy_streams.specs.Peers.{event_shows_reading, event_shows_an_end, IsFailure};
 ghost use Rattle.proxy_streams.specs.PeerCalls.{PeerIsWritten, new_peer, ended_after_read, heard_after_read};
 ghost use Rattle.proxy_streams.specs.PeerCalls.{received_after_read};
+ghost use Rattle.proxy_streams.specs.Resets.{is_broken_off, new_socket};
 
+use crate::socket::{Socket, still_connecting};
 use crate::stream::Stream;
 use crate::unsent::{Unsent, write_some};
 use mio::event::Event;
 use mio::net::TcpStream;
-use mio::{Interest, Poll, Token};
+use mio::{Poll, Token};
 use proxy_turn::Received;
 use std::alloc::Global;
 use std::io;
@@ -50,14 +53,14 @@ pub fn held_after(all: usize, before: usize, after: usize) -> usize
     all.saturating_sub(before).saturating_add(after)
 }
 
-impl Peer<TcpStream> {
+impl Peer<Socket> {
     /// A stream whose connection is made; `now` in milliseconds of the clock that never goes back, here and below.
-    pub fn new(alloc: Global, stream: TcpStream, now: u64) -> Peer<TcpStream>
-        ensures peer { result ≡ new_peer stream result.unsent now }
+    pub fn new(alloc: Global, stream: TcpStream, now: u64) -> Peer<Socket>
+        ensures peer { result ≡ new_peer (new_socket stream) result.unsent now }
         ensures unsent { result.unsent.bytes ≡ [] }
     {
-        // Where it isn't to be had, small pieces wait a little.
-        let _ = stream.set_nodelay(true);
+        let stream = Socket::new(stream);
+        stream.send_at_once();
         Peer {
             stream,
             connecting: false,
@@ -74,8 +77,9 @@ impl Peer<TcpStream> {
     }
 
     /// A stream whose connection isn't made yet.
-    pub fn connecting(alloc: Global, stream: TcpStream, now: u64) -> Peer<TcpStream>
-        ensures peer { result ≡ record (new_peer stream result.unsent now) { connecting = true; readable = false } }
+    pub fn connecting(alloc: Global, stream: TcpStream, now: u64) -> Peer<Socket>
+        ensures peer { result
+            ≡ record (new_peer (new_socket stream) result.unsent now) { connecting = true; readable = false } }
         ensures unsent { result.unsent.bytes ≡ [] }
     {
         let mut peer = Peer::new(alloc, stream, now);
@@ -84,10 +88,11 @@ impl Peer<TcpStream> {
         peer
     }
 
-    /// Whether the connection is made, where an event told of it. Fails where it can't be made.
+    /// Whether the connection is made, where an event told of it. Fails where it can't be made: not of one that was
+    /// made and broken off, whose bytes can still be read.
     pub fn has_connected(&mut self, event: &Event) -> io::Result<bool>
         ensures made { IfOk result (λ made. made ≡ not self.new.connecting) }
-        ensures rest { self.new ≡ record self.old { connecting = self.new.connecting } }
+        ensures rest { self.new ≡ record self.old { stream = self.new.stream; connecting = self.new.connecting } }
     {
         if let Some(e) = self.stream.take_error()? {
             return Err(e);
@@ -102,12 +107,15 @@ impl Peer<TcpStream> {
     pub fn register(&mut self, poll: &Poll, token: Token) -> io::Result<()>
         ensures { self.new ≡ record self.old { stream = self.new.stream } }
     {
-        let both = Interest::READABLE | Interest::WRITABLE;
-        poll.registry().register(&mut self.stream, token, both)
+        self.stream.register(poll, token)
     }
 
-    /// Why the connection can't be made, if that is known. Fails where the system can't tell.
-    pub fn take_error(&self) -> io::Result<Option<io::Error>> {
+    /// Why the connection can't be made, if that is known: it had been made where its peer has broken it off. Fails
+    /// where the system can't tell.
+    pub fn take_error(&mut self) -> io::Result<Option<io::Error>>
+        ensures refused { IfOk result (λ refused. IfSome refused (λ e. is_broken_off (error_kind e) ≡ false)) }
+        ensures rest { self.new ≡ record self.old { stream = self.new.stream } }
+    {
         self.stream.take_error()
     }
 }
@@ -155,7 +163,7 @@ impl<S: Stream + Drop> Peer<S> {
     }
 
     /// Writes, and keeps what the system doesn't take. Fails where the stream does, or where there is no room for what
-    /// is to be kept: after a failure nothing more is written.
+    /// is to be kept: after a failure nothing more is written. A connection that was broken off had been made.
     #[tactic(auto, using(crate::proofs::Streaming::written_whole, crate::proofs::Streaming::written_in_part))]
     pub fn write(&mut self, bytes: &[u8], now: u64) -> io::Result<()>
         ensures connected { self.old.connecting ≡ false → self.new.connecting ≡ false }
@@ -168,6 +176,7 @@ impl<S: Stream + Drop> Peer<S> {
         ensures written { PeerIsWritten S.Passed bytes.now self.old self.new }
         ensures going { OnOk result (self.new.broken ≡ self.old.broken) }
         ensures failed { OnErr result (self.new.broken ≡ true) }
+        ensures made { IfErr result (λ e. is_broken_off (error_kind e) ≡ true → self.new.connecting ≡ false) }
         ensures broken { self.old.broken ≡ true → (self.new.stream ≡ self.old.stream) × (self.new.broken ≡ true) }
         ensures readable { self.old.readable ≡ true → self.new.readable ≡ true }
         ensures hung { self.old.hung ≡ true → self.new.hung ≡ true }
@@ -190,6 +199,7 @@ impl<S: Stream + Drop> Peer<S> {
         match self.write_or_keep(bytes, now) {
             Ok(()) => Ok(()),
             Err(e) => {
+                self.connecting = still_connecting(self.connecting, &e);
                 self.abort();
                 Err(e)
             }

@@ -2,10 +2,13 @@
 
 ghost use Rattle.std.specs.Prelude.{◌≡◌, ℕ, ◌∷◌, [], true, false, Ok, Err};
 ghost use Rattle.proxy_streams.specs.Peers.{Bytes, Ended, bytes_taken_by_write, read_outcome_of_result};
+ghost use Rattle.proxy_streams.specs.Resets.{is_broken_off, is_no_end, tells_of_reset};
 ghost use Rattle.proxy_streams.specs.Silence.{end_is_silent};
+ghost use Rattle.std.specs.declared.io.ErrorKind.TheVariants.{ConnectionReset, ConnectionRefused, BrokenPipe, TimedOut};
 
 /// What a read and a write told. A time is over where it was passed, and not where it is just reached; an end of which
-/// something has to be read isn't silent, but where it doesn't take what it has to take first.
+/// something has to be read isn't silent, but where it doesn't take what it has to take first. A connection that was
+/// reset had been made, and one that was refused or took too long hadn't; behind a broken pipe an end was read before.
 pub fn worked_peers()
     ensures end { read_outcome_of_result (Ok 0) (1 ∷ []) ≡ Ended }
     ensures bytes { read_outcome_of_result (Ok 1) (1 ∷ (2 ∷ [])) ≡ Bytes (1 ∷ []) }
@@ -15,4 +18,13 @@ pub fn worked_peers()
     ensures takes_not { end_is_silent true (1 ∷ []) 100 0 5 ≡ true }
     ensures silent { end_is_silent false [] 100 94 5 ≡ true }
     ensures silent_just { end_is_silent false [] 100 95 5 ≡ false }
+    ensures was_reset { is_broken_off ConnectionReset ≡ true }
+    ensures was_ended { is_broken_off BrokenPipe ≡ true }
+    ensures was_refused { is_broken_off ConnectionRefused ≡ false }
+    ensures took_too_long { is_broken_off TimedOut ≡ false }
+    ensures is_told { tells_of_reset ConnectionReset ≡ true }
+    ensures is_not_told { tells_of_reset BrokenPipe ≡ false }
+    ensures no_end { is_no_end true 0 ≡ true }
+    ensures bytes_behind { is_no_end true 1 ≡ false }
+    ensures true_end { is_no_end false 0 ≡ false }
 {}

@@ -3,11 +3,7 @@ ghost use Rattle.std.specs.Prelude.{◌≡◌, ℕ, List, [], ◌∷◌, ◌++�
 ghost use Rattle.std.specs.Io.{ReadsAtMost, WritesAtMost};
 ghost use Rattle.proxy_streams.specs.Peers.{PeerReadOutcome, read_outcome_of_result, bytes_taken_by_write};
 
-use mio::net::TcpStream;
-use proxy_listener::reset;
 use std::io;
-use std::io::{Read, Write};
-use std::net::Shutdown;
 
 /// A stream to a client or an origin. No call waits.
 pub trait Stream {
@@ -39,31 +35,4 @@ pub trait Stream {
 
     ghost joined: { (s t u : Self) (a b : List ℕ) (c d : List PeerReadOutcome) → Passed s a c t → Passed t b d u
         → Passed s (a ++ b) (c ++ d) u };
-}
-
-impl Stream for TcpStream {
-    // No contract can say what a socket of the system gives or takes.
-    ghost Passed = { λ s took gave t. Unit {0} };
-
-    ghost WasShut = { λ s t. Unit {0} };
-
-    ghost none = { λ s. tt };
-
-    ghost joined = { λ s t u a b c d first then. tt };
-
-    fn read(&mut self, buf: &mut [u8]) -> io::Result<usize> {
-        Read::read(self, buf)
-    }
-
-    fn write(&mut self, bytes: &[u8]) -> io::Result<usize> {
-        Write::write(self, bytes)
-    }
-
-    fn shut_down(&mut self) -> io::Result<()> {
-        self.shutdown(Shutdown::Write)
-    }
-
-    fn reset(&mut self) {
-        reset(self);
-    }
 }

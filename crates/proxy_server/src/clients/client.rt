@@ -12,11 +12,10 @@ ghost use Rattle.proxy_server.specs.Streams.{number_of_place, client_is_idle, ne
 use crate::clients::departures::Departure;
 use crate::limits::SECOND;
 use crate::sockets::reply_log::Reply;
-use mio::net::TcpStream;
 use proxy_figures::UnansweredCause;
 use proxy_log::{SeenOfReply, UnansweredRequests, line_about};
 use proxy_pacing::{LEAST_HANDED_IN, Rest, StreamQueue, head_end};
-use proxy_streams::{Peer, Stream};
+use proxy_streams::{Peer, Socket, Stream};
 use proxy_turn::Received;
 use std::alloc::{AllocError, Global};
 use std::io;
@@ -41,7 +40,7 @@ pub(crate) struct Logged {
 
 /// A client's stream. Moments are milliseconds of the clock that never goes back.
 #[derive(Drop)]
-pub(crate) struct Client<S: Stream + Drop = TcpStream> {
+pub(crate) struct Client<S: Stream + Drop = Socket> {
     pub(crate) peer: Peer<S>,
     alloc: Global,
     pub(crate) place: Place,

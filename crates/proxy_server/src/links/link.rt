@@ -5,14 +5,13 @@ ghost use Rattle.proxy_server.specs.Streams.{bytes_held_of_peer};
 
 use crate::limits::Limits;
 use mio::event::Event;
-use mio::net::TcpStream;
 use proxy_figures::{Admission, Overtime};
-use proxy_streams::{Peer, Stream};
+use proxy_streams::{Peer, Socket, Stream};
 use std::io;
 
 /// A link.
 #[derive(Drop)]
-pub(crate) struct Link<S: Stream + Drop = TcpStream> {
+pub(crate) struct Link<S: Stream + Drop = Socket> {
     /// Its stream, until that has failed.
     pub(crate) peer: Option<Peer<S>>,
     /// When it began, in milliseconds of the clock that never goes back.
@@ -103,11 +102,7 @@ impl<S: Stream + Drop> Link<S> {
 }
 
 /// Takes what an event told of the stream of a link; the answer is an error where its connection couldn't be made.
-pub(crate) fn mark_peer_ready(
-    peer: &mut Peer<TcpStream>,
-    event: &Event,
-    now: u64,
-) -> io::Result<()> {
+pub(crate) fn mark_peer_ready(peer: &mut Peer<Socket>, event: &Event, now: u64) -> io::Result<()> {
     if peer.connecting {
         if !peer.has_connected(event)? {
             return Ok(());

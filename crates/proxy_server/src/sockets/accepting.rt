@@ -6,13 +6,13 @@ use crate::sockets::socket_tokens::Holder;
 use mio::Poll;
 use mio::net::TcpStream;
 use proxy_figures::{UnansweredCause, is_out_of_descriptors};
-use proxy_streams::Peer;
+use proxy_streams::{Peer, Socket};
 use std::io;
 use std::io::ErrorKind;
 use std::net::{Net, SocketAddr};
 
 /// Asks the system for the events of the stream of this key.
-fn register_client(peer: &mut Peer<TcpStream>, poll: &Poll, key: usize) -> io::Result<()> {
+fn register_client(peer: &mut Peer<Socket>, poll: &Poll, key: usize) -> io::Result<()> {
     peer.register(poll, Holder::Client(key).token()?)
 }
 

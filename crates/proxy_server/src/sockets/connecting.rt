@@ -9,7 +9,7 @@ use hx_status::FailKind;
 use mio::Poll;
 use mio::net::TcpStream;
 use proxy_figures::{Admission, is_out_of_descriptors, is_out_of_ports};
-use proxy_streams::Peer;
+use proxy_streams::{Peer, Socket};
 use proxy_turn::SocketFailed;
 use std::alloc::Global;
 use std::io;
@@ -23,7 +23,7 @@ fn begin_link<R: Net>(
     l: u64,
     address: SocketAddrV4,
     now: u64,
-) -> io::Result<Peer<TcpStream>> {
+) -> io::Result<Peer<Socket>> {
     let stream = TcpStream::connect(net, SocketAddr::V4(address))?;
     let mut peer = Peer::connecting(alloc, stream, now);
     if let Some(e) = peer.take_error()? {
@@ -35,7 +35,7 @@ fn begin_link<R: Net>(
 
 impl<'a, R: Net> LiveSockets<'a, R> {
     /// Begins a link. Where no descriptor is left an idle client gives way to it.
-    fn begin(&mut self, l: u64, address: SocketAddrV4) -> io::Result<Peer<TcpStream>>
+    fn begin(&mut self, l: u64, address: SocketAddrV4) -> io::Result<Peer<Socket>>
         ensures calls { self.new.calls ≡ self.old.calls }
     {
         match begin_link(self.net, self.alloc, &self.poll, l, address, self.now) {
@@ -77,7 +77,7 @@ impl<'a, R: Net> LiveSockets<'a, R> {
         address: SocketAddrV4,
         origin: usize,
         admission: Admission,
-    ) -> Option<Peer<TcpStream>>
+    ) -> Option<Peer<Socket>>
         ensures calls { self.new.calls ≡ self.old.calls }
     {
         if admission == Admission::No {

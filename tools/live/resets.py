@@ -1,0 +1,160 @@
+"""Scenarios of origins that reset the connection: what they had said before counts, as far as it has come."""
+import array
+import fcntl
+import signal
+import socket
+import struct
+import termios
+import threading
+import time
+
+from live.client import PATIENCE, request
+from live.expect import Unexpected, expect, expect_answer, expect_refusal
+from live.origin import FullQueue, Origin, head_of
+from live.scenario import scenario
+
+LARGE, SMALL = b"x" * 400000, b"y" * 50000
+CLOSED = "origin closed;fwd=uri-miss"
+
+
+def has_arrived(connection):
+    """Waits until the other end's system has all that was sent."""
+    left, deadline = array.array("i", [1]), time.monotonic() + PATIENCE
+    while left[0]:
+        fcntl.ioctl(connection, termios.TIOCOUTQ, left)
+        if time.monotonic() > deadline:
+            raise Unexpected("of an answer", "that all has been taken", f"{left[0]} bytes left")
+
+
+def reset_behind(connection, text):
+    """Sends this, and then a reset once the proxy's system has all of it."""
+    connection.sendall(text)
+    has_arrived(connection)
+    connection.setsockopt(socket.SOL_SOCKET, socket.SO_LINGER, struct.pack("ii", 1, 0))
+    connection.close()
+
+
+def with_length(content, status=200):
+    return head_of(status, [f"Content-Length: {len(content)}"]) + content
+
+
+def answered_and_reset(text):
+    return lambda fetch: reset_behind(fetch.socket, text)
+
+
+@scenario
+def what_came_before_a_reset_is_read(stage):
+    """A hundred whole answers of 400 KB, each with a reset behind it, come whole. One that only its end would have made whole is 502 (RFC 9112,
+    8: an error of the connection below)."""
+    answers = {"/whole": with_length(LARGE), "/end": head_of(200, []) + LARGE}
+    stage.origin(Origin({path: answered_and_reset(text) for path, text in answers.items()}))
+    client = stage.proxy(records=False).client()
+    for _ in range(100):
+        expect_answer(client.ask("/whole"), 200, "edge;fwd=uri-miss", LARGE)
+    expect_refusal(client.ask("/end"), 502, CLOSED)
+
+
+@scenario
+def a_reset_that_is_there_with_the_answer(stage):
+    """A server that was halted finds an answer and the reset behind it in one."""
+    chunked = head_of(200, ["Transfer-Encoding: chunked"]) + b"%x\r\n%s\r\n0\r\n\r\n" % (len(SMALL), SMALL)
+    texts = {"/length": with_length(SMALL), "/chunks": chunked, "/end": head_of(200, []) + SMALL, "/part": with_length(SMALL)[:-1], "/none": b""}
+    go, done = threading.Event(), threading.Semaphore(0)
+
+    def answer(text):
+        def held(fetch):
+            if go.wait(PATIENCE):
+                reset_behind(fetch.socket, text)
+                done.release()
+
+        return held
+
+    origin = stage.origin(Origin({path: answer(text) for path, text in texts.items()}))
+    proxy = stage.proxy()
+    clients = {path: proxy.client() for path in texts}
+    for path, it in clients.items():
+        it.send(request(path))
+    origin.wait_for(len(texts))
+    proxy.wait_until_quiet()
+    proxy.process.send_signal(signal.SIGSTOP)
+    go.set()
+    for _ in texts:
+        done.acquire(timeout=PATIENCE)
+    proxy.process.send_signal(signal.SIGCONT)
+    for path, it in clients.items():
+        if path in ("/length", "/chunks"):
+            expect_answer(it.response(), 200, "edge;fwd=uri-miss", SMALL)
+        else:
+            expect_refusal(it.response(), 502, CLOSED)
+
+
+class Hasty:
+    """An origin that reads the head of a request, answers, and closes with a content unread: its system sends a reset."""
+
+    def __init__(self, answers):
+        self.answers, self.listener = answers, socket.create_server(("127.0.0.1", 0), backlog=512)
+        self.address = "127.0.0.1:%d" % self.listener.getsockname()[1]
+        threading.Thread(target=self.accept, daemon=True).start()
+
+    def accept(self):
+        while True:
+            try:
+                connection, _ = self.listener.accept()
+            except OSError:
+                return
+            with connection:
+                head = connection.recv(1000)
+                connection.sendall(self.answers[head.split(b" ")[1].decode()])
+
+    def close(self):
+        self.listener.shutdown(socket.SHUT_RDWR)
+        self.listener.close()
+
+
+@scenario
+def an_early_answer_reaches_an_upload(stage):
+    """RFC 9112, 9.5: an origin answers 401 and reads no further. Sixty uploads of 900 KB get that answer; of one that only its end would have
+    made whole they get 502, and no part of it."""
+    denied = head_of(401, ["Content-Length: 2", "WWW-Authenticate: Basic"]) + b"no"
+    origin = stage.origin(Hasty({"/whole": denied, "/end": head_of(401, ["WWW-Authenticate: Basic"]) + b"no"}))
+    proxy = stage.proxy(origin.address, records=False)
+    for _ in range(60):
+        expect_answer(proxy.client().ask("/whole", method="POST", content=b"z" * 900000), 401, "edge;fwd=method", b"no")
+        expect_refusal(proxy.client().ask("/end", method="POST", content=b"z" * 900000), 502, "origin closed;fwd=method")
+
+
+class Late(FullQueue):
+    """An origin that lets the proxy wait for its connection, then answers each one unread, and resets it."""
+
+    def answer(self, text):
+        """Lets in who waits, until one of them is the proxy."""
+        mine = {it.getsockname() for it in self.waiting}
+        self.listener.settimeout(PATIENCE)
+        while True:
+            connection, address = self.listener.accept()
+            if address not in mine:
+                reset_behind(connection, text)
+                return
+            connection.close()
+
+
+@scenario
+def a_reset_that_comes_with_the_connect(stage):
+    """A connection is made late, and answered and reset before the server looks at it: the answer counts, and where none is whole it is
+    `origin closed`: nothing was refused."""
+    texts = {"/whole": with_length(SMALL), "/end": head_of(200, []) + SMALL, "/none": b""}
+    origins = {path: stage.origin(Late()) for path in texts}
+    proxy = stage.proxy(*((path, ["*"], it.address) for path, it in origins.items()), options=["--connect-timeout", "20"], records=False)
+    clients = {path: proxy.client() for path in texts}
+    for path, it in clients.items():
+        it.send(request(path))
+    # (the server has asked for its connections, and has come to wait)
+    time.sleep(0.5)
+    proxy.process.send_signal(signal.SIGSTOP)
+    for path, it in origins.items():
+        it.answer(texts[path])
+    proxy.process.send_signal(signal.SIGCONT)
+    expect_answer(clients["/whole"].response(), 200, "edge;fwd=uri-miss", SMALL)
+    for it in ("/end", "/none"):
+        expect_refusal(clients[it].response(), 502, CLOSED)
+    expect("whether all that fell out was told so", None, proxy.process.poll())
