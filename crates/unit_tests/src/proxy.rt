@@ -5,7 +5,6 @@ mod cores;
 mod engines;
 mod first_run;
 mod held;
-mod loopback;
 mod memory_sockets;
 mod records;
 mod replays;
