@@ -4,8 +4,11 @@ from attacks import beside_real, client, hostile, interleavings, smuggling
 from attacks.bad_proxy import bad_proxy
 from attacks.cases import SMUG, Case, message
 from attacks.findings import Tally
+from attacks.four import KINDS as KINDS_OF_FOUR
+from attacks.four import asked_by_four
 from attacks.real_origins import smuggled
 from attacks.strict import Fault, hold_forwarded, read_answers
+from live.busy_origin import BusyOrigin
 
 GOOD = [b"GET /a HTTP/1.1", b"Host: h", b"Via: 1.1 edge", b"Connection: close"]
 # (a forwarded message, and the word for what is wrong with it)
@@ -141,10 +144,22 @@ def hostile_words():
         yield f"{name!r}, a proxy with the fault {fault!r}", *told(word and f"hostile, {word}", tally)
 
 
+def four_words():
+    """Of the four honest clients all fail at a proxy that cuts answers, and none at the origin itself."""
+    origin = BusyOrigin()
+    try:
+        with bad_proxy(origin, "cut") as proxy:
+            for what, port, expected in (("the origin", origin.port, set()), ("a proxy that cuts", proxy.port, {*KINDS_OF_FOUR})):
+                why = asked_by_four(port, 1)["why"]
+                yield f"who fails of the four at {what}", expected, {it for it in why if why[it]}
+    finally:
+        origin.close()
+
+
 def run():
     """Prints what isn't as it should be; whether all is."""
     count, wrong, client.WAIT = 0, 0, 2
-    for part in (checker, smuggling_words, real_origin_words, interleavings_words, hostile_words):
+    for part in (checker, smuggling_words, real_origin_words, interleavings_words, hostile_words, four_words):
         for what, expected, got in part():
             count += 1
             if expected != got:

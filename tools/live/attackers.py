@@ -11,8 +11,10 @@ from collections import Counter
 
 # The least time between two connections of one attacker, and that of one who leaves; between two bytes; until one leaves.
 AGAIN, AGAIN_BEHIND_LEAVING, BETWEEN_BYTES, STAY = 0.1, 1.0, 2.0, 0.05
-# A busy one asks for so many hits in one write, and again when it has them.
+# A busy one asks for so many hits in one write, and again when it has them. One of a crowd asks again a while after its answer.
 AT_ONCE = 20
+# One that is stuck has room for so much of an answer, and takes none of it.
+WINDOW = 4096
 # So many ports of one address are used, and then those of the next one.
 PORTS_OF_AN_ADDRESS = 20000
 BIND_WITHOUT_PORT = 24
@@ -24,6 +26,9 @@ STARTS = {
     "leave": b"GET /endless?%d HTTP/1.1\r\nHost: h\r\n\r\n",
     "hang": b"GET /silent?%d HTTP/1.1\r\nHost: h\r\n\r\n",
     "busy": b"GET /a HTTP/1.1\r\nHost: h\r\n\r\n" * AT_ONCE,
+    "byte": b"G",
+    "crowd": b"GET /slow HTTP/1.1\r\nHost: h\r\n\r\n",
+    "stuck": b"GET /kept?1000000 HTTP/1.1\r\nHost: h\r\n\r\n",
 }
 KINDS = {it: [it] for it in STARTS} | {"mixture": ["idle", "head", "content", "leave"]}
 WHAT_THEY_DO = {
@@ -33,6 +38,9 @@ WHAT_THEY_DO = {
     "leave": "ask for an answer without an end and close, each second",
     "hang": "ask for what its origin never answers, and wait",
     "busy": f"ask for {AT_ONCE} hits in one write, again and again",
+    "byte": "send a byte and wait",
+    "crowd": "ask for one page that takes 2 s and is stale when it comes",
+    "stuck": "ask for 1 MB and take nothing of it",
     "mixture": "are a quarter of each of the first four",
 }
 
@@ -60,6 +68,8 @@ class Attack:
         one.began, one.is_up = time.monotonic(), False
         one.socket = socket.socket(socket.AF_INET, socket.SOCK_STREAM | socket.SOCK_NONBLOCK)
         one.socket.setsockopt(socket.SOL_IP, BIND_WITHOUT_PORT, 1)
+        if one.kind == "stuck":
+            one.socket.setsockopt(socket.SOL_SOCKET, socket.SO_RCVBUF, WINDOW)
         one.socket.bind((f"127.0.1.{1 + one.number // PORTS_OF_AN_ADDRESS}", 0))
         code = one.socket.connect_ex(("127.0.0.1", self.port))
         self.told["connections"] += 1
@@ -74,7 +84,7 @@ class Attack:
     def has_connected(self, one):
         """Begins what its kind does."""
         one.is_up = True
-        self.poll.modify(one.socket, select.EPOLLIN)
+        self.poll.modify(one.socket, 0 if one.kind == "stuck" else select.EPOLLIN)
         start = STARTS[one.kind]
         one.asked_at, one.left, one.rest = time.monotonic(), AT_ONCE, b""
         one.socket.send(start % self.told["asked"] if b"%d" in start else start)
@@ -87,6 +97,10 @@ class Attack:
     def drip(self, one):
         one.socket.send(b"x")
         self.plan(BETWEEN_BYTES, self.drip, one)
+
+    def ask_again(self, one):
+        one.asked_at = time.monotonic()
+        one.socket.send(STARTS[one.kind])
 
     def leave(self, one):
         self.close(one, AGAIN_BEHIND_LEAVING)
@@ -125,7 +139,9 @@ class Attack:
             self.told[it.decode()] += data.count(b"HTTP/1.1 " + it)
         if data.startswith(b"HTTP/1.1 5"):
             self.told["slowest error, ms"] = max(self.told["slowest error, ms"], int((time.monotonic() - one.asked_at) * 1000))
-        if one.kind == "busy":
+        if one.kind == "crowd" and self.told["200"] > began:
+            self.plan(AGAIN, self.ask_again, one)
+        elif one.kind == "busy":
             one.left -= self.told["200"] - began
             if one.left <= 0:
                 one.left += AT_ONCE

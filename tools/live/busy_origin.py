@@ -9,11 +9,17 @@ ANSWER = b"HTTP/1.1 200 OK\r\nCache-Control: max-age=600\r\nConnection: close\r\
 MADE = b"HTTP/1.1 201 Created\r\nConnection: close\r\nContent-Length: 0\r\n\r\n"
 ENDLESS = b"HTTP/1.1 200 OK\r\nCache-Control: no-store\r\nConnection: close\r\n\r\n"
 LARGE = b"HTTP/1.1 200 OK\r\nCache-Control: no-store\r\nConnection: close\r\nContent-Length: %d\r\n\r\n"
+KEPT = LARGE.replace(b"no-store", b"max-age=600")
+# (stale when it comes, since it takes longer)
+SLOW = ANSWER.replace(b"max-age=600", b"max-age=1")
+# The paths whose answers come later: after how many seconds, and which.
+LATER = {b"/late": (3, MADE), b"/slow": (2, SLOW)}
 
 
 class Serving:
-    """`/endless` is answered by a byte each half second for ever, `/silent` by nothing, `/late` by 201 after three seconds, `/large?N`
-    by N bytes, what else has a content by 201 once it is whole, and all else by 1 KiB that may be kept."""
+    """`/endless` is answered by a byte each half second for ever, `/silent` by nothing, `/late` by 201 after three seconds, `/slow` by a page
+    after two, `/large?N` by N bytes, `/kept?N` by N that may be kept, what else has a content by 201 once it is whole, and all else by 1 KiB
+    that may be kept."""
 
     def __init__(self, listener):
         self.listener, self.poll, self.open, self.endless, self.late = listener, select.epoll(), {}, set(), []
@@ -29,9 +35,9 @@ class Serving:
                 elif number in self.open:
                     self.happen(number, event)
             while self.late and self.late[0][0] <= time.monotonic():
-                _, number, connection = self.late.pop(0)
+                _, number, connection, answer = self.late.pop(0)
                 if number in self.open and self.open[number][0] is connection:
-                    self.send(number, MADE, True)
+                    self.send(number, answer, True)
             if time.monotonic() >= due:
                 due = time.monotonic() + 0.5
                 for number in [*self.endless]:
@@ -77,11 +83,13 @@ class Serving:
         if path == b"/endless":
             self.endless.add(number)
             self.send(number, ENDLESS)
-        elif path == b"/large":
+        elif path in (b"/large", b"/kept"):
             count = int(rest.partition(b"-")[0])
-            self.send(number, LARGE % count + b"y" * count, True)
-        elif path == b"/late":
-            self.late.append((time.monotonic() + 3, number, self.open[number][0]))
+            self.send(number, (LARGE if path == b"/large" else KEPT) % count + b"y" * count, True)
+        elif path in LATER:
+            seconds, later = LATER[path]
+            self.late.append((time.monotonic() + seconds, number, self.open[number][0], later))
+            self.late.sort(key=lambda it: it[0])
         elif path != b"/silent":
             self.send(number, MADE if length else ANSWER, True)
 
@@ -111,7 +119,8 @@ class BusyOrigin:
 
     def __init__(self):
         listener = socket.create_server(("127.0.0.1", 0), backlog=4096)
-        self.address = "127.0.0.1:%d" % listener.getsockname()[1]
+        self.port = listener.getsockname()[1]
+        self.address = f"127.0.0.1:{self.port}"
         self.child = os.fork()
         if self.child == 0:
             try:

@@ -3,7 +3,6 @@ import hashlib
 import itertools
 import random
 import threading
-import time
 from http.server import BaseHTTPRequestHandler, ThreadingHTTPServer
 
 # How many targets of each kind there are, and for how many seconds an answer may be kept.
@@ -150,7 +149,9 @@ def origin_of(book, seed):
 
         def get_none(self, *_):
             if self.path.startswith(("/endless", "/silent")):
-                time.sleep(30)
+                # (until the proxy ends the connection: a thread that slept on would count among thousands)
+                self.connection.settimeout(30)
+                self.rfile.read(1)
             self.answer(404, b"none")
 
     class Server(ThreadingHTTPServer):

@@ -4,6 +4,7 @@ import http.client
 import random
 import threading
 import time
+from array import array
 from collections import Counter
 
 from soaked.pages import COUNTS, LANGUAGES, LIFETIMES, content_of, filler
@@ -20,7 +21,8 @@ class Told:
     """What came of all requests."""
 
     def __init__(self):
-        self.lock, self.counts, self.wrong, self.lost, self.waits = threading.Lock(), Counter(), [], [], []
+        # (an hour has some two million answers)
+        self.lock, self.counts, self.wrong, self.lost, self.waits = threading.Lock(), Counter(), [], [], array("f")
         self.secrets = set()
 
     def add(self, kind, status, reason, seconds):
@@ -55,9 +57,12 @@ class Visitor(threading.Thread):
             except Wrong as fault:
                 self.told.wrong.append(str(fault))
             except (OSError, http.client.HTTPException) as fault:
-                # (a kept connection may end between two requests, and then the next is asked once more)
+                # (a kept connection may end between two requests: that is counted, and is no answer lost)
                 self.drop()
-                if not isinstance(fault, (http.client.RemoteDisconnected, ConnectionResetError, BrokenPipeError)) or self.is_fresh:
+                is_end = isinstance(fault, (http.client.RemoteDisconnected, ConnectionResetError, BrokenPipeError))
+                if is_end and not self.is_fresh and not self.has_begun:
+                    self.told.counts["kept connections that ended"] += 1
+                else:
                     self.told.lost.append(f"{kind}: {fault!r} after {time.monotonic() - began:.2f} s")
             time.sleep(self.pause * self.dice.random() * 2)
         self.drop()
@@ -69,11 +74,12 @@ class Visitor(threading.Thread):
 
     def ask(self, target, method="GET", content=None, **lines):
         """Status, fields and content of an answer."""
-        self.is_fresh = self.connection is None
+        self.is_fresh, self.has_begun = self.connection is None, False
         if self.is_fresh:
             self.connection = http.client.HTTPConnection("127.0.0.1", self.port, timeout=LONGEST)
         self.connection.request(method, target, content, {name.replace("_", "-"): value for name, value in lines.items()})
         answer = self.connection.getresponse()
+        self.has_begun = True
         told = answer.status, answer.headers, answer.read()
         if self.dice.random() < 0.1 or answer.headers.get("Connection") == "close":
             self.drop()
