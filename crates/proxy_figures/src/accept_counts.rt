@@ -24,7 +24,7 @@ pub fn is_out_of_ports(error: &io::Error) -> bool
 }
 
 /// How often connections were taken and begun, or couldn't be.
-#[derive(Clone, Copy, Debug)]
+#[derive(Clone, Copy)]
 pub struct AcceptCounts {
     pub accepted: u64,
     /// As many as may be are open, and none is idle.
@@ -106,7 +106,7 @@ impl AcceptCounts {
 }
 
 /// What an operator is to know at once.
-#[derive(Clone, Copy, Debug, PartialEq, Eq)]
+#[derive(Clone, Copy)]
 pub struct Troubles {
     /// How often nobody could be taken since as many connections are open as may be, and none is idle.
     pub full: u64,

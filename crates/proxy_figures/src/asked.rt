@@ -16,7 +16,7 @@ use crate::sorts::{ReplySort, Source};
 use std::alloc::Global;
 
 /// The origins of links that have failed, by their places.
-#[derive(Clone, Copy, Debug, PartialEq, Eq)]
+#[derive(Clone, Copy, PartialEq, Eq)]
 enum FailedOrigins {
     Nowhere,
     One(usize),

@@ -6,7 +6,7 @@ ghost use Rattle.proxy_figures.specs.EndingCounts.{endings_with_received, ending
 use crate::counts::{count_plus, count_plus_one};
 
 /// Why a connection is closed early.
-#[derive(Clone, Copy, Debug, PartialEq, Eq)]
+#[derive(Clone, Copy, PartialEq, Eq)]
 pub enum CutReason {
     /// It was idle, or its request was incomplete and no byte of it came for a second, and its room is wanted.
     Room,
@@ -16,7 +16,7 @@ pub enum CutReason {
 }
 
 /// Which time of a client is over.
-#[derive(Clone, Copy, Debug, PartialEq, Eq)]
+#[derive(Clone, Copy, PartialEq, Eq)]
 pub enum Lateness {
     /// It was silent.
     Client,
@@ -27,7 +27,7 @@ pub enum Lateness {
 }
 
 /// Counts of endings.
-#[derive(Clone, Copy, Debug)]
+#[derive(Clone, Copy)]
 pub struct Endings {
     pub for_room: u64,
     pub for_content: u64,

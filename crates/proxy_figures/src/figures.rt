@@ -64,7 +64,7 @@ pub struct LinkFigures<'a> {
 }
 
 /// Whether what happens is recorded.
-#[derive(Clone, Copy, Debug, PartialEq, Eq)]
+#[derive(Clone, Copy, PartialEq, Eq)]
 pub enum RecordState {
     NoRecord,
     Writing,
@@ -474,7 +474,7 @@ fn push_clients(page: &mut Page<'_>, figures: &Figures<'_>) -> Result<(), AllocE
 }
 
 /// A count of each origin.
-#[derive(Clone, Copy, Debug, PartialEq, Eq)]
+#[derive(Clone, Copy, PartialEq, Eq)]
 enum Count {
     Begun,
     Open,

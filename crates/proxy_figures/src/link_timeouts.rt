@@ -5,7 +5,7 @@ ghost use Rattle.proxy_figures.specs.EndingCounts.{link_timeouts_with};
 use crate::counts::count_plus_one;
 
 /// Which time of a link is over.
-#[derive(Clone, Copy, Debug, PartialEq, Eq)]
+#[derive(Clone, Copy, PartialEq, Eq)]
 pub enum Overtime {
     Connect,
     Silence,
@@ -13,7 +13,7 @@ pub enum Overtime {
 }
 
 /// Counts of time-outs.
-#[derive(Clone, Copy, Debug)]
+#[derive(Clone, Copy)]
 pub struct LinkTimeouts {
     pub connect: u64,
     pub silence: u64,

@@ -48,7 +48,7 @@ pub struct Origin {
 }
 
 /// Whether a link to an origin may be begun.
-#[derive(Clone, Copy, Debug, PartialEq, Eq)]
+#[derive(Clone, Copy, PartialEq, Eq)]
 pub enum Admission {
     Yes,
     /// It asks whether a silent origin answers again.

@@ -12,7 +12,7 @@ use proxy_log::push_seconds;
 use std::alloc::{AllocError, Global};
 
 /// What the samples of a family are.
-#[derive(Clone, Copy, Debug, PartialEq, Eq)]
+#[derive(Clone, Copy, PartialEq, Eq)]
 pub(crate) enum Kind {
     Counter,
     Gauge,

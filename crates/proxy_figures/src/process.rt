@@ -4,7 +4,7 @@ use crate::page::{Kind, Page};
 use std::alloc::AllocError;
 
 /// What the system tells of the process; what it doesn't tell is left out of a page.
-#[derive(Clone, Copy, Debug, PartialEq, Eq)]
+#[derive(Clone, Copy)]
 pub struct ProcessFigures {
     /// Milliseconds of processor time that it took, for itself and in the system.
     pub processor_milliseconds: Option<u64>,

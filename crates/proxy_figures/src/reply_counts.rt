@@ -22,7 +22,7 @@ pub(crate) const TIME_BOUNDS: [&str; 11] = [
 ];
 
 /// How many replies of one source, or links to one origin, took how long.
-#[derive(Clone, Copy, Debug)]
+#[derive(Clone, Copy)]
 pub struct ReplyTimes {
     /// By the first bound that isn't below it.
     pub buckets: [u64; 12],
@@ -31,7 +31,7 @@ pub struct ReplyTimes {
 }
 
 /// Counts of replies.
-#[derive(Clone, Copy, Debug)]
+#[derive(Clone, Copy)]
 pub struct ReplyCounts {
     /// By reason, and in a row of each by detail.
     reasons: [u64; 176],

@@ -11,7 +11,7 @@ use hx_storable::StoreRule;
 use std::str;
 
 /// Why a request was answered as it was.
-#[derive(Clone, Copy, Debug, PartialEq, Eq)]
+#[derive(Clone, Copy, PartialEq, Eq)]
 pub enum Reason {
     Hit,
     UriMiss,
@@ -27,7 +27,7 @@ pub enum Reason {
 }
 
 /// What a reason says besides.
-#[derive(Clone, Copy, Debug, PartialEq, Eq)]
+#[derive(Clone, Copy, PartialEq, Eq)]
 pub enum Detail {
     Nothing,
     Operator,
@@ -49,7 +49,7 @@ pub enum Detail {
 }
 
 /// Why the proxy answered by itself.
-#[derive(Clone, Copy, Debug, PartialEq, Eq)]
+#[derive(Clone, Copy, PartialEq, Eq)]
 pub enum Cause {
     Denied,
     NoLine,
@@ -326,7 +326,7 @@ impl Cause {
 }
 
 /// What a reply counts as.
-#[derive(Clone, Copy, Debug, PartialEq, Eq)]
+#[derive(Clone, Copy, PartialEq, Eq)]
 pub struct ReplySort {
     pub reason: Reason,
     pub detail: Detail,
@@ -341,7 +341,7 @@ pub struct ReplySort {
 }
 
 /// Who an answer comes from.
-#[derive(Clone, Copy, Debug, PartialEq, Eq)]
+#[derive(Clone, Copy, PartialEq, Eq)]
 pub enum Source {
     /// A stored response, for which no origin was asked.
     Store,

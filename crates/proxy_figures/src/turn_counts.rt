@@ -5,7 +5,7 @@ use crate::counts::count_plus_one;
 use proxy_turn::{Report, TurnFault};
 
 /// Counts of turns.
-#[derive(Clone, Copy, Debug)]
+#[derive(Clone, Copy)]
 pub struct Turns {
     pub served: u64,
     /// They could accept nobody.

@@ -7,7 +7,7 @@ use crate::counts::{count, count_at};
 use crate::endings::{CutReason, Lateness};
 
 /// Why a request was never answered.
-#[derive(Clone, Copy, Debug, PartialEq, Eq)]
+#[derive(Clone, Copy, PartialEq, Eq)]
 pub enum UnansweredCause {
     /// Its client broke the connection off, or closed it before the request was whole.
     Closed,
@@ -74,7 +74,7 @@ impl UnansweredCause {
 }
 
 /// How many requests were never answered, by cause.
-#[derive(Clone, Copy, Debug)]
+#[derive(Clone, Copy)]
 pub struct UnansweredCounts {
     counts: [u64; 7],
 }

@@ -3,7 +3,7 @@ ghost use Rattle.std.specs.Prelude.{◌≡◌, min, max};
 
 /// The bounds of a server. Times are in milliseconds of a clock that never goes back; each is looked at about once a
 /// second.
-#[derive(Clone, Copy, Debug, PartialEq, Eq)]
+#[derive(Clone, Copy)]
 pub struct Limits {
     /// Connections of clients, those between two requests and those that are being closed among them.
     pub connections: usize,

@@ -11,7 +11,7 @@ use std::time::Duration;
 pub(crate) const LATEST: u64 = END_OF_TIME - 1;
 
 /// What a turn leaves to the next.
-#[derive(Clone, Copy, Debug, PartialEq, Eq)]
+#[derive(Clone, Copy, PartialEq, Eq)]
 pub(crate) struct Pace {
     /// There may be something to do that no event will tell of.
     pub(crate) busy: bool,

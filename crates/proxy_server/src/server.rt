@@ -48,7 +48,7 @@ pub enum ServeFault {
 }
 
 /// A turn that was served.
-#[derive(Clone, Copy, Debug, PartialEq, Eq)]
+#[derive(Clone, Copy)]
 pub struct Turned {
     /// Its moment, in Unix seconds.
     pub moment: u64,

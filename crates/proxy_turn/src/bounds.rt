@@ -1,7 +1,7 @@
 //! How many connections a turn takes on.
 
 /// The bounds of the connections that a turn accepts.
-#[derive(Clone, Copy, Debug, PartialEq, Eq)]
+#[derive(Clone, Copy, PartialEq, Eq)]
 pub struct TurnBounds {
     /// How many connections may be open. While as many are, no other is asked for.
     pub most_open: usize,

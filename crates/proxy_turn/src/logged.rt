@@ -20,7 +20,7 @@ use std::alloc::Global;
 use std::net::SocketAddrV4;
 
 /// What a read gave.
-#[derive(Debug, Drop)]
+#[derive(Drop)]
 pub enum LoggedReadOutcome {
     Nothing,
     Bytes(Bytes),
@@ -29,7 +29,7 @@ pub enum LoggedReadOutcome {
 }
 
 /// A call, with its bytes and what came of it; the last of a write, a connect and a shut says that it didn't fail.
-#[derive(Debug, Drop)]
+#[derive(Drop)]
 pub enum LoggedCall {
     Accept(u64, Result<bool, SocketFailed>),
     Read(End, LoggedReadOutcome),

@@ -9,7 +9,7 @@ use std::fmt;
 use std::fmt::Formatter;
 
 /// What a turn did.
-#[derive(Clone, Copy, Debug, PartialEq, Eq)]
+#[derive(Clone, Copy, PartialEq, Eq)]
 pub struct Report {
     /// Connections accepted.
     pub accepted: u64,

@@ -12,7 +12,7 @@ use std::net::SocketAddrV4;
 pub struct SocketFailed;
 
 /// What a read gave.
-#[derive(Clone, Copy, Debug, PartialEq, Eq)]
+#[derive(Clone, Copy, PartialEq, Eq)]
 pub enum Received {
     /// Nothing yet.
     Nothing,

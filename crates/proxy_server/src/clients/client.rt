@@ -23,7 +23,7 @@ use std::io;
 use std::net::SocketAddr;
 
 /// Where a client's stream stands.
-#[derive(Clone, Copy, Debug, PartialEq, Eq)]
+#[derive(Clone, Copy, PartialEq, Eq)]
 pub(crate) enum Place {
     /// The engine knows it by this number.
     Open(u64),

@@ -21,7 +21,7 @@ use proxy_turn::{PIECE, Received};
 const MOST_PIECES_DROPPED: u8 = 16;
 
 /// Whether there is still something to wait for.
-#[derive(Clone, Copy, Debug, PartialEq, Eq)]
+#[derive(Clone, Copy, PartialEq, Eq)]
 enum StillToWait {
     Yes,
     No,

@@ -12,7 +12,7 @@ use crate::limits::SECOND;
 use proxy_streams::Stream;
 
 /// The client that is dropped where more is held for requests and answers than may be.
-#[derive(Clone, Copy, Debug, PartialEq, Eq)]
+#[derive(Clone, Copy, PartialEq, Eq)]
 pub(crate) struct Largest {
     pub(crate) key: usize,
     /// It has taken nothing for a second at least of what it is to take.
