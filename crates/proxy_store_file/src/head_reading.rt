@@ -15,7 +15,7 @@ use hx_vary::{Nominated, NominatedValue};
 use std::alloc::{AllocError, Global};
 
 /// Why a head isn't read.
-#[derive(Clone, Copy, Debug, PartialEq, Eq)]
+#[derive(Clone, Copy, PartialEq, Eq)]
 pub(crate) enum HeadStop {
     /// The bytes spell none.
     Shapeless,

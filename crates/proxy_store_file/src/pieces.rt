@@ -11,7 +11,7 @@ use std::hash::{DefaultHasher, Hasher};
 use std::io::{ErrorKind, Read};
 
 /// Why a reader gave less than was asked for.
-#[derive(Clone, Copy, Debug, PartialEq, Eq)]
+#[derive(Clone, Copy, PartialEq, Eq)]
 pub(crate) enum ReadStop {
     /// It came to its end.
     Ended,

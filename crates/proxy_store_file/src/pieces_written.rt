@@ -11,7 +11,7 @@ use std::hash::{DefaultHasher, Hasher};
 use std::io::{ErrorKind, Write};
 
 /// The writer failed, or took no bytes.
-#[derive(Clone, Copy, Debug, PartialEq, Eq)]
+#[derive(Clone, Copy, PartialEq, Eq)]
 pub(crate) struct WriteFailed;
 
 /// Writes all of the bytes, or some first ones of them.
