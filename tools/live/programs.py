@@ -40,8 +40,10 @@ FAULTS = [
     ('methods = ["*"]', 'methods = ["CONNECT"]', "config fault 6 line 1", "in [[line]] number 1 methods has to be a list of 1 to 32"),
     ('path = "/"', 'path = "/a/"', "config fault 7 line 1", "in [[line]] number 1 path has to begin with / and not to end with it"),
     ('origin = "127.0.0.1:1"', 'origin = "localhost:1"', "config fault 8 line 1", 'in [[line]] number 1 origin has to be "deny" or an IPv4 address and a port'),
-    ("[[line]]", "[line]", "config fault 9", "a table has 1 to 256 lines, each of which begins with [[line]]"),
+    ("[[line]]", "[line]", "config fault 9", "a table has 1 to 256 lines, or 1 to 4096 in version 4, each of which begins with [[line]]"),
     ('version = 1', 'version = 2', "config fault 11 line 1", 'in [[line]] number 1 cache has to be "on" or "off"'),
+    ('methods = ["*"]', 'methods = ["get"]', "config fault 13 line 1", "in [[line]] number 1 a method has a letter in lower case"),
+    ('path = "/"', 'path = "/*.php"', "config fault 14 line 1", "in [[line]] number 1 path has a *, which is that character and no pattern"),
 ]
 # Where such a fault is, where a third line says it: a part of that line.
 PLACES = {
@@ -270,6 +272,8 @@ def a_check_says_what_may_stand_there(stage):
         text = good.replace(old, new, 1)
         if named == "config fault 11 line 1":
             text += 'cache = "maybe"\n'
+        if named in ("config fault 13 line 1", "config fault 14 line 1"):
+            text = text.replace("version = 1", "version = 4", 1)
         with open(file, "w", encoding="utf-8") as it:
             it.write(text)
         status, out, err = run(stage, "check", file)

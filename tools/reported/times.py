@@ -3,9 +3,9 @@ from collections import Counter
 
 from reported.tallies import KEPT, Tally
 
-# How many origins have times of their own (a table has 256 lines at most), and how many different times all of them
+# How many origins have times of their own (a table has 4,096 lines at most), and how many different times all of them
 # have together while these are told to three digits; where there are more it is two.
-MOST_ORIGINS, MOST_TIMES = 300, 200000
+MOST_ORIGINS, MOST_TIMES = 4200, 200000
 OTHERS = "other origins"
 
 

@@ -8,7 +8,7 @@ use crate::requests::method_of;
 use crate::targets::write_refused;
 use case_text::push_shown;
 use http::Method;
-use hx_allow::{Config, ConfigFault, Verdict};
+use hx_allow::{Config, ConfigFault, MOST_LINES, Verdict};
 use hx_fields::{Bytes, Fields};
 use hx_policy::Policy;
 use hx_target::{Target, TargetFault, read_target};
@@ -31,13 +31,15 @@ fn write_fault(text: &mut String, fault: &ConfigFault) -> Result<(), AllocError>
         ConfigFault::OutOfMemory => text.push_str("OutOfMemory"),
         ConfigFault::BadCache(line) => write!(text, "BadCache line {line}"),
         ConfigFault::BadWord(line, word) => write!(text, "BadWord line {line} {}", word.as_str()),
+        ConfigFault::MethodInLowerCase(line) => write!(text, "MethodInLowerCase line {line}"),
+        ConfigFault::StarInPath(line) => write!(text, "StarInPath line {line}"),
     }
 }
 
-/// Tells that a table is read, and which of its lines, 256 at most, have words on caching or no cache.
+/// Tells that a table is read, and which of its lines have words on caching or no cache.
 fn write_read(text: &mut String, config: &Config) -> Result<(), AllocError> {
     text.push_str("read")?;
-    for line in 1..=256u16 {
+    for line in 1..=MOST_LINES {
         let policy = config.policy(line);
         if usize::from(line) <= config.lines() && policy != Policy::plain(true) {
             write!(text, ", line {line}")?;

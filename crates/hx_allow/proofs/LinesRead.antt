@@ -24,7 +24,7 @@ pub none_mapped : {A B : Type 0} (f : A → B) (o : Option A) → option_map f o
 none_mapped f None e = refl
 none_mapped f (Some x) e = cc
 
-or_later_none : (a b : Option ConfigFault) → first_fault_or_later a b ≡ None → (a ≡ None) × (b ≡ None)
+pub or_later_none : (a b : Option ConfigFault) → first_fault_or_later a b ≡ None → (a ≡ None) × (b ≡ None)
 or_later_none None b e = (refl, e)
 or_later_none (Some fault) b e = cc
 

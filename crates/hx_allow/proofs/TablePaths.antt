@@ -9,7 +9,7 @@ use Rattle.hx_target.specs.declared.targets.Target.{Target}
 use Rattle.hx_target.specs.Paths.{has_bad_escape, has_dot_segment, table_path_of}
 use Rattle.hx_allow.specs.TableLines.{Line as PlainLine, Table}
 use Rattle.hx_allow.specs.Rows.{fault_of_line_key}
-use Rattle.hx_allow.specs.LineTables.{is_path_byte, does_not_end_with_slash, is_line_path, first_bad_key, line_fault, line_read}
+use Rattle.hx_allow.specs.LineTables.{is_path_byte, does_not_end_with_slash, is_line_path, first_bad_key, first_fault_or_later, spelling_fault, line_fault, line_read}
 use Rattle.hx_allow.specs.Matching.{matches_host, matches_method, matches_path, matches_line, verdict_of_line, verdict_from, verdict_of}
 use Rattle.hx_allow.specs.Tables.{BytesReadAs, version_of}
 use Rattle.hx_allow.specs.Values.{first_unknown, text_at, is_some_and}
@@ -18,7 +18,7 @@ use Rattle.hx_allow.specs.declared.rows.LineKey.TheVariants.{Path}
 use Rattle.hx_allow.specs.declared.values.Scope.TheVariants.{Line}
 use Rattle.hx_allow.specs.declared.values.TableVersion.{TableVersion}
 use Rattle.hx_allow.proofs.KeysListed.{each_good}
-use Rattle.hx_allow.proofs.LinesRead.{none_mapped, each_line_read}
+use Rattle.hx_allow.proofs.LinesRead.{none_mapped, or_later_none, each_line_read}
 
 matches_alike : (line : PlainLine) (method : List ℕ) (a b : Target) → a.key.host ≡ b.key.host → a.table_path ≡ b.table_path → matches_line line method a ≡ matches_line line method b
 unfolding matches_line
@@ -65,8 +65,8 @@ line_is once version n ms none = by_keys (first_unknown (Line version) ms) refl
     by_keys : (o : Option (List ℕ)) → first_unknown (Line version) ms ≡ o → IsTablePath (line_read version ms)
     by_keys (Some key) e = let bad : line_fault version n ms ≡ Some (UnknownKey key) = rw e refl in cc
     by_keys None e =
-        let is : line_fault version n ms ≡ option_map (fault_of_line_key n) (first_bad_key ms) = rw e refl in
-        let good : is_some_and is_line_path (text_at (codes "path") ms) ≡ true = each_good ms (none_mapped (fault_of_line_key n) (first_bad_key ms) (sym is ∙ none)) Path in
+        let is : line_fault version n ms ≡ first_fault_or_later (option_map (fault_of_line_key n) (first_bad_key ms)) (spelling_fault version n ms) = rw e refl in
+        let good : is_some_and is_line_path (text_at (codes "path") ms) ≡ true = each_good ms (none_mapped (fault_of_line_key n) (first_bad_key ms) (or_later_none (option_map (fault_of_line_key n) (first_bad_key ms)) (spelling_fault version n ms) (sym is ∙ none)).0) Path in
         path_is once (text_at (codes "path") ms) good
 
 pub read_paths_are : Once → (bytes : List ℕ) (table : Table) → BytesReadAs bytes (Ok table) → All IsTablePath table.lines

@@ -16,12 +16,12 @@ use Rattle.hx_allow.specs.TableLines.{Line as PlainLine, Table}
 use Rattle.hx_allow.specs.Keys.{word_key}
 use Rattle.hx_allow.specs.LineWords.{key_has_text}
 use Rattle.hx_allow.specs.Rows.{Row, line_row, word_row, top_keys, line_keys, fault_of_top_key, fault_of_line_key, has_keys_of}
-use Rattle.hx_allow.specs.LineTables.{is_good_at, is_good, first_bad_key, line_fault, line_read, lines_fault, first_fault_or_later, fault_of_line_item}
+use Rattle.hx_allow.specs.LineTables.{is_good_at, is_good, first_bad_key, line_fault, line_read, lines_fault, first_fault_or_later, fault_of_line_item, names_small_method, names_path_with_star, spelling_fault}
 use Rattle.hx_allow.specs.Tables.{is_good_at_top, is_good_store_bound, number_at, first_bad_at_top, lines_at, version_of, table_fault, table_read, judge_table, fault_or_table_read}
 use Rattle.hx_allow.specs.Values.{is_known, is_key_of, first_unknown, within, is_some_and}
-use Rattle.hx_allow.specs.Versions.{LineHasNoWord, LineHasNoWordOfFour, LineIsOfThree}
+use Rattle.hx_allow.specs.Versions.{LineHasNoWord, LineHasNoWordOfFour, LineIsSpelledForFour, LineIsOfThree}
 use Rattle.hx_allow.specs.declared.config_faults.ConfigFault.{ConfigFault}
-use Rattle.hx_allow.specs.declared.config_faults.ConfigFault.TheVariants.{UnknownKey, BadNumber, BadCache, BadWord}
+use Rattle.hx_allow.specs.declared.config_faults.ConfigFault.TheVariants.{UnknownKey, BadNumber, BadCache, BadWord, MethodInLowerCase, StarInPath}
 use Rattle.hx_allow.specs.declared.config_faults.LineWord.{LineWord}
 use Rattle.hx_allow.specs.declared.config_faults.LineWord.TheVariants.{Lifetime, ErrorLifetime, StaleIfError, SetCookie, Errors, RequestDirectives, Wait, Explain}
 use Rattle.hx_allow.specs.declared.config_faults.NumberKey.TheVariants.{Version, Capacity, MaxBody, MaxStored, MaxStore}
@@ -166,20 +166,33 @@ same_unknown_of_four (member key value ms) none =
     λ word since. is_other (word_key word) key value (get_member (word_key word) ms) (none word since) in
     rw (known_in_four key (λ word since. (others word since).0)) (rw (same_unknown_of_four ms (λ word since. (others word since).1)) refl)
 
-pub same_fault : (version : TableVersion) (n : ℕ) (ms : Members) → get_member (codes "cache") ms ≡ None → LineHasNoWord ms → line_fault version n ms ≡ line_fault One n ms
+-- versions that know the same keys of a line and tell the same of its spelling have the same first fault
+same_by_keys : (later earlier : TableVersion) (n : ℕ) (ms : Members) → first_unknown (Line later) ms ≡ first_unknown (Line earlier) ms → spelling_fault later n ms ≡ spelling_fault earlier n ms → line_fault later n ms ≡ line_fault earlier n ms
 unfolding line_fault
-same_fault One n ms none no_word = refl
-same_fault Two n ms none no_word = rw (same_unknown ms none) refl
-same_fault Three n ms none no_word = rw (without_words ms no_word) (rw (same_unknown ms none) refl)
-same_fault Four n ms none no_word = rw (same_unknown_of_four ms (λ word since. no_word word)) (rw (without_words ms no_word) (rw (same_unknown ms none) refl))
+same_by_keys later earlier n ms keys spelling = by_keys (first_unknown (Line earlier) ms) refl
+  where
+    by_keys : (o : Option (List ℕ)) → first_unknown (Line earlier) ms ≡ o → line_fault later n ms ≡ line_fault earlier n ms
+    by_keys (Some key) e = rw keys (rw e refl)
+    by_keys None e = rw keys (rw e (ap (first_fault_or_later (option_map (fault_of_line_key n) (first_bad_key ms))) spelling))
 
-pub same_fault_of_three : (n : ℕ) (ms : Members) → LineHasNoWordOfFour ms → line_fault Four n ms ≡ line_fault Three n ms
-unfolding line_fault
-same_fault_of_three n ms no_word = rw (same_unknown_of_four ms no_word) refl
+pub same_fault : (version : TableVersion) (n : ℕ) (ms : Members) → has_keys_of version Four ≡ false → get_member (codes "cache") ms ≡ None → LineHasNoWord ms → line_fault version n ms ≡ line_fault One n ms
+same_fault One n ms before none no_word = refl
+same_fault Two n ms before none no_word = same_by_keys Two One n ms (same_unknown ms none) refl
+same_fault Three n ms before none no_word = same_by_keys Three One n ms (without_words ms no_word ∙ same_unknown ms none) refl
+same_fault Four n ms before none no_word = cc
+
+-- a line that is spelled for the fourth version has no fault of its spelling
+no_spelling_fault : (n : ℕ) (ms : Members) → LineIsSpelledForFour ms → spelling_fault Four n ms ≡ None
+no_spelling_fault n ms spelled = rw spelled.0 (rw spelled.1 refl)
+
+pub same_fault_of_three : (n : ℕ) (ms : Members) → LineHasNoWordOfFour ms → LineIsSpelledForFour ms → line_fault Four n ms ≡ line_fault Three n ms
+same_fault_of_three n ms no_word spelled = same_by_keys Four Three n ms (same_unknown_of_four ms no_word) (no_spelling_fault n ms spelled)
+
+pub same_fault_in_four : (n : ℕ) (ms : Members) → get_member (codes "cache") ms ≡ None → LineHasNoWord ms → LineIsSpelledForFour ms → line_fault Four n ms ≡ line_fault One n ms
+same_fault_in_four n ms none no_word spelled = same_fault_of_three n ms (λ word since. no_word word) spelled ∙ same_fault Three n ms refl none no_word
 
 pub same_fault_of_two : (n : ℕ) (ms : Members) → LineHasNoWord ms → line_fault Three n ms ≡ line_fault Two n ms
-unfolding line_fault
-same_fault_of_two n ms no_word = rw (without_words ms no_word) refl
+same_fault_of_two n ms no_word = same_by_keys Three Two n ms (without_words ms no_word) refl
 
 -- ---- faults that a version never has
 
@@ -188,6 +201,8 @@ abbrev is_of_added_key : ConfigFault → Bool
 is_of_added_key (BadCache line) = true
 is_of_added_key (BadWord line word) = true
 is_of_added_key (BadNumber MaxStore) = true
+is_of_added_key (MethodInLowerCase line) = true
+is_of_added_key (StarInPath line) = true
 is_of_added_key _ = false
 
 neither_gives : (a b : Option ConfigFault) (fault : ConfigFault) → ¬ (a ≡ Some fault) → ¬ (b ≡ Some fault) → ¬ (first_fault_or_later a b ≡ Some fault)
@@ -202,6 +217,7 @@ module _ (fault : ConfigFault) (is_added : is_of_added_key fault ≡ true) where
 
   module _ (version : TableVersion)
       (never : (n : ℕ) (ms : Members) (key : LineKey) → first_unknown (Line version) ms ≡ None → is_good ms key ≡ false → ¬ (fault_of_line_key n key ≡ fault))
+      (never_spelled : (n : ℕ) (ms : Members) → ¬ (spelling_fault version n ms ≡ Some fault))
       (never_at_top : (t : Members) (key : TopKey) → version_of t ≡ version → first_unknown (Top (version_of t)) t ≡ None → is_good_at_top t key ≡ false → ¬ (fault_of_top_key key ≡ fault)) where
     not_refused : (n : ℕ) (ms : Members) → ¬ (line_fault version n ms ≡ Some fault)
     unfolding line_fault
@@ -212,10 +228,10 @@ module _ (fault : ConfigFault) (is_added : is_of_added_key fault ≡ true) where
             let is : line_fault version n ms ≡ Some (UnknownKey key) = rw e refl in
             not_it (UnknownKey key) refl cc
         by_keys None e None f =
-            let is : line_fault version n ms ≡ None = rw e (ap (option_map (fault_of_line_key n)) f) in
-            cc
+            let is : line_fault version n ms ≡ spelling_fault version n ms = rw e (rw f refl) in
+            never_spelled n ms (sym is ∙ bad)
         by_keys None e (Some key) f =
-            let is : line_fault version n ms ≡ Some (fault_of_line_key n key) = rw e (ap (option_map (fault_of_line_key n)) f) in
+            let is : line_fault version n ms ≡ Some (fault_of_line_key n key) = rw e (rw f refl) in
             let same : fault_of_line_key n key ≡ fault = cc in
             never n ms key e (found_fails (is_good ms) line_keys key f) same
 
@@ -255,6 +271,36 @@ module _ (fault : ConfigFault) (is_added : is_of_added_key fault ≡ true) where
             let both : other ≡ fault = cc in
             table_not_refused t same (e ∙ ap Some both)
 
+-- a spelling's fault is one of two
+abbrev is_of_spelling : ConfigFault → Bool
+is_of_spelling (MethodInLowerCase line) = true
+is_of_spelling (StarInPath line) = true
+is_of_spelling _ = false
+
+never_by_spelling : (version : TableVersion) (fault : ConfigFault) → is_of_spelling fault ≡ false → (n : ℕ) (ms : Members) → ¬ (spelling_fault version n ms ≡ Some fault)
+never_by_spelling One fault other n ms is = cc
+never_by_spelling Two fault other n ms is = cc
+never_by_spelling Three fault other n ms is = cc
+never_by_spelling Four fault other n ms is = by_tests (names_small_method ms) (names_path_with_star ms) is
+  where
+    by_tests : (small star : Bool) → cond small (Some (MethodInLowerCase n)) (cond star (Some (StarInPath n)) None) ≡ Some fault → ⊥
+    by_tests true star e =
+        let same : MethodInLowerCase n ≡ fault = cc in
+        let bad : is_of_spelling fault ≡ true = subst (λ f. is_of_spelling f ≡ true) same refl in
+        cc
+    by_tests false true e =
+        let same : StarInPath n ≡ fault = cc in
+        let bad : is_of_spelling fault ≡ true = subst (λ f. is_of_spelling f ≡ true) same refl in
+        cc
+    by_tests false false e = cc
+
+-- before the fourth version no spelling is refused
+no_spelling_before : (version : TableVersion) (n : ℕ) (ms : Members) → has_keys_of version Four ≡ false → spelling_fault version n ms ≡ None
+no_spelling_before One n ms before = refl
+no_spelling_before Two n ms before = refl
+no_spelling_before Three n ms before = refl
+no_spelling_before Four n ms before = cc
+
 never_of_cache : (line n : ℕ) (ms : Members) (key : LineKey) → first_unknown (Line One) ms ≡ None → is_good ms key ≡ false → ¬ (fault_of_line_key n key ≡ BadCache line)
 never_of_cache line n ms Host known bad same = cc
 never_of_cache line n ms Methods known bad same = cc
@@ -284,7 +330,7 @@ never_of_words version line word n ms (Word bad_word) other known bad same =
     cc
 
 pub never_refused : (t : Members) (line : ℕ) → version_of t ≡ One → ¬ (judge_table t ≡ Err (BadCache line))
-never_refused t line one = never_judged (BadCache line) refl One (never_of_cache line) (λ t key same known bad. at_top key) t one
+never_refused t line one = never_judged (BadCache line) refl One (never_of_cache line) (λ n ms same. cc) (λ t key same known bad. at_top key) t one
   where
     at_top : (key : TopKey) → ¬ (fault_of_top_key key ≡ BadCache line)
     at_top Name same = cc
@@ -293,7 +339,7 @@ never_refused t line one = never_judged (BadCache line) refl One (never_of_cache
 
 pub never_refused_for_words : (t : Members) (line : ℕ) (word : LineWord) → has_keys_of (version_of t) Three ≡ false → ¬ (judge_table t ≡ Err (BadWord line word))
 never_refused_for_words t line word other =
-    never_judged (BadWord line word) refl (version_of t) (λ n ms key known bad. never_of_words (version_of t) line word n ms key other known bad) (λ t key same known bad. at_top key) t refl
+    never_judged (BadWord line word) refl (version_of t) (λ n ms key known bad. never_of_words (version_of t) line word n ms key other known bad) (never_by_spelling (version_of t) (BadWord line word) refl) (λ t key same known bad. at_top key) t refl
   where
     at_top : (key : TopKey) → ¬ (fault_of_top_key key ≡ BadWord line word)
     at_top Name same = cc
@@ -331,7 +377,7 @@ never_of_new_words version line word n ms (Word bad_word) since before known bad
 
 pub never_refused_for_new_words : (t : Members) (line : ℕ) (word : LineWord) → (word_row word).since ≡ Four → has_keys_of (version_of t) Four ≡ false → ¬ (judge_table t ≡ Err (BadWord line word))
 never_refused_for_new_words t line word since before =
-    never_judged (BadWord line word) refl (version_of t) (λ n ms key known bad. never_of_new_words (version_of t) line word n ms key since before known bad) (λ t key same known bad. at_top key) t refl
+    never_judged (BadWord line word) refl (version_of t) (λ n ms key known bad. never_of_new_words (version_of t) line word n ms key since before known bad) (never_by_spelling (version_of t) (BadWord line word) refl) (λ t key same known bad. at_top key) t refl
   where
     at_top : (key : TopKey) → ¬ (fault_of_top_key key ≡ BadWord line word)
     at_top Name same = cc
@@ -370,8 +416,69 @@ no_line_gives n (Word word) same = cc
 
 pub never_refused_for_bound : (t : Members) → has_keys_of (version_of t) Four ≡ false → ¬ (judge_table t ≡ Err (BadNumber MaxStore))
 never_refused_for_bound t before =
-    never_judged (BadNumber MaxStore) refl (version_of t) (λ n ms key known bad. no_line_gives n key)
+    never_judged (BadNumber MaxStore) refl (version_of t) (λ n ms key known bad. no_line_gives n key) (never_by_spelling (version_of t) (BadNumber MaxStore) refl)
     (λ u key same known bad. never_of_bound u key (subst (λ v. has_keys_of v Four ≡ false) (sym same) before) known bad) t refl
+
+-- ---- spellings that the fourth version refuses
+
+never_spelled_before : (t : Members) (fault : ConfigFault) → is_of_added_key fault ≡ true → is_of_spelling fault ≡ true → has_keys_of (version_of t) Four ≡ false → ¬ (judge_table t ≡ Err fault)
+never_spelled_before t fault added spelled before =
+    never_judged fault added (version_of t) (λ n ms key known bad same. no_key n key same) (λ n ms same. let none : spelling_fault (version_of t) n ms ≡ None = no_spelling_before (version_of t) n ms before in cc) (λ t key same known bad. at_top key) t refl
+  where
+    other : (x : ConfigFault) → is_of_spelling x ≡ false → ¬ (x ≡ fault)
+    other x is same = let bad : is_of_spelling fault ≡ false = subst (λ f. is_of_spelling f ≡ false) same is in cc
+
+    no_key : (n : ℕ) (key : LineKey) → ¬ (fault_of_line_key n key ≡ fault)
+    no_key n Host = other (fault_of_line_key n Host) refl
+    no_key n Methods = other (fault_of_line_key n Methods) refl
+    no_key n Path = other (fault_of_line_key n Path) refl
+    no_key n Origin = other (fault_of_line_key n Origin) refl
+    no_key n Cache = other (fault_of_line_key n Cache) refl
+    no_key n (Word word) = other (fault_of_line_key n (Word word)) refl
+
+    at_top : (key : TopKey) → ¬ (fault_of_top_key key ≡ fault)
+    at_top Name = other (fault_of_top_key Name) refl
+    at_top (Number key) = other (fault_of_top_key (Number key)) refl
+    at_top Lines = other (fault_of_top_key Lines) refl
+
+pub never_refused_for_methods : (t : Members) (line : ℕ) → has_keys_of (version_of t) Four ≡ false → ¬ (judge_table t ≡ Err (MethodInLowerCase line))
+never_refused_for_methods t line before = never_spelled_before t (MethodInLowerCase line) refl refl before
+
+pub never_refused_for_stars : (t : Members) (line : ℕ) → has_keys_of (version_of t) Four ≡ false → ¬ (judge_table t ≡ Err (StarInPath line))
+never_refused_for_stars t line before = never_spelled_before t (StarInPath line) refl refl before
+
+-- a line of the fourth version that is read is spelled for it
+pub spelled_for_four : (n : ℕ) (ms : Members) → line_fault Four n ms ≡ None → LineIsSpelledForFour ms
+unfolding line_fault
+spelled_for_four n ms none = by_keys (first_unknown (Line Four) ms) refl (first_bad_key ms) refl
+  where
+    by_tests : (small star : Bool) → names_small_method ms ≡ small → names_path_with_star ms ≡ star → cond small (Some (MethodInLowerCase n)) (cond star (Some (StarInPath n)) None) ≡ None → LineIsSpelledForFour ms
+    by_tests true star is also e = cc
+    by_tests false true is also e = cc
+    by_tests false false is also e = (is, also)
+
+    by_keys : (o : Option (List ℕ)) → first_unknown (Line Four) ms ≡ o → (p : Option LineKey) → first_bad_key ms ≡ p → LineIsSpelledForFour ms
+    by_keys (Some key) e p f = let bad : line_fault Four n ms ≡ Some (UnknownKey key) = rw e refl in cc
+    by_keys None e (Some key) f = let bad : line_fault Four n ms ≡ Some (fault_of_line_key n key) = rw e (rw f refl) in cc
+    by_keys None e None f =
+        let is : line_fault Four n ms ≡ spelling_fault Four n ms = rw e (rw f refl) in
+        by_tests (names_small_method ms) (names_path_with_star ms) refl refl (sym is ∙ none)
+
+-- a line that the third version reads is told its spelling's fault
+pub spelling_alone : (n : ℕ) (ms : Members) → LineHasNoWordOfFour ms → line_fault Three n ms ≡ None → line_fault Four n ms ≡ spelling_fault Four n ms
+unfolding line_fault
+spelling_alone n ms no_word none = by_keys (first_unknown (Line Three) ms) refl (first_bad_key ms) refl
+  where
+    by_keys : (o : Option (List ℕ)) → first_unknown (Line Three) ms ≡ o → (p : Option LineKey) → first_bad_key ms ≡ p → line_fault Four n ms ≡ spelling_fault Four n ms
+    by_keys (Some key) e p f = let bad : line_fault Three n ms ≡ Some (UnknownKey key) = rw e refl in cc
+    by_keys None e (Some key) f = let bad : line_fault Three n ms ≡ Some (fault_of_line_key n key) = rw e (rw f refl) in cc
+    by_keys None e None f = rw (same_unknown_of_four ms no_word) (rw e (rw f refl))
+
+pub small_method_is_told : (n : ℕ) (ms : Members) → LineHasNoWordOfFour ms → line_fault Three n ms ≡ None → names_small_method ms ≡ true → line_fault Four n ms ≡ Some (MethodInLowerCase n)
+small_method_is_told n ms no_word none small = spelling_alone n ms no_word none ∙ rw small refl
+
+pub star_is_told : (n : ℕ) (ms : Members) → LineHasNoWordOfFour ms → line_fault Three n ms ≡ None → names_small_method ms ≡ false → names_path_with_star ms ≡ true → line_fault Four n ms ≡ Some (StarInPath n)
+star_is_told n ms no_word none small star = spelling_alone n ms no_word none ∙ rw small (rw star refl)
 
 -- where a table was read no key at the top is unknown, and none is bad
 read_without_fault : (t : Members) (table : Table) → judge_table t ≡ Ok table → (table_fault t ≡ None) × (table_read t ≡ table)

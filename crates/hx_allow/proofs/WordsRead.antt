@@ -8,7 +8,7 @@ use Rattle.hx_allow.specs.Addresses.{is_address, address_text}
 use Rattle.hx_allow.specs.TableLines.{Table}
 use Rattle.hx_allow.specs.LineWords.{key_has_text, line_takes_words}
 use Rattle.hx_allow.specs.Rows.{Row, word_row, fault_of_line_key}
-use Rattle.hx_allow.specs.LineTables.{is_line_origin, is_of_kind, is_good_at, first_bad_key, line_fault, line_read}
+use Rattle.hx_allow.specs.LineTables.{is_line_origin, is_of_kind, is_good_at, first_bad_key, first_fault_or_later, spelling_fault, line_fault, line_read}
 use Rattle.hx_allow.specs.Tables.{version_of, judge_table}
 use Rattle.hx_allow.specs.Values.{first_unknown, text_at, is_some_and}
 use Rattle.hx_allow.specs.Versions.{LineHasNoWord, LineTakesItsWords}
@@ -20,7 +20,7 @@ use Rattle.hx_allow.specs.declared.rows.Place.TheVariants.{Needed, Optional, All
 use Rattle.hx_allow.specs.declared.values.Scope.TheVariants.{Line}
 use Rattle.hx_allow.specs.declared.values.TableVersion.{TableVersion}
 use Rattle.hx_allow.proofs.KeysListed.{each_key, each_good, plain_policy}
-use Rattle.hx_allow.proofs.LinesRead.{none_mapped, each_line_read}
+use Rattle.hx_allow.proofs.LinesRead.{none_mapped, or_later_none, each_line_read}
 
 abbrev is_of_caching : Place → Bool
 is_of_caching CachingLine = true
@@ -73,8 +73,8 @@ takes_them version n ms none = by_keys (first_unknown (Line version) ms) refl
     by_keys : (o : Option (List ℕ)) → first_unknown (Line version) ms ≡ o → LineTakesItsWords (line_read version ms)
     by_keys (Some key) e = let bad : line_fault version n ms ≡ Some (UnknownKey key) = rw e refl in cc
     by_keys None e =
-        let is : line_fault version n ms ≡ option_map (fault_of_line_key n) (first_bad_key ms) = rw e refl in
-        parts (line_takes_words ms) refl (none_mapped (fault_of_line_key n) (first_bad_key ms) (sym is ∙ none))
+        let is : line_fault version n ms ≡ first_fault_or_later (option_map (fault_of_line_key n) (first_bad_key ms)) (spelling_fault version n ms) = rw e refl in
+        parts (line_takes_words ms) refl (none_mapped (fault_of_line_key n) (first_bad_key ms) (or_later_none (option_map (fault_of_line_key n) (first_bad_key ms)) (spelling_fault version n ms) (sym is ∙ none)).0)
 
 pub each_takes_them : (t : Members) (table : Table) → judge_table t ≡ Ok table → All LineTakesItsWords table.lines
 each_takes_them t table e = each_line_read LineTakesItsWords t table (takes_them (version_of t)) (sym e)

@@ -5,7 +5,8 @@ use Rattle.hx_allow.specs.declared.config_faults.ConfigFault.TheVariants.{NotTom
 use Rattle.hx_allow.specs.declared.config_faults.ConfigFault.TheVariants.{BadHost}
 use Rattle.hx_allow.specs.declared.config_faults.ConfigFault.TheVariants.{BadMethod, BadPath, BadOrigin, NoLines}
 use Rattle.hx_allow.specs.declared.config_faults.ConfigFault.TheVariants.{OutOfMemory}
-use Rattle.hx_allow.specs.declared.config_faults.ConfigFault.TheVariants.{BadCache, BadWord}
+use Rattle.hx_allow.specs.declared.config_faults.ConfigFault.TheVariants.{BadCache, BadWord, MethodInLowerCase}
+use Rattle.hx_allow.specs.declared.config_faults.ConfigFault.TheVariants.{StarInPath}
 use Rattle.hx_allow.specs.declared.rows.LineKey.TheVariants.{Host, Methods, Path, Origin, Cache}
 use Rattle.hx_allow.specs.declared.rows.Place.{Place}
 use Rattle.hx_allow.specs.declared.rows.TopKey.TheVariants.{Name}
@@ -22,6 +23,8 @@ line_at_fault (BadPath line) = Some line
 line_at_fault (BadOrigin line) = Some line
 line_at_fault (BadCache line) = Some line
 line_at_fault (BadWord line word) = Some line
+line_at_fault (MethodInLowerCase line) = Some line
+line_at_fault (StarInPath line) = Some line
 line_at_fault _ = None
 
 -- numbers between which one has to be
@@ -70,8 +73,10 @@ row_at_fault _ = None
 abbrev pub words_without_row : ConfigFault → List ℕ
 words_without_row NotToml = codes "the table is no TOML, has a key twice, or has more than 1048576 bytes; look for a quote or bracket that is missing"
 words_without_row (UnknownKey key) = words_of_unknown_key
-words_without_row NoLines = codes "a table has 1 to 256 lines, each of which begins with [[line]]"
+words_without_row NoLines = codes "a table has 1 to 256 lines, or 1 to 4096 in version 4, each of which begins with [[line]]"
 words_without_row OutOfMemory = codes "no memory is left for the table"
+words_without_row (MethodInLowerCase line) = codes "a method has a letter in lower case; methods compare with their case, so write GET and not get"
+words_without_row (StarInPath line) = codes "path has a *, which is that character and no pattern; leave it out: a path matches itself and all below it"
 words_without_row _ = []
 
 abbrev pub words_by : Option Row → ConfigFault → List ℕ

@@ -6,7 +6,8 @@ use Rattle.hx_allow.specs.declared.config_faults.ConfigFault.TheVariants.{NotTom
 use Rattle.hx_allow.specs.declared.config_faults.ConfigFault.TheVariants.{BadHost}
 use Rattle.hx_allow.specs.declared.config_faults.ConfigFault.TheVariants.{BadMethod, BadPath, BadOrigin, NoLines}
 use Rattle.hx_allow.specs.declared.config_faults.ConfigFault.TheVariants.{OutOfMemory}
-use Rattle.hx_allow.specs.declared.config_faults.ConfigFault.TheVariants.{BadCache, BadWord}
+use Rattle.hx_allow.specs.declared.config_faults.ConfigFault.TheVariants.{BadCache, BadWord, MethodInLowerCase}
+use Rattle.hx_allow.specs.declared.config_faults.ConfigFault.TheVariants.{StarInPath}
 use Rattle.hx_allow.specs.declared.config_faults.LineWord.{LineWord}
 use Rattle.hx_allow.specs.declared.config_faults.NumberKey.{NumberKey}
 
@@ -30,3 +31,5 @@ fault_number NoLines = 9
 fault_number OutOfMemory = 10
 fault_number (BadCache line) = 11
 fault_number (BadWord line word) = 12
+fault_number (MethodInLowerCase line) = 13
+fault_number (StarInPath line) = 14

@@ -1,12 +1,12 @@
 -- What a `[[line]]` table says, or its first fault.
 use Rattle.std.specs.Prelude.{ℕ, ◌+◌, ◌-◌, ◌==◌, nat_le, Bool, not, ◌&&◌, ◌||◌, List, [], ◌∷◌, length}
-use Rattle.std.specs.Prelude.{slice_index, codes, bytes_eq, Option, Some, None, is_none, unwrap_or}
+use Rattle.std.specs.Prelude.{slice_index, codes, bytes_eq, Option, Some, None, is_none, unwrap_or, if◌then◌else◌}
 use Rattle.std.specs.Prelude.{option_map, find, is_some, false}
 use Rattle.std.specs.Option.{option_and_then}
 use Rattle.std.specs.List.{list_any, list_all}
-use Rattle.std.specs.Char.{is_ascii_uppercase}
+use Rattle.std.specs.Char.{is_ascii_uppercase, is_ascii_lowercase}
 use Rattle.http_uri.specs.ByteClasses.{slash, hash_sign, question_mark}
-use Rattle.toml.specs.Data.{Items, no_items, item, table, Members, get_member, as_str, as_table}
+use Rattle.toml.specs.Data.{Data, Items, no_items, item, table, Members, get_member, as_str, as_table}
 use Rattle.hx_fields.specs.Tokens.{is_token}
 use Rattle.hx_target.specs.Hosts.{is_host}
 use Rattle.hx_target.specs.Paths.{has_bad_escape, has_dot_segment, table_path_of}
@@ -21,10 +21,11 @@ use Rattle.hx_allow.specs.Values.{first_unknown, text_at, number_between, is_som
 use Rattle.hx_allow.specs.Values.{text_unless, texts_of, items_at}
 use Rattle.hx_allow.specs.declared.values.Scope.TheVariants.{Line}
 use Rattle.hx_allow.specs.declared.values.TableVersion.{TableVersion}
+use Rattle.hx_allow.specs.declared.values.TableVersion.TheVariants.{Four}
 use Rattle.hx_allow.specs.declared.config_faults.ConfigFault.{ConfigFault}
 use Rattle.hx_allow.specs.declared.config_faults.FoundFault.{FoundFault}
 use Rattle.hx_allow.specs.declared.config_faults.FoundFault.TheVariants as found
-use Rattle.hx_allow.specs.declared.config_faults.ConfigFault.TheVariants.{UnknownKey}
+use Rattle.hx_allow.specs.declared.config_faults.ConfigFault.TheVariants.{UnknownKey, MethodInLowerCase, StarInPath}
 use Rattle.hx_allow.specs.declared.rows.LineKey.{LineKey}
 use Rattle.hx_allow.specs.declared.rows.Place.{Place}
 use Rattle.hx_allow.specs.declared.rows.Place.TheVariants.{Needed, Optional, AllowingLine, CachingLine}
@@ -87,13 +88,40 @@ is_good ms key = is_good_at (line_row key).place (line_row key) ms
 abbrev pub first_bad_key : Members → Option LineKey
 first_bad_key ms = find (λ key. not (is_good ms key)) line_keys
 
+abbrev pub first_fault_or_later : Option ConfigFault → Option ConfigFault → Option ConfigFault
+first_fault_or_later None later = later
+first_fault_or_later (Some fault) later = Some fault
+
+-- a method with a letter in lower case; methods compare with their case (RFC 9110, section 9.1)
+abbrev pub has_small_letter : Data → Bool
+has_small_letter d = is_some_and (list_any is_ascii_lowercase) (as_str d)
+
+abbrev pub names_small_method : Members → Bool
+names_small_method ms = is_some_and (λ ds. not (all_items (λ d. not (has_small_letter d)) ds)) (items_at (codes "methods") ms)
+
+-- a `*` in a path, which is that character alone and no pattern
+abbrev pub has_star : List ℕ → Bool
+has_star text = list_any (λ b. b == 42) text
+
+abbrev pub names_path_with_star : Members → Bool
+names_path_with_star ms = is_some_and has_star (text_at (codes "path") ms)
+
+-- own: what version 4 refuses of a line whose keys are good, since it is most often meant otherwise
+abbrev pub spelling_fault : TableVersion → ℕ → Members → Option ConfigFault
+spelling_fault Four n ms =
+    if names_small_method ms then Some (MethodInLowerCase n)
+    else if names_path_with_star ms then Some (StarInPath n)
+    else None
+spelling_fault _ n ms = None
+
 -- the first fault of the line with this number, in a table of this version
 unfoldable pub line_fault : TableVersion → ℕ → Members → Option ConfigFault
 line_fault version n ms = after_keys (first_unknown (Line version) ms)
   where
     after_keys : Option (List ℕ) → Option ConfigFault
     after_keys (Some key) = Some (UnknownKey key)
-    after_keys None = option_map (fault_of_line_key n) (first_bad_key ms)
+    after_keys None =
+        first_fault_or_later (option_map (fault_of_line_key n) (first_bad_key ms)) (spelling_fault version n ms)
 
 -- the line, where it has no fault, in a table of this version
 unfoldable pub line_read : TableVersion → Members → PlainLine
@@ -104,10 +132,6 @@ line_read version ms = record {
   origin = option_and_then address_text (text_at (codes "origin") ms);
   policy = policy_of_line_table version ms;
 }
-
-abbrev pub first_fault_or_later : Option ConfigFault → Option ConfigFault → Option ConfigFault
-first_fault_or_later None later = later
-first_fault_or_later (Some fault) later = Some fault
 
 abbrev pub fault_of_line_item : TableVersion → ℕ → Option Members → Option ConfigFault
 fault_of_line_item version n None = None

@@ -28,9 +28,10 @@ use Rattle.hx_allow.specs.declared.config_faults.NumberKey.{NumberKey}
 use Rattle.hx_allow.specs.declared.config_faults.NumberKey.TheVariants.{Version, Capacity, MaxBody, MaxStored}
 use Rattle.hx_allow.specs.declared.config_faults.NumberKey.TheVariants.{MaxStore}
 
--- the most lines of a table
-abbrev pub line_limit : ℕ
-line_limit = 256
+-- the most lines of a table of a version
+abbrev pub line_limit : TableVersion → ℕ
+line_limit Four = 4096
+line_limit _ = 256
 
 -- a lower-case letter, then at most 31 lower-case letters, digits and `-`
 abbrev pub is_name_byte : ℕ → Bool
@@ -50,15 +51,15 @@ version_of t =
     else if is_some_and (λ n. n == 4) (number_at Version t) then Four
     else One
 
--- an array of 1 to 256 tables
-abbrev pub are_lines : Items → Bool
-are_lines ds = has_one_to_most line_limit ds && all_items (λ d. is_some (as_table d)) ds
+-- an array of tables, of as many as the version has
+abbrev pub are_lines : TableVersion → Items → Bool
+are_lines version ds = has_one_to_most (line_limit version) ds && all_items (λ d. is_some (as_table d)) ds
 
-abbrev pub items_if_lines : Items → Option Items
-items_if_lines ds = if are_lines ds then Some ds else None
+abbrev pub items_if_lines : TableVersion → Items → Option Items
+items_if_lines version ds = if are_lines version ds then Some ds else None
 
 abbrev pub lines_at : Members → Option Items
-lines_at t = option_and_then items_if_lines (items_at (codes "line") t)
+lines_at t = option_and_then (items_if_lines (version_of t)) (items_at (codes "line") t)
 
 -- The bytes of the store aren't bounded, or the bound is within its range and no less than that of one content, which
 -- is looked at before it.

@@ -1,8 +1,9 @@
 -- Lines that say nothing new, and which lines may.
-use Rattle.std.specs.Prelude.{◌≡◌, ◌⊎◌, true, None, is_some}
+use Rattle.std.specs.Prelude.{◌≡◌, ◌⊎◌, true, false, None, is_some}
 use Rattle.toml.specs.Data.{Members, get_member}
 use Rattle.hx_policy.specs.Policies.{plain}
 use Rattle.hx_allow.specs.Keys.{word_key}
+use Rattle.hx_allow.specs.LineTables.{names_small_method, names_path_with_star}
 use Rattle.hx_allow.specs.Rows.{word_row}
 use Rattle.hx_allow.specs.TableLines.{Line}
 use Rattle.hx_allow.specs.declared.config_faults.LineWord.{LineWord}
@@ -15,6 +16,10 @@ LineHasNoWord ms = (word : LineWord) → get_member (word_key word) ms ≡ None
 -- no word of the fourth version stands
 abbrev pub LineHasNoWordOfFour : Members → Type 0
 LineHasNoWordOfFour ms = (word : LineWord) → (word_row word).since ≡ Four → get_member (word_key word) ms ≡ None
+
+-- no method has a letter in lower case, and the path has no `*`
+abbrev pub LineIsSpelledForFour : Members → Type 0
+LineIsSpelledForFour ms = (names_small_method ms ≡ false) × (names_path_with_star ms ≡ false)
 
 -- what a line of the third version says: errors have the lifetime of all others
 abbrev pub LineIsOfThree : Line → Type 0

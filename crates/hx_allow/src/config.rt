@@ -8,7 +8,7 @@ ghost use Rattle.hx_allow.specs.Tables.{BytesReadAs, TableWasRead};
 
 use crate::host_index::HostIndex;
 use crate::lines::{Line, is_never_allowed};
-use crate::matching::{line_at, verdict_among};
+use crate::matching::{line_at, verdict_for_host};
 use crate::origins::Origin;
 use crate::shadows::first_taking;
 use crate::{ConfigFault, Verdict, config_reading};
@@ -64,7 +64,7 @@ impl Model for Config {
       lines = c.lines.items;
     } };
 
-    ghost invariant = { λ c. (length c.lines.items ≤ 256) × IsHostIndexOf c.lines.items c.by_host
+    ghost invariant = { λ c. (length c.lines.items ≤ 4096) × IsHostIndexOf c.lines.items c.by_host
         × TableWasRead (record {
           name = string_bytes c.name;
           capacity = c.capacity;
@@ -106,8 +106,8 @@ impl Config {
         if is_never_allowed(method) {
             return Verdict::NoLine;
         }
-        let numbers = self.by_host.numbers(target.key.host.as_slice());
-        verdict_among(&self.lines, numbers, method, target.table_path.as_slice())
+        let (host, path) = (target.key.host.as_slice(), target.table_path.as_slice());
+        verdict_for_host(&self.lines, &self.by_host, host, method, path)
     }
 
     fn origin_at(&self, line: u16) -> Option<&Origin>

@@ -84,7 +84,7 @@ pub enum ConfigFault {
     BadPath(u16),
     /// `origin` of this line is neither `"deny"` nor four numbers and a port.
     BadOrigin(u16),
-    /// `line` is no array of 1 to 256 tables.
+    /// `line` is no array of 1 to 256 tables, or in version 4 of 1 to 4,096.
     NoLines,
     /// Memory ran out.
     OutOfMemory,
@@ -92,10 +92,14 @@ pub enum ConfigFault {
     BadCache(u16),
     /// This key of this line has a value that it can't have, or stands in a line that denies or has its cache off.
     BadWord(u16, LineWord),
+    /// A method of this line of a table of version 4 has a letter in lower case.
+    MethodInLowerCase(u16),
+    /// `path` of this line of a table of version 4 has a `*`.
+    StarInPath(u16),
 }
 
 impl ConfigFault {
-    /// The fault's number, 1 to 12.
+    /// The fault's number, 1 to 14.
     pub fn number(&self) -> u8
         ensures { result ≡ fault_number self.now }
     {
@@ -112,6 +116,8 @@ impl ConfigFault {
             ConfigFault::OutOfMemory => 10,
             ConfigFault::BadCache(_) => 11,
             ConfigFault::BadWord(_, _) => 12,
+            ConfigFault::MethodInLowerCase(_) => 13,
+            ConfigFault::StarInPath(_) => 14,
         }
     }
 }

@@ -6,7 +6,7 @@ ghost use Rattle.hx_allow.specs.declared.config_faults.ConfigFault.TheVariants.{
 ghost use Rattle.hx_allow.specs.declared.config_faults.ConfigFault.TheVariants.{BadNumber};
 ghost use Rattle.hx_allow.specs.declared.config_faults.ConfigFault.TheVariants.{BadHost, BadMethod, BadPath, BadOrigin};
 ghost use Rattle.hx_allow.specs.declared.config_faults.ConfigFault.TheVariants.{NoLines, OutOfMemory, BadCache};
-ghost use Rattle.hx_allow.specs.declared.config_faults.ConfigFault.TheVariants.{BadWord};
+ghost use Rattle.hx_allow.specs.declared.config_faults.ConfigFault.TheVariants.{BadWord, MethodInLowerCase, StarInPath};
 ghost use Rattle.hx_allow.specs.declared.config_faults.LineWord.TheVariants.{Lifetime, ErrorLifetime, StaleIfError};
 ghost use Rattle.hx_allow.specs.declared.config_faults.LineWord.TheVariants.{SetCookie, Errors, RequestDirectives};
 ghost use Rattle.hx_allow.specs.declared.config_faults.LineWord.TheVariants.{Wait, Explain};
@@ -18,7 +18,7 @@ pub fn worked_words_of_the_top()
     ensures not_toml { expected_words NotToml ≡ codes "the table is no TOML, has a key twice, or has more than 1048576 bytes; look for a quote or bracket that is missing" }
     ensures unknown_key { (key : List ℕ) → expected_words (UnknownKey key) ≡ codes "a key isn't known where it stands; correct its spelling or delete it: behind [[line]] keys belong to that line; cache needs version = 2, 3 or 4, lifetime, stale-if-error, set-cookie, errors, request-directives, wait and explain need version = 3 or 4, and max_store and error-lifetime need version = 4" }
     ensures bad_name { expected_words BadName ≡ codes "name has to be a lower-case letter and at most 31 of a-z, 0-9 and -, in quotes" }
-    ensures no_lines { expected_words NoLines ≡ codes "a table has 1 to 256 lines, each of which begins with [[line]]" }
+    ensures no_lines { expected_words NoLines ≡ codes "a table has 1 to 256 lines, or 1 to 4096 in version 4, each of which begins with [[line]]" }
     ensures out_of_memory { expected_words OutOfMemory ≡ codes "no memory is left for the table" }
     ensures version { expected_words (BadNumber Version) ≡ codes "version has to be 1, 2, 3 or 4, without quotes" }
     ensures capacity { expected_words (BadNumber Capacity) ≡ codes "capacity has to be a whole number from 1 to 65536, without quotes" }
@@ -33,6 +33,8 @@ pub fn worked_words_of_lines()
     ensures bad_method { (line : ℕ) → expected_words (BadMethod line) ≡ codes "methods has to be a list of 1 to 32, each \"*\" or a method of at most 15 bytes, but not CONNECT, TRACE or OPTIONS" }
     ensures bad_path { (line : ℕ) → expected_words (BadPath line) ≡ codes "path has to begin with / and not to end with it, but for / itself; no ?, #, blank, byte above 7E, segment . or .., or % without two hexadecimal digits behind it" }
     ensures bad_origin { (line : ℕ) → expected_words (BadOrigin line) ≡ codes "origin has to be \"deny\" or an IPv4 address and a port, as in \"127.0.0.1:8081\"" }
+    ensures method_in_lower_case { (line : ℕ) → expected_words (MethodInLowerCase line) ≡ codes "a method has a letter in lower case; methods compare with their case, so write GET and not get" }
+    ensures star_in_path { (line : ℕ) → expected_words (StarInPath line) ≡ codes "path has a *, which is that character and no pattern; leave it out: a path matches itself and all below it" }
     ensures bad_cache { (line : ℕ) → expected_words (BadCache line) ≡ codes "cache has to be \"on\" or \"off\", and not to stand in a line that denies" }
 {}
 
@@ -51,5 +53,6 @@ pub fn worked_words_of_words()
 /// A fault of a line begins with its number.
 pub fn worked_places_of_faults()
     ensures of_a_line { fault_text (BadOrigin 12) ≡ codes "in [[line]] number 12 origin has to be \"deny\" or an IPv4 address and a port, as in \"127.0.0.1:8081\"" }
-    ensures of_the_table { fault_text NoLines ≡ codes "a table has 1 to 256 lines, each of which begins with [[line]]" }
+    ensures of_a_path { fault_text (StarInPath 2) ≡ codes "in [[line]] number 2 path has a *, which is that character and no pattern; leave it out: a path matches itself and all below it" }
+    ensures of_the_table { fault_text NoLines ≡ codes "a table has 1 to 256 lines, or 1 to 4096 in version 4, each of which begins with [[line]]" }
 {}

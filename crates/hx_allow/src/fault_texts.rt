@@ -19,6 +19,8 @@ fn line_at_fault(fault: &ConfigFault) -> Option<u16>
         ConfigFault::BadOrigin(line) => Some(*line),
         ConfigFault::BadCache(line) => Some(*line),
         ConfigFault::BadWord(line, _) => Some(*line),
+        ConfigFault::MethodInLowerCase(line) => Some(*line),
+        ConfigFault::StarInPath(line) => Some(*line),
         _ => None,
     }
 }
@@ -48,8 +50,13 @@ fn words_without_row(fault: &ConfigFault) -> &'static str
         ConfigFault::NotToml =>
             "the table is no TOML, has a key twice, or has more than 1048576 bytes; look for a quote or bracket that is missing",
         ConfigFault::UnknownKey(_) => WORDS_OF_UNKNOWN_KEY,
-        ConfigFault::NoLines => "a table has 1 to 256 lines, each of which begins with [[line]]",
+        ConfigFault::NoLines =>
+            "a table has 1 to 256 lines, or 1 to 4096 in version 4, each of which begins with [[line]]",
         ConfigFault::OutOfMemory => "no memory is left for the table",
+        ConfigFault::MethodInLowerCase(_) =>
+            "a method has a letter in lower case; methods compare with their case, so write GET and not get",
+        ConfigFault::StarInPath(_) =>
+            "path has a *, which is that character and no pattern; leave it out: a path matches itself and all below it",
         _ => "",
     }
 }

@@ -1,9 +1,9 @@
 //! Which lines of the table a host can match.
 //!
-//! A look-up costs the logarithm of the hosts that lines name, and takes no memory.
-ghost use Rattle.std.specs.Prelude.{◌≡◌, ◌≤◌, length, IfOk};
-ghost use Rattle.std.specs.Option.{option_copied};
-ghost use Rattle.hx_allow.specs.Index.{line_numbers_for_host, IsHostIndexOf, line_numbers_of};
+//! A look-up costs the logarithm of the hosts that lines name, and takes no memory. The index has as
+//! many numbers as there are lines.
+ghost use Rattle.std.specs.Prelude.{◌≡◌, ◌≤◌, length, IfOk, OnOk};
+ghost use Rattle.hx_allow.specs.Index.{numbers_for, IsHostIndexOf, IsNoted, IsEntered};
 
 use crate::lines::Line;
 use std::alloc::{AllocError, Global};
@@ -11,9 +11,9 @@ use std::collections::BTreeMap;
 
 /// The numbers of the lines that a host can match, ascending.
 pub(crate) struct HostIndex {
-    /// Those of each host that a line names.
+    /// Those of the lines that name a host, of each such host.
     named: BTreeMap<Vec<u8>, Vec<u16>>,
-    /// Those of every other host.
+    /// Those of the lines for every host.
     others: Vec<u16>,
 }
 
@@ -28,51 +28,66 @@ impl Drop for HostIndex {
 }
 
 impl HostIndex {
-    /// The index of at most 256 lines. Fails only where memory runs out.
+    /// The index of at most 4,096 lines. Fails only where memory runs out.
     pub(crate) fn of(alloc: Global, lines: &[Line]) -> Result<HostIndex, AllocError>
-        requires { length lines.now ≤ 256 }
+        requires { length lines.now ≤ 4096 }
         ensures { IfOk result (IsHostIndexOf lines.now) }
     {
-        let mut named = BTreeMap::new(alloc);
+        let mut index = HostIndex {
+            named: BTreeMap::new(alloc),
+            others: Vec::new(alloc),
+        };
+        let mut number = 1u16;
         for line in lines {
-            if let Some(host) = &line.host {
-                let numbers = line_numbers_of(alloc, lines, Some(host.as_slice()))?;
-                named.insert(Vec::from_slice(alloc, host.as_slice())?, numbers)?;
-            }
+            index.note(alloc, line, number)?;
+            number += 1;
         }
-        Ok(HostIndex {
-            named,
-            others: line_numbers_of(alloc, lines, None)?,
-        })
+        Ok(index)
     }
 
-    /// The numbers of the lines that a host can match, ascending.
-    pub(crate) fn numbers(&self, host: &[u8]) -> &[u16]
-        ensures { result.now ≡ line_numbers_for_host self.now host.now }
+    /// Puts the number of a line behind those of its host.
+    fn note(&mut self, alloc: Global, line: &Line, number: u16) -> Result<(), AllocError>
+        ensures { OnOk result (IsNoted line.now number self.old self.new) }
+    {
+        match &line.host {
+            Some(host) => enter(alloc, &mut self.named, host.as_slice(), number)?,
+            None => self.others.push(number)?,
+        }
+        Ok(())
+    }
+
+    /// The numbers of the lines that name a host, ascending.
+    pub(crate) fn naming(&self, host: &[u8]) -> &[u16]
+        ensures { result.now ≡ numbers_for self.now.named host.now }
     {
         match self.named.get(host) {
             Some(numbers) => numbers.as_slice(),
-            None => self.others.as_slice(),
+            None => &[],
         }
+    }
+
+    /// The numbers of the lines for every host, ascending.
+    pub(crate) fn for_every_host(&self) -> &[u16]
+        ensures { result.now ≡ self.now.others.items }
+    {
+        self.others.as_slice()
     }
 }
 
-/// The numbers of the lines that can match a host, or where none is given one that no line names.
-fn line_numbers_of(
+/// Puts the number of a line behind those of a host.
+fn enter(
     alloc: Global,
-    lines: &[Line],
-    host: Option<&[u8]>,
-) -> Result<Vec<u16>, AllocError>
-    requires { length lines.now ≤ 256 }
-    ensures { IfOk result (λ numbers. numbers.items ≡ line_numbers_of lines.now (option_copied host.entry)) }
+    named: &mut BTreeMap<Vec<u8>, Vec<u16>>,
+    host: &[u8],
+    number: u16,
+) -> Result<(), AllocError>
+    ensures { OnOk result (IsEntered host.now number named.old named.new) }
 {
-    let mut numbers = Vec::new(alloc);
-    let mut number = 1u16;
-    for line in lines {
-        if line.can_match(host) {
-            numbers.push(number)?;
-        }
-        number += 1;
-    }
-    Ok(numbers)
+    let mut numbers = match named.remove(host) {
+        Some(numbers) => numbers,
+        None => Vec::new(alloc),
+    };
+    numbers.push(number)?;
+    named.insert(Vec::from_slice(alloc, host)?, numbers)?;
+    Ok(())
 }

@@ -11,11 +11,13 @@ ghost use Rattle.hx_target.specs.Paths.{table_path_of};
 ghost use Rattle.hx_policy.specs.Policies.{plain};
 ghost use Rattle.hx_allow.specs.TableLines.{Line, Table};
 ghost use Rattle.hx_allow.specs.LineTables.{line_fault, lines_fault, array_of_tables};
+ghost use Rattle.hx_allow.specs.LineTables.{names_small_method, names_path_with_star};
 ghost use Rattle.hx_allow.specs.Matching.{matches_line, verdict_of, line_number};
 ghost use Rattle.hx_allow.specs.NeverReached.{first_line_taking};
 ghost use Rattle.hx_allow.specs.Rows.{has_keys_of, word_row};
 ghost use Rattle.hx_allow.specs.Tables.{version_of, judge_table, BytesReadAs};
 ghost use Rattle.hx_allow.specs.Versions.{LineHasNoWord, LineHasNoWordOfFour, LineIsOfThree, LineTakesItsWords};
+ghost use Rattle.hx_allow.specs.Versions.{LineIsSpelledForFour};
 ghost use Rattle.hx_allow.specs.declared.config_faults.ConfigFault.{ConfigFault as Fault};
 ghost use Rattle.hx_allow.specs.declared.config_faults.LineWord.{LineWord as Word};
 ghost use Rattle.hx_allow.specs.declared.config_faults.NumberKey.TheVariants.{Version, MaxStore};
@@ -61,13 +63,16 @@ pub fn the_first_line_at_fault_is_named()
 
 /// A table of the first version is never refused for `cache`, and each of its lines is cached,
 /// without a word of the third. A line without the keys that later versions add is read alike in
-/// all.
+/// all, but that the fourth refuses some spellings.
 pub fn version_one_reads_as_before()
     ensures never { (t : Members) (line : ℕ) → version_of t ≡ One → ¬ (judge_table t ≡ Err (Fault.BadCache line)) }
     ensures cached { (t : Members) (table : Table) → version_of t ≡ One → judge_table t ≡ Ok table
         → All (λ (line : Line). line.policy ≡ plain true) table.lines }
-    ensures alike { (version : TableVersion) (n : ℕ) (members : Members) → get_member (codes "cache") members ≡ None
-        → LineHasNoWord members → line_fault version n members ≡ line_fault One n members }
+    ensures alike { (version : TableVersion) (n : ℕ) (members : Members) → has_keys_of version Four ≡ false
+        → get_member (codes "cache") members ≡ None → LineHasNoWord members
+        → line_fault version n members ≡ line_fault One n members }
+    ensures alike_in_four { (n : ℕ) (members : Members) → get_member (codes "cache") members ≡ None
+        → LineHasNoWord members → LineIsSpelledForFour members → line_fault Four n members ≡ line_fault One n members }
 {}
 
 /// A table of the first two versions is never refused for a word of the third, and none of its
@@ -84,7 +89,8 @@ pub fn version_two_reads_as_before()
 /// A table of the first three versions is never refused for what the fourth adds: for the bound of
 /// the store's bytes, of which it has none, so that what is stored is bounded by its number alone, as
 /// before; and for a word of the fourth, of which none of its lines has one, so that errors have the
-/// lifetime of all others, as before. A line without such a word is read alike in the fourth.
+/// lifetime of all others, as before. Nor is it refused for a method in lower case or a `*` in a
+/// path. A line without such a word and such a spelling is read alike in the fourth.
 pub fn version_three_reads_as_before()
     ensures never { (t : Members) → has_keys_of (version_of t) Four ≡ false
         → ¬ (judge_table t ≡ Err (Fault.BadNumber MaxStore)) }
@@ -94,8 +100,24 @@ pub fn version_three_reads_as_before()
         → has_keys_of (version_of t) Four ≡ false → ¬ (judge_table t ≡ Err (Fault.BadWord line word)) }
     ensures words { (t : Members) (table : Table) → has_keys_of (version_of t) Four ≡ false
         → judge_table t ≡ Ok table → All LineIsOfThree table.lines }
-    ensures alike { (n : ℕ) (members : Members) → LineHasNoWordOfFour members
+    ensures never_for_methods { (t : Members) (line : ℕ) → has_keys_of (version_of t) Four ≡ false
+        → ¬ (judge_table t ≡ Err (Fault.MethodInLowerCase line)) }
+    ensures never_for_stars { (t : Members) (line : ℕ) → has_keys_of (version_of t) Four ≡ false
+        → ¬ (judge_table t ≡ Err (Fault.StarInPath line)) }
+    ensures alike { (n : ℕ) (members : Members) → LineHasNoWordOfFour members → LineIsSpelledForFour members
         → line_fault Four n members ≡ line_fault Three n members }
+{}
+
+/// A line of version 4 without fault has no method in lower case and no `*` in its path. One whose
+/// spelling alone keeps it from being read as in version 3 is told the spelling's fault, the
+/// method's first.
+pub fn version_four_refuses_what_is_meant_otherwise()
+    ensures refused { (n : ℕ) (members : Members) → line_fault Four n members ≡ None → LineIsSpelledForFour members }
+    ensures method { (n : ℕ) (members : Members) → LineHasNoWordOfFour members → line_fault Three n members ≡ None
+        → names_small_method members ≡ true → line_fault Four n members ≡ Some (Fault.MethodInLowerCase n) }
+    ensures star { (n : ℕ) (members : Members) → LineHasNoWordOfFour members → line_fault Three n members ≡ None
+        → names_small_method members ≡ false → names_path_with_star members ≡ true
+        → line_fault Four n members ≡ Some (Fault.StarInPath n) }
 {}
 
 /// Where a table bounds the bytes of its store, the bound is in its range, and no content that may be

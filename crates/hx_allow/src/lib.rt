@@ -39,10 +39,10 @@ pub use laws::{
     a_table_is_read_in_one_way, a_table_of_two_lines_is_read, a_taken_line_never_decides,
     a_whole_table_is_read, lines_without_cache_are_read, one_verdict_for_each_table_path,
     table_versions, the_first_line_at_fault_is_named, the_first_line_that_matches_decides,
-    version_one_reads_as_before, version_three_reads_as_before, version_two_reads_as_before,
-    words_belong_where_a_line_caches,
+    version_four_refuses_what_is_meant_otherwise, version_one_reads_as_before,
+    version_three_reads_as_before, version_two_reads_as_before, words_belong_where_a_line_caches,
 };
-pub use limits::MOST_TABLE_BYTES;
+pub use limits::{MOST_LINES, MOST_TABLE_BYTES};
 pub use line_word_cases::{
     a_table_with_a_lifetime_of_errors_is_read, a_table_with_words_is_read, worked_keys_of_words,
     worked_lifetimes_of_versions, worked_places_of_words, worked_policies_of_words,
@@ -52,7 +52,7 @@ pub use table_cases::{
     a_table_has_1_to_256_lines, faults_of_a_line_in_order, faults_of_a_store_bound,
     faults_of_a_table_in_order, lines_in_their_order, missing_keys_of_a_line,
     which_faults_take_memory, worked_cache_of_a_line, worked_faults_of_texts, worked_lines,
-    worked_store_bounds, worked_tables, worked_versions_of_tables,
+    worked_spellings_of_lines, worked_store_bounds, worked_tables, worked_versions_of_tables,
 };
 pub use table_laws::{
     a_table_is_toml_within_the_limit, fewer_lines_decide_alike, the_least_unknown_key_is_named,

@@ -1,18 +1,20 @@
 //! The lines of a TOML table: the first fault among them, and what they say.
-ghost use Rattle.std.specs.Prelude.{◌≡◌, ◌≤◌, ◌+◌, length, IfOk, Some, true, codes, unwrap_or, [], is_some};
+ghost use Rattle.std.specs.Prelude.{◌≡◌, ◌≤◌, ◌+◌, length, IfOk, Some, true, codes, unwrap_or, [], is_some, not};
 ghost use Rattle.std.specs.Option.{option_and_then, option_copied, option_map};
 ghost use Rattle.toml.specs.Data.{as_str, as_table, no_items, get_member};
 ghost use Rattle.hx_target.specs.Paths.{table_path_of};
 ghost use Rattle.std.specs.List.{list_any, list_all};
-ghost use Rattle.std.specs.Char.{is_ascii_uppercase};
+ghost use Rattle.std.specs.Char.{is_ascii_uppercase, is_ascii_lowercase};
 ghost use Rattle.toml.specs.View.{table_view, array_view, items_view, view};
 ghost use Rattle.hx_allow.specs.Addresses.{address_text};
-ghost use Rattle.hx_allow.specs.Values.{is_some_and, items_at, text_unless, texts_of, number_between};
+ghost use Rattle.hx_allow.specs.Values.{is_some_and, items_at, text_unless, texts_of, number_between, all_items};
 ghost use Rattle.hx_allow.specs.LineTables.{is_line_host, is_line_method, are_line_methods, is_path_byte};
 ghost use Rattle.hx_allow.specs.LineTables.{does_not_end_with_slash};
 ghost use Rattle.hx_allow.specs.LineTables.{is_line_path, is_line_origin, is_of_kind, is_good_at, first_bad_key};
 ghost use Rattle.hx_allow.specs.Rows.{plain_kind, plain_row};
 ghost use Rattle.hx_allow.specs.LineTables.{line_fault, line_read, lines_fault, lines_read, fault_of_line_item};
+ghost use Rattle.hx_allow.specs.LineTables.{has_small_letter, names_small_method, has_star, names_path_with_star};
+ghost use Rattle.hx_allow.specs.LineTables.{spelling_fault};
 ghost use Rattle.hx_allow.specs.LineTables.{config_fault_found};
 
 use crate::ConfigFault;
@@ -189,6 +191,75 @@ fn first_bad_key(table: &Table) -> Option<LineKey>
         .find(|key| !is_good(key.row(), table))
 }
 
+fn has_lowercase(text: &[u8]) -> bool
+    ensures { result ≡ list_any is_ascii_lowercase text.now }
+{
+    text.iter().any(|b| b.is_ascii_lowercase())
+}
+
+fn has_star(text: &[u8]) -> bool
+    ensures { result ≡ has_star text.now }
+{
+    text.iter().any(|b| *b == b'*')
+}
+
+fn has_small_letter(value: &Value) -> bool
+    ensures { result ≡ has_small_letter (view value.now) }
+{
+    match value.as_str() {
+        Some(text) => has_lowercase(text.as_bytes()),
+        None => false,
+    }
+}
+
+fn have_no_small_letter(values: &[Value]) -> bool
+    ensures { result ≡ all_items (λ d. not (has_small_letter d)) (items_view values.now) }
+{
+    for value in values {
+        if has_small_letter(value) {
+            return false;
+        }
+    }
+    true
+}
+
+/// Whether a method has a letter in lower case.
+fn names_small_method(table: &Table) -> bool
+    ensures { result ≡ names_small_method (table_view table.now) }
+{
+    match array_at(table, "methods") {
+        Some(values) => !have_no_small_letter(values),
+        None => false,
+    }
+}
+
+/// Whether the path has a `*`.
+fn names_path_with_star(table: &Table) -> bool
+    ensures { result ≡ names_path_with_star (table_view table.now) }
+{
+    match text_at(table, "path") {
+        Some(text) => has_star(text.as_bytes()),
+        None => false,
+    }
+}
+
+/// What version 4 refuses of a line whose keys are good.
+fn spelling_fault(version: TableVersion, number: u16, table: &Table) -> Option<ConfigFault>
+    ensures fault { result ≡ spelling_fault version number (table_view table.now) }
+    ensures found_fault { ¬ (result ≡ Some ConfigFault.OutOfMemory) }
+{
+    if version != TableVersion::Four {
+        return None;
+    }
+    if names_small_method(table) {
+        return Some(ConfigFault::MethodInLowerCase(number));
+    }
+    if names_path_with_star(table) {
+        return Some(ConfigFault::StarInPath(number));
+    }
+    None
+}
+
 /// The first fault of a line.
 #[tactic(auto, unfolding(crate::specs::LineTables::line_fault))]
 fn line_fault(version: TableVersion, number: u16, table: &Table) -> Option<FoundFault<'_>>
@@ -198,8 +269,11 @@ fn line_fault(version: TableVersion, number: u16, table: &Table) -> Option<Found
     if let Some(key) = first_unknown(Scope::Line(version), table) {
         return Some(FoundFault::UnknownKey(key));
     }
-    let key = first_bad_key(table)?;
-    Some(FoundFault::Other(key.fault(number)))
+    if let Some(key) = first_bad_key(table) {
+        return Some(FoundFault::Other(key.fault(number)));
+    }
+    let fault = spelling_fault(version, number, table)?;
+    Some(FoundFault::Other(fault))
 }
 
 /// The text of a host, but for one that stands for every host.
@@ -281,9 +355,9 @@ fn fault_of_line_item(version: TableVersion, number: u16, value: &Value) -> Opti
     }
 }
 
-/// The first fault among at most 256 lines, which are counted from 1.
+/// The first fault among at most 4,096 lines, which are counted from 1.
 pub fn lines_fault(version: TableVersion, values: &[Value]) -> Option<FoundFault<'_>>
-    requires { length values.now ≤ 256 }
+    requires { length values.now ≤ 4096 }
     ensures first { option_map config_fault_found result ≡ lines_fault version 1 (items_view values.now) }
     ensures found_fault { ¬ (result ≡ Some (FoundFault.Other ConfigFault.OutOfMemory)) }
 {

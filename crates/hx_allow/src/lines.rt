@@ -1,10 +1,9 @@
 //! A line of the table, and which requests it matches.
 ghost use Rattle.std.specs.Prelude.{◌≡◌};
-ghost use Rattle.std.specs.Option.{option_copied};
 ghost use Rattle.std.specs.List.{list_any};
-ghost use Rattle.hx_allow.specs.Matching.{matches_host, is_never_allowed, is_star_or_same, matches_path};
+ghost use Rattle.hx_allow.specs.Matching.{is_never_allowed, is_star_or_same, matches_path};
 ghost use Rattle.hx_allow.specs.Matching.{is_below_path};
-ghost use Rattle.hx_allow.specs.Index.{can_match, matches_beside_host};
+ghost use Rattle.hx_allow.specs.Index.{matches_beside_host};
 
 use crate::origins::Origin;
 use crate::path_tails::PathTail;
@@ -47,15 +46,6 @@ impl Model for Line {
     ghost invariant = { λ l. l.tail ≡ path_tail_of l.path };
 }
 
-fn matches_host(host: Option<&Bytes>, asked: &[u8]) -> bool
-    ensures { result ≡ matches_host (option_copied host.entry) asked.now }
-{
-    match host {
-        Some(host) => host.as_slice() == asked,
-        None => true,
-    }
-}
-
 /// Whether no line matches the method, `*` included.
 pub fn is_never_allowed(method: &[u8]) -> bool
     ensures { result ≡ is_never_allowed method.now }
@@ -94,16 +84,6 @@ pub(crate) fn is_below_path(path: &[u8], asked: &[u8]) -> bool
 }
 
 impl Line {
-    /// Whether the line can match a host, or where none is given one that no line names.
-    pub fn can_match(&self, host: Option<&[u8]>) -> bool
-        ensures { result ≡ can_match self.now (option_copied host.entry) }
-    {
-        match host {
-            Some(host) => matches_host(self.host.as_ref(), host),
-            None => self.host.is_none(),
-        }
-    }
-
     /// Whether the line's path matches.
     fn matches_path(&self, path: &[u8]) -> bool
         ensures { result ≡ matches_path self.now.path path.now }

@@ -2,9 +2,10 @@
 ghost use Rattle.std.specs.Prelude.{◌≡◌};
 ghost use Rattle.std.specs.Option.{option_copied};
 ghost use Rattle.hx_allow.specs.Matching.{line_of_number, verdict_of_line};
-ghost use Rattle.hx_allow.specs.Index.{verdict_among};
+ghost use Rattle.hx_allow.specs.Index.{verdict_among, verdict_where, can_match, IsHostIndexOf};
 
 use crate::Verdict;
+use crate::host_index::HostIndex;
 use crate::lines::Line;
 
 /// The line of a number, counted from 1.
@@ -28,17 +29,41 @@ fn verdict_of_line(number: u16, line: &Line) -> Verdict
     }
 }
 
-/// What the first of the lines of these numbers says that a method and a path match. The method is one that a line may
-/// allow.
-pub(crate) fn verdict_among(lines: &[Line], numbers: &[u16], method: &[u8], path: &[u8]) -> Verdict
-    ensures { result ≡ verdict_among lines.now numbers.now method.now path.now }
+/// What the first of the lines of these ascending numbers says that a method and a path match, or what was found, where
+/// none in front of that line does. The method is one that a line may allow.
+fn verdict_among(
+    lines: &[Line],
+    numbers: &[u16],
+    method: &[u8],
+    path: &[u8],
+    found: Verdict,
+) -> Verdict
+    ensures { result ≡ verdict_among lines.now numbers.now method.now path.now found }
 {
     for number in numbers {
+        if found.is_found_by(*number) {
+            return found;
+        }
         if let Some(line) = line_at(lines, *number) {
             if line.matches(method, path) {
                 return verdict_of_line(*number, line);
             }
         }
     }
-    Verdict::NoLine
+    found
+}
+
+/// What the first line says that a host, a method and a path match. The method is one that a line may allow.
+pub(crate) fn verdict_for_host(
+    lines: &[Line],
+    index: &HostIndex,
+    host: &[u8],
+    method: &[u8],
+    path: &[u8],
+) -> Verdict
+    requires { IsHostIndexOf lines.now index.now }
+    ensures { result ≡ verdict_where 1 (can_match host.now) lines.now method.now path.now }
+{
+    let named = verdict_among(lines, index.naming(host), method, path, Verdict::NoLine);
+    verdict_among(lines, index.for_every_host(), method, path, named)
 }

@@ -46,9 +46,9 @@ fn takes_each_request_of(first: &Line, later: &Line) -> bool
         && takes_each_path_of(first.path.as_slice(), later.path.as_slice())
 }
 
-/// The number of the first of at most 256 lines that takes all of a later one; they are counted from 1.
+/// The number of the first of at most 4,096 lines that takes all of a later one; they are counted from 1.
 pub(crate) fn first_taking(front: &[Line], later: &Line) -> Option<u16>
-    requires { length front.now < 257 }
+    requires { length front.now < 4097 }
     ensures { result ≡ position_from (λ first. takes_each_request_of first later.now) 1 front.now }
 {
     let mut number = 1u16;

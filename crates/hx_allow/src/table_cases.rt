@@ -1,6 +1,6 @@
 //! What the definitions give on worked tables and lines, computed from them: each function's
 //! contract is the cases, and its body is empty.
-ghost use Rattle.std.specs.Prelude.{◌≡◌, ◌∷◌, [], Some, None, Ok, Err, true, false, codes, option_map, pos};
+ghost use Rattle.std.specs.Prelude.{◌≡◌, ◌∷◌, [], Some, None, Ok, Err, true, false, codes, option_map, pos, map};
 ghost use Rattle.toml.specs.Data.{array, boolean, integer, no_items, no_members, string, table};
 ghost use Rattle.toml.specs.Parse.{parse_document};
 ghost use Rattle.hx_policy.specs.Policies.{plain};
@@ -8,11 +8,12 @@ ghost use Rattle.hx_allow.specs.Examples.{denying_line_table_with, line_table, r
 ghost use Rattle.hx_allow.specs.Examples.{key_with_number, array_of_values, table_of_pairs, line_with_method};
 ghost use Rattle.hx_allow.specs.Examples.{origin_8081, key_with_text, top_table, bounded_table, line_table_with_keys};
 ghost use Rattle.hx_allow.specs.LineTables.{line_fault, line_read, lines_fault, lines_read};
-ghost use Rattle.hx_allow.specs.Tables.{judge_table, lines_at, version_of, is_out_of_memory};
+ghost use Rattle.hx_allow.specs.Tables.{judge_table, line_limit, lines_at, version_of, is_out_of_memory};
 ghost use Rattle.hx_allow.specs.declared.config_faults.ConfigFault.TheVariants.{UnknownKey, BadName, BadNumber};
 ghost use Rattle.hx_allow.specs.declared.config_faults.ConfigFault.TheVariants.{BadHost};
 ghost use Rattle.hx_allow.specs.declared.config_faults.ConfigFault.TheVariants.{BadMethod, BadPath, BadOrigin, NoLines};
-ghost use Rattle.hx_allow.specs.declared.config_faults.ConfigFault.TheVariants.{BadCache};
+ghost use Rattle.hx_allow.specs.declared.config_faults.ConfigFault.TheVariants.{BadCache, MethodInLowerCase};
+ghost use Rattle.hx_allow.specs.declared.config_faults.ConfigFault.TheVariants.{StarInPath};
 ghost use Rattle.hx_allow.specs.declared.config_faults.NumberKey.TheVariants.{Version, Capacity, MaxBody, MaxStored};
 ghost use Rattle.hx_allow.specs.declared.config_faults.NumberKey.TheVariants.{MaxStore};
 ghost use Rattle.hx_allow.specs.declared.values.TableVersion.TheVariants.{One, Two, Three, Four};
@@ -28,6 +29,27 @@ pub fn faults_of_a_line_in_order()
     ensures path { line_fault One 3 (line_table (codes "h") (codes "GET") (codes "/a/") (codes "allow")) ≡ Some (BadPath 3) }
     ensures origin { line_fault One 3 (line_table (codes "h") (codes "GET") (codes "/a") (codes "allow")) ≡ Some (BadOrigin 3) }
     ensures none { line_fault One 3 (line_table (codes "h") (codes "GET") (codes "/a") (codes "deny")) ≡ None }
+{}
+
+/// What the fourth version refuses of a line whose keys are good: a method in lower case, and a `*`
+/// in a path.
+#[tactic(auto, unfolding(crate::specs::LineTables::line_fault, crate::specs::LineTables::is_line_host, crate::specs::LineTables::is_line_method, crate::specs::LineTables::is_line_path, crate::specs::Addresses::address_of, hx_target::specs::Hosts::is_host, hx_target::specs::Hosts::short_number, hx_target::specs::Paths::has_dot_segment))]
+pub fn worked_spellings_of_lines()
+    ensures none { line_fault Four 3 (line_table (codes "h") (codes "GET") (codes "/a") (codes "deny")) ≡ None }
+    ensures every { line_fault Four 3 (line_table (codes "*") (codes "*") (codes "/") (codes "deny")) ≡ None }
+    ensures method { line_fault Four 3 (line_table (codes "h") (codes "get") (codes "/a") (codes "deny"))
+        ≡ Some (MethodInLowerCase 3) }
+    ensures mixed { line_fault Four 3 (line_table (codes "h") (codes "Get") (codes "/a") (codes "deny"))
+        ≡ Some (MethodInLowerCase 3) }
+    ensures star { line_fault Four 3 (line_table (codes "h") (codes "GET") (codes "/a*") (codes "deny"))
+        ≡ Some (StarInPath 3) }
+    ensures both { line_fault Four 3 (line_table (codes "h") (codes "get") (codes "/*") (codes "deny"))
+        ≡ Some (MethodInLowerCase 3) }
+    ensures escaped { line_fault Four 3 (line_table (codes "h") (codes "GET") (codes "/%2A") (codes "deny")) ≡ None }
+    ensures behind_the_keys { line_fault Four 3 (line_table (codes "h") (codes "get") (codes "/*") (codes "allow"))
+        ≡ Some (BadOrigin 3) }
+    ensures of_three { line_fault Three 3 (line_table (codes "h") (codes "get") (codes "/*") (codes "deny")) ≡ None }
+    ensures of_one { line_fault One 3 (line_table (codes "h") (codes "get") (codes "/*") (codes "deny")) ≡ None }
 {}
 
 /// A key that is missing has the fault of that key, as one of another type.
@@ -111,13 +133,17 @@ pub fn lines_in_their_order()
         (codes "/") origin_8081 ∷ [] }
 {}
 
-/// A table has 1 to 256 lines, each of which is a table.
+/// A table has 1 to 256 lines, or 1 to 4,096 in the fourth version, each of which is a table.
 pub fn a_table_has_1_to_256_lines()
     ensures one { lines_at (top_table 1 2 (repeated_value 1 (table no_members))) ≡ Some
         (repeated_value 1 (table no_members)) }
     ensures of_256 { lines_at (top_table 1 2 (repeated_value 256 (table no_members))) ≡ Some
         (repeated_value 256 (table no_members)) }
     ensures of_257 { lines_at (top_table 1 2 (repeated_value 257 (table no_members))) ≡ None }
+    ensures of_257_in_three { lines_at (top_table 3 2 (repeated_value 257 (table no_members))) ≡ None }
+    ensures of_257_in_four { lines_at (top_table 4 2 (repeated_value 257 (table no_members))) ≡ Some
+        (repeated_value 257 (table no_members)) }
+    ensures limits { map line_limit (One ∷ Two ∷ Three ∷ Four ∷ []) ≡ 256 ∷ 256 ∷ 256 ∷ 4096 ∷ [] }
     ensures none { lines_at (top_table 1 2 no_items) ≡ None }
     ensures a_text { lines_at (top_table 1 2 (array_of_values (table no_members ∷ string (codes "line") ∷ []))) ≡ None }
     ensures missing { lines_at no_members ≡ None }

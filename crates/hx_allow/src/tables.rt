@@ -7,6 +7,7 @@ ghost use Rattle.toml.specs.View.{table_view, array_view, items_view, view};
 ghost use Rattle.hx_allow.specs.Values.{is_some_and, text_at};
 ghost use Rattle.hx_allow.specs.LineTables.{config_fault_found};
 ghost use Rattle.hx_allow.specs.Tables.{is_name_byte, is_name, number_at, version_of, are_lines, lines_at, table_fault};
+ghost use Rattle.hx_allow.specs.Tables.{line_limit};
 ghost use Rattle.hx_allow.specs.Rows.{greatest_number, number_row};
 ghost use Rattle.hx_allow.specs.Tables.{table_read, judge_table, is_good_at_top, first_bad_at_top, is_out_of_memory};
 ghost use Rattle.hx_allow.specs.Tables.{SomeTextIsToml, is_good_number, is_good_store_bound};
@@ -74,11 +75,22 @@ fn version_of(table: &Table) -> TableVersion
     }
 }
 
-fn are_lines(values: &[Value]) -> bool
-    ensures lines { result ≡ are_lines (items_view values.now) }
-    ensures few { result ≡ true → length values.now ≤ 256 }
+/// The most lines of a table of a version.
+fn line_limit(version: TableVersion) -> usize
+    ensures limit { result ≡ line_limit version }
+    ensures bounded { result ≤ 4096 }
 {
-    if !has_one_to_most(MOST_LINES, values) {
+    match version {
+        TableVersion::Four => usize::from(MOST_LINES),
+        _ => 256,
+    }
+}
+
+fn are_lines(version: TableVersion, values: &[Value]) -> bool
+    ensures lines { result ≡ are_lines version (items_view values.now) }
+    ensures few { result ≡ true → length values.now ≤ 4096 }
+{
+    if !has_one_to_most(line_limit(version), values) {
         return false;
     }
     for value in values {
@@ -89,14 +101,14 @@ fn are_lines(values: &[Value]) -> bool
     true
 }
 
-/// The array of lines, where it has 1 to 256 tables and nothing else.
+/// The array of lines, where it has tables and nothing else, as many as the version lets it.
 fn lines_at(table: &Table) -> Option<&Array>
     ensures found { option_map (λ a. array_view a.now) result ≡ lines_at (table_view table.now) }
-    ensures few { IfSome result (λ a. length a.now.items ≤ 256) }
+    ensures few { IfSome result (λ a. length a.now.items ≤ 4096) }
 {
     match array_at(table, "line") {
         Some(values) => {
-            if are_lines(values) {
+            if are_lines(version_of(table), values) {
                 Some(values)
             } else {
                 None

@@ -8,7 +8,7 @@ ghost use Rattle.hx_allow.specs.Examples.{target_for_path, repeated_byte, first_
 ghost use Rattle.hx_allow.specs.Examples.{line_without_cache, repeated_value};
 ghost use Rattle.hx_allow.specs.Examples.{key_with_number, array_of_values, table_of_pairs, origin_8081};
 ghost use Rattle.hx_allow.specs.Examples.{line_with_method, several_lines, key_with_text};
-ghost use Rattle.hx_allow.specs.Index.{line_numbers_of, verdict_among};
+ghost use Rattle.hx_allow.specs.Index.{names_host, is_for_every_host, line_numbers_of, verdict_among};
 ghost use Rattle.hx_allow.specs.Keys.{fault_number, key_text};
 ghost use Rattle.hx_allow.specs.LineTables.{are_line_methods, is_line_host, is_line_method, is_line_origin};
 ghost use Rattle.hx_allow.specs.LineTables.{is_line_path};
@@ -22,7 +22,7 @@ ghost use Rattle.hx_allow.specs.declared.config_faults.ConfigFault.TheVariants.{
 ghost use Rattle.hx_allow.specs.declared.config_faults.ConfigFault.TheVariants.{BadNumber};
 ghost use Rattle.hx_allow.specs.declared.config_faults.ConfigFault.TheVariants.{BadHost, BadMethod, BadPath, BadOrigin};
 ghost use Rattle.hx_allow.specs.declared.config_faults.ConfigFault.TheVariants.{NoLines, OutOfMemory, BadCache};
-ghost use Rattle.hx_allow.specs.declared.config_faults.ConfigFault.TheVariants.{BadWord};
+ghost use Rattle.hx_allow.specs.declared.config_faults.ConfigFault.TheVariants.{BadWord, MethodInLowerCase, StarInPath};
 ghost use Rattle.hx_allow.specs.declared.config_faults.LineWord.TheVariants.{Lifetime};
 ghost use Rattle.hx_allow.specs.declared.config_faults.NumberKey.TheVariants.{Version, Capacity, MaxBody, MaxStored};
 ghost use Rattle.hx_allow.specs.declared.config_faults.NumberKey.TheVariants.{MaxStore};
@@ -44,6 +44,8 @@ pub fn faults_have_these_numbers()
     ensures out_of_memory { fault_number OutOfMemory ≡ 10 }
     ensures bad_cache { fault_number (BadCache 1) ≡ 11 }
     ensures bad_word { fault_number (BadWord 1 Lifetime) ≡ 12 }
+    ensures method_in_lower_case { fault_number (MethodInLowerCase 1) ≡ 13 }
+    ensures star_in_path { fault_number (StarInPath 1) ≡ 14 }
 {}
 
 /// The keys at the top of a table, and others.
@@ -354,14 +356,17 @@ pub fn lines_of_a_host_decide()
     ensures for_every_host { verdict_of indexed_lines (codes "GET") (target_for_path (codes "x") (codes "/")) ≡ Allowed 2 }
     ensures behind_it { verdict_of indexed_lines (codes "POST") (target_for_path (codes "x") (codes "/")) ≡ Allowed 3 }
     ensures other_host { verdict_of indexed_lines (codes "POST") (target_for_path (codes "y") (codes "/")) ≡ NoLine }
-    ensures numbers { line_numbers_of indexed_lines (Some (codes "x")) ≡ 1 ∷ 2 ∷ 3 ∷ [] }
-    ensures numbers_of_others { line_numbers_of indexed_lines (Some (codes "y")) ≡ 2 ∷ [] }
-    ensures numbers_of_none { line_numbers_of indexed_lines None ≡ 2 ∷ [] }
-    ensures among { verdict_among indexed_lines (1 ∷ 2 ∷ 3 ∷ []) (codes "POST") (codes "/") ≡ Allowed 3 }
-    ensures among_others { verdict_among indexed_lines (2 ∷ []) (codes "POST") (codes "/") ≡ NoLine }
-    ensures among_none { verdict_among indexed_lines (0 ∷ 4 ∷ []) (codes "GET") (codes "/") ≡ NoLine }
-    ensures behind_a_missing_one { verdict_among indexed_lines (4 ∷ 2 ∷ []) (codes "GET") (codes "/") ≡ Allowed 2 }
-    ensures among_denied { verdict_among indexed_lines (1 ∷ 2 ∷ []) (codes "GET") (codes "/p/q") ≡ DeniedBy 1 }
+    ensures numbers { line_numbers_of (names_host (codes "x")) indexed_lines ≡ 1 ∷ 3 ∷ [] }
+    ensures numbers_of_others { line_numbers_of (names_host (codes "y")) indexed_lines ≡ [] }
+    ensures numbers_for_every_host { line_numbers_of is_for_every_host indexed_lines ≡ 2 ∷ [] }
+    ensures among { verdict_among indexed_lines (1 ∷ 2 ∷ 3 ∷ []) (codes "POST") (codes "/") NoLine ≡ Allowed 3 }
+    ensures among_others { verdict_among indexed_lines (2 ∷ []) (codes "POST") (codes "/") NoLine ≡ NoLine }
+    ensures among_none { verdict_among indexed_lines (0 ∷ 4 ∷ []) (codes "GET") (codes "/") NoLine ≡ NoLine }
+    ensures behind_a_missing_one { verdict_among indexed_lines (4 ∷ 2 ∷ []) (codes "GET") (codes "/") NoLine ≡ Allowed 2 }
+    ensures among_denied { verdict_among indexed_lines (1 ∷ 2 ∷ []) (codes "GET") (codes "/p/q") NoLine ≡ DeniedBy 1 }
+    ensures in_front { verdict_among indexed_lines (2 ∷ []) (codes "GET") (codes "/") (Allowed 3) ≡ Allowed 2 }
+    ensures found_in_front { verdict_among indexed_lines (2 ∷ []) (codes "GET") (codes "/") (DeniedBy 1) ≡ DeniedBy 1 }
+    ensures found_alone { verdict_among indexed_lines (2 ∷ []) (codes "POST") (codes "/") (Allowed 3) ≡ Allowed 3 }
 {}
 
 /// Which lines are cached, and which say nothing.

@@ -7,7 +7,7 @@ use crate::memory::print_store;
 use crate::questions::stored_word;
 use crate::trial::{Trial, try_answer};
 use http::Method;
-use hx_allow::{Config, Verdict};
+use hx_allow::{Config, MOST_LINES, Verdict};
 use hx_policy::Policy;
 use hx_target::{Key, Target, TargetFault};
 use std::alloc::AllocError;
@@ -127,7 +127,7 @@ fn print_answer<R: Print + AllocGlobal>(
 
 /// Tells each line that is never reached, and a limit that has no effect.
 fn print_idle<R: Print>(rt: &R, config: &Config) -> io::Result<()> {
-    for line in 1..=256u16 {
+    for line in 1..=MOST_LINES {
         if let Some(first) = config.taken_by(line) {
             println!(rt; "line {line} is never reached: line {first} takes all of it")?;
         }

@@ -15,7 +15,7 @@ use crate::process::process_start;
 use crate::stats_file::{StatsFile, warn_of_other_writer};
 use crate::warnings::Warnings;
 use crate::watch::{ServerState, Watch};
-use hx_allow::Config;
+use hx_allow::{Config, MOST_LINES};
 use hx_store::{IndexedShelf, Shelf};
 use proxy_server::{
     CountedShelf, Limits, ListenAt, LiveSockets, Recorder, ServeFault, Server, StoreCounts,
@@ -28,9 +28,6 @@ use std::net::{IpAddr, Net, SocketAddr, SocketAddrV4};
 use std::os::unix::fs::OpenOptionsExt;
 use std::random::RandomSource;
 use std::rt::{Clock, Files};
-
-/// The most lines of a table.
-const MOST_LINES: u16 = 256;
 
 /// The name of a record: `%s` in it is the moment, in Unix seconds.
 fn record_name<R: Clock + AllocGlobal>(rt: &R, path: &str) -> Result<String, Fault> {

@@ -6,7 +6,8 @@ use Rattle.hx_allow.specs.declared.config_faults.ConfigFault.TheVariants.{NotTom
 use Rattle.hx_allow.specs.declared.config_faults.ConfigFault.TheVariants.{BadHost}
 use Rattle.hx_allow.specs.declared.config_faults.ConfigFault.TheVariants.{BadMethod, BadPath, BadOrigin, NoLines}
 use Rattle.hx_allow.specs.declared.config_faults.ConfigFault.TheVariants.{OutOfMemory}
-use Rattle.hx_allow.specs.declared.config_faults.ConfigFault.TheVariants.{BadCache, BadWord}
+use Rattle.hx_allow.specs.declared.config_faults.ConfigFault.TheVariants.{BadCache, BadWord, MethodInLowerCase}
+use Rattle.hx_allow.specs.declared.config_faults.ConfigFault.TheVariants.{StarInPath}
 use Rattle.proxy_engine.specs.declared.work.EngineFault.{EngineFault}
 use Rattle.proxy_engine.specs.declared.work.EngineFault.TheVariants as engine
 use Rattle.proxy_replay.specs.declared.replay_fault.ReplayFault.{ReplayFault}
@@ -33,6 +34,8 @@ config_fault_line NoLines = codes "config fault 9"
 config_fault_line OutOfMemory = codes "no memory"
 config_fault_line (BadCache line) = codes "config fault 11 line " ++ decimal line
 config_fault_line (BadWord line word) = codes "config fault 12 line " ++ (decimal line ++ (codes " key " ++ word_key word))
+config_fault_line (MethodInLowerCase line) = codes "config fault 13 line " ++ decimal line
+config_fault_line (StarInPath line) = codes "config fault 14 line " ++ decimal line
 
 -- an engine's fault; out of memory isn't named as one
 abbrev pub engine_fault_line : EngineFault → List ℕ

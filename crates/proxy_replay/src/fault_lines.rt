@@ -55,6 +55,8 @@ fn write_config_fault<W: fmt::Write>(f: &mut Formatter<W>, fault: &ConfigFault) 
             write!(f, "config fault 12 line {line} key ")?;
             f.write_str(word.as_str())
         }
+        ConfigFault::MethodInLowerCase(line) => write!(f, "config fault 13 line {line}"),
+        ConfigFault::StarInPath(line) => write!(f, "config fault 14 line {line}"),
     }
 }
 

@@ -21,7 +21,7 @@ use crate::limits::{LONGEST_WAIT, Limits, MOST_EVENTS, MOST_READ, SECOND};
 use crate::links::Links;
 use crate::sockets::call_counts::CallCounts;
 use crate::sockets::socket_tokens::Holder;
-use hx_allow::Config;
+use hx_allow::{Config, MOST_LINES};
 use hx_status::FailKind;
 use mio::net::{TcpListener, TcpStream};
 use mio::{Events, Interest, Poll};
@@ -208,8 +208,7 @@ impl<'a, R: Net> LiveSockets<'a, R> {
 
     /// Counts replies from now on, and what the origins of a table do.
     pub fn keep_counts(&mut self, table: &Config) -> Result<(), AllocError> {
-        // A table has 256 lines at most.
-        let last = table.lines().min(256) as u16;
+        let last = table.lines().min(usize::from(MOST_LINES)) as u16;
         for line in 1..=last {
             if let Some(address) = table.origin_address(line) {
                 let _ = self.links.origins.place(address)?;

@@ -5,3 +5,7 @@ use Rattle.hx_allow.proofs.fault_text_cases.worked_places_of_faults.Goals as goa
 pub returns-clause-of_a_line : goal.returns-clause-of_a_line
 unfolding digits
 returns-clause-of_a_line c = refl
+
+pub returns-clause-of_a_path : goal.returns-clause-of_a_path
+unfolding digits
+returns-clause-of_a_path c = refl

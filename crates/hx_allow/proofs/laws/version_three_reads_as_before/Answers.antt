@@ -1,4 +1,4 @@
-use Rattle.hx_allow.proofs.Versions.{never_refused_for_bound, read_unbounded, never_refused_for_new_words, each_is_of_three, same_fault_of_three}
+use Rattle.hx_allow.proofs.Versions.{never_refused_for_bound, read_unbounded, never_refused_for_new_words, each_is_of_three, never_refused_for_methods, never_refused_for_stars, same_fault_of_three}
 use Rattle.hx_allow.proofs.laws.version_three_reads_as_before.Goals as goal
 
 pub returns-clause-never : goal.returns-clause-never
@@ -15,3 +15,9 @@ returns-clause-words c = each_is_of_three
 
 pub returns-clause-alike : goal.returns-clause-alike
 returns-clause-alike c = same_fault_of_three
+
+pub returns-clause-never_for_methods : goal.returns-clause-never_for_methods
+returns-clause-never_for_methods c = never_refused_for_methods
+
+pub returns-clause-never_for_stars : goal.returns-clause-never_for_stars
+returns-clause-never_for_stars c = never_refused_for_stars
