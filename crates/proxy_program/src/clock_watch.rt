@@ -4,7 +4,7 @@
 const BETWEEN_WARNINGS: u64 = 60;
 
 /// The clock as the turns saw it.
-#[derive(Clone, Copy, Debug)]
+#[derive(Clone, Copy)]
 pub(crate) struct ClockWatch {
     /// The moment of the turn before, in Unix seconds.
     last: u64,

@@ -30,7 +30,7 @@ const SECOND: u64 = 1000;
 static ON_AND_OFF: [&str; 2] = ["on", "off"];
 
 /// How a server is to serve.
-#[derive(Clone, Copy, Debug)]
+#[derive(Clone, Copy)]
 pub(crate) struct Service<'a> {
     pub(crate) table: &'a str,
     pub(crate) listen: ListenAt,
@@ -51,7 +51,7 @@ pub(crate) struct Service<'a> {
 }
 
 /// How a table is to be checked.
-#[derive(Clone, Copy, Debug)]
+#[derive(Clone, Copy)]
 pub(crate) struct Checking<'a> {
     pub(crate) table: &'a str,
     /// What a request meets.
@@ -65,7 +65,7 @@ pub(crate) struct Checking<'a> {
 }
 
 /// What the words ask for.
-#[derive(Clone, Copy, Debug)]
+#[derive(Clone, Copy)]
 pub(crate) enum Form<'a> {
     /// A script is replayed.
     Replay,
@@ -363,13 +363,14 @@ fn serve<'a>(alloc: Global) -> Result<Command<'a>, Error> {
 }
 
 fn program<'a>(alloc: Global) -> Result<Command<'a>, Error> {
+    let check = check(alloc)?;
     let command = command(alloc, "revcache")
         .version(VERSION)
         .about(
             "A caching reverse proxy for HTTP/1.1; without a command, replays the script on standard input",
         )
         .after_help(STATUSES)
-        .subcommand(check(alloc)?)?
+        .subcommand(check)?
         .subcommand(serve(alloc)?)?;
     Ok(command)
 }

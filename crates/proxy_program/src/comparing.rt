@@ -15,7 +15,7 @@ use std::{fs, io, str};
 const MOST_TOLD: usize = 100;
 
 /// Where a request goes.
-#[derive(Clone, Copy, Debug, PartialEq, Eq)]
+#[derive(Clone, Copy, PartialEq, Eq)]
 enum Way {
     /// To this origin, by these words of its line.
     To(SocketAddrV4, Policy),

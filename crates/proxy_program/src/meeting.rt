@@ -12,7 +12,7 @@ use std::fmt;
 use std::fmt::Formatter;
 
 /// A request that is asked about.
-#[derive(Clone, Copy, Debug)]
+#[derive(Clone, Copy)]
 pub(crate) struct Question<'a> {
     /// As it was typed: a method, a blank and a URL.
     pub(crate) text: &'a str,
@@ -64,7 +64,7 @@ pub(crate) fn target_of(alloc: Global, question: &Question<'_>) -> Result<Target
 }
 
 /// What a request meets in a table. Lines are counted from 1.
-#[derive(Clone, Copy, Debug, PartialEq, Eq, PartialOrd, Ord)]
+#[derive(Clone, Copy, PartialEq, Eq, PartialOrd, Ord)]
 pub(crate) enum Met {
     /// This line allows it.
     Allowed(u16),

@@ -56,7 +56,7 @@ pub(crate) fn most_held(limits: &Limits, has_log: bool) -> u64
 }
 
 /// Who bounds the memory of this process, and to how many bytes.
-#[derive(Clone, Copy, Debug, PartialEq, Eq)]
+#[derive(Clone, Copy, PartialEq, Eq)]
 pub(crate) enum Allowed {
     Machine(u64),
     Cgroup(u64),
@@ -100,7 +100,7 @@ fn machine_memory<R: Files + AllocGlobal>(rt: &R) -> Option<u64> {
 }
 
 /// Where the bounds of a cgroup stand.
-#[derive(Clone, Copy, Debug)]
+#[derive(Clone, Copy)]
 struct Cgroups<'a> {
     /// The folder of all of them.
     top: &'static str,

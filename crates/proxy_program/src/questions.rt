@@ -13,7 +13,7 @@ use hx_allow::Config;
 use std::alloc::Global;
 
 /// What is expected of a request.
-#[derive(Clone, Copy, Debug, PartialEq, Eq)]
+#[derive(Clone, Copy, PartialEq, Eq)]
 pub(crate) enum Expected {
     /// That this line allows it.
     Line(u16),
@@ -56,7 +56,7 @@ impl Expected {
 }
 
 /// What is asked for of a request, or of an answer to it.
-#[derive(Clone, Copy, Debug, PartialEq, Eq)]
+#[derive(Clone, Copy, PartialEq, Eq)]
 enum Wanted {
     Meets(Expected),
     /// Whether an answer to it is stored.
@@ -93,7 +93,7 @@ fn test_of(line: &str) -> Option<(Question<'_>, Wanted)> {
 }
 
 /// What was asked, and how often it was answered otherwise.
-#[derive(Clone, Copy, Debug)]
+#[derive(Clone, Copy)]
 struct Tally {
     asked: u64,
     differ: u64,

@@ -9,7 +9,7 @@ use std::alloc::{AllocError, Global};
 use std::str;
 
 /// What is tried: an answer by a table, at a moment in Unix seconds.
-#[derive(Clone, Copy, Debug)]
+#[derive(Clone, Copy)]
 pub(crate) struct Trial<'a> {
     pub(crate) table: &'a [u8],
     pub(crate) now: u64,

@@ -10,7 +10,7 @@ use std::net::Net;
 const SECONDS_BETWEEN_WARNINGS: u64 = 60;
 
 /// When a warning was given last, in seconds of the clock that never goes back.
-#[derive(Clone, Copy, Debug)]
+#[derive(Clone, Copy)]
 pub(crate) struct RareWarning {
     last: Option<u64>,
 }
@@ -34,7 +34,7 @@ impl RareWarning {
 }
 
 /// How often the server couldn't do what was asked, as it was told last, and what else is told of its turns.
-#[derive(Clone, Copy, Debug)]
+#[derive(Clone, Copy)]
 pub(crate) struct Warnings {
     full: RareWarning,
     beyond_bound: RareWarning,

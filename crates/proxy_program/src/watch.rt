@@ -9,7 +9,7 @@ use std::rt::{Clock, Files};
 use std::{fs, io};
 
 /// How a server is watched, and since when it is to end.
-#[derive(Clone, Copy, Debug)]
+#[derive(Clone, Copy)]
 pub(crate) struct Watch<'a> {
     drain: Option<&'a str>,
     drain_timeout: u64,
@@ -23,7 +23,7 @@ pub(crate) struct Watch<'a> {
 }
 
 /// Whether a server goes on.
-#[derive(Clone, Copy, Debug, PartialEq, Eq)]
+#[derive(Clone, Copy, PartialEq, Eq)]
 pub(crate) enum ServerState {
     On,
     /// It begins to end.
