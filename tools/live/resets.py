@@ -123,8 +123,43 @@ def an_early_answer_reaches_an_upload(stage):
         expect_refusal(proxy.client().ask("/end", method="POST", content=b"z" * 900000), 502, "origin closed;fwd=method")
 
 
+class Full(Hasty):
+    """An origin that has too much to do: it answers each connection when it comes, without a look at its request, and resets it."""
+
+    def accept(self):
+        while True:
+            try:
+                connection, _ = self.listener.accept()
+            except OSError:
+                return
+            reset_behind(connection, self.answers)
+
+
+@scenario
+def an_answer_that_comes_before_its_request(stage):
+    """The reset behind it comes before the first write, amid it, or behind it: each of sixty requests, and of sixty uploads, gets the answer."""
+    origin = stage.origin(Full(head_of(503, ["Content-Length: 4"]) + b"busy"))
+    proxy = stage.proxy(origin.address, records=False)
+    for _ in range(60):
+        expect_answer(proxy.client().ask("/a"), 503, "edge;fwd=uri-miss", b"busy")
+        expect_answer(proxy.client().ask("/a", method="POST", content=b"z" * 300000), 503, "edge;fwd=method", b"busy")
+
+
 class Late(FullQueue):
     """An origin that lets the proxy wait for its connection, then answers each one unread, and resets it."""
+
+    def wait_for_the_proxy(self):
+        """Until it has asked for a connection, as the system tells (SYN-SENT)."""
+        port, deadline = self.listener.getsockname()[1], time.monotonic() + PATIENCE
+        mine = {it.getsockname()[1] for it in self.waiting}
+        while time.monotonic() < deadline:
+            with open("/proc/thread-self/net/tcp", encoding="ascii") as it:
+                rows = [line.split() for line in it.readlines()[1:]]
+            asking = {int(row[1][-4:], 16) for row in rows if row[3] == "02" and int(row[2][-4:], 16) == port}
+            if asking - mine:
+                return
+            time.sleep(0.05)
+        raise Unexpected("from the proxy", "a connect", "none")
 
     def answer(self, text):
         """Lets in who waits, until one of them is the proxy."""
@@ -148,8 +183,8 @@ def a_reset_that_comes_with_the_connect(stage):
     clients = {path: proxy.client() for path in texts}
     for path, it in clients.items():
         it.send(request(path))
-    # (the server has asked for its connections, and has come to wait)
-    time.sleep(0.5)
+    for it in origins.values():
+        it.wait_for_the_proxy()
     proxy.process.send_signal(signal.SIGSTOP)
     for path, it in origins.items():
         it.answer(texts[path])
