@@ -87,13 +87,6 @@ pub fn read_effect(text: &[u8]) -> Option<(Effect<'_>, &[u8])> {
     }
 }
 
-fn push_block(text: &mut Vec<u8>, line: &str, bytes: &[u8]) -> Result<(), AllocError> {
-    text.extend_from_slice(line.as_bytes())?;
-    text.extend_from_slice(bytes)?;
-    text.push(b'\n')?;
-    Ok(())
-}
-
 fn push_forward(
     text: &mut Vec<u8>,
     l: u64,
@@ -104,26 +97,41 @@ fn push_forward(
     text.extend_from_slice(line.as_bytes())?;
     text.extend_from_slice(address)?;
     let line = format!(in *text.allocator(); " {}\n", bytes.len())?;
-    push_block(text, line.as_str(), bytes)
+    text.extend_from_slice(line.as_bytes())
 }
 
-impl Effect<'_> {
+impl<'a> Effect<'a> {
+    /// The words in front of its bytes, with their LF.
+    fn words(self, alloc: Global) -> Result<String, AllocError> {
+        match self {
+            Effect::Client(n, bytes) => format!(in alloc; "client {n} {}\n", bytes.len()),
+            Effect::Close(n) => format!(in alloc; "close {n}"),
+            Effect::Drop(l) => format!(in alloc; "drop {l}"),
+            _ => Ok(String::new(alloc)),
+        }
+    }
+
+    /// The bytes behind the words.
+    fn bytes(self) -> &'a [u8] {
+        match self {
+            Effect::Client(_, bytes) => bytes,
+            Effect::Forward(_, _, bytes) => bytes,
+            Effect::Stop(line) => line,
+            _ => &[],
+        }
+    }
+
     /// Appends the text that a replay writes of it.
     pub fn push_text(self, text: &mut Vec<u8>) -> Result<(), AllocError> {
-        let (line, bytes) = match self {
-            Effect::Client(n, bytes) => {
-                let length = bytes.len();
-                (
-                    format!(in *text.allocator(); "client {n} {length}\n")?,
-                    bytes,
-                )
-            }
-            Effect::Forward(l, address, bytes) => return push_forward(text, l, address, bytes),
-            Effect::Close(n) => (format!(in *text.allocator(); "close {n}")?, b"".as_slice()),
-            Effect::Drop(l) => (format!(in *text.allocator(); "drop {l}")?, b"".as_slice()),
-            Effect::Stop(line) => (String::new(*text.allocator()), line),
-        };
-        push_block(text, line.as_str(), bytes)
+        if let Effect::Forward(l, address, bytes) = self {
+            push_forward(text, l, address, bytes)?;
+        } else {
+            let words = self.words(*text.allocator())?;
+            text.extend_from_slice(words.as_bytes())?;
+        }
+        text.extend_from_slice(self.bytes())?;
+        text.push(b'\n')?;
+        Ok(())
     }
 
     /// Appends what a case says of it, in one line.

@@ -84,8 +84,11 @@ fn escape_at(text: &str) -> Option<(Option<u8>, &str)> {
     let (letter, rest) = first_of(text)?;
     match letter {
         '.' => Some((None, rest)),
-        'x' => byte_at(rest).map(|(byte, rest)| (Some(byte), rest)),
-        _ => escaped(letter).map(|byte| (Some(byte), rest)),
+        'x' => {
+            let (byte, rest) = byte_at(rest)?;
+            Some((Some(byte), rest))
+        }
+        _ => Some((Some(escaped(letter)?), rest)),
     }
 }
 
@@ -135,7 +138,7 @@ fn push_times(bytes: &mut Vec<u8>, piece: &[u8], times: usize) -> Result<(), Tex
 
 /// A number without a sign, of 1,000,000 at most.
 fn times_of(digits: &str) -> Option<usize> {
-    if !digits.bytes().all(|digit| digit.is_ascii_digit()) {
+    if digits.starts_with('+') {
         return None;
     }
     let times = digits.parse::<usize>().ok()?;

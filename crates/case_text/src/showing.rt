@@ -18,7 +18,14 @@ fn push_byte(text: &mut String, byte: u8) -> Result<(), AllocError> {
 
 /// How many bytes at the front are equal.
 fn run_of(bytes: &[u8], first: u8) -> usize {
-    bytes.iter().take_while(|byte| **byte == first).count()
+    let mut count = 0usize;
+    for byte in bytes {
+        if *byte != first {
+            break;
+        }
+        count = count.saturating_add(1);
+    }
+    count
 }
 
 fn behind(bytes: &[u8], count: usize) -> &[u8] {

@@ -5,7 +5,7 @@
 use crate::case_file::Case;
 use crate::lines::{Fault, Line};
 use crate::parts::only_line;
-use crate::words::{fail_kind, frame_word, target_word};
+use crate::words::{fail_kind, frame_word, named, target_word};
 use case_text::push_shown;
 use hx_framing::FrameFault;
 use hx_reuse::{ErrorRule, ReuseRule};
@@ -65,24 +65,6 @@ static TARGET_FAULTS: [TargetFault; 8] = [
     TargetFault::TooLong,
 ];
 
-fn reuse_rule(name: &str) -> Option<ReuseRule> {
-    for (known, rule) in &REUSE_RULES {
-        if *known == name {
-            return Some(*rule);
-        }
-    }
-    None
-}
-
-fn error_rule(name: &str) -> Option<ErrorRule> {
-    for (known, rule) in &ERROR_RULES {
-        if *known == name {
-            return Some(*rule);
-        }
-    }
-    None
-}
-
 static STORING_RULES: [(&str, StoreRule); 18] = [
     ("Operator", StoreRule::Operator),
     ("Method", StoreRule::Method),
@@ -122,27 +104,15 @@ fn target_fault(name: &str) -> Option<TargetFault> {
     None
 }
 
-fn storing_rule(name: &str) -> Option<StoreRule> {
-    for (named, rule) in &STORING_RULES {
-        if *named == name {
-            return Some(*rule);
-        }
-    }
-    None
-}
-
-fn detail_of(name: &str) -> Option<Detail> {
-    match name {
-        "StaleIfError" => Some(Detail::StaleIfError),
-        "ReuseAfterError" => Some(Detail::ReuseAfterError),
-        "ReuseAfter304" => Some(Detail::ReuseAfter304),
-        _ => None,
-    }
-}
+static DETAILS: [(&str, Detail); 3] = [
+    ("StaleIfError", Detail::StaleIfError),
+    ("ReuseAfterError", Detail::ReuseAfterError),
+    ("ReuseAfter304", Detail::ReuseAfter304),
+];
 
 fn how_of(text: &str) -> Option<How> {
     match text.strip_prefix("forward ") {
-        Some(rule) => Some(How::Fwd(reuse_rule(rule)?)),
+        Some(rule) => Some(How::Fwd(named(&REUSE_RULES, rule)?)),
         None if text == "hit" => Some(How::Hit),
         None => None,
     }
@@ -153,11 +123,11 @@ fn with_word(mut status: Status, text: &str) -> Option<Status> {
     match text.split_once(' ') {
         Some(("ttl", seconds)) => status.ttl = Some(seconds.parse::<i64>().ok()?),
         Some(("status", code)) => status.fwd_status = Some(code.parse::<u16>().ok()?),
-        Some(("not-stored", rule)) => status.not_stored = Some(storing_rule(rule)?),
+        Some(("not-stored", rule)) => status.not_stored = Some(named(&STORING_RULES, rule)?),
         Some(_) => return None,
         None if text == "stored" => status.stored = true,
         None if text == "collapsed" => status.collapsed = true,
-        None => status.detail = Some(detail_of(text)?),
+        None => status.detail = Some(named(&DETAILS, text)?),
     }
     Some(status)
 }
@@ -192,15 +162,12 @@ pub fn members(text: &mut String, front: &[Line<'_>], case: &Case<'_>) -> Result
 /// How an origin failed, the reuse rule, and the error rule if one follows.
 fn origin_cause(text: &str) -> Option<Cause> {
     let (kind, rules) = text.split_once(", ")?;
+    let (rule, error) = match rules.split_once(", ") {
+        Some((rule, error)) => (rule, Some(named(&ERROR_RULES, error)?)),
+        None => (rules, None),
+    };
     let kind = fail_kind(kind)?;
-    match rules.split_once(", ") {
-        Some((rule, error)) => Some(Cause::Origin(
-            kind,
-            reuse_rule(rule)?,
-            Some(error_rule(error)?),
-        )),
-        None => Some(Cause::Origin(kind, reuse_rule(rules)?, None)),
-    }
+    Some(Cause::Origin(kind, named(&REUSE_RULES, rule)?, error))
 }
 
 fn cause_of(text: &str) -> Option<Cause> {
@@ -210,7 +177,7 @@ fn cause_of(text: &str) -> Option<Cause> {
     let (what, which) = text.split_once(": ")?;
     match what {
         "denied by line" => Some(Cause::Denied(which.parse::<u16>().ok()?)),
-        "only-if-cached" => Some(Cause::OnlyIfCached(reuse_rule(which)?)),
+        "only-if-cached" => Some(Cause::OnlyIfCached(named(&REUSE_RULES, which)?)),
         "origin" => origin_cause(which),
         "stream" => Some(Cause::Frame(frame_fault(which)?)),
         "target" => Some(Cause::Target(target_fault(which)?)),

@@ -3,6 +3,7 @@
 use crate::case_file::{Case, stream_of};
 use crate::lines::{Fault, Line};
 use crate::parts::{Part, parts_of};
+use crate::words::named;
 use crate::{
     ages, cache_status, passing, reuse, scripts, steps, storing, streams, tables, targets,
     validation, values,
@@ -103,12 +104,7 @@ static DRIVERS: [(&str, Driver); 29] = [
 impl Driver {
     /// The driver of a name.
     pub fn named(name: &str) -> Option<Driver> {
-        for (known, driver) in &DRIVERS {
-            if *known == name {
-                return Some(*driver);
-            }
-        }
-        None
+        named(&DRIVERS, name)
     }
 }
 

@@ -6,6 +6,16 @@ use hx_status::FailKind;
 use hx_target::TargetFault;
 use std::alloc::AllocError;
 
+/// What stands beside a name in a table.
+pub fn named<T: Copy>(table: &[(&str, T)], name: &str) -> Option<T> {
+    for (known, value) in table {
+        if *known == name {
+            return Some(*value);
+        }
+    }
+    None
+}
+
 /// The name of a fault of a stream.
 pub fn frame_word(fault: FrameFault) -> &'static str {
     match fault {

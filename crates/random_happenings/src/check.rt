@@ -227,7 +227,7 @@ impl<'a> Check<'a> {
         if let Some(woken) = self.wakes(number)? {
             return Ok(Some(woken));
         }
-        let was_woken = self.woken.iter().any(|woken| *woken == number);
+        let was_woken = self.woken.contains(&number);
         if was_woken || self.happening.about == Some(number) {
             return Ok(None);
         }

@@ -23,7 +23,7 @@ const FAILURES: [&[u8]; 5] = [
 fn is_proxys_own_answer(refusal: &[u8]) -> bool {
     refusal.starts_with(REQUEST_FAULT_PREFIX)
         || refusal == ONLY_IF_CACHED
-        || FAILURES.iter().any(|failure| *failure == refusal)
+        || FAILURES.contains(&refusal)
 }
 
 /// Whether the head of an answer is that of one past the store.

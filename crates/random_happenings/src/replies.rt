@@ -104,7 +104,7 @@ fn source_of(head: &[u8]) -> Option<Source> {
 }
 
 /// Why a request went forward.
-#[derive(Clone, Copy, Debug, PartialEq, Eq)]
+#[derive(Clone, Copy, PartialEq, Eq)]
 pub enum Reason {
     /// Nothing was held for its target.
     Missing,
@@ -123,13 +123,13 @@ impl Reason {
     }
 }
 
+/// What is told of a stored response that has expired.
+const STALE_DETAILS: [&[u8]; 4] = [b"must-revalidate", b"max-stale", b"max-age", b"min-fresh"];
+
 /// The reason of what was stale, by its detail. A rule without one leaves room for why an answer isn't stored; a later
 /// word may have taken the place of any.
 fn reason_by_detail(detail: &[u8]) -> Reason {
-    let has_expired = detail.starts_with(b"not-stored-")
-        || ["must-revalidate", "max-stale", "max-age", "min-fresh"]
-            .iter()
-            .any(|word| word.as_bytes() == detail);
+    let has_expired = detail.starts_with(b"not-stored-") || STALE_DETAILS.contains(&detail);
     if has_expired {
         Reason::Expired
     } else {

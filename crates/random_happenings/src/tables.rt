@@ -5,7 +5,7 @@ use case_text::table_text;
 use std::alloc::{AllocError, Global};
 
 /// The table of a trial.
-#[derive(Clone, Copy, Debug, PartialEq, Eq)]
+#[derive(Clone, Copy, PartialEq, Eq)]
 pub enum Table {
     /// Each line has a cache.
     WithCache,

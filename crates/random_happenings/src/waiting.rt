@@ -21,7 +21,7 @@ use std::alloc::{AllocError, Global};
 
 /// When a request came: the happening, and its connection, since those that come in one are served in the order of
 /// connections.
-#[derive(Clone, Copy, Debug, PartialEq, Eq)]
+#[derive(Clone, Copy, PartialEq, Eq)]
 pub struct Arrival {
     pub happening: u64,
     pub connection: u64,
@@ -58,7 +58,10 @@ impl Exchange {
         if self.asked.has_no_store || self.has_own_condition || !is_for_both {
             return Some(false);
         }
-        self.is_overtaken.map(|is| !is)
+        match self.is_overtaken {
+            Some(is_overtaken) => Some(!is_overtaken),
+            None => None,
+        }
     }
 
     /// Whether a request waits for this one if this went forward for what that could be sent, where its line lets it

@@ -4,7 +4,7 @@ use std::alloc::AllocError;
 use std::fmt;
 use std::fmt::Formatter;
 
-#[derive(Clone, Copy, Debug, PartialEq, Eq)]
+#[derive(Clone, Copy, PartialEq, Eq)]
 pub enum Stop {
     /// A call found no memory, as often as it was made.
     NoMemory,

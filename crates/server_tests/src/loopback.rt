@@ -5,7 +5,9 @@ use hx_store::ListShelf;
 use proxy_server::{Limits, ListenAt, LiveSockets, Server};
 use std::alloc::Global;
 use std::io::{ErrorKind, Read, Write};
-use std::net::{SocketAddr, TcpListener, TcpStream};
+use std::net::{Net, OpenStream, SocketAddr, TcpListener, TcpStream};
+use std::process::Abort;
+use std::rt::Clock;
 use std::test::Fail;
 use std::time::Duration;
 
@@ -67,39 +69,89 @@ fn answer(stream: TcpStream) -> Result<(), Fail> {
     Ok(())
 }
 
+/// It is lent to what uses it: each `?` beside an owned one would let go of all that it holds.
+type Served<'a> = Server<'a, ListShelf, HostRuntime, Vec<u8>>;
+
+/// A client asks, and gets an answer with these words. How often the origin was asked.
+fn ask_once<R: Abort + Clock + Net>(
+    rt: &R,
+    server: &mut Served<'_>,
+    address: SocketAddr,
+    origin: &TcpListener,
+    wanted: &[u8],
+) -> Result<u64, Fail> {
+    let mut asked = 0u64;
+    let mut client = TcpStream::connect(rt, address)?;
+    client.write_all(b"GET /a HTTP/1.1\r\nHost: h\r\n\r\n")?;
+    client.set_nonblocking(true)?;
+    let mut buf = [0u8; 4096];
+    let mut got = 0usize;
+    for _ in 0..1000u32 {
+        assert!(rt; server.serve_turn(rt).is_ok());
+        if let Ok((stream, _)) = origin.accept() {
+            asked = asked.saturating_add(1);
+            answer(stream)?;
+        }
+        match client.read(&mut buf) {
+            Ok(n) => {
+                got = n;
+                break;
+            }
+            Err(e) => assert!(rt; e.kind() == ErrorKind::WouldBlock),
+        }
+    }
+    assert!(rt; got <= 4096 && contains(&buf[..got], wanted));
+    Ok(asked)
+}
+
+/// Two ask, one after the other, and the origin is asked once.
+fn ask_twice<R: Abort + Clock + Net>(
+    rt: &R,
+    server: &mut Served<'_>,
+    address: SocketAddr,
+    origin: &TcpListener,
+) -> Result<(), Fail> {
+    let first = ask_once(rt, server, address, origin, b"fwd=uri-miss;ttl=600;stored")?;
+    let second = ask_once(rt, server, address, origin, b"edge;hit;ttl=")?;
+    assert!(rt; first.saturating_add(second) == 1);
+    Ok(())
+}
+
 /// The second client's request is answered by what the first one's brought, and the origin is asked once.
 #[test]
 fn loopback_hit(rt: HostRuntime) -> Result<(), Fail> {
     let origin = TcpListener::bind(&rt, "127.0.0.1:0")?;
     origin.set_nonblocking(true)?;
     let (mut server, address) = server_before(&rt, origin.local_addr()?, 60)?;
-    let mut asked = 0u64;
-    for wanted in [
-        b"fwd=uri-miss;ttl=600;stored".as_slice(),
-        b"edge;hit;ttl=".as_slice(),
-    ] {
-        let mut client = TcpStream::connect(&rt, address)?;
-        client.write_all(b"GET /a HTTP/1.1\r\nHost: h\r\n\r\n")?;
-        client.set_nonblocking(true)?;
-        let mut buf = [0u8; 4096];
-        let mut got = 0usize;
-        for _ in 0..1000u32 {
-            assert!(rt; server.serve_turn(&rt).is_ok());
-            if let Ok((stream, _)) = origin.accept() {
-                asked = asked.saturating_add(1);
-                answer(stream)?;
-            }
-            match client.read(&mut buf) {
-                Ok(n) => {
-                    got = n;
-                    break;
-                }
-                Err(e) => assert!(rt; e.kind() == ErrorKind::WouldBlock),
-            }
+    ask_twice(&rt, &mut server, address, &origin)
+}
+
+/// The origin never answers one client, and another one sends nothing.
+fn fall_silent<R: Abort + Clock + Net>(
+    rt: &R,
+    server: &mut Served<'_>,
+    address: SocketAddr,
+) -> Result<(), Fail> {
+    let mut idle = TcpStream::connect(rt, address)?;
+    let mut client = TcpStream::connect(rt, address)?;
+    client.write_all(b"GET /a HTTP/1.1\r\nHost: h\r\n\r\n")?;
+    client.set_nonblocking(true)?;
+    let mut buf = [0u8; 4096];
+    let mut got = 0usize;
+    for _ in 0..20u32 {
+        assert!(rt; server.serve_turn(rt).is_ok());
+        if let Ok(n) = client.read(&mut buf) {
+            got = n;
+            break;
         }
-        assert!(rt; got <= 4096 && contains(&buf[..got], wanted));
     }
-    assert!(rt; asked == 1);
+    assert!(rt; got <= 4096 && contains(&buf[..got], b"HTTP/1.1 504 "));
+    assert!(rt; contains(&buf[..got], b"Refusal: origin timed-out;fwd=uri-miss\r\n"));
+    for _ in 0..4u32 {
+        assert!(rt; server.serve_turn(rt).is_ok());
+    }
+    idle.set_read_timeout(Some(Duration::from_secs(5)))?;
+    assert!(rt; idle.read(&mut buf)? == 0);
     Ok(())
 }
 
@@ -109,25 +161,5 @@ fn loopback_hit(rt: HostRuntime) -> Result<(), Fail> {
 fn silent_ends_are_released(rt: HostRuntime) -> Result<(), Fail> {
     let origin = TcpListener::bind(&rt, "127.0.0.1:0")?;
     let (mut server, address) = server_before(&rt, origin.local_addr()?, 1)?;
-    let mut idle = TcpStream::connect(&rt, address)?;
-    let mut client = TcpStream::connect(&rt, address)?;
-    client.write_all(b"GET /a HTTP/1.1\r\nHost: h\r\n\r\n")?;
-    client.set_nonblocking(true)?;
-    let mut buf = [0u8; 4096];
-    let mut got = 0usize;
-    for _ in 0..20u32 {
-        assert!(rt; server.serve_turn(&rt).is_ok());
-        if let Ok(n) = client.read(&mut buf) {
-            got = n;
-            break;
-        }
-    }
-    assert!(rt; got <= 4096 && contains(&buf[..got], b"HTTP/1.1 504 "));
-    assert!(rt; contains(&buf[..got], b"Refusal: origin timed-out;fwd=uri-miss\r\n"));
-    for _ in 0..4u32 {
-        assert!(rt; server.serve_turn(&rt).is_ok());
-    }
-    idle.set_read_timeout(Some(Duration::from_secs(5)))?;
-    assert!(rt; idle.read(&mut buf)? == 0);
-    Ok(())
+    fall_silent(&rt, &mut server, address)
 }

@@ -1,7 +1,7 @@
-//! The operator's table, through its calls.
+//! The operator's table, through its calls. What its lines say is a matter of cases.
 
 use case_text::table_text;
-use hx_allow::{Config, ConfigFault, LineWord};
+use hx_allow::Config;
 use hx_policy::Policy;
 use std::alloc::Global;
 use std::net::{Ipv4Addr, SocketAddrV4};
@@ -25,54 +25,11 @@ fn each_line_says_whether_it_has_a_cache(rt: HostRuntime) -> Result<(), Fail> {
     assert!(rt; !config.policy(1).caches);
     assert!(rt; config.policy(2) == Policy::plain(true));
     assert!(rt; config.policy(3) == Policy::plain(true));
+    assert!(rt; config.policy(4) == Policy::plain(false));
     let address = SocketAddrV4::new(Ipv4Addr::LOCALHOST, 8081);
     assert!(rt; config.origin_address(2) == Some(address));
     assert!(rt; config.origin_address(4) == None);
     Ok(())
-}
-
-/// Each word of the third version.
-const WORDS: &str = "lifetime = 60
-stale-if-error = 600
-set-cookie = \"not-stored\"
-errors = \"not-stored\"
-request-directives = \"ignored\"
-wait = \"missing-or-stale\"
-explain = \"storing\"
-";
-
-/// A line with all of them, and one without.
-static WORDED: [[&str; 5]; 2] = [
-    ["*", "GET", "/shop", "127.0.0.1:8081", WORDS],
-    ["*", "GET", "/", "127.0.0.1:8081", ""],
-];
-
-#[test]
-fn each_line_says_its_words(rt: HostRuntime) -> Result<(), Fail> {
-    let config = config_of(rt.alloc(), 3, &WORDED)?;
-    let policy = config.policy(1);
-    assert!(rt; policy.caches);
-    assert!(rt; policy.lifetime == Some(60));
-    assert!(rt; policy.error_lifetime == Some(60));
-    assert!(rt; policy.stale_if_error == Some(600));
-    assert!(rt; !policy.stores_cookies);
-    assert!(rt; !policy.stores_errors);
-    assert!(rt; !policy.heeds_requests);
-    assert!(rt; policy.waits_for_stale);
-    assert!(rt; policy.explains_storing);
-    assert!(rt; config.policy(2) == Policy::plain(true));
-    assert!(rt; config.policy(3) == Policy::plain(false));
-    Ok(())
-}
-
-#[test]
-fn a_misplaced_word_is_named_with_its_line(rt: HostRuntime) -> Result<(), Fail> {
-    let line = ["*", "GET", "/admin", "deny", "errors = \"stored\"\n"];
-    let table = table_text(rt.alloc(), 3, 2, 10, &[line])?;
-    match Config::read(rt.alloc(), table.as_bytes()) {
-        Err(ConfigFault::BadWord(1, LineWord::Errors)) => Ok(()),
-        _ => Err("no fault of the word".into()),
-    }
 }
 
 /// A line for everything in front of a denial, one for another method, and one that the first takes in part alone.

@@ -73,6 +73,11 @@ fn does_act(rt: &impl Abort, alloc: Global, engine: &mut Engine<ListShelf>, now:
     is_idle_at(rt, alloc, engine, now);
 }
 
+/// An act is due at 100, whatever it is.
+fn acts(rt: &impl Abort, alloc: Global, engine: &mut Engine<ListShelf>) {
+    assert!(rt; matches!(work(alloc, engine, 100), Ok(Some(_))));
+}
+
 fn is_idle_at(rt: &impl Abort, alloc: Global, engine: &mut Engine<ListShelf>, now: u64)
     requires { now < 253402300800 }
 {
@@ -99,7 +104,7 @@ fn numbers_run_out(rt: HostRuntime) -> Result<(), Fail> {
     let mut engine = engine(rt.alloc(), u64::MAX)?;
     takes_happening(&rt, rt.alloc(), &mut engine, Happening::Accept(1));
     takes_happening(&rt, rt.alloc(), &mut engine, Happening::Client(1, ASK));
-    assert!(&rt; matches!(work(rt.alloc(), &mut engine, 100), Ok(Some(_))));
+    acts(&rt, rt.alloc(), &mut engine);
     takes_happening(&rt, rt.alloc(), &mut engine, Happening::Accept(2));
     takes_happening(&rt, rt.alloc(), &mut engine, Happening::Client(2, ASK));
     assert!(&rt; matches!(work(rt.alloc(), &mut engine, 100), Err(EngineFault::Spent)));
@@ -114,7 +119,7 @@ fn a_wake_needs_a_number(rt: HostRuntime) -> Result<(), Fail> {
     let mut engine = engine(rt.alloc(), u64::MAX - 1)?;
     takes_happening(&rt, rt.alloc(), &mut engine, Happening::Accept(1));
     takes_happening(&rt, rt.alloc(), &mut engine, Happening::Client(1, ASK));
-    assert!(&rt; matches!(work(rt.alloc(), &mut engine, 100), Ok(Some(_))));
+    acts(&rt, rt.alloc(), &mut engine);
     takes_happening(&rt, rt.alloc(), &mut engine, Happening::Accept(2));
     takes_happening(&rt, rt.alloc(), &mut engine, Happening::Client(2, ASK));
     does_act(&rt, rt.alloc(), &mut engine, 100, b"");
@@ -125,9 +130,9 @@ fn a_wake_needs_a_number(rt: HostRuntime) -> Result<(), Fail> {
         &mut engine,
         Happening::Client(3, ASK_OTHER),
     );
-    assert!(&rt; matches!(work(rt.alloc(), &mut engine, 100), Ok(Some(_))));
+    acts(&rt, rt.alloc(), &mut engine);
     takes_happening(&rt, rt.alloc(), &mut engine, Happening::Gone(1));
-    assert!(&rt; matches!(work(rt.alloc(), &mut engine, 100), Ok(Some(_))));
+    acts(&rt, rt.alloc(), &mut engine);
     for _ in 0..2u8 {
         assert!(&rt; matches!(work(rt.alloc(), &mut engine, 100), Err(EngineFault::Spent)));
     }
@@ -151,9 +156,9 @@ Connection: close\r
 fn comes_and_goes(rt: &impl Abort, alloc: Global, engine: &mut Engine<ListShelf>, n: u64) {
     takes_happening(rt, alloc, engine, Happening::Accept(n));
     takes_happening(rt, alloc, engine, Happening::Client(n, ASK));
-    assert!(rt; matches!(work(alloc, engine, 100), Ok(Some(_))));
+    acts(rt, alloc, engine);
     takes_happening(rt, alloc, engine, Happening::Link(n, ANSWER));
-    assert!(rt; matches!(work(alloc, engine, 100), Ok(Some(_))));
+    acts(rt, alloc, engine);
     takes_happening(rt, alloc, engine, Happening::Gone(n));
     is_idle_at(rt, alloc, engine, 100);
 }
@@ -194,16 +199,16 @@ fn who_is_between_requests(rt: HostRuntime) -> Result<(), Fail> {
     does_act(&rt, rt.alloc(), &mut engine, 100, FORWARDED);
     assert!(&rt; !engine.is_between_requests(1));
     takes_happening(&rt, rt.alloc(), &mut engine, Happening::Link(1, ANSWER));
-    assert!(&rt; matches!(work(rt.alloc(), &mut engine, 100), Ok(Some(_))));
+    acts(&rt, rt.alloc(), &mut engine);
     assert!(&rt; engine.is_between_requests(1));
     let begun = b"POST /a HTTP/1.1\r\nHost: h\r\nContent-Length: 3\r\n\r\nab";
     takes_happening(&rt, rt.alloc(), &mut engine, Happening::Client(1, begun));
     is_idle_at(&rt, rt.alloc(), &mut engine, 100);
     assert!(&rt; !engine.is_between_requests(1));
     takes_happening(&rt, rt.alloc(), &mut engine, Happening::Client(1, b"cG"));
-    assert!(&rt; matches!(work(rt.alloc(), &mut engine, 100), Ok(Some(_))));
+    acts(&rt, rt.alloc(), &mut engine);
     takes_happening(&rt, rt.alloc(), &mut engine, Happening::Link(2, ANSWER));
-    assert!(&rt; matches!(work(rt.alloc(), &mut engine, 100), Ok(Some(_))));
+    acts(&rt, rt.alloc(), &mut engine);
     // The first byte of a third request has come.
     assert!(&rt; !engine.is_between_requests(1));
     takes_happening(&rt, rt.alloc(), &mut engine, Happening::Accept(2));
@@ -234,7 +239,7 @@ fn numbers_are_of_64_bits(rt: HostRuntime) -> Result<(), Fail> {
         &mut engine,
         Happening::Link(5_000_000_000, ANSWER),
     );
-    assert!(&rt; matches!(work(rt.alloc(), &mut engine, 100), Ok(Some(_))));
+    acts(&rt, rt.alloc(), &mut engine);
     is_idle_at(&rt, rt.alloc(), &mut engine, 100);
     Ok(())
 }

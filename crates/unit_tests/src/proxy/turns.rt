@@ -117,37 +117,23 @@ fn outcome(failed: Call, served: bool) -> (&'static [u8], &'static [u8]) {
 #[test]
 fn each_call_fails_once(rt: HostRuntime) -> Result<(), Fail> {
     let alloc = rt.alloc();
+    // How often the write of the first reply failed: its answer is stored all the same.
+    let mut replies = 0u64;
     for failing in 1..200u64 {
         let mut sockets = MemorySockets::new(alloc, failing, ASK, ANSWER);
         converse(&rt, alloc, &mut sockets)?;
         assert!(rt; !sockets.calls.after_failure, "call {failing}");
         let Some(failed) = sockets.calls.failed else {
-            assert!(rt; failing > 20 && sockets.failures == 0);
+            assert!(rt; failing > 20 && sockets.failures == 0 && replies == 1);
             return Ok(());
         };
+        replies = replies.saturating_add(u64::from(failed == Call::Write(End::Client(1))));
         let text = sockets.written.as_slice();
         let (wanted, unwanted) = outcome(failed, contains(text, STORED));
         assert!(rt; contains(text, wanted), "call {failing}: {failed:?}");
         assert!(rt; !contains(text, unwanted), "call {failing}: {failed:?}");
     }
     panic!(rt; "each run had a failure");
-}
-
-/// The write of the first reply fails: its answer is stored all the same.
-#[test]
-fn stored_though_the_write_failed(rt: HostRuntime) -> Result<(), Fail> {
-    let alloc = rt.alloc();
-    let mut found = 0u64;
-    for failing in 1..100u64 {
-        let mut sockets = MemorySockets::new(alloc, failing, ASK, ANSWER);
-        converse(&rt, alloc, &mut sockets)?;
-        if sockets.calls.failed == Some(Call::Write(End::Client(1))) {
-            found = found.saturating_add(1);
-            assert!(rt; contains(sockets.written.as_slice(), HIT));
-        }
-    }
-    assert!(rt; found == 1);
-    Ok(())
 }
 
 /// The calls of a turn are in the log, in order and with their bytes.
