@@ -17,10 +17,15 @@ LARGE, SMALL = b"x" * 400000, b"y" * 50000
 CLOSED = "origin closed;fwd=uri-miss"
 
 
+def is_over(connection):
+    """Whether the system knows the connection no more (TCP_CLOSE): the proxy has ended it, once it had a whole answer."""
+    return connection.getsockopt(socket.IPPROTO_TCP, socket.TCP_INFO, 1)[0] == 7
+
+
 def has_arrived(connection):
     """Waits until the other end's system has all that was sent."""
     left, deadline = array.array("i", [1]), time.monotonic() + PATIENCE
-    while left[0]:
+    while left[0] and not is_over(connection):
         fcntl.ioctl(connection, termios.TIOCOUTQ, left)
         if time.monotonic() > deadline:
             raise Unexpected("of an answer", "that all has been taken", f"{left[0]} bytes left")
