@@ -119,7 +119,7 @@ fn how_of(text: &str) -> Option<How> {
 }
 
 /// A value with its word, or a word alone.
-fn with_word(mut status: Status, text: &str) -> Option<Status> {
+fn add_word(status: &mut Status, text: &str) -> Option<()> {
     match text.split_once(' ') {
         Some(("ttl", seconds)) => status.ttl = Some(seconds.parse::<i64>().ok()?),
         Some(("status", code)) => status.fwd_status = Some(code.parse::<u16>().ok()?),
@@ -129,7 +129,7 @@ fn with_word(mut status: Status, text: &str) -> Option<Status> {
         None if text == "collapsed" => status.collapsed = true,
         None => status.detail = Some(named(&DETAILS, text)?),
     }
-    Some(status)
+    Some(())
 }
 
 fn status_of(text: &str) -> Option<Status> {
@@ -144,7 +144,7 @@ fn status_of(text: &str) -> Option<Status> {
         not_stored: None,
     };
     for word in words {
-        status = with_word(status, word)?;
+        add_word(&mut status, word)?;
     }
     Some(status)
 }

@@ -32,5 +32,5 @@ pub use crate::origins::{Admission, Origin, Origins};
 pub use crate::process::ProcessFigures;
 pub use crate::reply_counts::ReplyCounts;
 pub use crate::sorts::{ReplySort, Source, sort_of};
-pub use crate::turn_counts::Turns;
+pub use crate::turn_counts::{TurnEnd, Turns};
 pub use crate::unanswered::{UnansweredCause, UnansweredCounts};

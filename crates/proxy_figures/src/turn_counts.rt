@@ -2,7 +2,16 @@
 ghost use Rattle.std.specs.Prelude.{◌≡◌};
 
 use crate::counts::count_plus_one;
-use proxy_turn::{Report, TurnFault};
+
+/// How a turn ended, as far as that is counted.
+#[derive(Clone, Copy, PartialEq, Eq)]
+pub enum TurnEnd {
+    /// It did what was due, as far as numbers for links reached.
+    Served,
+    /// It could accept nobody.
+    WithoutListener,
+    WithoutMemory,
+}
 
 /// Counts of turns.
 #[derive(Clone, Copy)]
@@ -26,17 +35,19 @@ impl Turns {
         }
     }
 
-    /// Counts a turn, by what it told.
-    pub fn count(&mut self, reported: Result<Report, TurnFault>)
-        ensures { self.new ≡ turns_with_one_more self.old reported }
+    /// Counts a turn, by its end.
+    pub fn count(&mut self, end: TurnEnd)
+        ensures { self.new ≡ turns_with_one_more self.old end }
     {
         self.served = count_plus_one(self.served);
-        match reported {
-            Err(TurnFault::Listener) => self.without_listener = count_plus_one(
-                self.without_listener,
-            ),
-            Err(TurnFault::NoMemory) => self.without_memory = count_plus_one(self.without_memory),
-            _ => {}
+        match end {
+            TurnEnd::Served => {}
+            TurnEnd::WithoutListener => {
+                self.without_listener = count_plus_one(self.without_listener);
+            }
+            TurnEnd::WithoutMemory => {
+                self.without_memory = count_plus_one(self.without_memory);
+            }
         }
     }
 }

@@ -1,12 +1,14 @@
 -- Whether the next turn waits, and at which moment it is.
 --
--- next_turn_must_not_wait: what a turn leaves to the next
+-- next_turn_must_not_wait: what a turn leaves to the next     turn_end_of: how it counts
 -- moment_and_milliseconds, milliseconds_of_duration: what a clock tells      milliseconds_of_moment: the same moment
 use Rattle.std.specs.Prelude.{ℕ, ◌+◌, ◌-◌, ◌*◌, ◌/◌, ◌%◌, min, nat_lt, Bool, true, false, not, ◌||◌, Result, Ok}
 use Rattle.std.specs.Prelude.{Err}
 use Rattle.std.specs.Duration.{as_nanos}
 use Rattle.std.specs.declared.time.Duration.{Duration}
 use Rattle.hx_fields.specs.declared.limits.TheConstants.{END_OF_TIME}
+use Rattle.proxy_figures.specs.declared.turn_counts.TurnEnd.{TurnEnd}
+use Rattle.proxy_figures.specs.declared.turn_counts.TurnEnd.TheVariants as ends
 use Rattle.proxy_turn.specs.declared.limits.TheConstants.{MOST_WORKS}
 use Rattle.proxy_turn.specs.declared.report.Report.{Report}
 use Rattle.proxy_turn.specs.declared.report.TurnFault.{TurnFault}
@@ -26,6 +28,13 @@ next_turn_must_not_wait p (Ok report) more =
 next_turn_must_not_wait p (Err faults.Listener) more = record p { settled = false; busy = true; starved = false }
 next_turn_must_not_wait p (Err faults.NoMemory) more = record p { settled = false; busy = false; starved = true }
 next_turn_must_not_wait p (Err faults.Spent) more = record p { settled = false; busy = true; starved = false }
+
+-- how a turn counts: that it could accept nobody, or found no memory, counts by itself
+abbrev pub turn_end_of : Result Report TurnFault → TurnEnd
+turn_end_of (Ok report) = ends.Served
+turn_end_of (Err faults.Listener) = ends.WithoutListener
+turn_end_of (Err faults.NoMemory) = ends.WithoutMemory
+turn_end_of (Err faults.Spent) = ends.Served
 
 -- the clock's time since 1970 as a moment in seconds, at most the last of the year 9999, and its milliseconds
 abbrev pub moment_and_milliseconds : Duration → ℕ × ℕ

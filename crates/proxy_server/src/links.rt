@@ -17,6 +17,8 @@ pub(crate) mod link;
 
 use crate::limits::{Limits, SECOND};
 use crate::links::link::{Link, mark_peer_ready};
+use crate::sockets::socket_tokens::Holder;
+use mio::Poll;
 use mio::event::Event;
 use proxy_figures::{LinkTimeouts, Origins};
 use proxy_pacing::Moments;
@@ -56,6 +58,19 @@ impl Links {
         }
         Ok(())
     }
+
+    /// Asks for the events of a link that was written to. Fails where the system refuses it.
+    pub(crate) fn watch(&mut self, number: u64, poll: &Poll) -> io::Result<()>
+        ensures others { OtherEntriesStay number self.old.items self.new.items }
+    {
+        let Some(link) = self.items.get_mut(&number) else {
+            return Ok(());
+        };
+        let Some(peer) = &mut link.peer else {
+            return Ok(());
+        };
+        peer.register_written(poll, Holder::Link(number).token()?)
+    }
 }
 
 impl<S: Stream + Drop> Links<S> {
@@ -82,6 +97,19 @@ impl<S: Stream + Drop> Links<S> {
         ensures { option_copied result ≡ get nat_cmp self.now.items number }
     {
         self.items.get(&number)
+    }
+
+    /// Whether the connection of a link isn't made yet.
+    pub(crate) fn is_connecting(&self, number: u64) -> bool
+        ensures { result ≡ link_is_connecting (get nat_cmp self.now.items number) }
+    {
+        match self.get(number) {
+            Some(link) => match &link.peer {
+                Some(peer) => peer.connecting,
+                None => false,
+            },
+            None => false,
+        }
     }
 
     /// The place of the origin of a link, if it is there.

@@ -1,9 +1,10 @@
 //! Whether the next turn waits, and what clocks tell.
 ghost use Rattle.std.specs.Prelude.{◌≡◌};
 ghost use Rattle.proxy_server.specs.Paces.{next_turn_must_not_wait, moment_and_milliseconds};
-ghost use Rattle.proxy_server.specs.Paces.{milliseconds_of_duration};
+ghost use Rattle.proxy_server.specs.Paces.{milliseconds_of_duration, turn_end_of};
 
 use hx_fields::END_OF_TIME;
+use proxy_figures::TurnEnd;
 use proxy_turn::{MOST_WORKS, Report, TurnFault};
 use std::time::Duration;
 
@@ -45,6 +46,17 @@ impl Pace {
                 self.busy = true;
             }
         }
+    }
+}
+
+/// How a turn counts, by what it told.
+pub(crate) fn turn_end_of(reported: Result<Report, TurnFault>) -> TurnEnd
+    ensures { result ≡ turn_end_of reported }
+{
+    match reported {
+        Err(TurnFault::Listener) => TurnEnd::WithoutListener,
+        Err(TurnFault::NoMemory) => TurnEnd::WithoutMemory,
+        _ => TurnEnd::Served,
     }
 }
 

@@ -6,6 +6,7 @@ ghost use Rattle.std.specs.declared.alloc.Global.{Global};
 ghost use Rattle.hx_status.specs.declared.cause.FailKind.TheVariants as kinds;
 ghost use Rattle.proxy_engine.specs.Happenings.{Leaves, Fails};
 ghost use Rattle.proxy_figures.specs.declared.link_timeouts.Overtime.TheVariants.{Connect, Silence, Exchange};
+ghost use Rattle.proxy_figures.specs.declared.turn_counts.TurnEnd.TheVariants as ends;
 ghost use Rattle.proxy_turn.specs.declared.report.TurnFault.TheVariants as faults;
 ghost use Rattle.proxy_turn.specs.declared.sockets.Received.TheVariants as received;
 ghost use Rattle.proxy_server.specs.Cases.{client_heard_at_100, limits, link_begun_at_90, link_without_stream};
@@ -14,7 +15,7 @@ ghost use Rattle.proxy_server.specs.Closing.{StandsInQueue};
 ghost use Rattle.proxy_streams.specs.Peers.{Bytes, Ended};
 ghost use Rattle.proxy_server.specs.Connecting.{link_is_connecting};
 ghost use Rattle.proxy_server.specs.Losses.{AtMostOneLoss};
-ghost use Rattle.proxy_server.specs.Paces.{milliseconds_of_moment, next_turn_must_not_wait};
+ghost use Rattle.proxy_server.specs.Paces.{milliseconds_of_moment, next_turn_must_not_wait, turn_end_of};
 ghost use Rattle.proxy_server.specs.Patience.{age_of_link, client_has_left, client_has_left_or_gone, client_is_silent};
 ghost use Rattle.proxy_server.specs.Patience.{closed_time_is_over, has_lasted_longer, incomplete_since};
 ghost use Rattle.proxy_server.specs.Patience.{link_overtime, link_time_is_over, link_time_may_be_over_at};
@@ -126,6 +127,10 @@ pub fn worked_turns()
         (Ok (record { accepted = 0; reads = 0; works = 1000; faults = 0 })) false).busy ≡ true }
     ensures without_memory { (p : Pace) → (next_turn_must_not_wait p (Err faults.NoMemory) true).busy ≡ false }
     ensures without_listener { (p : Pace) → (next_turn_must_not_wait p (Err faults.Listener) false).busy ≡ true }
+    ensures counts { turn_end_of (Ok (record { accepted = 0; reads = 0; works = 1000; faults = 9 })) ≡ ends.Served }
+    ensures nobody { turn_end_of (Err faults.Listener) ≡ ends.WithoutListener }
+    ensures wanting { turn_end_of (Err faults.NoMemory) ≡ ends.WithoutMemory }
+    ensures spent { turn_end_of (Err faults.Spent) ≡ ends.Served }
     ensures moment { milliseconds_of_moment 3 5 ≡ 3005 }
     ensures one { AtMostOneLoss false (Leaves 1 ∷ []) true }
     ensures none_behind { AtMostOneLoss true (Leaves 1 ∷ []) true → ⊥ }

@@ -107,7 +107,16 @@ impl Peer<Socket> {
     pub fn register(&mut self, poll: &Poll, token: Token) -> io::Result<()>
         ensures { self.new ≡ record self.old { stream = self.new.stream } }
     {
-        self.stream.register(poll, token)
+        self.stream.register(poll, token, true)
+    }
+
+    /// The same of a stream to which all was written that ever will be: that it can be written is told only where its
+    /// connection isn't made yet, or some of it is unsent. Fails where the system refuses it.
+    pub fn register_written(&mut self, poll: &Poll, token: Token) -> io::Result<()>
+        ensures { self.new ≡ record self.old { stream = self.new.stream } }
+    {
+        let with_writing = self.connecting || self.has_unsent();
+        self.stream.register(poll, token, with_writing)
     }
 
     /// Why the connection can't be made, if that is known: it had been made where its peer has broken it off. Fails

@@ -64,10 +64,20 @@ impl Socket {
         let _ = self.stream.set_nodelay(true);
     }
 
-    /// Asks the system for the events of this stream, under a token. Fails where the system refuses it.
-    pub(crate) fn register(&mut self, poll: &Poll, token: Token) -> io::Result<()> {
-        let both = Interest::READABLE | Interest::WRITABLE;
-        poll.registry().register(&mut self.stream, token, both)
+    /// Asks the system for the events of reading this stream, and of writing it where that is wanted, under a token.
+    /// Fails where the system refuses it.
+    pub(crate) fn register(
+        &mut self,
+        poll: &Poll,
+        token: Token,
+        with_writing: bool,
+    ) -> io::Result<()> {
+        let events = if with_writing {
+            Interest::READABLE | Interest::WRITABLE
+        } else {
+            Interest::READABLE
+        };
+        poll.registry().register(&mut self.stream, token, events)
     }
 
     /// Keeps what a call was told of a reset.

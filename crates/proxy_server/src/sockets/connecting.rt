@@ -4,9 +4,7 @@ ghost use Rattle.std.specs.Prelude.{◌≡◌};
 use crate::limits::SECOND;
 use crate::links::link::Link;
 use crate::sockets::live_sockets::LiveSockets;
-use crate::sockets::socket_tokens::Holder;
 use hx_status::FailKind;
-use mio::Poll;
 use mio::net::TcpStream;
 use proxy_figures::{Admission, is_out_of_descriptors, is_out_of_ports};
 use proxy_streams::{Peer, Socket};
@@ -15,12 +13,11 @@ use std::alloc::Global;
 use std::io;
 use std::net::{Net, SocketAddr, SocketAddrV4};
 
-/// Begins a connection to an origin. A refusal near by is known at once.
+/// Begins a connection to an origin. A refusal near by is known at once. Its events are asked for once it was written
+/// to.
 fn begin_link<R: Net>(
     net: &R,
     alloc: Global,
-    poll: &Poll,
-    l: u64,
     address: SocketAddrV4,
     now: u64,
 ) -> io::Result<Peer<Socket>> {
@@ -29,18 +26,17 @@ fn begin_link<R: Net>(
     if let Some(e) = peer.take_error()? {
         return Err(e);
     }
-    peer.register(poll, Holder::Link(l).token()?)?;
     Ok(peer)
 }
 
 impl<'a, R: Net> LiveSockets<'a, R> {
     /// Begins a link. Where no descriptor is left an idle client gives way to it.
-    fn begin(&mut self, l: u64, address: SocketAddrV4) -> io::Result<Peer<Socket>>
+    fn begin(&mut self, address: SocketAddrV4) -> io::Result<Peer<Socket>>
         ensures calls { self.new.calls ≡ self.old.calls }
     {
-        match begin_link(self.net, self.alloc, &self.poll, l, address, self.now) {
+        match begin_link(self.net, self.alloc, address, self.now) {
             Err(e) if is_out_of_descriptors(&e) && self.clients.drop_idle(self.now) => {
-                begin_link(self.net, self.alloc, &self.poll, l, address, self.now)
+                begin_link(self.net, self.alloc, address, self.now)
             }
             begun => begun,
         }
@@ -57,7 +53,7 @@ impl<'a, R: Net> LiveSockets<'a, R> {
             return Err(SocketFailed);
         };
         let admission = self.links.origins.admit(origin, self.limits.origin_probe);
-        let peer = self.begin_admitted(l, address, origin, admission);
+        let peer = self.begin_admitted(address, origin, admission);
         let is_lost = peer.is_none();
         let link = Link::new(peer, self.now, origin, admission);
         if !self.links.put(l, link, self.now.saturating_add(SECOND)) {
@@ -73,7 +69,6 @@ impl<'a, R: Net> LiveSockets<'a, R> {
     /// Begins a link, where it may be begun and can be.
     fn begin_admitted(
         &mut self,
-        l: u64,
         address: SocketAddrV4,
         origin: usize,
         admission: Admission,
@@ -83,7 +78,7 @@ impl<'a, R: Net> LiveSockets<'a, R> {
         if admission == Admission::No {
             return None;
         }
-        match self.begin(l, address) {
+        match self.begin(address) {
             Ok(peer) => Some(peer),
             Err(e) => {
                 // Where it is the system that has none left, the origin isn't silent.

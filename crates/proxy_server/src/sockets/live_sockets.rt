@@ -19,6 +19,7 @@ use crate::clients::Clients;
 use crate::clients::departures::Departure;
 use crate::limits::{LONGEST_WAIT, Limits, MOST_EVENTS, MOST_READ, SECOND};
 use crate::links::Links;
+use crate::pace::turn_end_of;
 use crate::sockets::call_counts::CallCounts;
 use crate::sockets::socket_tokens::Holder;
 use hx_allow::{Config, MOST_LINES};
@@ -491,7 +492,7 @@ impl<'a, R: Net> LiveSockets<'a, R> {
         for end in ends {
             self.list_again(*end);
         }
-        self.turns.count(reported);
+        self.turns.count(turn_end_of(reported));
         self.count_lost_lines();
         if let Ok(report) = reported {
             // All that was due was done.
@@ -666,8 +667,12 @@ impl<'a, R: Net> LiveSockets<'a, R> {
             × (self.new.lost ≡ self.old.lost) }
         ensures calls { self.new.calls ≡ self.old.calls }
     {
-        // What an origin had said before it broke off can still be read; its end is told then.
-        if self.links.write(l, bytes, self.now) {
+        let was_connecting = self.links.is_connecting(l);
+        // What an origin had said before it broke off can still be read; its end is told then. A link is written to
+        // once, so where all of it went out its events are those of reading.
+        if self.links.write(l, bytes, self.now)
+            && (!was_connecting || self.links.watch(l, &self.poll).is_ok())
+        {
             return Ok(());
         }
         self.links.drop_stream(l);
