@@ -10,8 +10,8 @@ use crate::mistakes::config_of;
 use crate::questions::ask_all;
 use crate::serving::serve;
 use crate::trial::Trial;
+use clap::Error;
 use clap::error::ErrorKind;
-use clap::{ArgMatches, Error};
 use hx_allow::Config;
 use std::io::IsTerminal;
 use std::net::Net;
@@ -144,12 +144,19 @@ where
 }
 
 /// Does what the words ask for; a replay tells its own exit status.
-fn do_form<R>(rt: &R, matches: &ArgMatches<'_>) -> Result<ExitCode, EndedEarly>
+fn do_command<R>(rt: &R, words: &[String]) -> Result<ExitCode, EndedEarly>
 where
     R: Files + Env + Input + Print + Eprint + AllocGlobal + Net + Clock + RandomSource,
     <R as Input>::Reader: IsTerminal,
 {
-    match form_of(rt.alloc(), matches)? {
+    let matches = match read(rt.alloc(), words) {
+        Ok(matches) => matches,
+        Err(error) => {
+            explain(rt, &error)?;
+            return Ok(ExitCode::SUCCESS);
+        }
+    };
+    match form_of(rt.alloc(), &matches)? {
         Form::Replay => {
             print_what_is_awaited(rt);
             return Ok(proxy_replay::program::run(rt));
@@ -158,21 +165,6 @@ where
         Form::Serve(service) => served(rt, &service)?,
     }
     Ok(ExitCode::SUCCESS)
-}
-
-/// Reads the words, and does what they ask for.
-fn do_command<R>(rt: &R, words: &[String]) -> Result<ExitCode, EndedEarly>
-where
-    R: Files + Env + Input + Print + Eprint + AllocGlobal + Net + Clock + RandomSource,
-    <R as Input>::Reader: IsTerminal,
-{
-    match read(rt.alloc(), words) {
-        Ok(matches) => do_form(rt, &matches),
-        Err(error) => match explain(rt, &error) {
-            Ok(()) => Ok(ExitCode::SUCCESS),
-            Err(fault) => Err(EndedEarly::from(fault)),
-        },
-    }
 }
 
 /// The words of the command line.
@@ -192,17 +184,6 @@ where
     do_command(rt, words.as_slice())
 }
 
-/// Tells why the program ends early, and gives its exit status.
-fn tell<R: Print + Eprint>(rt: &R, ended: &EndedEarly) -> u8 {
-    let fault = &ended.fault;
-    // Where standard output or standard error fails too there is nobody left to tell.
-    let _ = eprintln!(rt; "{fault}");
-    if !ended.is_quiet {
-        let _ = fault.explain(rt);
-    }
-    fault.exit_status()
-}
-
 /// Does what the command line asks for: without a word, replays standard input to standard output.
 pub fn run<R>(rt: &R) -> ExitCode
 where
@@ -211,6 +192,14 @@ where
 {
     match run_or_fail(rt) {
         Ok(status) => status,
-        Err(ended) => ExitCode::from(tell(rt, &ended)),
+        Err(EndedEarly { fault, is_quiet }) => {
+            // Where standard output or standard error fails too there is nobody left to tell.
+            let status = fault.exit_status();
+            let _ = eprintln!(rt; "{fault}");
+            if !is_quiet {
+                let _ = fault.explain(rt);
+            }
+            ExitCode::from(status)
+        }
     }
 }

@@ -1,5 +1,5 @@
 //! Serving: the table, the listener, the record and the log, and then turn after turn.
-ghost use Rattle.std.specs.Prelude.{◌≡◌, [], IfOk};
+ghost use Rattle.std.specs.Prelude.{IfOk};
 ghost use Rattle.proxy_program.specs.Seeds.{SeedIsOfKeys};
 
 use crate::command_line::Service;
@@ -309,7 +309,6 @@ struct Start {
 fn serve_to_its_end<'a, R, S: Shelf + Drop, P: Write + Drop>(
     rt: &R,
     service: &Service<'_>,
-    start: Start,
     server: &mut Server<'a, S, R, R::File>,
     journal: &mut Option<Journal<R::File, P>>,
     figures: &mut Option<Figures<'_>>,
@@ -317,12 +316,6 @@ fn serve_to_its_end<'a, R, S: Shelf + Drop, P: Write + Drop>(
 where
     R: Net + Clock + Files + Print + Eprint + AllocGlobal,
 {
-    if let Some(figures) = figures {
-        // Where they can't be written, as on a full disk, that is told behind the first turn.
-        let _ = figures.write(rt, server, 0);
-    }
-    announce_memory(rt, start.stored, start.held);
-    announce(rt, start.address, &service.limits, start.allows);
     let turns = service.turns.map_or(u64::MAX, u64::from);
     let watch = Watch::new(service.drain, service.drain_timeout, service.log);
     let served = serve_turns(rt, turns, watch, server, journal, figures);
@@ -337,83 +330,34 @@ where
     served
 }
 
-/// An empty store of the capacity of a table.
-fn shelf_of<R: RandomSource + AllocGlobal>(rt: &R, capacity: usize) -> Result<IndexedShelf, Fault>
-    ensures { IfOk result (λ shelf. shelf ≡ record { limit = capacity; entries = []; room = 0 }) }
-{
-    let seed = seed_of(rt)?;
-    Ok(IndexedShelf::seeded(rt.alloc(), capacity, seed)?)
-}
-
-/// The store of a server and the files that it writes.
-#[derive(Drop)]
-struct Opened<'a, F: Write + Drop, P: Write + Drop> {
-    record: Option<Recorder<F>>,
-    shelf: IndexedShelf,
-    journal: Option<Journal<F, P>>,
-    figures: Option<Figures<'a>>,
-}
-
-/// What a server needs beside its sockets. They are only lent: each step that fails would let go of all that they hold.
-fn open<'a, 'n, R, P: Write + Drop>(
-    rt: &R,
-    service: &Service<'a>,
-    table: &[u8],
-    config: &Config,
-    store: &'a StoreCounts,
-    sockets: &mut LiveSockets<'n, R>,
-    print: P,
-) -> Result<Opened<'a, R::File, P>, Fault>
-where
-    R: Net + Clock + Files + AllocGlobal + RandomSource,
-    ensures { IfOk result (λ o. o.shelf ≡ record { limit = config.now.capacity; entries = []; room = 0 }) }
-{
-    let record = record_of(rt, service.record, table)?;
-    let shelf = shelf_of(rt, config.capacity())?;
-    let journal = journal_of(rt, service.log, print)?;
+/// Serves by a table over sockets, once its files are open.
+fn serve_table<'n, R: Net + Clock + Files + Print + Eprint + AllocGlobal + RandomSource>(
+    rt: &'n R,
+    service: &Service<'_>,
+    config: Config,
+    sockets: LiveSockets<'n, R>,
+    record: Option<Recorder<R::File>>,
+    start: Start,
+) -> Result<(), Fault> {
+    let mut sockets = sockets;
+    let store = StoreCounts::new();
+    let shelf = IndexedShelf::seeded(rt.alloc(), config.capacity(), seed_of(rt)?)?;
+    let shelf = CountedShelf::new(shelf, &store);
+    let mut journal = journal_of(rt, service.log, io::writer(rt))?;
     if journal.is_some() {
         sockets.keep_log();
     }
-    let figures = figures_of(rt, service.stats, config, store, sockets)?;
-    Ok(Opened {
-        record,
-        shelf,
-        journal,
-        figures,
-    })
-}
-
-/// Serves by a table.
-fn serve_table<R: Net + Clock + Files + Print + Eprint + AllocGlobal + RandomSource>(
-    rt: &R,
-    service: &Service<'_>,
-    table: &[u8],
-    config: Config,
-) -> Result<(), Fault> {
-    let allows = descriptors_allowed(rt);
-    let mut limits = within_descriptors(service.limits, allows);
-    limits.max_body = config.max_body();
-    let store = StoreCounts::new();
-    let mut sockets = sockets_of(rt, service.listen, limits)?;
-    let start = Start {
-        address: sockets.address(),
-        stored: most_stored(&config),
-        held: most_held(&limits, service.log.is_some()),
-        allows,
-    };
-    let print = io::writer(rt);
-    let Opened {
-        record,
-        shelf,
-        journal,
-        figures,
-    } = open(rt, service, table, &config, &store, &mut sockets, print)?;
+    let mut figures = figures_of(rt, service.stats, &config, &store, &mut sockets)?;
     warn_of_loops(rt, &config, start.address);
     warn_of_other_writer(rt, service.stats, start.address);
-    let shelf = CountedShelf::new(shelf, &store);
     let mut server = Server::new(rt.alloc(), config, shelf, sockets, record);
-    let (mut journal, mut figures) = (journal, figures);
-    serve_to_its_end(rt, service, start, &mut server, &mut journal, &mut figures)
+    if let Some(figures) = &figures {
+        // Where they can't be written, as on a full disk, that is told behind the first turn.
+        let _ = figures.write(rt, &server, 0);
+    }
+    announce_memory(rt, start.stored, start.held);
+    announce(rt, start.address, &service.limits, start.allows);
+    serve_to_its_end(rt, service, &mut server, &mut journal, &mut figures)
 }
 
 /// Serves as the command line says.
@@ -423,5 +367,16 @@ pub(crate) fn serve<R: Net + Clock + Files + Print + Eprint + AllocGlobal + Rand
 ) -> Result<(), Fault> {
     let table = read_table(rt, service.table)?;
     let config = config_of(rt.alloc(), table.as_slice())?;
-    serve_table(rt, service, table.as_slice(), config)
+    let allows = descriptors_allowed(rt);
+    let mut limits = within_descriptors(service.limits, allows);
+    limits.max_body = config.max_body();
+    let sockets = sockets_of(rt, service.listen, limits)?;
+    let record = record_of(rt, service.record, table.as_slice())?;
+    let start = Start {
+        address: sockets.address(),
+        stored: most_stored(&config),
+        held: most_held(&limits, service.log.is_some()),
+        allows,
+    };
+    serve_table(rt, service, config, sockets, record, start)
 }
