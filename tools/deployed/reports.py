@@ -320,7 +320,7 @@ def queries_and_times_are_bounded():
     origins.bound()
     expect("origins, and digits", (times.MOST_ORIGINS + 1, 2), (len(origins.rows), origins.digits))
     expect_within("different times", 1000, 2 * times.MOST_TIMES, sum(len(it.counts) for it in origins.rows.values()))
-    expect("the last of all is the others", times.OTHERS, origins.shown(1000)[-1][0])
+    expect("the last of all is the others", times.OTHERS, origins.shown(times.MOST_ORIGINS + 1)[-1][0])
     # (1.00 to 7.99 s, each once: the 350th is 4.49 s, to two digits)
     expect("a median to two digits", 4400000, origins.rows[b"1"].least(50))
 
