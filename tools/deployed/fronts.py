@@ -6,7 +6,7 @@ import socket
 import threading
 import time
 
-from deployed.stand import curl, deployed, free_port, need, part, wait_until
+from deployed.stand import curl, deployed, free_port, need, part, taken_in, wait_until, without_tls
 from live.expect import Unexpected, expect, expect_within
 from live.origin import Origin, silent, whole
 from live.script import happenings_of
@@ -26,8 +26,8 @@ SHORT = ["--origin-timeout", "6"]
 class Front:
     """A front before a proxy before an origin, by the files of deploy/."""
 
-    def __init__(self, stand, kind, words=(), options=SHORT, records=True):
-        """`words` take the place of others in the file."""
+    def __init__(self, stand, kind, words=(), options=SHORT, records=True, redirects=False):
+        """`words` take the place of others in the file. Only with `redirects` port 80 is as in the file."""
         self.stand, self.kind = stand, kind
         self.http, self.https, self.purge = free_port(), free_port(), free_port()
         self.origin = stand.origin(Origin(answers()))
@@ -38,7 +38,7 @@ class Front:
         self.logged.bind(("127.0.0.1", 0))
         self.logged.setblocking(False)
         ports = [self.http, self.https, self.proxy.port, self.purge, self.logged.getsockname()[1]]
-        self.process = start_front(stand, kind, ports, {**dict(words), "127.0.0.1:8081": self.origin.address})
+        self.process = start_front(stand, kind, ports, {**dict(words), "127.0.0.1:8081": self.origin.address}, redirects)
 
     def ask(self, target, *words, host="h.example", scheme="https"):
         return curl(self.https if scheme == "https" else self.http, f"{scheme}://{host}{target}", *words)
@@ -73,11 +73,11 @@ def haproxy_says(path, words):
     return text.decode()
 
 
-def start_front(stand, kind, numbers, words):
+def start_front(stand, kind, numbers, words, redirects=False):
     """The front of a file of deploy/, with these words in place of others. Nobody is its second cache, unless they name one."""
     http, https, cache, purge, log = numbers
     stand.certificate()
-    words = {SECOND: f"127.0.0.1:{free_port()}", **words, "/etc/revcache": stand.folder}
+    words = {**({} if redirects else without_tls(FILES[kind])), SECOND: f"127.0.0.1:{free_port()}", **words, "/etc/revcache": stand.folder}
     words |= {"127.0.0.1:8080": f"127.0.0.1:{cache}", "127.0.0.1:8089": f"127.0.0.1:{purge}"}
     if kind == "nginx":
         words |= {"listen 80;": f"listen 127.0.0.1:{http};", "listen 443 ssl": f"listen 127.0.0.1:{https} ssl"}
@@ -132,12 +132,37 @@ def checks_of(stand, kind):
 def nginx(stand):
     need("nginx", "curl")
     yield from checks_of(stand, "nginx")
+    yield "port_80_redirects", lambda: port_80_redirects(Front(stand, "nginx", records=False, redirects=True))
+    yield "a_path_of_yours_has_its_spelling", lambda: a_path_of_yours_has_its_spelling(Front(stand, "nginx", taken_in(FILES["nginx"], '"~*^/npm/', '"~*^/shop/')))
 
 
 @part
 def haproxy(stand):
     need("haproxy", "curl")
     yield from checks_of(stand, "haproxy")
+    yield "port_80_redirects", lambda: port_80_redirects(Front(stand, "haproxy", records=False, redirects=True))
+    options = taken_in(FILES["haproxy"], "acl is_spelt_so path -i -m reg ^/npm", "acl is_spelt_so path -i -m reg ^/shop")
+    yield "a_path_of_yours_has_its_spelling", lambda: a_path_of_yours_has_its_spelling(Front(stand, "haproxy", options))
+
+
+def port_80_redirects(front):
+    """Whoever comes without TLS is sent to https by the front itself; neither the cache nor the origin hears of it. A method stays what it is (308)."""
+    for words, status in (([], 301), (["--head"], 301), (["--data", "x"], 308), (["--request", "PURGE"], 308)):
+        answer = front.ask("/a/b?c=d", *words, scheme="http")
+        expect(f"by {words} status and Location", (status, "https://h.example/a/b?c=d"), (answer.status, answer.value("Location")))
+    answer = front.ask("/a", host="H.Example.:80", scheme="http")
+    expect("Location of another spelling", "https://h.example/a", answer.value("Location"))
+    expect("requests at the origin", 0, len(front.origin.fetches))
+    expect_from(front.ask("/a"), 200, "edge;fwd=uri-miss;ttl=;stored")
+
+
+def a_path_of_yours_has_its_spelling(front):
+    """With the lines for npm and for servlets their paths come through as they are; the same bytes elsewhere are refused."""
+    for target in ("/npm/@babel%2fcore", "/npm/@babel%2Fcore?x=1", "/shop/page/1;jsessionid=AB12.node-1"):
+        front.ask(target)
+        expect(f"requests for {target} at the origin", 1, len(front.fetches(target)))
+    for target in ("/@babel%2fcore", "/npm/@babel%2f..%2fcore", "/npm/x/..%2fcore", "/shop/;x", "/shop/page;jsessionid=a;b", "/shop/page;jsessionid=a/b", "/x;jsessionid=a"):
+        expect(f"status for {target}", 400, front.ask(target).status)
 
 
 def expect_from(answer, status, reason):
@@ -248,6 +273,17 @@ def a_scheme_has_its_own_answer_by_vary(front):
             expect(f"status by {scheme}", status, answer.status)
     expect("the second reason", "edge;hit;ttl=", answer.reason())
     expect("schemes at the origin", ["https", "http"], [value_of(it, "X-Forwarded-Proto") for it in front.fetches("/scheme")])
+
+
+@check
+def a_dot_segment_of_apt_is_taken_out(front):
+    """apt asks flat repositories for /apt/./Packages (RFC 3986, 5.2.4). What stands behind it is judged as any path; in a query it stays."""
+    for words in (["--http1.1"], ["--http2"]):
+        expect("status of /./a", 200, front.ask("/./a?x=/./y", *words).status)
+        expect("status of a denied path", 403, front.ask("/./admin/secret.txt", *words).status)
+        expect("status of two slashes behind it", 400, front.ask("/x/.//admin/secret.txt", *words).status)
+        expect("status of a query with it", 200, front.ask("/a?z=/./y", *words).status)
+    expect("targets at the origin", {"/a?x=/./y", "/a?z=/./y"}, {it.target for it in front.origin.fetches if "/y" in it.target})
 
 
 @check

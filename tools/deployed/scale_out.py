@@ -9,7 +9,7 @@ import threading
 import time
 
 from deployed.fronts import haproxy_says
-from deployed.stand import curl, deployed, free_port, need, part, put_for, wait_until
+from deployed.stand import curl, deployed, free_port, need, part, put_for, wait_until, without_tls
 from deployed.strangers import CLAIMS, HONEST, LONG, headers, long_head
 from live.expect import expect, expect_within
 from live.origin import Origin, whole
@@ -32,7 +32,7 @@ class Fleet:
         self.origin = stand.origin(Origin({f"/{i}": whole(200, KEPT, content=b"%d" % i) for i in range(OBJECTS)}))
         self.table = deployed("table.toml", {"127.0.0.1:8081": self.origin.address, "127.0.0.1:8089": f"127.0.0.1:{self.purge}"})
         self.caches = [stand.proxy(self.table, self.options(i)) for i in range(CACHES)]
-        ports = {"bind :80\n": f"bind 127.0.0.1:{self.http}\n", "bind :443 ssl": f"bind 127.0.0.1:{free_port()} ssl"}
+        ports = {**without_tls("scale-out/haproxy.cfg"), "bind :80\n": f"bind 127.0.0.1:{self.http}\n", "bind :443 ssl": f"bind 127.0.0.1:{free_port()} ssl"}
         ports |= {f"127.0.0.1:{8101 + i}": f"127.0.0.1:{it.port}" for i, it in enumerate(self.caches)}
         paths = {"    user haproxy\n    group haproxy\n": "", "/run/haproxy": stand.folder, "/etc/revcache": stand.folder}
         ports["127.0.0.1:8089"] = f"127.0.0.1:{self.purge}"

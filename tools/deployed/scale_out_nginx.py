@@ -3,7 +3,7 @@ import signal
 
 from deployed.fronts import FILES
 from deployed.scale_out import CACHES, LEAST, MOST, OBJECTS, Fleet, a_post_takes_away_what_its_cache_has, expect_all
-from deployed.stand import curl, deployed, free_port, need, part, put_for, taken_in, wait_until
+from deployed.stand import curl, deployed, free_port, need, part, put_for, taken_in, wait_until, without_tls
 from deployed.strangers import CLAIMS, FOR_OPERATORS, HONEST, LONG, NEAR, headers, long_head
 from live.expect import expect, expect_within
 from live.origin import Origin, whole
@@ -20,7 +20,7 @@ class NginxFleet(Fleet):
         self.origin = stand.origin(Origin({f"/{i}": whole(200, KEPT, content=b"%d" % i) for i in range(OBJECTS)}))
         self.table = deployed("table.toml", {"127.0.0.1:8081": self.origin.address, "127.0.0.1:8089": f"127.0.0.1:{self.purge}"})
         self.caches = [stand.proxy(self.table, self.options(i)) for i in range(CACHES)]
-        ports = {"listen 80;": f"listen 127.0.0.1:{self.http};", "listen 443 ssl": f"listen 127.0.0.1:{free_port()} ssl"}
+        ports = {**without_tls("scale-out/nginx.conf"), "listen 80;": f"listen 127.0.0.1:{self.http};", "listen 443 ssl": f"listen 127.0.0.1:{free_port()} ssl"}
         ports |= {f"127.0.0.1:{8101 + i}": f"127.0.0.1:{it.port}" for i, it in enumerate(self.caches)}
         paths = {"/run/nginx.pid": f"{stand.folder}/nginx.pid", "/var/log/nginx": stand.folder, "/etc/revcache": stand.folder}
         ports["127.0.0.1:8089"] = f"127.0.0.1:{self.purge}"

@@ -13,6 +13,11 @@ from live.expect import Skipped, Unexpected
 from live.proxy import Proxy
 
 DEPLOY = os.path.join(os.path.dirname(os.path.dirname(os.path.dirname(os.path.realpath(__file__)))), "deploy")
+# What sends port 80 to https, in the file of each front.
+REDIRECTS = {
+    "nginx": re.compile(r"    server \{\n        listen 80;\n(?:        .*\n)*    \}\n"),
+    "haproxy": re.compile(r"(?:    http-request redirect scheme https .*\n)+"),
+}
 PARTS = {}
 
 
@@ -71,6 +76,18 @@ def taken_in(name, *beginnings):
             old = "".join(option_at(lines, i))
             words[old] = re.sub(r"^( *)#", r"\1", old, flags=re.M)
     return words
+
+
+def without_tls(name):
+    """A file of deploy/ for a site that answers on port 80, too, as words for `put_for`."""
+    with open(f"{DEPLOY}/{name}", encoding="utf-8") as it:
+        text = it.read()
+    kind = "nginx" if name.endswith("nginx.conf") else "haproxy"
+    found = REDIRECTS[kind].search(text)
+    if not found:
+        raise Unexpected(f"in deploy/{name}", "what sends port 80 to https", "it isn't there")
+    more = {"listen 443 ssl http2;": "listen 80;\n        listen 443 ssl http2;"} if kind == "nginx" else {}
+    return {found[0]: "", **more}
 
 
 def option_at(lines, i):
