@@ -1,6 +1,8 @@
 """Whether the attack finds what it looks for: against bad heads, and against proxies that each
 break one rule."""
-from attacks import beside_real, client, hostile, interleavings, smuggling
+import random
+
+from attacks import beside_real, client, hostile, interleavings, shared_answers, smuggling
 from attacks.bad_proxy import bad_proxy
 from attacks.cases import SMUG, Case, message
 from attacks.findings import Tally
@@ -9,6 +11,7 @@ from attacks.four import asked_by_four
 from attacks.real_origins import smuggled
 from attacks.strict import Fault, hold_forwarded, read_answers
 from live.busy_origin import BusyOrigin
+from live.client import Response
 
 GOOD = [b"GET /a HTTP/1.1", b"Host: h", b"Via: 1.1 edge", b"Connection: close"]
 # (a forwarded message, and the word for what is wrong with it)
@@ -72,6 +75,43 @@ HOSTILE = [
     ("raw", "HTTP/2.0", "status line"), ("raw", "204 with a content", "lengths"),
     (None, "names its Set-Cookie", "named"), ("lenient", "plus", "not refused"), ("swapped", "length 0", "next"),
     (None, "plus", None), (None, "extra answer", None),
+]
+# What is made for a client who asks with the first lines, over a line with these words, and may be sent to one who asks with the second
+# (none), or why it may not. `asked`: the origin was asked for him, too.
+KEPT, DE, EN, AUTH = "Cache-Control: max-age=60", ["Accept-Language: de"], ["Accept-Language: en"], ["Authorization: Basic YTpi"]
+SHARED = [
+    (200, [KEPT], [], [], {}, None),
+    (200, [KEPT], [], [], {"cache": "off"}, "the line has no cache"),
+    (206, [KEPT], [], [], {}, "a part"),
+    (200, [KEPT], ["Range: bytes=0-1"], [], {}, "a part"),
+    (200, [KEPT], [], ["Range: bytes=0-1"], {}, "a range was asked for"),
+    (200, [f"{KEPT}, no-store"], [], [], {}, "no-store"),
+    (200, [f"{KEPT}, must-understand, no-store"], [], [], {}, None),
+    (299, [f"{KEPT}, must-understand"], [], [], {}, "must-understand"),
+    (200, [f'{KEPT}, private="X"'], [], [], {}, "private"),
+    (200, [f'{KEPT}, x="a, private"'], [], [], {}, None),
+    (200, [KEPT], ["Cache-Control: No-Store"], [], {}, "no-store of the request"),
+    (200, [KEPT], AUTH, [], {}, "Authorization"),
+    (200, [f"{KEPT}, public"], AUTH, [], {}, None),
+    (200, [KEPT], [], AUTH, {}, None),
+    (200, [KEPT, "Vary: *"], [], [], {}, "Vary: *"),
+    (200, [KEPT, "Vary: X, Accept-Language"], DE, DE, {}, None),
+    (200, [KEPT, "Vary: accept-language"], DE, EN, {}, "another accept-language"),
+    (200, [KEPT, "Vary: Accept-Language"], DE, [], {}, "another accept-language"),
+    (200, [KEPT, "Connection: cache-control"], [], [], {}, "Connection names Cache-Control"),
+    (200, [KEPT, "Set-Cookie: a=b"], [], [], {}, None),
+    (200, [KEPT, "Set-Cookie: a=b"], [], [], {"set-cookie": "not-stored"}, "Set-Cookie"),
+    (200, [f"{KEPT}, public", "Set-Cookie: a=b"], [], [], {"set-cookie": "not-stored"}, None),
+    (500, [KEPT], [], [], {"errors": "not-stored"}, "an error"),
+    (404, [KEPT], [], [], {"errors": "not-stored"}, None),
+    (200, [f"{KEPT}, no-cache"], [], [], {}, "no-cache"),
+    (200, [KEPT], [], ["Cache-Control: no-cache"], {}, "no-cache of the request"),
+    (200, [KEPT], [], ["Cache-Control: no-cache"], {"request-directives": "ignored"}, None),
+    (200, [], [], [], {}, "no lifetime"),
+    (404, [], [], [], {"lifetime": 60}, "no lifetime"),
+    (404, [], [], [], {"lifetime": 60, "error-lifetime": 60}, None),
+    (200, ["Cache-Control: max-age=60, s-maxage=0"], [], [], {}, "no lifetime"),
+    (200, ["Cache-Control: max-age=0"], [], ["Cache-Control: max-stale"], {}, None),
 ]
 # The kinds of the echoing origin that this proxy can read.
 KINDS = ["/plain", "/kept", "/hints", "/extra", "/slow", "/failing", "/gone"]
@@ -144,6 +184,18 @@ def hostile_words():
         yield f"{name!r}, a proxy with the fault {fault!r}", *told(word and f"hostile, {word}", tally)
 
 
+def shared_words():
+    """What is sent to another client is judged; and one's own answer is nobody else's."""
+    for status, lines, first, second, words, why in SHARED:
+        case = shared_answers.Case(0, random.Random(0))
+        case.status, case.lines, case.asked = status, lines, [first, second, []]
+        response = Response(b"HTTP/1.1 %d \r\nCache-Status: edge;hit;ttl=60\r\n\r\n" % status, b"made for 0/0.")
+        yield f"{status} {lines} for {first} sent to {second} over {words}", why, shared_answers.judge(case, 1, response, {(0, 0)}, (4, words))
+        yield "one's own answer", None, shared_answers.judge(case, 0, response, {(0, 0)}, (4, words))
+    response.content = b"made for 1/0."
+    yield "another target's", "the answer of another target", shared_answers.judge(case, 1, response, {(0, 0)}, (4, {}))
+
+
 def four_words():
     """Of the four honest clients all fail at a proxy that cuts answers, and none at the origin itself."""
     origin = BusyOrigin()
@@ -159,7 +211,7 @@ def four_words():
 def run():
     """Prints what isn't as it should be; whether all is."""
     count, wrong, client.WAIT = 0, 0, 2
-    for part in (checker, smuggling_words, real_origin_words, interleavings_words, hostile_words, four_words):
+    for part in (checker, smuggling_words, real_origin_words, interleavings_words, hostile_words, shared_words, four_words):
         for what, expected, got in part():
             count += 1
             if expected != got:

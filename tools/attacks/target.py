@@ -21,12 +21,12 @@ class Target:
         self.program, self.tally, self.records = program, tally, records
 
     @contextlib.contextmanager
-    def start(self, origin, **table):
-        """The running program before one origin. Where its run is recorded, the replay of the
-        record has to do what it did."""
+    def start(self, origin, lines=None, **table):
+        """The running program before one origin, by these lines of a table or by one that sends all to it. Where its run is
+        recorded, the replay of the record has to do what it did."""
         folder = tempfile.mkdtemp(prefix="attack-")
-        lines = table_of([DENIED, origin.address], **table)
-        proxy = Proxy(self.program, folder, lines, options=OPTIONS, records=self.records)
+        text = table_of(lines or [DENIED, origin.address], **table)
+        proxy = Proxy(self.program, folder, text, options=OPTIONS, records=self.records)
         try:
             yield proxy
             if self.records:
