@@ -96,9 +96,9 @@ class Origin:
                 raise Unexpected("requests at the origin", count, len(self.fetches))
         return self.fetches
 
-    def wait_for_connections(self, count):
+    def wait_for_connections(self, count, seconds):
         """Until the thread that accepts has come to so many, for a while."""
-        self.wait_within(lambda: len(self.fetches) >= count, 1)
+        self.wait_within(lambda: len(self.fetches) >= count, seconds)
 
     def wait_within(self, is_so, seconds):
         """Whether something is so of what has come, in time."""

@@ -1,6 +1,7 @@
 """Replays the record of a run, and compares what went out with what came in at the other ends."""
 import subprocess
 
+from live.client import PATIENCE
 from live.expect import Unexpected, expect
 from live.matching import match, numbers_of
 from live.script import happenings_of
@@ -58,7 +59,8 @@ def compare_origins(file, effects, origins, is_cut):
     for it in origins:
         wanted = [text for number, text in effects.forwards.get(it.address, []) if number not in refused]
         got = it.fetches
-        it.wait_for_connections(len(wanted))
+        # (on a busy machine the thread that accepts may come late; of a record that is cut the last may never come)
+        it.wait_for_connections(len(wanted), 1 if is_cut else PATIENCE)
         for i, (text, fetch) in enumerate(zip(wanted, got)):
             came = bytes(fetch.received)
             expect(f"by connection {i + 1} to an origin, by the replay,", text if fetch.is_whole else text[: len(came)], came)
