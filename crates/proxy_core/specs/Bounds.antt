@@ -24,25 +24,29 @@ use Rattle.proxy_core.specs.WrongTraces.{response_304}
 
 -- at each moment of a good history
 abbrev pub HeldIsWithinTheBounds : Type 0
-HeldIsWithinTheBounds = (table : Table) (start : StoreAtStart) (first : ℕ) (trace : List Item) → IsGoodHistory table start first trace
+HeldIsWithinTheBounds = (table : Table) (start : StoreAtStart) (first : ℕ) (trace : List Item)
+    → IsGoodHistory table start first trace
     → IsWithin (bounds_of table start.limit) weight_of (held_entries table start trace)
 
 -- What is stored weighs no more than the whole store may, so where one has room it is held behind the item that stores
 -- it, whatever goes for it.
 abbrev pub StoredIsHeld : Type 0
-StoredIsHeld = (table : Table) (start : StoreAtStart) (first serial : ℕ) (item : Item) (past : List Item) → 1 ≤ start.limit
+StoredIsHeld = (table : Table) (start : StoreAtStart) (first serial : ℕ) (item : Item) (past : List Item)
+    → 1 ≤ start.limit
     → IsGoodHistory table start first (item ∷ past) → serial_stored_by_outcome item.outcome ≡ Some serial
     → serial_is_in serial (held_serials table start (item ∷ past)) ≡ true
 
 abbrev pub StoredWeighsNoMoreThanTheStore : Type 0
-StoredWeighsNoMoreThanTheStore = (table : Table) (start : StoreAtStart) (first serial : ℕ) (e : Stored) (item : Item) (past : List Item)
+StoredWeighsNoMoreThanTheStore = (table : Table) (start : StoreAtStart) (first serial : ℕ) (e : Stored) (item : Item)
+    (past : List Item)
     → IsGoodHistory table start first (item ∷ past) → serial_stored_by_outcome item.outcome ≡ Some serial
     → held_entry table start (item ∷ past) serial ≡ Some e → IfSome table.max_store (λ most. weight_of e ≤ most)
 
 -- where the table bounds no bytes, what is held is what is held by number
 abbrev pub HeldByNumberAlone : Type 0
 HeldByNumberAlone = (table : Table) (start : StoreAtStart) (past : List Item) → table.max_store ≡ None
-    → held_serials table start past ≡ held_of start.limit (map store_change_of past ++ map change_that_stores start.entries)
+    → held_serials table start past ≡ held_of start.limit
+    (map store_change_of past ++ map change_that_stores start.entries)
 
 -- whatever it bounds, what was done to the store is what the outcomes tell, behind what was held at first
 abbrev pub StoreChangesAreThose : Type 0

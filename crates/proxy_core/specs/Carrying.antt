@@ -102,7 +102,8 @@ pub record ExchangeWasJudged (table : Table) (start : StoreAtStart) (x : Exchang
       ⊎ (WentForwardASecondTime table x since ⊎ HasWaitedSinceItsArrival table start x since before item.outcome)
 
 -- the rule of an open exchange is the least that stood when its request was judged
-pub record RuleWasLeastWhenJudged (table : Table) (start : StoreAtStart) (x : Exchange) (past : List Item) : Type 0 where
+pub record RuleWasLeastWhenJudged (table : Table) (start : StoreAtStart) (x : Exchange)
+    (past : List Item) : Type 0 where
   pub since : List Item
   pub before : List Item
   pub item : Item
@@ -140,7 +141,8 @@ exchange_ids exchanges = map (λ (x : Exchange). x.id) exchanges
 
 abbrev pub OpenExchangeCarriesItsArrival : Type 0
 OpenExchangeCarriesItsArrival =
-    (table : Table) (start : StoreAtStart) (first id : ℕ) (trace : List Item) (x : Exchange) → IsGoodHistory table start first trace →
+    (table : Table) (start : StoreAtStart) (first id : ℕ) (trace : List Item) (x : Exchange)
+    → IsGoodHistory table start first trace →
     find_exchange id (open_exchanges table start trace) ≡ Some x → ExchangeWasJudged table start x trace × (x.id ≡ id)
 
 abbrev pub ExchangesAreOpenInOrderOfArrival : Type 0

@@ -23,7 +23,8 @@ CoreWentThrough table start first (item ∷ past) core =
 
 -- its trace is good, and has the headline; the core has the table and the room that it began with,
 -- and what is held, open and next after it
-pub record KeepsThePromises (table : Table) (start : StoreAtStart) (first : ℕ) (trace : List Item) (core : State) : Type 0 where
+pub record KeepsThePromises (table : Table) (start : StoreAtStart) (first : ℕ) (trace : List Item)
+    (core : State) : Type 0 where
   pub table_is : core.table ≡ table
   pub limit_is : core.limit ≡ start.limit
   pub good : IsGoodHistory table start first trace

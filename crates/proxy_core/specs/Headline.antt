@@ -152,5 +152,6 @@ AnswerHasFinalStatus item past = (now id : ℕ) (r : Response) → item.event �
 
 -- No other trace has it: the record leaves no outcome open.
 abbrev pub NoOtherTraceHasTheHeadline : Type 0
-NoOtherTraceHasTheHeadline = (table : Table) (start : StoreAtStart) (first : ℕ) (trace : List Item) → Headline table start first trace
+NoOtherTraceHasTheHeadline = (table : Table) (start : StoreAtStart) (first : ℕ) (trace : List Item)
+    → Headline table start first trace
     → HoldsAtEachItem AnswerHasFinalStatus trace → IsGoodHistory table start first trace

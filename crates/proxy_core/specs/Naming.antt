@@ -70,7 +70,8 @@ AnswerAfterFailureNames table held now x kind bytes =
 -- an answer that is passed on: the least rule that stood when its request was judged, at its
 -- arrival or when it was woken, which its exchange has kept, in Cache-Status; and where its line
 -- tells it the first storing rule against it, by the next serial
-abbrev pub PassedAnswerNamesItsRule : Table → StoreAtStart → List Item → Option ℕ → ℕ → Exchange → Response → List ℕ → Option ℕ
+abbrev pub PassedAnswerNamesItsRule : Table → StoreAtStart → List Item → Option ℕ → ℕ → Exchange → Response → List ℕ
+    → Option ℕ
     → Type 0
 PassedAnswerNamesItsRule table start past next now x r bytes stored =
     RuleWasLeastWhenJudged table start x past × (bytes
@@ -78,7 +79,8 @@ PassedAnswerNamesItsRule table start past next now x r bytes stored =
     (policy_of table.lines x.line) table.name x r now (is_some stored) (storing_rule_to_explain table x r now next))
 
 -- by its event and the exchange that it is of; a 304 that nobody asked for is a failure
-abbrev pub AnswerNamesByEvent : Table → StoreAtStart → List Item → Option ℕ → Option Exchange → Event → List ℕ → Option ℕ → Type 0
+abbrev pub AnswerNamesByEvent : Table → StoreAtStart → List Item → Option ℕ → Option Exchange → Event → List ℕ
+    → Option ℕ → Type 0
 AnswerNamesByEvent table start past next x (Arrive now id asked) bytes stored =
     AnswerAtArrivalNames table (held_entries table start past) now asked bytes
 AnswerNamesByEvent table start past next (Some x) (Answer now id r) bytes stored =
@@ -94,7 +96,8 @@ AnswerNamesByEvent table start past next None (Wake now id) bytes stored = ⊥
 AnswerNamesByEvent table start past next x (Abandon id) bytes stored = ⊥
 
 -- an item whose reply is no stored response, behind those before it
-abbrev pub AnswerNamesFirstRule : Table → StoreAtStart → List Item → Option ℕ → Option Exchange → Event → Outcome → Type 0
+abbrev pub AnswerNamesFirstRule : Table → StoreAtStart → List Item → Option ℕ → Option Exchange → Event → Outcome
+    → Type 0
 AnswerNamesFirstRule table start past next x event (Reply r) =
     reply_uses_no_stored_response (Reply r) ≡ true → AnswerNamesByEvent table start past next x event r.bytes r.stored
 AnswerNamesFirstRule table start past next x event (Forward line bytes) = Unit {0}
@@ -106,6 +109,7 @@ AnswerNamesFirstRule table start past next x event Ended = Unit {0}
 -- Each answer that isn't a stored response names the first rule against one, over what was held and open before it.
 abbrev pub EachOtherAnswerNamesTheFirstRule : Type 0
 EachOtherAnswerNamesTheFirstRule =
-    (table : Table) (start : StoreAtStart) (first : ℕ) (item : Item) (past : List Item) → IsGoodHistory table start first (item ∷ past) →
+    (table : Table) (start : StoreAtStart) (first : ℕ) (item : Item) (past : List Item)
+    → IsGoodHistory table start first (item ∷ past) →
     AnswerNamesFirstRule table start past (next_serial first past)
     (find_exchange (exchange_id_of_event item.event) (open_exchanges table start past)) item.event item.outcome

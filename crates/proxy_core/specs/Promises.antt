@@ -142,7 +142,8 @@ NothingInvalidatedIsSent trace =
     NoItemInvalidates asked.target.key middle (storing ∷ (between ++ f ∷ before))
     × NoItemInvalidates asked.target.key (storing ∷ between) (f ∷ before)
 
--- What was held at first was stored by no item. Let an item send such a response: no item before it invalidates its key.
+-- What was held at first was stored by no item. Let an item send such a response: no item before it invalidates its
+-- key.
 abbrev pub NothingInvalidatedSinceTheStartIsSent : List Stored → List Item → Type 0
 NothingInvalidatedSinceTheStartIsSent entries trace =
     (later before : List Item) (sending : Item) (s : ℕ) (response : Stored) →

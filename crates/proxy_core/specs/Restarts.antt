@@ -39,9 +39,11 @@ OneTraceIsThose = (table : Table) (start : StoreAtStart) (first next : ℕ) (bef
     Headline table start first before × Headline table (store_left table start before) next after
 
 -- What is held, what is open and the next serial behind the second are those behind the whole.
-pub record LeavesTheSame (table : Table) (start : StoreAtStart) (first next : ℕ) (before after : List Item) : Type 0 where
+pub record LeavesTheSame (table : Table) (start : StoreAtStart) (first next : ℕ)
+    (before after : List Item) : Type 0 where
   pub held : held_entries table (store_left table start before) after ≡ held_entries table start (after ++ before)
-  pub exchanges : open_exchanges table (store_left table start before) after ≡ open_exchanges table start (after ++ before)
+  pub exchanges : open_exchanges table (store_left table start before) after ≡ open_exchanges table start
+      (after ++ before)
   pub next_is : next_serial next after ≡ next_serial first (after ++ before)
 
 abbrev pub ThatIsWhatIsLeft : Type 0

@@ -223,7 +223,8 @@ StoredResponseIsSentNowhereElse = (table : Table) (start : StoreAtStart) (first 
 -- too, and there is none for whose answer it waits.
 abbrev pub RequestIsForwardedWhereAllowed : Type 0
 RequestIsForwardedWhereAllowed =
-    (table : Table) (start : StoreAtStart) (first now id line : ℕ) (asked : Asked) (rule : ReuseRule) (item : Item) (past : List Item) →
+    (table : Table) (start : StoreAtStart) (first now id line : ℕ) (asked : Asked) (rule : ReuseRule) (item : Item)
+    (past : List Item) →
     IsGoodHistory table start first (item ∷ past) → item.event ≡ Arrive now id asked →
     verdict_of table.lines asked.method asked.target ≡ Allowed line
     → IsLeastReuseRule (policy_of table.lines line) (held_entries table start past) asked now rule
@@ -234,7 +235,8 @@ RequestIsForwardedWhereAllowed =
 
 abbrev pub RequestIsForwardedNowhereElse : Type 0
 RequestIsForwardedNowhereElse =
-    (table : Table) (start : StoreAtStart) (first now id line : ℕ) (asked : Asked) (bytes : List ℕ) (item : Item) (past : List Item) →
+    (table : Table) (start : StoreAtStart) (first now id line : ℕ) (asked : Asked) (bytes : List ℕ) (item : Item)
+    (past : List Item) →
     IsGoodHistory table start first (item ∷ past) → item.event ≡ Arrive now id asked
     → item.outcome ≡ Forward line bytes →
     (verdict_of table.lines asked.method asked.target ≡ Allowed line)
@@ -247,7 +249,8 @@ RequestIsForwardedNowhereElse =
 -- of that line; or it waits for the answer to another; or it takes no response but a stored one,
 -- and is told the rule against that.
 abbrev pub AllowedRequestReachesCacheOrOrigin : Type 0
-AllowedRequestReachesCacheOrOrigin = (table : Table) (start : StoreAtStart) (first now id line : ℕ) (asked : Asked) (item : Item)
+AllowedRequestReachesCacheOrOrigin = (table : Table) (start : StoreAtStart) (first now id line : ℕ) (asked : Asked)
+    (item : Item)
     (past : List Item) →
     IsGoodHistory table start first (item ∷ past) → item.event ≡ Arrive now id asked →
     verdict_of table.lines asked.method asked.target ≡ Allowed line
@@ -256,7 +259,8 @@ AllowedRequestReachesCacheOrOrigin = (table : Table) (start : StoreAtStart) (fir
 
 -- Any other is refused, by the line that denies it or because none matches.
 abbrev pub OtherRequestIsRefused : Type 0
-OtherRequestIsRefused = (table : Table) (start : StoreAtStart) (first now id : ℕ) (asked : Asked) (item : Item) (past : List Item) →
+OtherRequestIsRefused = (table : Table) (start : StoreAtStart) (first now id : ℕ) (asked : Asked) (item : Item)
+    (past : List Item) →
     IsGoodHistory table start first (item ∷ past) → item.event ≡ Arrive now id asked →
     ((line : ℕ) → verdict_of table.lines asked.method asked.target ≢ Allowed line)
     → RequestIsTurnedAway table now asked item.outcome

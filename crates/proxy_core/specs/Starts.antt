@@ -36,7 +36,7 @@ weight_if_any (Some e) = weight_of e
 abbrev pub change_that_stores : Stored → StoreChange
 change_that_stores e = record { stored = Some e.serial; used = None; removed = [] }
 
--- What is held at first counts as stored one after another, in the order of use: what comes last in it was stored first.
+-- What is held at first counts as stored one after another, in the order of use: what comes last there was first.
 abbrev pub changes_at_start : List Stored → List WeighedChange
 changes_at_start [] = []
 changes_at_start (e ∷ entries) = record {

@@ -105,7 +105,8 @@ pub record AnswerMayBeStored (table : Table) (next : Option ℕ) (past : List It
   pub serial_is_left : is_some next ≡ true
 
 -- the event is the answer to an exchange that is open, and may be stored
-pub record IsAnswerThatMayBeStored (table : Table) (start : StoreAtStart) (first : ℕ) (item : Item) (past : List Item) : Type 0 where
+pub record IsAnswerThatMayBeStored (table : Table) (start : StoreAtStart) (first : ℕ) (item : Item)
+    (past : List Item) : Type 0 where
   pub now : ℕ
   pub id : ℕ
   pub response : Response
@@ -181,7 +182,8 @@ ThoseAreRemoved table held x (Abandon id) outcome = serials_removed_by_outcome o
 -- An answer that may be stored, and in whose place no stored response is sent, is stored, under the next serial.
 abbrev pub AnswerIsStoredWhereItMayBe : Type 0
 AnswerIsStoredWhereItMayBe =
-    (table : Table) (start : StoreAtStart) (first now id : ℕ) (x : Exchange) (r : Response) (item : Item) (past : List Item) →
+    (table : Table) (start : StoreAtStart) (first now id : ℕ) (x : Exchange) (r : Response) (item : Item)
+    (past : List Item) →
     IsGoodHistory table start first (item ∷ past) → item.event ≡ Answer now id r
     → find_exchange id (open_exchanges table start past) ≡ Some x →
     serial_used_by_outcome item.outcome ≡ None → AnswerMayBeStored table (next_serial first past) past x r now →
@@ -197,7 +199,8 @@ NothingElseIsStored = (table : Table) (start : StoreAtStart) (first s : ℕ) (it
 -- what an item takes away
 abbrev pub ItemRemovesExactlyThese : Type 0
 ItemRemovesExactlyThese =
-    (table : Table) (start : StoreAtStart) (first : ℕ) (item : Item) (past : List Item) → IsGoodHistory table start first (item ∷ past) →
+    (table : Table) (start : StoreAtStart) (first : ℕ) (item : Item) (past : List Item)
+    → IsGoodHistory table start first (item ∷ past) →
     ThoseAreRemoved table (held_entries table start past)
     (find_exchange (exchange_id_of_event item.event) (open_exchanges table start past)) item.event item.outcome
 

@@ -50,7 +50,8 @@ events_of trace = map (λ (i : Item). i.event) trace
 
 -- An exchange is open from its arrival, where the request goes forward or waits, until an item of its id ends it.
 abbrev pub ExchangeIsOpenFromArrivalToEnd : Type 0
-ExchangeIsOpenFromArrivalToEnd = (table : Table) (start : StoreAtStart) (first : ℕ) (items before : List Item) (arrival : Item) →
+ExchangeIsOpenFromArrivalToEnd = (table : Table) (start : StoreAtStart) (first : ℕ) (items before : List Item)
+    (arrival : Item) →
     IsGoodHistory table start first (items ++ arrival ∷ before) →
     is_arrival_event arrival.event ≡ true →
     NoRequestArrives (exchange_id_of_event arrival.event) items →
@@ -72,7 +73,8 @@ OpenExchangeHasItsRequest = (table : Table) (start : StoreAtStart) (first id : �
 
 -- and while it isn't woken the rule that stood against a stored response when that arrived, by the word of its line
 abbrev pub OpenExchangeKeepsItsRule : Type 0
-OpenExchangeKeepsItsRule = (table : Table) (start : StoreAtStart) (first now id : ℕ) (asked : Asked) (items before : List Item)
+OpenExchangeKeepsItsRule = (table : Table) (start : StoreAtStart) (first now id : ℕ) (asked : Asked)
+    (items before : List Item)
     (arrival : Item)
     (x : Exchange) →
     IsGoodHistory table start first (items ++ arrival ∷ before) →
@@ -84,7 +86,8 @@ OpenExchangeKeepsItsRule = (table : Table) (start : StoreAtStart) (first now id 
 -- An open exchange whose request is at the origin is overtaken exactly where an item after its
 -- latest going forward invalidates its key.
 abbrev pub ExchangeIsOvertakenWhereInvalidated : Type 0
-ExchangeIsOvertakenWhereInvalidated = (table : Table) (start : StoreAtStart) (first : ℕ) (items before : List Item) (f : Item)
+ExchangeIsOvertakenWhereInvalidated = (table : Table) (start : StoreAtStart) (first : ℕ) (items before : List Item)
+    (f : Item)
     (x : Exchange) →
     IsGoodHistory table start first (items ++ f ∷ before) →
     outcome_goes_forward f.outcome ≡ true →
@@ -120,7 +123,8 @@ IsGoodOverHeldAndOverList = (table : Table) (start : StoreAtStart) (first : ℕ)
     → IsGoodHistory table start first trace
 
 abbrev pub IsGoodOverTheCoresList : Type 0
-IsGoodOverTheCoresList = (table : Table) (start : StoreAtStart) (first : ℕ) (trace : List Item) → IsGoodHistory table start first trace
+IsGoodOverTheCoresList = (table : Table) (start : StoreAtStart) (first : ℕ) (trace : List Item)
+    → IsGoodHistory table start first trace
     → IsGood (initial_state table start first) trace
 
 -- the list has what is held, the latest stored or used first

@@ -45,7 +45,8 @@ RequestIsAnsweredByTheOperator table now asked line outcome =
 
 -- an item over a line without cache stores nothing
 abbrev pub NothingIsStoredOverUncachedLine : Type 0
-NothingIsStoredOverUncachedLine = (table : Table) (start : StoreAtStart) (first line : ℕ) (item : Item) (past : List Item)
+NothingIsStoredOverUncachedLine = (table : Table) (start : StoreAtStart) (first line : ℕ) (item : Item)
+    (past : List Item)
     → IsGoodHistory table start first (item ∷ past) →
     EventGoesOverLine table (find_exchange (exchange_id_of_event item.event)
     (open_exchanges table start past)) item.event line
@@ -54,7 +55,8 @@ NothingIsStoredOverUncachedLine = (table : Table) (start : StoreAtStart) (first 
 
 -- and sends nothing that is held
 abbrev pub NothingStoredIsSentOverUncachedLine : Type 0
-NothingStoredIsSentOverUncachedLine = (table : Table) (start : StoreAtStart) (first line : ℕ) (item : Item) (past : List Item)
+NothingStoredIsSentOverUncachedLine = (table : Table) (start : StoreAtStart) (first line : ℕ) (item : Item)
+    (past : List Item)
     → IsGoodHistory table start first (item ∷ past) →
     EventGoesOverLine table (find_exchange (exchange_id_of_event item.event)
     (open_exchanges table start past)) item.event line
@@ -63,7 +65,8 @@ NothingStoredIsSentOverUncachedLine = (table : Table) (start : StoreAtStart) (fi
 
 -- each request that arrives over it goes forward, whatever is held
 abbrev pub RequestGoesForwardOverUncachedLine : Type 0
-RequestGoesForwardOverUncachedLine = (table : Table) (start : StoreAtStart) (first now id line : ℕ) (asked : Asked) (item : Item)
+RequestGoesForwardOverUncachedLine = (table : Table) (start : StoreAtStart) (first now id line : ℕ) (asked : Asked)
+    (item : Item)
     (past : List Item)
     → IsGoodHistory table start first (item ∷ past) →
     item.event ≡ Arrive now id asked → verdict_of table.lines asked.method asked.target ≡ Allowed line

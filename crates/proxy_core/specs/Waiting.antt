@@ -54,7 +54,8 @@ pub record RequestCouldWait (table : Table) (start : StoreAtStart) (past : List 
 
 -- whoever could wait does, where one leads
 abbrev pub RequestWaitsWhereOneLeads : Type 0
-RequestWaitsWhereOneLeads = (table : Table) (start : StoreAtStart) (first now id line leader : ℕ) (asked : Asked) (awaited : Awaited)
+RequestWaitsWhereOneLeads = (table : Table) (start : StoreAtStart) (first now id line leader : ℕ) (asked : Asked)
+    (awaited : Awaited)
     (item : Item) (past : List Item) →
     IsGoodHistory table start first (item ∷ past) → item.event ≡ Arrive now id asked
     → RequestCouldWait table start past now line asked awaited →
@@ -62,7 +63,8 @@ RequestWaitsWhereOneLeads = (table : Table) (start : StoreAtStart) (first now id
     → item.outcome ≡ Waits leader
 
 -- Whoever waits has just arrived, could wait, and waits for the first that leads.
-pub record RequestIsToWait (table : Table) (start : StoreAtStart) (leader : ℕ) (item : Item) (past : List Item) : Type 0 where
+pub record RequestIsToWait (table : Table) (start : StoreAtStart) (leader : ℕ) (item : Item)
+    (past : List Item) : Type 0 where
   pub now : ℕ
   pub id : ℕ
   pub asked : Asked
@@ -113,7 +115,8 @@ AnswerMayServe policy asked x =
 -- that one's answer could bring it: before a later one does the earlier has ended. Over a line with
 -- the word this is so while that answer may be for the later one.
 abbrev pub OnlyOneGoesForwardForKey : Type 0
-OnlyOneGoesForwardForKey = (table : Table) (start : StoreAtStart) (first line : ℕ) (awaited : Awaited) (rule : ReuseRule)
+OnlyOneGoesForwardForKey = (table : Table) (start : StoreAtStart) (first line : ℕ) (awaited : Awaited)
+    (rule : ReuseRule)
     (named : Option ℕ) (bytes : List ℕ) (now id : ℕ) (asked : Asked) (later earlier : Item)
     (between before : List Item) →
     IsGoodHistory table start first (later ∷ (between ++ earlier ∷ before))
@@ -170,7 +173,8 @@ pub record ExchangeMayBeWoken (id : ℕ) (xs : List Exchange) : Type 0 where
 -- Who waits does so until its leader has ended, by a reply or since the client went away, and may
 -- be woken from then on.
 abbrev pub RequestWaitsUntilItsLeaderEnds : Type 0
-RequestWaitsUntilItsLeaderEnds = (table : Table) (start : StoreAtStart) (first leader : ℕ) (items before : List Item) (arrival : Item) →
+RequestWaitsUntilItsLeaderEnds = (table : Table) (start : StoreAtStart) (first leader : ℕ) (items before : List Item)
+    (arrival : Item) →
     IsGoodHistory table start first (items ++ arrival ∷ before) → arrival.outcome ≡ Waits leader
     → NothingHappenedToExchange (exchange_id_of_event arrival.event) items →
     stage_of_exchange (find_exchange (exchange_id_of_event arrival.event)
@@ -195,7 +199,8 @@ ReleasedAreInOrderOfArrival = (table : Table) (start : StoreAtStart) (first : �
 -- a wake is accepted exactly of those, at a moment that can be told
 abbrev pub WakeIsAcceptedExactlyWhereReady : Type 0
 WakeIsAcceptedExactlyWhereReady =
-    (table : Table) (start : StoreAtStart) (first now id : ℕ) (trace : List Item) → IsGoodHistory table start first trace →
+    (table : Table) (start : StoreAtStart) (first now id : ℕ) (trace : List Item)
+    → IsGoodHistory table start first trace →
     ((serial_is_in id (ready_ids (open_exchanges table start trace)) ≡ true)
     → step_fault (open_exchanges table start trace) (Wake now id) ≡ moment_too_late_fault now)
     × (step_fault (open_exchanges table start trace) (Wake now id) ≡ None
@@ -203,7 +208,8 @@ WakeIsAcceptedExactlyWhereReady =
 
 -- What it gets is decided anew over what is held then: a stored response that may be reused, or it
 -- goes forward by the least rule against that. It doesn't wait again.
-pub record WokenRequestIsJudged (table : Table) (start : StoreAtStart) (now id : ℕ) (item : Item) (past : List Item) : Type 0 where
+pub record WokenRequestIsJudged (table : Table) (start : StoreAtStart) (now id : ℕ) (item : Item)
+    (past : List Item) : Type 0 where
   pub x : Exchange
   pub is_open : find_exchange id (open_exchanges table start past) ≡ Some x
   pub gets :

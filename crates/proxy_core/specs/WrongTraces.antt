@@ -155,7 +155,8 @@ condition_about_v = Some (record { serial = 1; sent = record { etag = Some (code
 
 -- this doesn't go where it is allowed
 abbrev pub GoingForwardIsWrong : List Item → Event → Outcome → Type 0
-GoingForwardIsWrong past event outcome = RequestGoesForwardWhereAllowed edge_table (empty_store 2) (item_of event outcome) past → ⊥
+GoingForwardIsWrong past event outcome = RequestGoesForwardWhereAllowed edge_table (empty_store 2)
+    (item_of event outcome) past → ⊥
 
 abbrev pub forward_over_line_3 : Outcome
 forward_over_line_3 = Forward 3 []

@@ -1,5 +1,6 @@
 //! The core: the operator's table, a shelf, the open exchanges and the next serial.
-ghost use Rattle.std.specs.Prelude.{◌≡◌, ◌≤◌, [], length, None, Some, IfOk, IfErr, OnErr, OnOk, option_copied, slice_get};
+ghost use Rattle.std.specs.Prelude.{◌≡◌, ◌≤◌, [], length, None, Some, IfOk, IfErr, OnErr, OnOk};
+ghost use Rattle.std.specs.Prelude.{option_copied, slice_get};
 ghost use Rattle.std.specs.Prelude.{IfSome};
 ghost use Rattle.hx_framing.specs.declared.messages.Response.{Response};
 ghost use Rattle.hx_status.specs.declared.cause.FailKind.{FailKind};

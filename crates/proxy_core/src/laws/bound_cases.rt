@@ -56,11 +56,11 @@ pub fn what_is_held_by_weight()
     ensures unbounded { held_serials (table_with_store None) (empty_store 5) two_were_stored ≡ 2 ∷ 1 ∷ [] }
     ensures by_number { held_serials (table_with_store (Some 2554)) (empty_store 1) two_were_stored ≡ 2 ∷ [] }
     ensures freshened { held_serials (table_with_store (Some 2554)) (empty_store 5) one_was_freshened ≡ 1 ∷ [] }
-    ensures freshened_with_room { held_serials (table_with_store (Some 2555)) (empty_store 5) one_was_freshened ≡ 1 ∷ 2 ∷ [] }
+    ensures freshened_with_room { held_serials (table_with_store (Some 2555)) (empty_store 5) one_was_freshened
+        ≡ 1 ∷ 2 ∷ [] }
 {}
 
-/// What is held at first is held in its order of use, within both bounds, until it is pushed out by what is stored; what
-/// is used comes first.
+/// What is held at first is held in its order of use, and what is used comes first.
 #[tactic(auto, unfolding(hx_validate::specs::Answering::freshened_of, httpdate::proofs::OnLiterals::httpdate_on_literals, hx_allow::specs::Matching::policy_of, hx_reuse::specs::Rules::reuse_rule_of, hx_reuse::specs::Rules::decision_of, hx_age::specs::Lifetime::lifetime_of))]
 pub fn what_is_held_at_first()
     ensures at_first { held_serials (table_with_store None) two_at_first [] ≡ 2 ∷ 1 ∷ [] }
