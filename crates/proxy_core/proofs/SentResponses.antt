@@ -250,9 +250,9 @@ module _ (table : Table) (es : List Stored) (distinct : Distinct (serials es)) w
   sends_by_event xs x next (Abandon id) s h = absurd (never_one s h)
 
 pub sends_what_is_held : SendsWhatIsHeld
-sends_what_is_held table limit first s item past g h =
-    let es = held_entries table limit past in
-    let xs = open_exchanges table limit past in
+sends_what_is_held table start first s item past g h =
+    let es = held_entries table start past in
+    let xs = open_exchanges table start past in
     let x = find_exchange (exchange_id_of_event item.event) xs in
     subst (λ (o : Outcome). serial_used_by_outcome o ≡ Some s → ReplyIsThatStoredResponse table es x item.event o s) (sym g.0.outcome_is)
-    (sends_by_event table es (held_distinct table limit first past g.1) xs x (next_serial first past) item.event s) h
+    (sends_by_event table es (held_distinct table start first past g.1) xs x (next_serial first past) item.event s) h

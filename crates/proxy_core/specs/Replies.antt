@@ -117,7 +117,8 @@ passed_answer_text policy name x r now stored rule =
     (length_of_passed_answer (is_head x.asked) r) x.asked.close (content_unless_head (is_head x.asked) r.content)
 
 abbrev pub fields_of_refusal : List ℕ → List ℕ → List Field
-fields_of_refusal date text = line (codes "Date") date ∷ line (codes "Content-Type") (codes "text/plain") ∷ line (codes "Refusal") text ∷ []
+fields_of_refusal date text = line (codes "Date") date ∷ line (codes "Content-Type") (codes "text/plain") ∷ line
+    (codes "Refusal") text ∷ []
 
 -- the proxy answers by itself, and names the cause
 abbrev pub refusal_reply_text : List ℕ → Cause → Bool → Bool → List ℕ

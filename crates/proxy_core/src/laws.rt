@@ -13,6 +13,7 @@ ghost use Rattle.proxy_core.specs.Carrying.{OpenExchangeCarriesItsArrival, Excha
 ghost use Rattle.proxy_core.specs.Driving.{PromisesOfADrivenCore};
 ghost use Rattle.proxy_core.specs.Headline.{EveryGoodTraceHasTheHeadline, NoOtherTraceHasTheHeadline};
 ghost use Rattle.proxy_core.specs.Naming.{EachOtherAnswerNamesTheFirstRule};
+ghost use Rattle.proxy_core.specs.Restarts.{OneTraceIsThose, ThatIsWhatIsLeft, ThoseAreOneTrace};
 ghost use Rattle.proxy_core.specs.Sending.{StoredResponseIsSentWhereItMayBe, StoredResponseIsSentNowhereElse};
 ghost use Rattle.proxy_core.specs.Sending.{SendsWhatIsHeld};
 ghost use Rattle.proxy_core.specs.Sending.{RequestIsForwardedWhereAllowed, RequestIsForwardedNowhereElse};
@@ -190,6 +191,14 @@ pub fn no_other_trace_has_the_headline()
 /// Every good trace has the headline.
 pub fn every_good_trace_has_the_headline()
     ensures { EveryGoodTraceHasTheHeadline }
+{}
+
+/// A restart is no event: what went before it and left nothing open, and what came after it over what was held then,
+/// are together one trace with the headline. The other way round a trace is two where nothing is open.
+pub fn a_restart_is_no_event()
+    ensures one { ThoseAreOneTrace }
+    ensures two { OneTraceIsThose }
+    ensures left { ThatIsWhatIsLeft }
 {}
 
 /// Whoever drives a core by its public calls has gone through a good trace, with all that each good trace keeps.

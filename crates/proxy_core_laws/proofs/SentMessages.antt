@@ -65,9 +65,9 @@ use Rattle.proxy_core_laws.specs.SentMessages.{EventsWereRead, EventWasRead, Out
 use Rattle.proxy_core_laws.proofs.OneResponse.{passes_one_response, refuses_as_one_response}
 use Rattle.proxy_core_laws.proofs.StoredReplies.{sends_a_304_as_one, sends_whole_as_one}
 use Rattle.proxy_core_laws.proofs.HeldReplies.{first_none, holds_sendable, in_time, left_so}
-use Rattle.proxy_core_laws.proofs.HeldValues.{conditions_fit, fits_after, found_held, used_content}
+use Rattle.proxy_core_laws.proofs.HeldValues.{conditions_fit, fits_in_memory, found_held, used_content}
 use Rattle.proxy_core_laws.proofs.OpenRequests.{keeps_what_was_read}
-use Rattle.proxy_core_laws.proofs.ReadTables.{names_a_token, stores_none_too_long}
+use Rattle.proxy_core_laws.proofs.ReadTables.{names_a_token}
 
 -- ---- one request
 
@@ -260,17 +260,17 @@ conditions_held es sendable (Some s) = by_found (find_entry s es) refl
     by_found (Some e) found = by_validator e (has_validator e.fields) (sendable s e found)
 
 pub sends_one_message_each_time : EachStepSendsOneMessage
-sends_one_message_each_time table limit first item past table_read good read =
+sends_one_message_each_time table start first item past table_read good begins read =
     by_used (serial_used_by_outcome item.outcome) refl
   where
     token : IsToken table.name
     token = names_a_token table table_read
 
     es : List Stored
-    es = held_entries table limit past
+    es = held_entries table start past
 
     xs : List Exchange
-    xs = open_exchanges table limit past
+    xs = open_exchanges table start past
 
     x : Option Exchange
     x = find_exchange (exchange_id_of_event item.event) xs
@@ -280,21 +280,21 @@ sends_one_message_each_time table limit first item past table_read good read =
 
     held_so : (s : ℕ) (e : Stored) → find_entry s es ≡ Some e → StoredIsSendable e × (length e.content < 2 ^ 64)
     held_so s e found =
-        let at = found_held (held_entry table limit past) (held_serials table limit past) s e found in
-        let fits = fits_after table limit first past good.1 answers.1 at.0 e at.1 in
-        let small = stores_none_too_long table table_read in
-        (holds_sendable table limit first past good.1 answers.1 at.0 e at.1, omega (arith, fits, small))
+        let at = found_held (held_entry table start past) (held_serials table start past) s e found in (
+          holds_sendable table start first past good.1 (λ t f k. (begins t f k).sendable) answers.1 at.0 e at.1,
+          fits_in_memory table start first past table_read begins good.1 answers.1 at.0 e at.1,
+        )
 
     by_used : (o : Option ℕ) → serial_used_by_outcome item.outcome ≡ o → OutcomeIsOneMessage table.name (event_is_to_head x item.event) item.outcome
     by_used (Some s) used =
-        let is = sends_what_is_held table limit first s item past good used in
+        let is = sends_what_is_held table start first s item past good used in
         let held = held_so s is.response is.is_held in
         sent_one table es x item.event item.outcome s is token (left_so x item.event is.response good.0.allowed answers.0 held.0)
         (subst (λ (c : List ℕ). length c < 2 ^ 64) (sym (used_content x item.event is.response)) held.1)
     by_used None unused =
         subst (λ (o : Outcome). OutcomeIsOneMessage table.name (event_is_to_head x item.event) o) (sym good.0.outcome_is)
         (unsent_one table es token (conditions_held es (λ s e found. (held_so s e found).0)) xs x (next_serial first past) item.event good.0.allowed read.0
-        (λ z open_is. keeps_what_was_read table limit first (exchange_id_of_event item.event) past z good.1 read.1 open_is) (sym (ap serial_used_by_outcome good.0.outcome_is) ∙ unused))
+        (λ z open_is. keeps_what_was_read table start first (exchange_id_of_event item.event) past z good.1 read.1 open_is) (sym (ap serial_used_by_outcome good.0.outcome_is) ∙ unused))
 
 -- ---- two messages are no one message
 

@@ -10,12 +10,14 @@ ghost use Rattle.proxy_core.specs.Outcomes.{forward_text};
 ghost use Rattle.proxy_core.specs.Traces.{DeniedRequestsLeaveNoTrace};
 ghost use Rattle.proxy_core.specs.Histories.{HistoryStopsAt};
 ghost use Rattle.proxy_core.specs.Promises.{NothingInvalidatedIsSent, TwiceForwardOneReply};
+ghost use Rattle.proxy_core.specs.Promises.{NothingInvalidatedSinceTheStartIsSent};
 ghost use Rattle.proxy_core.specs.Headline.{RequestGoesForwardWhereAllowed};
-ghost use Rattle.proxy_core.specs.Cases.{response_with};
+ghost use Rattle.proxy_core.specs.Cases.{response_with, stored_with};
 ghost use Rattle.proxy_core.specs.WrongTraces.{edge_table, fresh_for_a_minute, get_a, get_admin, events_that_store_a};
 ghost use Rattle.proxy_core.specs.WrongTraces.{item_of, condition_about_v, post_a};
 ghost use Rattle.proxy_core.specs.WrongTraces.{reply_that_stores, reply_that_sends_stored, trace_of_good_events};
 ghost use Rattle.proxy_core.specs.WrongTraces.{trace_sends_invalidated, trace_sends_behind, response_304};
+ghost use Rattle.proxy_core.specs.WrongTraces.{trace_sends_of_the_start};
 ghost use Rattle.proxy_core.specs.WrongTraces.{trace_stores_invalidated, trace_with_three_forwards};
 ghost use Rattle.proxy_core.specs.WrongTraces.{trace_with_two_replies, GoingForwardIsWrong};
 
@@ -72,6 +74,8 @@ pub fn sending_what_is_invalidated_is_refused()
     ensures on_its_way { NothingInvalidatedIsSent trace_stores_invalidated → ⊥ }
     ensures behind_a_304 { NothingInvalidatedIsSent (trace_sends_behind (response_304 [])) → ⊥ }
     ensures behind_a_redirect { NothingInvalidatedIsSent (trace_sends_behind (response_with 303 [])) → ⊥ }
+    ensures since_the_start { NothingInvalidatedSinceTheStartIsSent (stored_with 1 [] ∷ []) trace_sends_of_the_start
+        → ⊥ }
 {}
 
 /// No run stops behind its last event, nor at one that no fault stands against, but where memory runs out.
