@@ -60,7 +60,7 @@ module _ (table : Table) (es : List Stored) (xs : List Exchange) (now : ℕ) (as
 
   pub record WentBy (line : ℕ) (bytes : List ℕ) : Type 0 where
     pub on : IsSentOn line
-    pub bytes_are : bytes ≡ forward_text table asked (condition_about_serial es on.against)
+    pub bytes_are : bytes ≡ forward_text table line asked (condition_about_serial es on.against)
 
   -- what a request that arrives does, where it isn't answered
   Goes : Outcome → Type 0
@@ -96,7 +96,7 @@ module _ (table : Table) (es : List Stored) (xs : List Exchange) (now : ℕ) (as
 
 -- it goes where it went, without conditions
 abbrev pub IsAgain : Table → Exchange → Outcome → Type 0
-IsAgain table x (Forward line bytes) = (line ≡ x.line) × (bytes ≡ forward_text table x.asked None)
+IsAgain table x (Forward line bytes) = (line ≡ x.line) × (bytes ≡ forward_text table x.line x.asked None)
 IsAgain table x (Waits leader) = Unit {0}
 IsAgain table x (Reply r) = Unit {0}
 IsAgain table x Ended = Unit {0}
@@ -124,10 +124,10 @@ again_by table es now x r next d = by_304 (is_validation x r)
     by_unasked false = by_error (is_error_status r.status) (fallback_for (policy_of table.lines x.line) es x.asked now d)
 
     by_304 : (b : Bool) → IsAgain table x (cond b (outcome_of_304 table es now x r (stored_response_validated es x r now) d)
-        (cond (is_304_without_condition x.asked r) (outcome_of_failure table es now x BadAnswer (Some r.status) (fallback_for (policy_of table.lines x.line) es x.asked now d))
+        (cond (is_304_without_condition (policy_of table.lines x.line) x.asked r) (outcome_of_failure table es now x BadAnswer (Some r.status) (fallback_for (policy_of table.lines x.line) es x.asked now d))
         (outcome_of_passing_on_or_stale table es now x r next (is_error_status r.status) (fallback_for (policy_of table.lines x.line) es x.asked now d))))
     by_304 true = by_validation (stored_response_validated es x r now) d
-    by_304 false = by_unasked (is_304_without_condition x.asked r)
+    by_304 false = by_unasked (is_304_without_condition (policy_of table.lines x.line) x.asked r)
 
 -- ---- an item more
 
@@ -389,7 +389,7 @@ module _ (table : Table) (start : StoreAtStart) (first : ℕ) where
             against = on.against;
             names = subst (λ (es : List Stored). RuleNamesTheResponse es asked y.rule on.against) held (subst (λ (q : ReuseRule). RuleNamesTheResponse s.entries asked q on.against) (sym rule) named.1);
             condition = condition ∙ ap (λ (es : List Stored). condition_about_serial es on.against) held;
-            outcome_is = ap (λ (b : List ℕ). Forward line b) (w.bytes_are ∙ ap (forward_text table asked) (sym condition));
+            outcome_is = ap (λ (b : List ℕ). Forward line b) (w.bytes_are ∙ ap (forward_text table line asked) (sym condition));
           });
         },
         refl,
@@ -406,7 +406,7 @@ module _ (table : Table) (start : StoreAtStart) (first : ℕ) where
       let s = state_after_trace (initial_state table start first) past in
       let es = s.entries in
       let xs = s.exchanges in
-      let bytes = forward_text table z.asked (condition_about_serial es against) in
+      let bytes = forward_text table z.line z.asked (condition_about_serial es against) in
       let q = rule_of_decision (decision_of (policy_of table.lines z.line) es z.asked now) in
       let m = serial_named_by_decision (decision_of (policy_of table.lines z.line) es z.asked now) in
       let k = condition_about_serial es m in
@@ -438,7 +438,7 @@ module _ (table : Table) (start : StoreAtStart) (first : ℕ) where
             against = against;
             names = subst (λ (es : List Stored). RuleNamesTheResponse es z.asked y.rule against) held (subst (λ (q : ReuseRule). RuleNamesTheResponse es z.asked q against) (sym rule_is) named.1);
             condition = condition ∙ ap (λ (es : List Stored). condition_about_serial es against) held;
-            outcome_is = h ∙ ap (λ (c : Option Condition). Forward z.line (forward_text table z.asked c)) (sym condition);
+            outcome_is = h ∙ ap (λ (c : Option Condition). Forward z.line (forward_text table z.line z.asked c)) (sym condition);
           });
         },
         c.1,

@@ -133,14 +133,14 @@ module _ (table : Table) (start : StoreAtStart) (past : List Item) (distinct : D
       (rule, error, r.least, r.named, refl)
 
   module _ (x : Exchange) (kept : RuleWasLeastWhenJudged table start x past) (now id : ℕ) (r : Response) where
-    unasked_names : (fallback : Fallback) → is_304_without_condition x.asked r ≡ true → fallback_for (policy_of table.lines x.line) es x.asked now (decision_of (policy_of table.lines x.line) es x.asked now) ≡ fallback →
+    unasked_names : (fallback : Fallback) → is_304_without_condition (policy_of table.lines x.line) x.asked r ≡ true → fallback_for (policy_of table.lines x.line) es x.asked now (decision_of (policy_of table.lines x.line) es x.asked now) ≡ fallback →
         AnswerNamesFirstRule table start past next (Some x) (Answer now id r) (outcome_of_failure table es now x BadAnswer (Some r.status) fallback)
     unasked_names (Sends s detail) u k = λ h. absurd (false≢true h)
     unasked_names (Refuses rule error) u k = λ h.
         let q = refuses_is (policy_of table.lines x.line) es distinct now x.asked (decision_of (policy_of table.lines x.line) es x.asked now) rule error refl k in
         inr (u, (rule, error, q.least, q.named, refl))
 
-    passed_names : (b : Bool) (fallback : Fallback) → is_304_without_condition x.asked r ≡ false → AnswerNamesFirstRule table start past next (Some x) (Answer now id r) (outcome_of_passing_on_or_stale table es now x r next b fallback)
+    passed_names : (b : Bool) (fallback : Fallback) → is_304_without_condition (policy_of table.lines x.line) x.asked r ≡ false → AnswerNamesFirstRule table start past next (Some x) (Answer now id r) (outcome_of_passing_on_or_stale table es now x r next b fallback)
     passed_names true (Sends s detail) n = λ h. absurd (false≢true h)
     passed_names true (Refuses rule error) n = λ h. inl (n, (kept, refl))
     passed_names false fallback n = λ h. inl (n, (kept, refl))
@@ -153,17 +153,17 @@ module _ (table : Table) (start : StoreAtStart) (past : List Item) (distinct : D
     answer_names : AnswerNamesFirstRule table start past next (Some x) (Answer now id r) (outcome_of_answer table es now x r next (decision_of (policy_of table.lines x.line) es x.asked now))
     answer_names = by_304 (is_validation x r)
       where
-        by_unasked : (b : Bool) → is_304_without_condition x.asked r ≡ b →
+        by_unasked : (b : Bool) → is_304_without_condition (policy_of table.lines x.line) x.asked r ≡ b →
             AnswerNamesFirstRule table start past next (Some x) (Answer now id r) (cond b (outcome_of_failure table es now x BadAnswer (Some r.status) (fallback_for (policy_of table.lines x.line) es x.asked now (decision_of (policy_of table.lines x.line) es x.asked now)))
             (outcome_of_passing_on_or_stale table es now x r next (is_error_status r.status) (fallback_for (policy_of table.lines x.line) es x.asked now (decision_of (policy_of table.lines x.line) es x.asked now))))
         by_unasked true k = unasked_names (fallback_for (policy_of table.lines x.line) es x.asked now (decision_of (policy_of table.lines x.line) es x.asked now)) k refl
         by_unasked false k = passed_names (is_error_status r.status) (fallback_for (policy_of table.lines x.line) es x.asked now (decision_of (policy_of table.lines x.line) es x.asked now)) k
 
         by_304 : (b : Bool) → AnswerNamesFirstRule table start past next (Some x) (Answer now id r) (cond b (outcome_of_304 table es now x r (stored_response_validated es x r now) (decision_of (policy_of table.lines x.line) es x.asked now))
-            (cond (is_304_without_condition x.asked r) (outcome_of_failure table es now x BadAnswer (Some r.status) (fallback_for (policy_of table.lines x.line) es x.asked now (decision_of (policy_of table.lines x.line) es x.asked now)))
+            (cond (is_304_without_condition (policy_of table.lines x.line) x.asked r) (outcome_of_failure table es now x BadAnswer (Some r.status) (fallback_for (policy_of table.lines x.line) es x.asked now (decision_of (policy_of table.lines x.line) es x.asked now)))
             (outcome_of_passing_on_or_stale table es now x r next (is_error_status r.status) (fallback_for (policy_of table.lines x.line) es x.asked now (decision_of (policy_of table.lines x.line) es x.asked now)))))
         by_304 true = validation_names (stored_response_validated es x r now) (decision_of (policy_of table.lines x.line) es x.asked now)
-        by_304 false = by_unasked (is_304_without_condition x.asked r) refl
+        by_304 false = by_unasked (is_304_without_condition (policy_of table.lines x.line) x.asked r) refl
 
   woken_names : (x : Exchange) (now id : ℕ) (d : Decision) → AnswerNamesFirstRule table start past next (Some x) (Wake now id) (outcome_of_wake table es now x d)
   woken_names x now id (decision.Hit s) = λ h. absurd (false≢true h)

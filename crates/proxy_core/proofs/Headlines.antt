@@ -69,7 +69,7 @@ not_forward {P} o line bytes back h =
 abbrev Goes : Table → List Stored → List Item → ℕ → List ℕ → Event → Type 0
 Goes table es past line bytes event =
     (asked : Asked) × (condition : Option Condition) × (request_after_event (exchange_id_of_event event) event (latest_request_of (exchange_id_of_event event) past) ≡ Some asked) × (verdict_of table.lines asked.method asked.target ≡ Allowed line)
-    × IsConditionOfEvent (policy_of table.lines line) es asked event condition × (bytes ≡ forward_text table asked condition)
+    × IsConditionOfEvent (policy_of table.lines line) es asked event condition × (bytes ≡ forward_text table line asked condition)
 
 abbrev bytes_in : Outcome → List ℕ
 bytes_in (Forward line bytes) = bytes
@@ -148,7 +148,7 @@ module _ (table : Table) (es : List Stored) where
       d = decision_of (policy_of table.lines x.line) es x.asked now
 
       Is : Outcome → Type 0
-      Is o = (NeedsSecondForward table es x now id r → o ≡ Forward x.line (forward_text table x.asked None)) × ((NeedsSecondForward table es x now id r → ⊥) → IsClientReply o)
+      Is o = (NeedsSecondForward table es x now id r → o ≡ Forward x.line (forward_text table x.line x.asked None)) × ((NeedsSecondForward table es x now id r → ⊥) → IsClientReply o)
 
       validates : is_validation x r ≡ true → (o : Option Stored) → stored_response_validated es x r now ≡ o → (k : Decision) → d ≡ k → Is (outcome_of_304 table es now x r o k)
       validates y (Some e) v k dk = (λ asks. absurd (asks.1 e.serial (inl (y, (e, v, refl)))), λ no. (_, refl))
@@ -163,9 +163,9 @@ module _ (table : Table) (es : List Stored) where
 
       by_304 : (b : Bool) → is_validation x r ≡ b →
           Is (cond b (outcome_of_304 table es now x r (stored_response_validated es x r now) d)
-          (cond (is_304_without_condition x.asked r) (outcome_of_failure table es now x BadAnswer (Some r.status) (fallback_for (policy_of table.lines x.line) es x.asked now d)) (outcome_of_passing_on_or_stale table es now x r next (is_error_status r.status) (fallback_for (policy_of table.lines x.line) es x.asked now d))))
+          (cond (is_304_without_condition (policy_of table.lines x.line) x.asked r) (outcome_of_failure table es now x BadAnswer (Some r.status) (fallback_for (policy_of table.lines x.line) es x.asked now d)) (outcome_of_passing_on_or_stale table es now x r next (is_error_status r.status) (fallback_for (policy_of table.lines x.line) es x.asked now d))))
       by_304 true k = validates k (stored_response_validated es x r now) refl d refl
-      by_304 false k = (λ asks. no_true (sym k ∙ asks.0), λ no. by_unasked (is_304_without_condition x.asked r))
+      by_304 false k = (λ asks. no_true (sym k ∙ asks.0), λ no. by_unasked (is_304_without_condition (policy_of table.lines x.line) x.asked r))
         where
           by_unasked : (b : Bool) → IsClientReply (cond b (outcome_of_failure table es now x BadAnswer (Some r.status) (fallback_for (policy_of table.lines x.line) es x.asked now d)) (outcome_of_passing_on_or_stale table es now x r next (is_error_status r.status) (fallback_for (policy_of table.lines x.line) es x.asked now d)))
           by_unasked true = failed_replies now x BadAnswer (Some r.status) (fallback_for (policy_of table.lines x.line) es x.asked now d)
@@ -229,9 +229,9 @@ module _ (table : Table) (es : List Stored) where
       by_unasked false = passes (is_error_status r.status) (fallback_for (policy_of table.lines x.line) es x.asked now d)
 
       by_304 : (b : Bool) → close_in x.asked.close (cond b (outcome_of_304 table es now x r (stored_response_validated es x r now) d)
-          (cond (is_304_without_condition x.asked r) (outcome_of_failure table es now x BadAnswer (Some r.status) (fallback_for (policy_of table.lines x.line) es x.asked now d)) (outcome_of_passing_on_or_stale table es now x r next (is_error_status r.status) (fallback_for (policy_of table.lines x.line) es x.asked now d)))) ≡ x.asked.close
+          (cond (is_304_without_condition (policy_of table.lines x.line) x.asked r) (outcome_of_failure table es now x BadAnswer (Some r.status) (fallback_for (policy_of table.lines x.line) es x.asked now d)) (outcome_of_passing_on_or_stale table es now x r next (is_error_status r.status) (fallback_for (policy_of table.lines x.line) es x.asked now d)))) ≡ x.asked.close
       by_304 true = validates (stored_response_validated es x r now) d
-      by_304 false = by_unasked (is_304_without_condition x.asked r)
+      by_304 false = by_unasked (is_304_without_condition (policy_of table.lines x.line) x.asked r)
 
   wake_closes : (now : ℕ) (x : Exchange) (d : Decision) → close_in x.asked.close (outcome_of_wake table es now x d) ≡ x.asked.close
   wake_closes now x (decision.Hit s) = refl
@@ -296,7 +296,7 @@ module _ (table : Table) (start : StoreAtStart) (first : ℕ) where
       by_answer now id r (Some x) w_is o =
           let again = subst (IsAgain table x) (sym o) (again_by table es now x r (next_serial first past) (decision_of (policy_of table.lines x.line) es x.asked now)) in
           let carried = (carries_its_arrival table start first id past x g.1 w_is).0 in
-          (x.asked, None, has_its_request table start first id past x g.1 w_is, carried.line_allows ∙ ap (λ n. Allowed n) (sym again.0), refl, again.1)
+          (x.asked, None, has_its_request table start first id past x g.1 w_is, carried.line_allows ∙ ap (λ n. Allowed n) (sym again.0), refl, again.1 ∙ ap (λ n. forward_text table n x.asked None) (sym again.0))
 
       by_failure : (now id : ℕ) (kind : FailKind) (w : Option Exchange) → Forward line bytes ≡ outcome_of table es xs w (next_serial first past) (Fail now id kind) → Goes table es past line bytes (Fail now id kind)
       by_failure now id kind None o = absurd (cc)
@@ -319,7 +319,7 @@ module _ (table : Table) (start : StoreAtStart) (first : ℕ) where
                 has_its_request table start first id past x g.1 w_is,
                 carried.line_allows ∙ ap (λ n. Allowed n) (sym same),
                 (rule, against, subst (λ n. IsLeastReuseRule (policy_of table.lines n) es x.asked now rule) (sym same) named.0, named.1, refl),
-                ap bytes_in h,
+                ap bytes_in h ∙ ap (λ n. forward_text table n x.asked (condition_about_serial es against)) (sym same),
               )
 
       by_event : (event : Event) → item.event ≡ event → Goes table es past line bytes item.event

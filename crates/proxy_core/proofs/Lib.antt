@@ -46,3 +46,4 @@ pub mod AddedLines
 pub mod Cutting
 pub mod HeldWithin
 pub mod Restarts
+pub mod ConditionsKept

@@ -112,7 +112,7 @@ forward_same : (table : Table) (es : List Stored) (asked : Asked) (now line : �
 forward_same table es asked now line a b o p m n =
     let rule : a ≡ b = one_rule (policy_of table.lines line) es asked now a b m.is_least n.is_least in
     let against : m.against ≡ n.against = one_named (policy_of table.lines line) es asked now b m.against n.against (subst (λ r. RuleNamesTheResponse es asked r m.against) rule m.names) n.names in
-    m.outcome_is ∙ ap (λ c. Forward line (forward_text table asked (condition_about_serial es c))) against ∙ sym n.outcome_is
+    m.outcome_is ∙ ap (λ c. Forward line (forward_text table line asked (condition_about_serial es c))) against ∙ sym n.outcome_is
 
 module _ (table : Table) (es : List Stored) (distinct : Distinct (serials es)) (xs : List Exchange) (now : ℕ) (asked : Asked) where
   turned_same : (o p : Outcome) → RequestIsTurnedAway table now asked o → RequestIsTurnedAway table now asked p → o ≡ p
@@ -311,7 +311,7 @@ module _ (table : Table) (start : StoreAtStart) (first : ℕ) (past : List Item)
         AnswerHasFinalStatus (record { event = Answer now id r; outcome = o }) past → AnswerHasFinalStatus (record { event = Answer now id r; outcome = p }) past → o ≡ p
     answer_same now id x r a b final final2 = by_304 (is_validation x r) refl
       where
-        by_unasked : (u : Bool) → is_304_without_condition x.asked r ≡ u → (m n : Reply) → o ≡ Replied m → p ≡ Replied n → AnswerNamesByEvent table start past (next_serial first past) (Some x) (Answer now id r) m.bytes m.stored →
+        by_unasked : (u : Bool) → is_304_without_condition (policy_of table.lines x.line) x.asked r ≡ u → (m n : Reply) → o ≡ Replied m → p ≡ Replied n → AnswerNamesByEvent table start past (next_serial first past) (Some x) (Answer now id r) m.bytes m.stored →
             AnswerNamesByEvent table start past (next_serial first past) (Some x) (Answer now id r) n.bytes n.stored → m.bytes ≡ n.bytes
         by_unasked u is m n h k (inl (i, (kept, one))) (inl (j, (kept2, two))) =
             one
@@ -324,7 +324,7 @@ module _ (table : Table) (start : StoreAtStart) (first : ℕ) (past : List Item)
         replies : IsClientReply o → IsClientReply p → o ≡ p
         replies (m, h) (n, k) =
             both_reply (Some x) (Answer now id r) o p a b final m n h k
-            (by_unasked (is_304_without_condition x.asked r) refl m n h k
+            (by_unasked (is_304_without_condition (policy_of table.lines x.line) x.asked r) refl m n h k
             (named (Some x) (Answer now id r) o p a b final m h unused) (named (Some x) (Answer now id r) p o b a final2 n k other_unused))
 
         by_304 : (t : Bool) → is_validation x r ≡ t → o ≡ p

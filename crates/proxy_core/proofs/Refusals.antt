@@ -130,16 +130,16 @@ module _ (past : List Item) (now id line : ℕ) (asked : Asked) (bytes : List �
       (one_named (policy_of edge_table.lines line) (held_entries edge_table (empty_store 2) past) asked now rule named against (subst (λ q. RuleNamesTheResponse (held_entries edge_table (empty_store 2) past) asked q named) same names) known.1)
 
   -- a test that these bytes pass, and those that have to go forward don't
-  pub refuse_bytes : (test : List ℕ → Bool) → test bytes ≡ true → test (forward_text edge_table asked (condition_about_serial (held_entries edge_table (empty_store 2) past) against)) ≡ false → GoingForwardIsWrong past (Arrive now id asked) (Forward line bytes)
+  pub refuse_bytes : (test : List ℕ → Bool) → test bytes ≡ true → test (forward_text edge_table line asked (condition_about_serial (held_entries edge_table (empty_store 2) past) against)) ≡ false → GoingForwardIsWrong past (Arrive now id asked) (Forward line bytes)
   refuse_bytes test passes fails h = by_parts (h line bytes refl)
     where
       by_parts : (q : Asked) × (condition : Option Condition) × (latest_request_of id (item_of (Arrive now id asked) (Forward line bytes) ∷ past) ≡ Some q) × (verdict_of edge_table.lines q.method q.target ≡ Allowed line)
-          × IsConditionOfEvent (policy_of edge_table.lines line) (held_entries edge_table (empty_store 2) past) q (Arrive now id asked) condition × (bytes ≡ forward_text edge_table q condition) → ⊥
+          × IsConditionOfEvent (policy_of edge_table.lines line) (held_entries edge_table (empty_store 2) past) q (Arrive now id asked) condition × (bytes ≡ forward_text edge_table line q condition) → ⊥
       by_parts (q, condition, is, allowed, carries, text) =
           let own : asked ≡ q = same_Some asked q (sym (ap (λ b. cond b (Some asked) (latest_request_of id past)) (eq-eqb id id refl)) ∙ is) in
           let carried = condition_is condition (subst (λ z. IsConditionOfEvent (policy_of edge_table.lines line) (held_entries edge_table (empty_store 2) past) z (Arrive now id asked) condition) (sym own) carries) in
           false≢true
-          (sym fails ∙ ap (λ c. test (forward_text edge_table asked c)) (sym carried) ∙ ap (λ z. test (forward_text edge_table z condition)) own ∙ sym (ap test text) ∙ passes)
+          (sym fails ∙ ap (λ c. test (forward_text edge_table line asked c)) (sym carried) ∙ ap (λ z. test (forward_text edge_table line z condition)) own ∙ sym (ap test text) ∙ passes)
 
 -- the line isn't the one that allows it
 pub refuse_line : (now id line : ℕ) (asked : Asked) (bytes : List ℕ) → (verdict_of edge_table.lines asked.method asked.target ≡ Allowed line → ⊥) → GoingForwardIsWrong [] (Arrive now id asked) (Forward line bytes)

@@ -264,17 +264,17 @@ module _ (table : Table) (es : List Stored) (distinct : Distinct (serials es)) (
         d : Decision
         d = decision_of (policy_of table.lines x.line) es x.asked now
 
-        by_unasked : (b : Bool) → is_304_without_condition x.asked r ≡ b → IsUsed (cond b (outcome_of_failure table es now x BadAnswer (Some r.status) (fallback_for (policy_of table.lines x.line) es x.asked now (decision_of (policy_of table.lines x.line) es x.asked now)))
+        by_unasked : (b : Bool) → is_304_without_condition (policy_of table.lines x.line) x.asked r ≡ b → IsUsed (cond b (outcome_of_failure table es now x BadAnswer (Some r.status) (fallback_for (policy_of table.lines x.line) es x.asked now (decision_of (policy_of table.lines x.line) es x.asked now)))
             (outcome_of_passing_on_or_stale table es now x r next (is_error_status r.status) (fallback_for (policy_of table.lines x.line) es x.asked now (decision_of (policy_of table.lines x.line) es x.asked now)))) →
-            ((is_304_without_condition x.asked r || is_error_status r.status) ≡ true) × IsStoredFallback (policy_of table.lines x.line) es x.asked now s
+            ((is_304_without_condition (policy_of table.lines x.line) x.asked r || is_error_status r.status) ≡ true) × IsStoredFallback (policy_of table.lines x.line) es x.asked now s
         by_unasked true k h =
             (ap (λ b. b || is_error_status r.status) k, used_failed now x BadAnswer (Some r.status) s (fallback_for (policy_of table.lines x.line) es x.asked now (decision_of (policy_of table.lines x.line) es x.asked now)) refl h)
         by_unasked false k h =
             let p = used_passed (is_error_status r.status) (fallback_for (policy_of table.lines x.line) es x.asked now (decision_of (policy_of table.lines x.line) es x.asked now)) refl h in
-            (or_right (is_304_without_condition x.asked r) (is_error_status r.status) p.0, p.1)
+            (or_right (is_304_without_condition (policy_of table.lines x.line) x.asked r) (is_error_status r.status) p.0, p.1)
 
         by_304 : (b : Bool) → is_validation x r ≡ b → IsUsed (cond b (outcome_of_304 table es now x r (stored_response_validated es x r now) (decision_of (policy_of table.lines x.line) es x.asked now))
-            (cond (is_304_without_condition x.asked r) (outcome_of_failure table es now x BadAnswer (Some r.status) (fallback_for (policy_of table.lines x.line) es x.asked now (decision_of (policy_of table.lines x.line) es x.asked now)))
+            (cond (is_304_without_condition (policy_of table.lines x.line) x.asked r) (outcome_of_failure table es now x BadAnswer (Some r.status) (fallback_for (policy_of table.lines x.line) es x.asked now (decision_of (policy_of table.lines x.line) es x.asked now)))
             (outcome_of_passing_on_or_stale table es now x r next (is_error_status r.status) (fallback_for (policy_of table.lines x.line) es x.asked now (decision_of (policy_of table.lines x.line) es x.asked now))))) →
             StoredResponseMayBeSentAt table es (Some x) (Answer now id r) s
         by_304 true k h = by_kind (used_revalidated (stored_response_validated es x r now) (decision_of (policy_of table.lines x.line) es x.asked now) refl refl h)
@@ -283,7 +283,7 @@ module _ (table : Table) (es : List Stored) (distinct : Distinct (serials es)) (
                 StoredResponseMayBeSentAt table es (Some x) (Answer now id r) s
             by_kind (inl outcome_of_answer) = inl (k, outcome_of_answer)
             by_kind (inr anyway) = inr (inl (k, anyway.0, anyway.1))
-        by_304 false k h = let p = by_unasked (is_304_without_condition x.asked r) refl h in inr (inr (k, p.0, p.1))
+        by_304 false k h = let p = by_unasked (is_304_without_condition (policy_of table.lines x.line) x.asked r) refl h in inr (inr (k, p.0, p.1))
 
     -- the other way round
     fallback_uses : (b e : Bool) → (b || e) ≡ true → IsStoredFallback (policy_of table.lines x.line) es x.asked now s →
@@ -299,21 +299,21 @@ module _ (table : Table) (es : List Stored) (distinct : Distinct (serials es)) (
     answered_uses (inl may) =
         let d = decision_of (policy_of table.lines x.line) es x.asked now in
         let e = may.1.0 in
-        ap (λ b. serial_used_by_outcome (cond b (outcome_of_304 table es now x r (stored_response_validated es x r now) d) (cond (is_304_without_condition x.asked r) (outcome_of_failure table es now x BadAnswer (Some r.status) (fallback_for (policy_of table.lines x.line) es x.asked now d))
+        ap (λ b. serial_used_by_outcome (cond b (outcome_of_304 table es now x r (stored_response_validated es x r now) d) (cond (is_304_without_condition (policy_of table.lines x.line) x.asked r) (outcome_of_failure table es now x BadAnswer (Some r.status) (fallback_for (policy_of table.lines x.line) es x.asked now d))
         (outcome_of_passing_on_or_stale table es now x r next (is_error_status r.status) (fallback_for (policy_of table.lines x.line) es x.asked now d))))) may.0
         ∙ ap (λ (o : Option Stored). serial_used_by_outcome (outcome_of_304 table es now x r o d)) may.1.1
         ∙ ap (λ n. Some n) (serial_stays x r now e ∙ may.1.2)
     answered_uses (inr (inl may)) =
         let d = decision_of (policy_of table.lines x.line) es x.asked now in
-        ap (λ b. serial_used_by_outcome (cond b (outcome_of_304 table es now x r (stored_response_validated es x r now) d) (cond (is_304_without_condition x.asked r) (outcome_of_failure table es now x BadAnswer (Some r.status) (fallback_for (policy_of table.lines x.line) es x.asked now d))
+        ap (λ b. serial_used_by_outcome (cond b (outcome_of_304 table es now x r (stored_response_validated es x r now) d) (cond (is_304_without_condition (policy_of table.lines x.line) x.asked r) (outcome_of_failure table es now x BadAnswer (Some r.status) (fallback_for (policy_of table.lines x.line) es x.asked now d))
         (outcome_of_passing_on_or_stale table es now x r next (is_error_status r.status) (fallback_for (policy_of table.lines x.line) es x.asked now d))))) may.0
         ∙ ap (λ (o : Option Stored). serial_used_by_outcome (outcome_of_304 table es now x r o d)) may.1
         ∙ ap (λ (k : Decision). serial_used_by_outcome (outcome_of_304 table es now x r None k)) (reusable_hit (policy_of table.lines x.line) es distinct x.asked now s may.2)
     answered_uses (inr (inr may)) =
         let d = decision_of (policy_of table.lines x.line) es x.asked now in
-        ap (λ b. serial_used_by_outcome (cond b (outcome_of_304 table es now x r (stored_response_validated es x r now) d) (cond (is_304_without_condition x.asked r) (outcome_of_failure table es now x BadAnswer (Some r.status) (fallback_for (policy_of table.lines x.line) es x.asked now d))
+        ap (λ b. serial_used_by_outcome (cond b (outcome_of_304 table es now x r (stored_response_validated es x r now) d) (cond (is_304_without_condition (policy_of table.lines x.line) x.asked r) (outcome_of_failure table es now x BadAnswer (Some r.status) (fallback_for (policy_of table.lines x.line) es x.asked now d))
         (outcome_of_passing_on_or_stale table es now x r next (is_error_status r.status) (fallback_for (policy_of table.lines x.line) es x.asked now d))))) may.0
-        ∙ fallback_uses (is_304_without_condition x.asked r) (is_error_status r.status) may.1 may.2
+        ∙ fallback_uses (is_304_without_condition (policy_of table.lines x.line) x.asked r) (is_error_status r.status) may.1 may.2
 
   -- a request that waited
   used_woken : (now : ℕ) (x : Exchange) (s : ℕ) (d : Decision) → decision_of (policy_of table.lines x.line) es x.asked now ≡ d → serial_used_by_outcome (outcome_of_wake table es now x d) ≡ Some s →
@@ -367,7 +367,7 @@ forwards_where_allowed table start first now id line asked rule item past g e v 
     let es = held_entries table start past in
     let xs = open_exchanges table start past in
     let d = forwards (policy_of table.lines line) es asked now rule least in (
-      forward_text table asked (condition_about_serial es d.0),
+      forward_text table line asked (condition_about_serial es d.0),
       arrival_is table start first now id asked item past g e
           ∙ ap (λ (v : Verdict). outcome_of_arrival table es xs now asked v) v
           ∙ ap (λ (d : Decision). outcome_of_allowed_request table es xs line now asked d) d.1

@@ -174,11 +174,11 @@ module _ (table : Table) (x : Exchange) (r : Response) (now : ℕ) (next : Optio
           by_unasked false k = passed_only (is_error_status r.status) (fallback_for (policy_of table.lines x.line) es x.asked now d) k
 
           by_304 : (b : Bool)
-              → serial_stored_by_outcome (cond b (outcome_of_304 table es now x r (stored_response_validated es x r now) d) (cond (is_304_without_condition x.asked r) (outcome_of_failure table es now x BadAnswer (Some r.status) (fallback_for (policy_of table.lines x.line) es x.asked now d)) (outcome_of_passing_on_or_stale table es now x r next (is_error_status r.status) (fallback_for (policy_of table.lines x.line) es x.asked now d)))) ≡ Some s
+              → serial_stored_by_outcome (cond b (outcome_of_304 table es now x r (stored_response_validated es x r now) d) (cond (is_304_without_condition (policy_of table.lines x.line) x.asked r) (outcome_of_failure table es now x BadAnswer (Some r.status) (fallback_for (policy_of table.lines x.line) es x.asked now d)) (outcome_of_passing_on_or_stale table es now x r next (is_error_status r.status) (fallback_for (policy_of table.lines x.line) es x.asked now d)))) ≡ Some s
               → (is_storable table x r now next ≡ true)
-              × (serial_used_by_outcome (cond b (outcome_of_304 table es now x r (stored_response_validated es x r now) d) (cond (is_304_without_condition x.asked r) (outcome_of_failure table es now x BadAnswer (Some r.status) (fallback_for (policy_of table.lines x.line) es x.asked now d)) (outcome_of_passing_on_or_stale table es now x r next (is_error_status r.status) (fallback_for (policy_of table.lines x.line) es x.asked now d)))) ≡ None) × (next ≡ Some s)
+              × (serial_used_by_outcome (cond b (outcome_of_304 table es now x r (stored_response_validated es x r now) d) (cond (is_304_without_condition (policy_of table.lines x.line) x.asked r) (outcome_of_failure table es now x BadAnswer (Some r.status) (fallback_for (policy_of table.lines x.line) es x.asked now d)) (outcome_of_passing_on_or_stale table es now x r next (is_error_status r.status) (fallback_for (policy_of table.lines x.line) es x.asked now d)))) ≡ None) × (next ≡ Some s)
           by_304 true k = absurd (validated_never (stored_response_validated es x r now) d k)
-          by_304 false k = by_unasked (is_304_without_condition x.asked r) k
+          by_304 false k = by_unasked (is_304_without_condition (policy_of table.lines x.line) x.asked r) k
 
 -- ---- the laws
 
@@ -365,7 +365,7 @@ module _ (table : Table) (es : List Stored) (now : ℕ) (x : Exchange) (r : Resp
       by_entry None = refl
       by_entry (Some e) = ap (λ b. cond b (Some e) None) (never_answered x r now e n)
 
-  failed_goes : is_validation x r ≡ false → is_304_without_condition x.asked r ≡ true → (fallback : Fallback) → Goes (outcome_of_failure table es now x BadAnswer (Some r.status) fallback)
+  failed_goes : is_validation x r ≡ false → is_304_without_condition (policy_of table.lines x.line) x.asked r ≡ true → (fallback : Fallback) → Goes (outcome_of_failure table es now x BadAnswer (Some r.status) fallback)
   failed_goes n u (Sends serial detail) = sym (nothing_held_for (outcome_of_sending_stored table es serial now (forwarded_status_info (policy_of table.lines x.line) x (Some r.status) (Some detail)) x.asked) refl ∙ no_304_goes n)
   failed_goes n u (Refuses rule error) =
       let unsafe = not (is_among safe_methods x.asked.method) in
@@ -394,21 +394,21 @@ module _ (table : Table) (es : List Stored) (now : ℕ) (x : Exchange) (r : Resp
       ap (λ n. cond (freshened_may_be_kept table x r (freshened_by_304 x r now e)) [] (n ∷ [])) (serial_stays x r now e)
       ∙ sym (nothing_held_for (outcome_of_sending_freshened table x r now (freshened_by_304 x r now e)) refl ∙ ap (serial_not_kept_after_304 table x now r) v)
   revalidated_goes None (decision.Hit s) v = sym (nothing_held_for (outcome_of_sending_stored table es s now (forwarded_status_info (policy_of table.lines x.line) x (Some r.status) (Some ReuseAfter304)) x.asked) refl ∙ ap (serial_not_kept_after_304 table x now r) v)
-  revalidated_goes None (decision.Forward rule against) v = sym (nothing_held_for (Forward x.line (forward_text table x.asked None)) refl ∙ ap (serial_not_kept_after_304 table x now r) v)
+  revalidated_goes None (decision.Forward rule against) v = sym (nothing_held_for (Forward x.line (forward_text table x.line x.asked None)) refl ∙ ap (serial_not_kept_after_304 table x now r) v)
 
   answer_goes : (d : Decision) → Goes (outcome_of_answer table es now x r next d)
   answer_goes d = by_304 (is_validation x r) refl
     where
-      by_unasked : is_validation x r ≡ false → (b : Bool) → is_304_without_condition x.asked r ≡ b →
+      by_unasked : is_validation x r ≡ false → (b : Bool) → is_304_without_condition (policy_of table.lines x.line) x.asked r ≡ b →
           Goes (cond b (outcome_of_failure table es now x BadAnswer (Some r.status) (fallback_for (policy_of table.lines x.line) es x.asked now d)) (outcome_of_passing_on_or_stale table es now x r next (is_error_status r.status) (fallback_for (policy_of table.lines x.line) es x.asked now d)))
       by_unasked n true u = failed_goes n u (fallback_for (policy_of table.lines x.line) es x.asked now d)
       by_unasked n false u = unless_goes n (is_error_status r.status) refl (fallback_for (policy_of table.lines x.line) es x.asked now d)
 
       by_304 : (b : Bool) → is_validation x r ≡ b →
           Goes (cond b (outcome_of_304 table es now x r (stored_response_validated es x r now) d)
-          (cond (is_304_without_condition x.asked r) (outcome_of_failure table es now x BadAnswer (Some r.status) (fallback_for (policy_of table.lines x.line) es x.asked now d)) (outcome_of_passing_on_or_stale table es now x r next (is_error_status r.status) (fallback_for (policy_of table.lines x.line) es x.asked now d))))
+          (cond (is_304_without_condition (policy_of table.lines x.line) x.asked r) (outcome_of_failure table es now x BadAnswer (Some r.status) (fallback_for (policy_of table.lines x.line) es x.asked now d)) (outcome_of_passing_on_or_stale table es now x r next (is_error_status r.status) (fallback_for (policy_of table.lines x.line) es x.asked now d))))
       by_304 true k = revalidated_goes (stored_response_validated es x r now) d refl
-      by_304 false k = by_unasked k (is_304_without_condition x.asked r) refl
+      by_304 false k = by_unasked k (is_304_without_condition (policy_of table.lines x.line) x.asked r) refl
 
 -- what the status of an answer to an open exchange says is what its outcome shows
 abbrev StatusIsShown : Table → List Stored → Option ℕ → Exchange → Type 0

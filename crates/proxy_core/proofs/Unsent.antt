@@ -153,10 +153,10 @@ module _ (table : Table) (es : List Stored) (now i : ℕ) (x : Exchange) (r : Re
       by_unasked false h = stored_unless (is_error_status r.status) (fallback_for (policy_of table.lines x.line) es x.asked now d) h
 
       by_304 : (b : Bool) → serial_stored_by_outcome (cond b (outcome_of_304 table es now x r (stored_response_validated es x r now) d)
-          (cond (is_304_without_condition x.asked r) (outcome_of_failure table es now x BadAnswer (Some r.status) (fallback_for (policy_of table.lines x.line) es x.asked now d))
+          (cond (is_304_without_condition (policy_of table.lines x.line) x.asked r) (outcome_of_failure table es now x BadAnswer (Some r.status) (fallback_for (policy_of table.lines x.line) es x.asked now d))
           (outcome_of_passing_on_or_stale table es now x r next (is_error_status r.status) (fallback_for (policy_of table.lines x.line) es x.asked now d)))) ≡ Some s → Storing table (Some x) (Answer now i r) next s
       by_304 true h = absurd (stored_304 table es now x r (stored_response_validated es x r now) d s h)
-      by_304 false h = by_unasked (is_304_without_condition x.asked r) h
+      by_304 false h = by_unasked (is_304_without_condition (policy_of table.lines x.line) x.asked r) h
 
 pub storing_of : (table : Table) (es : List Stored) (xs : List Exchange) (w : Option Exchange) (next : Option ℕ) (event : Event) (s : ℕ) →
     serial_stored_by_outcome (outcome_of table es xs w next event) ≡ Some s → Storing table w event next s
@@ -217,12 +217,12 @@ answer_removes table es now x r next k h =
     let c = nat_le 200 r.status && nat_le r.status 399 in
     let p = key_parts x r k h in
     let t = tested (not (is_among safe_methods x.asked.method)) c (is_validation x r) p.0 in
-    elim (cases_Bool (is_304_without_condition x.asked r)) [
+    elim (cases_Bool (is_304_without_condition (policy_of table.lines x.line) x.asked r)) [
       | inl u ↦ (
           let refuses = unsafe_refuses (policy_of table.lines x.line) es x.asked now (turned (is_among safe_methods x.asked.method) t.unsafe) in
           ap serials_removed_by_outcome (failed_at (outcome_of_304 table es now x r (stored_response_validated es x r now) d)
           (outcome_of_failure table es now x BadAnswer (Some r.status) (fallback_for (policy_of table.lines x.line) es x.asked now d))
-          (outcome_of_passing_on_or_stale table es now x r next (is_error_status r.status) (fallback_for (policy_of table.lines x.line) es x.asked now d)) (is_validation x r) (is_304_without_condition x.asked r) t.no_validation u)
+          (outcome_of_passing_on_or_stale table es now x r next (is_error_status r.status) (fallback_for (policy_of table.lines x.line) es x.asked now d)) (is_validation x r) (is_304_without_condition (policy_of table.lines x.line) x.asked r) t.no_validation u)
           ∙ ap (λ (o : Fallback). serials_removed_by_outcome (outcome_of_failure table es now x BadAnswer (Some r.status) o)) refuses.1
           ∙ ap (λ b. cond (b && c) (serials_of x.asked.target.key es) []) t.unsafe
           ∙ ap (λ b. cond b (serials_of x.asked.target.key es) []) t.no_error
@@ -233,7 +233,7 @@ answer_removes table es now x r next k h =
           let unstored : is_storable table x r now next ≡ false = false_from_ne_true _ (λ e.
           let plain = storable_is table x r now next e in
           false≢true (sym (ap not plain.safe) ∙ t.unsafe)) in
-          ap serials_removed_by_outcome (passed_at table es now x r next d (is_validation x r) (is_304_without_condition x.asked r) (is_error_status r.status) t.no_validation f fine)
+          ap serials_removed_by_outcome (passed_at table es now x r next d (is_validation x r) (is_304_without_condition (policy_of table.lines x.line) x.asked r) (is_error_status r.status) t.no_validation f fine)
           ∙ ap (λ b. serials_removed_by_answer es x r (cond b next None)) unstored
           ∙ ap (λ b. cond b (serials_of x.asked.target.key es) []) p.0
           ∙ ap (λ key. serials_of key es) p.1

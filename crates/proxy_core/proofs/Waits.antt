@@ -501,7 +501,7 @@ woken_is_judged_anew table start first now id item past g e =
         ((s : ℕ) × StoredResponseIsReusable (policy_of table.lines x.line) es x.asked now s × (serial_used_by_outcome item.outcome ≡ Some s))
         ⊎ ((rule : ReuseRule) × (bytes : List ℕ) × IsLeastReuseRule (policy_of table.lines x.line) es x.asked now rule × (item.outcome ≡ Forward x.line bytes))
     by_decision x (decision.Hit s) d is = inl (s, reused_is_allowed (policy_of table.lines x.line) es x.asked now s d, ap serial_used_by_outcome is)
-    by_decision x (decision.Forward rule against) d is = inr (rule, forward_text table x.asked (condition_about_serial es against), (names_the_least (policy_of table.lines x.line) es x.asked now rule against d).0, is)
+    by_decision x (decision.Forward rule against) d is = inr (rule, forward_text table x.line x.asked (condition_about_serial es against), (names_the_least (policy_of table.lines x.line) es x.asked now rule against d).0, is)
 
 -- ---- one goes forward
 
@@ -644,11 +644,11 @@ one_goes_forward table start first line awaited rule named bytes now id asked la
     past : List Item
     past = between ++ earlier ∷ before
 
-    its_leads : (x : Exchange) → x.asked ≡ e.asked → x.rule ≡ rule → x.named ≡ named → x.stage ≡ Forwarded → (policy.waits_for_stale ≡ true → may_serve asked x ≡ true) → leads_waiters policy awaited asked x ≡ true
+    its_leads : (x : Exchange) → x.asked ≡ e.asked → x.rule ≡ rule → x.named ≡ named → x.stage ≡ Forwarded → (policy.waits_for_stale ≡ true → may_serve policy asked x ≡ true) → leads_waiters policy awaited asked x ≡ true
     its_leads x a r n t may =
-        all_five (same_key x.asked.target.key asked.target.key) (is_get x.asked) (is_forwarded x.stage) (asks_for awaited x) (not policy.waits_for_stale || may_serve asked x)
+        all_five (same_key x.asked.target.key asked.target.key) (is_get x.asked) (is_forwarded x.stage) (asks_for awaited x) (not policy.waits_for_stale || may_serve policy asked x)
         (ap (λ (q : Asked). same_key q.target.key asked.target.key) a ∙ same) (ap is_get a ∙ gets) (ap is_forwarded t) (asks_for_it awaited rule named x r n went)
-        (where_the_word_stands policy.waits_for_stale (may_serve asked x) may)
+        (where_the_word_stands policy.waits_for_stale (may_serve policy asked x) may)
 
     by_fate : (exchange_has_closed e.id between ≡ true) ⊎ AtTheOrigin rule named e.asked (its table start first e.now e.id rule named e.asked before earlier.outcome between) → exchange_has_closed e.id between ≡ true
     by_fate (inl c) = c
@@ -656,8 +656,8 @@ one_goes_forward table start first line awaited rule named bytes now id asked la
         let at : find_exchange e.id (open_exchanges table start past) ≡ Some a.x =
         ap (λ (i : Item). find_exchange e.id (open_exchanges table start (between ++ i ∷ before))) item_is
         ∙ (sym (ap (find_exchange e.id) (exchanges_are_open table start first (between ++ record { event = Arrive e.now e.id e.asked; outcome = earlier.outcome } ∷ before) p)) ∙ a.y_is) in
-        let may : policy.waits_for_stale ≡ true → may_serve asked a.x ≡ true =
-        (λ w. subst (λ (o : Option Exchange). IfSome o (λ (x : Exchange). may_serve asked x ≡ true)) at (serves w)) in
+        let may : policy.waits_for_stale ≡ true → may_serve policy asked a.x ≡ true =
+        (λ w. subst (λ (o : Option Exchange). IfSome o (λ (x : Exchange). may_serve policy asked x ≡ true)) at (serves w)) in
         let led = some_leads policy awaited asked e.id (open_exchanges table start past) a.x at (its_leads a.x a.asked_is a.rule_is a.named_is a.stage may) in
         let went = forwards_nothing_else table start first now id line asked bytes later past g arrives forward in
         let waits : later.outcome ≡ Waits led.0 =
@@ -684,5 +684,5 @@ plain_lines_wait_for_misses policy held asked now awaited x plain = (awaits_a_mi
 
     it_leads : leads_waiters policy Missing asked x ≡ (same_key x.asked.target.key asked.target.key && (is_get x.asked && (is_forwarded x.stage && is_uri_miss x.rule)))
     it_leads =
-        ap (λ w. same_key x.asked.target.key asked.target.key && (is_get x.asked && (is_forwarded x.stage && (is_uri_miss x.rule && (not w || may_serve asked x))))) plain
+        ap (λ w. same_key x.asked.target.key asked.target.key && (is_get x.asked && (is_forwarded x.stage && (is_uri_miss x.rule && (not w || may_serve policy asked x))))) plain
         ∙ ap (λ b. same_key x.asked.target.key asked.target.key && (is_get x.asked && (is_forwarded x.stage && b))) (and_always (is_uri_miss x.rule))

@@ -48,7 +48,7 @@ IsEventThatJudges event now x = (event ≡ Arrive now x.id x.asked) ⊎ (event �
 -- the client's own request goes forward once more, behind an answer
 abbrev pub second_forward_item : Table → Exchange → ℕ → Response → Item
 second_forward_item table x now r =
-    record { event = Answer now x.id r; outcome = Forward x.line (forward_text table x.asked None) }
+    record { event = Answer now x.id r; outcome = Forward x.line (forward_text table x.line x.asked None) }
 
 -- It went forward where it was judged alone: its request time is that moment, and its conditions,
 -- which ask about the response that its rule names, are those in the bytes that went.
@@ -60,7 +60,7 @@ pub record WentForwardOnce (table : Table) (start : StoreAtStart) (x : Exchange)
   pub against : Option ℕ
   pub names : RuleNamesTheResponse (held_entries table start before) x.asked x.rule against
   pub condition : x.condition ≡ condition_about_serial (held_entries table start before) against
-  pub outcome_is : outcome ≡ Forward x.line (forward_text table x.asked x.condition)
+  pub outcome_is : outcome ≡ Forward x.line (forward_text table x.line x.asked x.condition)
 
 -- it went forward once more, without conditions: its request time is the moment of that
 pub record WentForwardASecondTime (table : Table) (x : Exchange) (since : List Item) : Type 0 where

@@ -65,7 +65,7 @@ RequestGoesForwardWhereAllowed table start item past = (line : ℕ) (bytes : Lis
     (condition : Option Condition) × (latest_request_of (exchange_id_of_event item.event) (item ∷ past) ≡ Some asked)
     × (verdict_of table.lines asked.method asked.target ≡ Allowed line)
     × IsConditionOfEvent (policy_of table.lines line) (held_entries table start past) asked item.event condition
-    × (bytes ≡ forward_text table asked condition)
+    × (bytes ≡ forward_text table line asked condition)
 
 -- and behind it the client gets its answer at the next step, but for the one second forward, unless it goes away
 abbrev pub ExchangeGoesOnToItsAnswer : Table → StoreAtStart → Item → List Item → Type 0

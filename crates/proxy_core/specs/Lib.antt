@@ -32,3 +32,4 @@ pub mod Cases
 pub mod WrongTraces
 pub mod ReadAnswers
 pub mod Bounds
+pub mod KeptConditions

@@ -84,8 +84,9 @@ abbrev pub AnswerNamesByEvent : Table → StoreAtStart → List Item → Option 
 AnswerNamesByEvent table start past next x (Arrive now id asked) bytes stored =
     AnswerAtArrivalNames table (held_entries table start past) now asked bytes
 AnswerNamesByEvent table start past next (Some x) (Answer now id r) bytes stored =
-    ((is_304_without_condition x.asked r ≡ false) × PassedAnswerNamesItsRule table start past next now x r bytes stored)
-    ⊎ ((is_304_without_condition x.asked r ≡ true) × AnswerAfterFailureNames table
+    ((is_304_without_condition (policy_of table.lines x.line) x.asked r ≡ false)
+    × PassedAnswerNamesItsRule table start past next now x r bytes stored)
+    ⊎ ((is_304_without_condition (policy_of table.lines x.line) x.asked r ≡ true) × AnswerAfterFailureNames table
     (held_entries table start past) now x BadAnswer bytes)
 AnswerNamesByEvent table start past next (Some x) (Fail now id kind) bytes stored =
     AnswerAfterFailureNames table (held_entries table start past) now x kind bytes

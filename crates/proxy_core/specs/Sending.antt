@@ -81,7 +81,8 @@ StoredResponseMayBeSentAt table held (Some x) (Answer now id r) s =
     ((is_validation x r ≡ true) × ((e : Stored) × (stored_response_validated held x r now ≡ Some e) × (e.serial ≡ s)))
     ⊎ (((is_validation x r ≡ true) × (stored_response_validated held x r now ≡ None)
     × StoredResponseIsReusable (policy_of table.lines x.line) held x.asked now s)
-    ⊎ ((is_validation x r ≡ false) × ((is_304_without_condition x.asked r || is_error_status r.status) ≡ true)
+    ⊎ ((is_validation x r ≡ false)
+    × ((is_304_without_condition (policy_of table.lines x.line) x.asked r || is_error_status r.status) ≡ true)
     × IsStoredFallback (policy_of table.lines x.line) held x.asked now s))
 StoredResponseMayBeSentAt table held (Some x) (Fail now id kind) s = IsStoredFallback
     (policy_of table.lines x.line) held x.asked now s
@@ -102,7 +103,7 @@ pub record RequestGoesForward (table : Table) (held : List Stored) (asked : Aske
   pub is_least : IsLeastReuseRule (policy_of table.lines line) held asked now rule
   pub against : Option ℕ
   pub names : RuleNamesTheResponse held asked rule against
-  pub outcome_is : outcome ≡ Forward line (forward_text table asked (condition_about_serial held against))
+  pub outcome_is : outcome ≡ Forward line (forward_text table line asked (condition_about_serial held against))
 
 -- no exchange at the origin has asked for what the request could be sent of the answer to another
 abbrev pub NoLeaderIsOpen : Policy → List Stored → List Exchange → Asked → ℕ → Type 0

@@ -38,7 +38,7 @@ EventGoesOverLine table None (Abandon id) line = ⊥
 -- told the operator's rule
 abbrev pub RequestIsAnsweredByTheOperator : Table → ℕ → Asked → ℕ → Outcome → Type 0
 RequestIsAnsweredByTheOperator table now asked line outcome =
-    ((is_only_if_cached asked ≡ false) × (outcome ≡ Forward line (forward_text table asked None)))
+    ((is_only_if_cached asked ≡ false) × (outcome ≡ Forward line (forward_text table line asked None)))
     ⊎ ((is_only_if_cached asked ≡ true) × (outcome ≡ outcome_of_refusal now (OnlyIfCached Operator) asked))
 
 -- ---- the statements

@@ -109,7 +109,7 @@ went_for (Expired serial) rule named = names_serial named serial
 -- that is known of it, should it be open still, says otherwise.
 abbrev pub AnswerMayServe : Policy → Asked → Option Exchange → Type 0
 AnswerMayServe policy asked x =
-    policy.waits_for_stale ≡ true → IfSome x (λ (x : Exchange). may_serve asked x ≡ true)
+    policy.waits_for_stale ≡ true → IfSome x (λ (x : Exchange). may_serve policy asked x ≡ true)
 
 -- Of the GETs that arrive for a key while one of them is at the origin none goes there too for what
 -- that one's answer could bring it: before a later one does the earlier has ended. Over a line with

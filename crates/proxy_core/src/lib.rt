@@ -52,8 +52,8 @@ pub use crate::laws::worked_cases::{
 };
 pub use crate::laws::{
     a_core_keeps_what_is_held, a_driven_core_keeps_the_promises, a_good_trace_leaves_no_choice,
-    a_line_without_cache_touches_no_stored_response, a_plain_line_waits_for_what_is_missing_alone,
-    a_request_goes_forward_where_it_is_allowed,
+    a_kept_condition_is_judged_on_the_answer, a_line_without_cache_touches_no_stored_response,
+    a_plain_line_waits_for_what_is_missing_alone, a_request_goes_forward_where_it_is_allowed,
     a_request_reaches_cache_or_origin_where_it_is_allowed, a_restart_is_no_event,
     a_stored_response_is_sent_where_one_may_be, a_waiting_request_is_woken_once_behind_its_leader,
     an_answer_is_stored_where_it_may_be, an_open_exchange_carries_its_arrival,

@@ -26,23 +26,23 @@ ghost use Rattle.proxy_core.specs.WrongTraces.{trace_with_two_replies, GoingForw
 /// sends.
 pub fn what_goes_forward_is_the_request()
     ensures another_target { GoingForwardIsWrong [] (Arrive 100 1 get_a)
-        (Forward 3 (forward_text edge_table get_admin None)) }
+        (Forward 3 (forward_text edge_table 3 get_admin None)) }
     ensures another_line { GoingForwardIsWrong [] (Arrive 100 1 get_a)
-        (Forward 2 (forward_text edge_table get_a None)) }
+        (Forward 2 (forward_text edge_table 2 get_a None)) }
     ensures denied { GoingForwardIsWrong [] (Arrive 100 1 get_admin)
-        (Forward 1 (forward_text edge_table get_admin None)) }
+        (Forward 1 (forward_text edge_table 1 get_admin None)) }
     ensures conditions_of_nothing { GoingForwardIsWrong [] (Arrive 100 1 get_a)
-        (Forward 3 (forward_text edge_table get_a condition_about_v)) }
+        (Forward 3 (forward_text edge_table 3 get_a condition_about_v)) }
     ensures without_conditions { GoingForwardIsWrong (trace_of_good_events events_that_store_a) (Arrive 200 2 get_a)
-        (Forward 3 (forward_text edge_table get_a None)) }
+        (Forward 3 (forward_text edge_table 3 get_a None)) }
     ensures by_a_failure { GoingForwardIsWrong
-        (item_of (Arrive 100 1 get_a) (Forward 3 (forward_text edge_table get_a None)) ∷ [])
-        (Fail 101 1 kinds.Refused) (Forward 3 (forward_text edge_table get_a None)) }
+        (item_of (Arrive 100 1 get_a) (Forward 3 (forward_text edge_table 3 get_a None)) ∷ [])
+        (Fail 101 1 kinds.Refused) (Forward 3 (forward_text edge_table 3 get_a None)) }
     ensures conditions_a_second_time { GoingForwardIsWrong
         (trace_of_good_events (Arrive 200 2 get_a ∷ events_that_store_a)) (Answer 201 2 (response_with 304 []))
-        (Forward 3 (forward_text edge_table get_a condition_about_v)) }
+        (Forward 3 (forward_text edge_table 3 get_a condition_about_v)) }
     ensures of_nobody { GoingForwardIsWrong [] (Answer 101 1 fresh_for_a_minute)
-        (Forward 3 (forward_text edge_table get_a None)) }
+        (Forward 3 (forward_text edge_table 3 get_a None)) }
 {}
 
 /// A denied request neither goes forward nor waits nor is left, and its reply stores, sends and takes away nothing.
