@@ -118,7 +118,7 @@ module _ (table : Table) (es : List Stored) (xs : List Exchange) (next : Option 
   kept_so x now id r s e h found out =
       let serial = find-serial s es e found in
       let d : Decision = decision_of (policy_of table.lines x.line) es x.asked now in
-      let other : Outcome = cond (is_304_without_condition x.asked r) (outcome_of_failure table es now x BadAnswer (Some r.status) (fallback_for (policy_of table.lines x.line) es x.asked now d)) (outcome_of_passing_on_or_stale table es now x r next (is_error_status r.status) (fallback_for (policy_of table.lines x.line) es x.asked now d)) in
+      let other : Outcome = cond (is_304_without_condition (policy_of table.lines x.line) x.asked r) (outcome_of_failure table es now x BadAnswer (Some r.status) (fallback_for (policy_of table.lines x.line) es x.asked now d)) (outcome_of_passing_on_or_stale table es now x r next (is_error_status r.status) (fallback_for (policy_of table.lines x.line) es x.asked now d)) in
       let outcome : outcome_of table es xs (Some x) next (Answer now id r) ≡ outcome_of_304 table es now x r (Some e) d =
       ap (λ b. cond b (outcome_of_304 table es now x r (stored_response_validated es x r now) d) other) (validation_so x r now e h)
       ∙ ap (λ o. outcome_of_304 table es now x r o d) (validated_so x r now e h (ap (λ n. find_entry n es) serial ∙ found))

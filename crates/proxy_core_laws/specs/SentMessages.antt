@@ -77,13 +77,14 @@ EventsWereRead trace = AllByRecursion (λ item. EventWasRead item.event) trace
 -- behind it is left.
 pub record BytesAreOneRequest (name bytes : List ℕ) : Type 0 where
   pub asked : Asked
+  pub keeps : Bool
   pub conditions : Option Conditions
   pub was_read : RequestWasRead asked
-  pub text_is : bytes ≡ request_text (forwarded_of asked name conditions)
-  pub alone : (most : ℕ) → most < 2 ^ 64 → RequestIsWithinLimits most (forwarded_of asked name conditions)
+  pub text_is : bytes ≡ request_text (forwarded_of keeps asked name conditions)
+  pub alone : (most : ℕ) → most < 2 ^ 64 → RequestIsWithinLimits most (forwarded_of keeps asked name conditions)
       → (over continued : Bool) (behind : List ℕ)
       → ReadsRequest most over continued (bytes ++ behind)
-      (Spelled (request_as_read_back (forwarded_of asked name conditions)) behind)
+      (Spelled (request_as_read_back (forwarded_of keeps asked name conditions)) behind)
 
 -- The bytes are the text of a response. Where that is within the limits of a reader it is read back as it was sent, by
 -- a client that knows whether it asked by HEAD, and what stands behind it is left.
@@ -121,9 +122,9 @@ OneRequestIsNoMore =
     (name bytes behind : List ℕ) (one : BytesAreOneRequest name bytes) (most : ℕ) (over continued : Bool)
     (request : Request)
     (rest : List ℕ)
-    → most < 2 ^ 64 → RequestIsWithinLimits most (forwarded_of one.asked name one.conditions)
+    → most < 2 ^ 64 → RequestIsWithinLimits most (forwarded_of one.keeps one.asked name one.conditions)
     → ReadsRequest most over continued (bytes ++ behind) (Spelled request rest)
-    → (request ≡ request_as_read_back (forwarded_of one.asked name one.conditions)) × (rest ≡ behind)
+    → (request ≡ request_as_read_back (forwarded_of one.keeps one.asked name one.conditions)) × (rest ≡ behind)
 
 abbrev pub OneResponseIsNoMore : Type 0
 OneResponseIsNoMore =
