@@ -222,13 +222,13 @@ text_not_empty r h =
     no_line 13 (10 ∷ []) (right_empty front crlf (left_empty (front ++ crlf) (content_bytes r.content) h))
 
 pub no_request_is_empty : NoRequestIsEmpty
-no_request_is_empty name l done one = text_not_empty (forwarded_of one.asked name one.conditions) one.text_is
+no_request_is_empty name l done one = text_not_empty (forwarded_of one.keeps one.asked name one.conditions) one.text_is
 
 pub two_are_not_one : OneRequestIsNoMore → TwoRequestsAreNotOne
 two_are_not_one no_more name one other l most done first second small within both within_both =
-    let reading = subst (λ (bytes : List ℕ). ReadsRequest most false false bytes (Spelled (request_as_read_back (forwarded_of both.asked name both.conditions)) [])) (append-nil (one ++ other)) (both.alone most small within_both false false []) in
-    let found = no_more name one other first most false false (request_as_read_back (forwarded_of both.asked name both.conditions)) [] small within reading in
-    text_not_empty (forwarded_of second.asked name second.conditions) (found.1 ∙ second.text_is)
+    let reading = subst (λ (bytes : List ℕ). ReadsRequest most false false bytes (Spelled (request_as_read_back (forwarded_of both.keeps both.asked name both.conditions)) [])) (append-nil (one ++ other)) (both.alone most small within_both false false []) in
+    let found = no_more name one other first most false false (request_as_read_back (forwarded_of both.keeps both.asked name both.conditions)) [] small within reading in
+    text_not_empty (forwarded_of second.keeps second.asked name second.conditions) (found.1 ∙ second.text_is)
 
 pub none_to_the_listener : NothingIsWrittenToTheListener
 none_to_the_listener name bytes done h = h

@@ -86,9 +86,9 @@ abbrev pub TwoRequestsAreNotOne : Type 0
 TwoRequestsAreNotOne =
     (name one other : List ℕ) (l most : ℕ) (done : Bool) (first : BytesAreOneRequest name one)
     → BytesAreOneRequest name other → most < 2 ^ 64
-    → RequestIsWithinLimits most (forwarded_of first.asked name first.conditions)
+    → RequestIsWithinLimits most (forwarded_of first.keeps first.asked name first.conditions)
     → (both : CallWritesOneMessage name (call.Write (ends.Link l) (one ++ other) done))
-    → RequestIsWithinLimits most (forwarded_of both.asked name both.conditions) → ⊥
+    → RequestIsWithinLimits most (forwarded_of both.keeps both.asked name both.conditions) → ⊥
 
 abbrev pub NothingIsWrittenToTheListener : Type 0
 NothingIsWrittenToTheListener =
