@@ -161,14 +161,14 @@ class Words:
         )[1]
         return found.get("The proxy")
 
-    def parameter(self, word):
-        """A parameter of Cache-Status."""
+    def parameter(self, word, value=None):
+        """A parameter of Cache-Status; what the proxy did may hang on its value."""
         rows = self.documents.row(
             lambda it: any(names(one, word) for one in codes_in(it["Parameter"])), "Parameter", "Where", "RFC"
         )
         table, row = rows
         parts = [
-            ("the proxy", self.log_words(word)),
+            ("the proxy", value and self.log_words(f"{word}={value}") or self.log_words(word)),
             ("where", row.get("Where")),
             ("standard", link_of(row.get("RFC", ""))),
         ]

@@ -39,7 +39,8 @@ class Texts:
         parameters = {it.partition("=")[0]: it.partition("=")[2] for it in parts}
         reason, detail = parameters.get("fwd"), parameters.get("detail")
         entries = [self.words.parameter("hit")] if "hit" in parameters else self.of_rule(reason, detail)
-        entries += [self.words.parameter(it) for it in ("fwd-status", "ttl", "stored", "collapsed") if it in parameters]
+        told = ("fwd-status", "ttl", "stored", "collapsed")
+        entries += [self.words.parameter(it, parameters[it]) for it in told if it in parameters]
         entries += [self.words.detail(name) for name, word in self.own_details().items() if word == detail]
         if entries and "stored" in parameters and parameters.get("ttl", "").startswith("-"):
             entries.insert(0, self.words.born_old())

@@ -68,7 +68,7 @@ def hint_of(words, is_refusal, is_stored):
         return NO_LIFETIME
     if "ttl" in parameters:
         return STALE if words[0] == "fwd=stale" and detail in OVER else None
-    if is_stored or "fwd-status" in parameters:
+    if is_stored:
         return None
     if detail is None:
         return UNTOLD

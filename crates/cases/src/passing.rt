@@ -5,11 +5,14 @@ use crate::field_lines::fields_of;
 use crate::lines::{Fault, Line};
 use crate::parts::{Part, lines_of, write_fields};
 use crate::requests::asked_by;
+use crate::reuse::said_in_front;
 use crate::validation::conditions_of;
 use case_text::push_shown;
 use hx_fields::{Bytes, END_OF_TIME};
 use hx_framing::{Response, write_request};
 use hx_hop::{Answered, Asked, Conditions, answered, forward_request, strip};
+use hx_policy::Policy;
+use hx_reuse::keeps_conditions;
 use std::alloc::{AllocError, Global};
 
 /// The lines without those of one connection.
@@ -50,23 +53,27 @@ fn write_sent(
     text: &mut String,
     asked: &Asked,
     conditions: Option<&Conditions>,
+    policy: Policy,
 ) -> Result<(), AllocError> {
-    let forwarded = forward_request(*text.allocator(), asked, b"edge", conditions)?;
+    let keeps = keeps_conditions(policy, asked);
+    let forwarded = forward_request(*text.allocator(), asked, b"edge", conditions, keeps)?;
     let sent = write_request(*text.allocator(), &forwarded)?;
     push_shown(text, sent.as_slice())
 }
 
-/// A request as the proxy `edge` sends it on, with conditions of its own where they stand behind it.
+/// A request as the proxy `edge` sends it on, with conditions of its own where they stand behind it, over a line with
+/// the words that stand in front.
 pub fn forwarding(text: &mut String, label: Line<'_>, parts: &[Part<'_>]) -> Result<(), Fault> {
+    let (policy, parts) = said_in_front(parts)?;
     match parts {
         [request] => {
             let asked = asked_by(*text.allocator(), request)?;
-            Ok(write_sent(text, &asked, None)?)
+            Ok(write_sent(text, &asked, None, policy)?)
         }
         [request, conditions] => {
             let asked = asked_by(*text.allocator(), request)?;
             let conditions = conditions_of(*text.allocator(), conditions)?;
-            Ok(write_sent(text, &asked, Some(&conditions))?)
+            Ok(write_sent(text, &asked, Some(&conditions), policy)?)
         }
         _ => Err(label.fault("no request")),
     }

@@ -1,5 +1,6 @@
 //! What a line says of caching, in a case: `words` and each word as `lifetime=60`, with the values of the operator's
-//! table of version 4. A line of version 3 with that lifetime has `error-lifetime=60` too.
+//! table of version 4. A line of version 3 with that lifetime has `error-lifetime=60` too, and one of version 4 has
+//! `conditions=answered` without that word.
 
 use hx_policy::Policy;
 use std::alloc::AllocError;
@@ -16,6 +17,7 @@ fn with_word(policy: Policy, word: &str) -> Option<Policy> {
         ("request-directives", "ignored") => policy.heeds_requests = false,
         ("wait", "missing-or-stale") => policy.waits_for_stale = true,
         ("explain", "storing") => policy.explains_storing = true,
+        ("conditions", "answered") => policy.forwards_conditions = false,
         _ => return None,
     }
     Some(policy)
@@ -41,7 +43,7 @@ fn write_unless(text: &mut String, kept: bool, word: &str) -> Result<(), AllocEr
     if kept { Ok(()) } else { text.push_str(word) }
 }
 
-/// Writes each word of a policy that isn't as it is without words, behind a space.
+/// Writes each word of a policy that isn't as it is without words in versions 1 to 3, behind a space.
 pub fn write_words(text: &mut String, policy: Policy) -> Result<(), AllocError> {
     write_unless(text, policy.caches, " cache=off")?;
     write_seconds(text, "lifetime", policy.lifetime)?;
@@ -51,5 +53,6 @@ pub fn write_words(text: &mut String, policy: Policy) -> Result<(), AllocError> 
     write_unless(text, policy.stores_errors, " errors=not-stored")?;
     write_unless(text, policy.heeds_requests, " request-directives=ignored")?;
     write_unless(text, !policy.waits_for_stale, " wait=missing-or-stale")?;
-    write_unless(text, !policy.explains_storing, " explain=storing")
+    write_unless(text, !policy.explains_storing, " explain=storing")?;
+    write_unless(text, policy.forwards_conditions, " conditions=answered")
 }

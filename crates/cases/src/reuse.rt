@@ -195,7 +195,7 @@ fn write_decided(
 }
 
 /// What the line of the request says of caching, and what follows.
-fn said_in_front<'a, 'b>(parts: &'a [Part<'b>]) -> Result<(Policy, &'a [Part<'b>]), Fault> {
+pub fn said_in_front<'a, 'b>(parts: &'a [Part<'b>]) -> Result<(Policy, &'a [Part<'b>]), Fault> {
     let [first, rest @ ..] = parts else {
         return Ok((Policy::plain(true), parts));
     };

@@ -9,7 +9,10 @@ use hx_age::Times;
 use hx_fields::{Bytes, Fields};
 use hx_hop::{Answered, Conditions};
 use hx_store::Entry;
-use hx_validate::{answers, client_wants_304, conditions, freshened, has_validator, not_modified};
+use hx_validate::{
+    answer_not_modified, answers, client_has_answer, client_wants_304, conditions, freshened,
+    has_validator, not_modified,
+};
 use std::alloc::{AllocError, Global};
 
 /// The moments of a response that was made, asked for and received in this second.
@@ -112,7 +115,12 @@ pub fn freshening(text: &mut String, label: Line<'_>, parts: &[Part<'_>]) -> Res
     Ok(write_fields(text, &entry.fields)?)
 }
 
-/// Whether a client gets the stored response or a 304.
+/// The status and the lines of an answer of the origin, `answer 200` and its lines, if the part is one.
+fn status_of_answer(part: &Part<'_>) -> Option<u16> {
+    part.head.text.strip_prefix("answer ")?.parse::<u16>().ok()
+}
+
+/// Whether a client gets the stored response, or the answer of the origin, or a 304.
 pub fn client_conditions(
     text: &mut String,
     label: Line<'_>,
@@ -121,13 +129,18 @@ pub fn client_conditions(
     let [stored, request] = parts else {
         return Err(label.fault("not a stored response and a request"));
     };
-    let entry = stored_of(*text.allocator(), stored)?;
     let asked = asked_by(*text.allocator(), request)?;
-    let is_304 = client_wants_304(&asked, &entry);
+    let is_304 = match status_of_answer(stored) {
+        Some(status) => client_has_answer(&asked, status, &stored.fields),
+        None => {
+            let entry = stored_of(*text.allocator(), stored)?;
+            client_wants_304(&asked, &entry)
+        }
+    };
     write_word_answer(text, if is_304 { "304" } else { "200" })
 }
 
-/// The lines of the 304 that a client gets for the stored response.
+/// The lines of the 304 that a client gets for the stored response, or for the answer of the origin.
 pub fn not_modified_lines(
     text: &mut String,
     label: Line<'_>,
@@ -136,6 +149,10 @@ pub fn not_modified_lines(
     let [stored] = parts else {
         return Err(label.fault("not one stored response"));
     };
+    if status_of_answer(stored).is_some() {
+        let fields = answer_not_modified(*text.allocator(), &stored.fields)?;
+        return Ok(write_fields(text, &fields)?);
+    }
     let entry = stored_of(*text.allocator(), stored)?;
     let fields = not_modified(*text.allocator(), &entry)?;
     Ok(write_fields(text, &fields)?)

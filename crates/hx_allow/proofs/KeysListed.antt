@@ -1,21 +1,22 @@
 -- Each key of a line is one of those that are looked at, and a line without words has a plain policy. Where no key is bad
 -- each of them is good. What has a line for each key stands in front.
 use Rattle.std.proofs.Common.{◌≡◌, Bool, true, false, cond, List, [], ◌∷◌, codes, Some, None, refl, arith}
-use Rattle.std.specs.Prelude.{not, find}
+use Rattle.std.specs.Prelude.{not, ◌&&◌, find}
 use Rattle.std.specs.List.{All, list_all, list_any}
 use Rattle.std.proofs.lemmas.Bool.{and_parts}
 use Rattle.std.proofs.lemmas.List.Elements.{All-nil, All-cons}
 use Rattle.toml.specs.Data.{Members, get_member}
 use Rattle.hx_policy.specs.Policies.{plain}
 use Rattle.hx_allow.specs.LineTables.{is_good, first_bad_key}
-use Rattle.hx_allow.specs.LineWords.{key_has_text, word_of_error_lifetime, policy_of_line_table}
+use Rattle.hx_allow.specs.LineWords.{key_has_text, word_of_error_lifetime, line_takes_words, leaves_conditions_to_origin, policy_of_line_table}
 use Rattle.hx_allow.specs.Keys.{word_key}
-use Rattle.hx_allow.specs.Rows.{line_keys}
+use Rattle.hx_allow.specs.Rows.{line_keys, has_keys_of}
 use Rattle.hx_allow.specs.Versions.{LineHasNoWord}
-use Rattle.hx_allow.specs.declared.config_faults.LineWord.TheVariants.{Lifetime, ErrorLifetime, StaleIfError, SetCookie, Errors, RequestDirectives, Wait, Explain}
+use Rattle.hx_allow.specs.declared.config_faults.LineWord.TheVariants.{Lifetime, ErrorLifetime, StaleIfError, SetCookie, Errors, RequestDirectives, Wait, Explain, Conditions}
 use Rattle.hx_allow.specs.declared.rows.LineKey.{LineKey}
 use Rattle.hx_allow.specs.declared.rows.LineKey.TheVariants.{Host, Methods, Path, Origin, Cache, Word}
 use Rattle.hx_allow.specs.declared.values.TableVersion.{TableVersion}
+use Rattle.hx_allow.specs.declared.values.TableVersion.TheVariants.{Four}
 use Rattle.hx_allow.proofs.LinesRead.{none_applies}
 
 -- what holds of the list holds of each key
@@ -33,10 +34,12 @@ listed P all (Word Errors) = all 9 Host (omega arith)
 listed P all (Word RequestDirectives) = all 10 Host (omega arith)
 listed P all (Word Wait) = all 11 Host (omega arith)
 listed P all (Word Explain) = all 12 Host (omega arith)
+listed P all (Word Conditions) = all 13 Host (omega arith)
 
--- where no word stands, the policy is that of the versions before the third
-pub plain_policy : (version : TableVersion) (ms : Members) → LineHasNoWord ms → policy_of_line_table version ms ≡ plain (not (key_has_text (codes "cache") (codes "off") ms))
-plain_policy version ms none =
+-- where no word stands, the policy is that of the versions before the third, in a version before the fourth, or where
+-- the line takes none
+pub plain_policy : (version : TableVersion) (ms : Members) → LineHasNoWord ms → (has_keys_of version Four && line_takes_words ms) ≡ false → policy_of_line_table version ms ≡ plain (not (key_has_text (codes "cache") (codes "off") ms))
+plain_policy version ms none older =
     let error_lifetime : get_member (word_key (word_of_error_lifetime version)) ms ≡ None = none (word_of_error_lifetime version) in
     let lifetime : get_member (codes "lifetime") ms ≡ None = none Lifetime in
     let stale_if_error : get_member (codes "stale-if-error") ms ≡ None = none StaleIfError in
@@ -45,7 +48,8 @@ plain_policy version ms none =
     let request_directives : get_member (codes "request-directives") ms ≡ None = none RequestDirectives in
     let wait : get_member (codes "wait") ms ≡ None = none Wait in
     let explain : get_member (codes "explain") ms ≡ None = none Explain in
-    rw error_lifetime (rw lifetime (rw stale_if_error (rw set_cookie (rw errors (rw request_directives (rw wait (rw explain refl)))))))
+    let conditions : leaves_conditions_to_origin version ms ≡ true = rw older refl in
+    rw conditions (rw error_lifetime (rw lifetime (rw stale_if_error (rw set_cookie (rw errors (rw request_directives (rw wait (rw explain refl))))))))
 
 -- ---- what a test of the list tells of each
 

@@ -14,7 +14,7 @@ use Rattle.toml.specs.Data.{Data, Items, no_items, item, Members, no_members, me
 use Rattle.hx_policy.specs.Policies.{plain}
 use Rattle.hx_allow.specs.TableLines.{Line as PlainLine, Table}
 use Rattle.hx_allow.specs.Keys.{word_key}
-use Rattle.hx_allow.specs.LineWords.{key_has_text}
+use Rattle.hx_allow.specs.LineWords.{key_has_text, line_takes_words}
 use Rattle.hx_allow.specs.Rows.{Row, line_row, word_row, top_keys, line_keys, fault_of_top_key, fault_of_line_key, has_keys_of}
 use Rattle.hx_allow.specs.LineTables.{is_good_at, is_good, first_bad_key, line_fault, line_read, lines_fault, first_fault_or_later, fault_of_line_item, names_small_method, names_path_with_star, spelling_fault}
 use Rattle.hx_allow.specs.Tables.{is_good_at_top, is_good_store_bound, number_at, first_bad_at_top, lines_at, version_of, table_fault, table_read, judge_table, fault_or_table_read}
@@ -23,7 +23,7 @@ use Rattle.hx_allow.specs.Versions.{LineHasNoWord, LineHasNoWordOfFour, LineIsSp
 use Rattle.hx_allow.specs.declared.config_faults.ConfigFault.{ConfigFault}
 use Rattle.hx_allow.specs.declared.config_faults.ConfigFault.TheVariants.{UnknownKey, BadNumber, BadCache, BadWord, MethodInLowerCase, StarInPath}
 use Rattle.hx_allow.specs.declared.config_faults.LineWord.{LineWord}
-use Rattle.hx_allow.specs.declared.config_faults.LineWord.TheVariants.{Lifetime, ErrorLifetime, StaleIfError, SetCookie, Errors, RequestDirectives, Wait, Explain}
+use Rattle.hx_allow.specs.declared.config_faults.LineWord.TheVariants.{Lifetime, ErrorLifetime, StaleIfError, SetCookie, Errors, RequestDirectives, Wait, Explain, Conditions}
 use Rattle.hx_allow.specs.declared.config_faults.NumberKey.TheVariants.{Version, Capacity, MaxBody, MaxStored, MaxStore}
 use Rattle.hx_allow.specs.declared.rows.LineKey.{LineKey}
 use Rattle.hx_allow.specs.declared.rows.LineKey.TheVariants.{Host, Methods, Path, Origin, Cache, Word}
@@ -158,6 +158,7 @@ known_in_four key other = any_alike (λ known. is_key_of Four key (line_row know
     alike (Word RequestDirectives) = refl
     alike (Word Wait) = refl
     alike (Word Explain) = refl
+    alike (Word Conditions) = other Conditions refl
 
 same_unknown_of_four : (ms : Members) → LineHasNoWordOfFour ms → first_unknown (Line Four) ms ≡ first_unknown (Line Three) ms
 same_unknown_of_four no_members none = refl
@@ -359,6 +360,7 @@ unknown_word_of_four Three Errors since before = cc
 unknown_word_of_four Three RequestDirectives since before = cc
 unknown_word_of_four Three Wait since before = cc
 unknown_word_of_four Three Explain since before = cc
+unknown_word_of_four Three Conditions since before = refl
 unknown_word_of_four Four word since before = cc
 
 never_of_new_words : (version : TableVersion) (line : ℕ) (word : LineWord) (n : ℕ) (ms : Members) (key : LineKey) → (word_row word).since ≡ Four → has_keys_of version Four ≡ false → first_unknown (Line version) ms ≡ None → is_good ms key ≡ false → ¬ (fault_of_line_key n key ≡ BadWord line word)
@@ -551,20 +553,26 @@ all_keys_known version n ms none = by_keys (first_unknown (Line version) ms) ref
     by_keys (Some key) e = let is : line_fault version n ms ≡ Some (UnknownKey key) = rw e refl in cc
     by_keys None e = e
 
+older : (version : TableVersion) (ms : Members) → has_keys_of version Three ≡ false → (has_keys_of version Four && line_takes_words ms) ≡ false
+older One ms other = refl
+older Two ms other = refl
+older Three ms other = cc
+older Four ms other = cc
+
 is_cached_line : (n : ℕ) (ms : Members) → line_fault One n ms ≡ None → (line_read One ms).policy ≡ plain true
 unfolding line_read
 is_cached_line n ms none =
     let known = all_keys_known One n ms none in
     let caches : not (key_has_text (codes "cache") (codes "off") ms) ≡ true = rw (no_cache ms known) refl in
-    plain_policy One ms (no_words One ms refl known) ∙ ap plain caches
+    plain_policy One ms (no_words One ms refl known) refl ∙ ap plain caches
 
 is_plain_line : (version : TableVersion) (n : ℕ) (ms : Members) → has_keys_of version Three ≡ false → line_fault version n ms ≡ None → (line_read version ms).policy ≡ plain (line_read version ms).policy.caches
 unfolding line_read
-is_plain_line version n ms other none = plain_policy version ms (no_words version ms other (all_keys_known version n ms none))
+is_plain_line version n ms other none = plain_policy version ms (no_words version ms other (all_keys_known version n ms none)) (older version ms other)
 
 is_line_of_three : (version : TableVersion) (ms : Members) → has_keys_of version Four ≡ false → LineIsOfThree (line_read version ms)
 unfolding line_read
-is_line_of_three version ms before = rw before refl
+is_line_of_three version ms before = (rw before refl, rw before refl)
 
 pub each_is_cached : (t : Members) (table : Table) → version_of t ≡ One → judge_table t ≡ Ok table → All (λ (line : PlainLine). line.policy ≡ plain true) table.lines
 each_is_cached t table one e =

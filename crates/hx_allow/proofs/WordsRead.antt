@@ -7,7 +7,7 @@ use Rattle.toml.specs.Data.{Data, Members, get_member}
 use Rattle.hx_allow.specs.Addresses.{is_address, address_text}
 use Rattle.hx_allow.specs.TableLines.{Table}
 use Rattle.hx_allow.specs.LineWords.{key_has_text, line_takes_words}
-use Rattle.hx_allow.specs.Rows.{Row, word_row, fault_of_line_key}
+use Rattle.hx_allow.specs.Rows.{Row, word_row, fault_of_line_key, has_keys_of}
 use Rattle.hx_allow.specs.LineTables.{is_line_origin, is_of_kind, is_good_at, first_bad_key, first_fault_or_later, spelling_fault, line_fault, line_read}
 use Rattle.hx_allow.specs.Tables.{version_of, judge_table}
 use Rattle.hx_allow.specs.Values.{first_unknown, text_at, is_some_and}
@@ -19,6 +19,7 @@ use Rattle.hx_allow.specs.declared.rows.Place.{Place}
 use Rattle.hx_allow.specs.declared.rows.Place.TheVariants.{Needed, Optional, AllowingLine, CachingLine}
 use Rattle.hx_allow.specs.declared.values.Scope.TheVariants.{Line}
 use Rattle.hx_allow.specs.declared.values.TableVersion.{TableVersion}
+use Rattle.hx_allow.specs.declared.values.TableVersion.TheVariants.{Four}
 use Rattle.hx_allow.proofs.KeysListed.{each_key, each_good, plain_policy}
 use Rattle.hx_allow.proofs.LinesRead.{none_mapped, or_later_none, each_line_read}
 
@@ -59,6 +60,10 @@ both_hold true b e = cc
 both_hold false true e = cc
 both_hold false false e = (refl, refl)
 
+and_none : {b : Bool} (a : Bool) → b ≡ false → (a && b) ≡ false
+and_none true e = e
+and_none false e = refl
+
 takes_them : (version : TableVersion) (n : ℕ) (ms : Members) → line_fault version n ms ≡ None → LineTakesItsWords (line_read version ms)
 unfolding line_fault line_read
 takes_them version n ms none = by_keys (first_unknown (Line version) ms) refl
@@ -68,7 +73,7 @@ takes_them version n ms none = by_keys (first_unknown (Line version) ms) refl
         let both = both_hold (key_has_text (codes "origin") (codes "deny") ms) (key_has_text (codes "cache") (codes "off") ms) is in
         let origin : is_some_and is_line_origin (text_at (codes "origin") ms) ≡ true = each_good ms good Origin in
         inr (has_origin (text_at (codes "origin") ms) origin both.0, ap not both.1)
-    parts false is good = inl (plain_policy version ms (no_words ms is good))
+    parts false is good = inl (plain_policy version ms (no_words ms is good) (and_none (has_keys_of version Four) is))
 
     by_keys : (o : Option (List ℕ)) → first_unknown (Line version) ms ≡ o → LineTakesItsWords (line_read version ms)
     by_keys (Some key) e = let bad : line_fault version n ms ≡ Some (UnknownKey key) = rw e refl in cc

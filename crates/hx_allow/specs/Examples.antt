@@ -4,6 +4,7 @@ use Rattle.toml.specs.Data.{Data, string, integer, array, Items, no_items, item,
 use Rattle.hx_target.specs.declared.targets.Target.{Target}
 use Rattle.hx_target.specs.Paths.{table_path_of}
 use Rattle.hx_policy.specs.Policies.{plain}
+use Rattle.hx_policy.specs.declared.words.Policy.{Policy}
 use Rattle.hx_allow.specs.TableLines.{Line}
 
 -- a key and its value
@@ -85,9 +86,17 @@ abbrev pub line_with_method : Option (List ℕ) → List ℕ → List ℕ → Op
 line_with_method host name path origin =
     record { host = host; methods = name ∷ []; path = path; origin = origin; policy = plain true }
 
+-- what a line without words says in a table of version 4: the conditions of clients stay with the proxy
+abbrev pub plain_of_four : Policy
+plain_of_four = record (plain true) { forwards_conditions = false }
+
 -- the origin of the first run
 abbrev pub origin_8081 : Option (List ℕ)
 origin_8081 = Some (codes "127.0.0.1:8081")
+
+-- a line without words of version 4
+abbrev pub line_of_four : Line
+line_of_four = record (line_with_method None (codes "GET") (codes "/") origin_8081) { policy = plain_of_four }
 
 -- the first line denies a path, the second allows to get any
 abbrev pub first_line_denies : List Line

@@ -2,6 +2,7 @@
 --
 -- line_denies, line_takes_words: a line has no origin, or has one and its cache on
 -- word_of_error_lifetime: the word that gives errors their lifetime
+-- leaves_conditions_to_origin: the conditions of clients are the origin's to judge
 -- policy_of_line_table: what a line without fault says
 use Rattle.std.specs.Prelude.{ℕ, Bool, false, not, ◌&&◌, ◌||◌, if◌then◌else◌, List, codes, bytes_eq}
 use Rattle.toml.specs.Data.{Members}
@@ -11,6 +12,7 @@ use Rattle.hx_allow.specs.Values.{text_at, is_some_and, number_in}
 use Rattle.hx_allow.specs.declared.config_faults.LineWord.{LineWord}
 use Rattle.hx_allow.specs.declared.config_faults.LineWord.TheVariants.{Lifetime, ErrorLifetime, StaleIfError, SetCookie}
 use Rattle.hx_allow.specs.declared.config_faults.LineWord.TheVariants.{Errors, RequestDirectives, Wait, Explain}
+use Rattle.hx_allow.specs.declared.config_faults.LineWord.TheVariants.{Conditions}
 use Rattle.hx_allow.specs.declared.rows.LineKey.TheVariants.{Cache}
 use Rattle.hx_allow.specs.declared.values.TableVersion.{TableVersion}
 
@@ -45,6 +47,12 @@ abbrev pub word_of_error_lifetime : TableVersion → LineWord
 word_of_error_lifetime version =
     if has_keys_of version (word_row ErrorLifetime).since then ErrorLifetime else Lifetime
 
+-- own: from the fourth version on the conditions of clients stay with the proxy, unless the line says else; a line that
+-- takes no words says nothing of them ("A client's condition doesn't empty the cache")
+abbrev pub leaves_conditions_to_origin : TableVersion → Members → Bool
+leaves_conditions_to_origin version ms =
+    not (has_keys_of version (word_row Conditions).since && line_takes_words ms) || says_second (word_row Conditions) ms
+
 -- own: what a line of a table of a version says of caching, by the operator's words; each key that doesn't stand is as
 -- in the versions before
 abbrev pub policy_of_line_table : TableVersion → Members → Policy
@@ -58,4 +66,5 @@ policy_of_line_table version ms = record {
   heeds_requests = not (says_second (word_row RequestDirectives) ms);
   waits_for_stale = says_second (word_row Wait) ms;
   explains_storing = says_second (word_row Explain) ms;
+  forwards_conditions = leaves_conditions_to_origin version ms;
 }

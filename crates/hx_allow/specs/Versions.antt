@@ -21,9 +21,11 @@ LineHasNoWordOfFour ms = (word : LineWord) → (word_row word).since ≡ Four �
 abbrev pub LineIsSpelledForFour : Members → Type 0
 LineIsSpelledForFour ms = (names_small_method ms ≡ false) × (names_path_with_star ms ≡ false)
 
--- what a line of the third version says: errors have the lifetime of all others
+-- what a line of the third version says: errors have the lifetime of all others, and the conditions of clients are the
+-- origin's to judge
 abbrev pub LineIsOfThree : Line → Type 0
-LineIsOfThree line = line.policy.error_lifetime ≡ line.policy.lifetime
+LineIsOfThree line =
+    (line.policy.error_lifetime ≡ line.policy.lifetime) × (line.policy.forwards_conditions ≡ true)
 
 -- a line has no word, or it allows and has its cache on
 abbrev pub LineTakesItsWords : Line → Type 0

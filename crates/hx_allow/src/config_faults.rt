@@ -52,6 +52,9 @@ pub enum LineWord {
     Wait,
     /// Whether an answer that isn't stored tells why (RFC 9211, section 2.8).
     Explain,
+    /// Whether the proxy judges the If-None-Match and If-Modified-Since of a GET, or the origin (RFC 9111, section
+    /// 4.3.2). It needs version 4.
+    Conditions,
 }
 
 impl LineWord {

@@ -10,7 +10,8 @@ ghost use Rattle.hx_target.specs.Judgement.{TargetIsJudged};
 ghost use Rattle.hx_target.specs.Paths.{table_path_of};
 ghost use Rattle.hx_policy.specs.Policies.{plain};
 ghost use Rattle.hx_allow.specs.TableLines.{Line, Table};
-ghost use Rattle.hx_allow.specs.LineTables.{line_fault, lines_fault, array_of_tables};
+ghost use Rattle.hx_allow.specs.LineTables.{line_fault, line_read, lines_fault, array_of_tables};
+ghost use Rattle.hx_allow.specs.LineWords.{key_has_text, line_takes_words};
 ghost use Rattle.hx_allow.specs.LineTables.{names_small_method, names_path_with_star};
 ghost use Rattle.hx_allow.specs.Matching.{matches_line, verdict_of, line_number};
 ghost use Rattle.hx_allow.specs.NeverReached.{first_line_taking};
@@ -89,8 +90,9 @@ pub fn version_two_reads_as_before()
 /// A table of the first three versions is never refused for what the fourth adds: for the bound of
 /// the store's bytes, of which it has none, so that what is stored is bounded by its number alone, as
 /// before; and for a word of the fourth, of which none of its lines has one, so that errors have the
-/// lifetime of all others, as before. Nor is it refused for a method in lower case or a `*` in a
-/// path. A line without such a word and such a spelling is read alike in the fourth.
+/// lifetime of all others, and the conditions of clients go to the origin, as before. Nor is it
+/// refused for a method in lower case or a `*` in a path. A line without such a word and such a spelling is read alike
+/// in the fourth.
 pub fn version_three_reads_as_before()
     ensures never { (t : Members) → has_keys_of (version_of t) Four ≡ false
         → ¬ (judge_table t ≡ Err (Fault.BadNumber MaxStore)) }
@@ -118,6 +120,15 @@ pub fn version_four_refuses_what_is_meant_otherwise()
     ensures star { (n : ℕ) (members : Members) → LineHasNoWordOfFour members → line_fault Three n members ≡ None
         → names_small_method members ≡ false → names_path_with_star members ≡ true
         → line_fault Four n members ≡ Some (Fault.StarInPath n) }
+{}
+
+/// Over a line of version 4 that has an origin and its cache on the conditions of clients stay with the proxy, exactly
+/// where the line doesn't say that they are forwarded.
+#[tactic(auto, unfolding(crate::specs::LineTables::line_read))]
+pub fn conditions_stay_with_the_proxy_in_version_four()
+    ensures { (members : Members) → line_takes_words members ≡ true
+        → (line_read Four members).policy.forwards_conditions
+        ≡ key_has_text (codes "conditions") (codes "forwarded") members }
 {}
 
 /// Where a table bounds the bytes of its store, the bound is in its range, and no content that may be

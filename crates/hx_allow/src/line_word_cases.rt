@@ -5,7 +5,7 @@ ghost use Rattle.toml.specs.Data.{boolean, integer};
 ghost use Rattle.toml.specs.Parse.{parse_document};
 ghost use Rattle.hx_policy.specs.Policies.{plain};
 ghost use Rattle.hx_allow.specs.Examples.{denying_line_table_with, key_with_number, line_with_method, origin_8081};
-ghost use Rattle.hx_allow.specs.Examples.{key_with_text, line_table_with_keys};
+ghost use Rattle.hx_allow.specs.Examples.{key_with_text, line_table_with_keys, plain_of_four};
 ghost use Rattle.hx_allow.specs.Keys.{word_key};
 ghost use Rattle.hx_allow.specs.LineTables.{line_fault, line_read};
 ghost use Rattle.hx_allow.specs.Tables.{judge_table};
@@ -13,7 +13,7 @@ ghost use Rattle.hx_allow.specs.Values.{is_known};
 ghost use Rattle.hx_allow.specs.declared.config_faults.ConfigFault.TheVariants.{BadCache, BadWord, UnknownKey};
 ghost use Rattle.hx_allow.specs.declared.config_faults.LineWord.TheVariants.{Lifetime, ErrorLifetime, StaleIfError};
 ghost use Rattle.hx_allow.specs.declared.config_faults.LineWord.TheVariants.{SetCookie, Errors, RequestDirectives};
-ghost use Rattle.hx_allow.specs.declared.config_faults.LineWord.TheVariants.{Wait, Explain};
+ghost use Rattle.hx_allow.specs.declared.config_faults.LineWord.TheVariants.{Wait, Explain, Conditions};
 ghost use Rattle.hx_allow.specs.declared.values.Scope.TheVariants.{Top, Line};
 ghost use Rattle.hx_allow.specs.declared.values.TableVersion.TheVariants.{One, Two, Three, Four};
 
@@ -47,6 +47,10 @@ pub fn worked_keys_of_words()
     ensures error_lifetime_at_the_top { is_known (Top Four) (codes "error-lifetime") ≡ false }
     ensures text_of_error_lifetime { word_key ErrorLifetime ≡ codes "error-lifetime" }
     ensures text_of_explain { word_key Explain ≡ codes "explain" }
+    ensures conditions { is_known (Line Four) (word_key Conditions) ≡ true }
+    ensures conditions_of_three { is_known (Line Three) (codes "conditions") ≡ false }
+    ensures conditions_at_the_top { is_known (Top Four) (codes "conditions") ≡ false }
+    ensures text_of_conditions { word_key Conditions ≡ codes "conditions" }
 {}
 
 /// Seconds of a line: whole numbers within their bounds, and no text.
@@ -119,6 +123,14 @@ pub fn worked_texts_of_a_line()
         (line_table_with_keys (key_with_text (codes "explain") (codes "storing") ∷ [])) ≡ None }
     ensures explain_all { line_fault Three 1 (line_table_with_keys (key_with_text (codes "explain") (codes "all")
         ∷ [])) ≡ Some (BadWord 1 Explain) }
+    ensures conditions_answered { line_fault Four 1
+        (line_table_with_keys (key_with_text (codes "conditions") (codes "answered") ∷ [])) ≡ None }
+    ensures conditions_forwarded { line_fault Four 1
+        (line_table_with_keys (key_with_text (codes "conditions") (codes "forwarded") ∷ [])) ≡ None }
+    ensures conditions_kept { line_fault Four 1 (line_table_with_keys (key_with_text (codes "conditions") (codes "kept") ∷ []))
+        ≡ Some (BadWord 1 Conditions) }
+    ensures conditions_of_three { line_fault Three 1
+        (line_table_with_keys (key_with_text (codes "conditions") (codes "forwarded") ∷ [])) ≡ Some (UnknownKey (codes "conditions")) }
     ensures directives_stored { line_fault Three 1 (line_table_with_keys (key_with_text (codes "request-directives") (codes "stored") ∷ []))
         ≡ Some (BadWord 1 RequestDirectives) }
 {}
@@ -166,8 +178,12 @@ pub fn worked_places_of_words()
         ∷ key_with_text (codes "wait") (codes "x") ∷ [])) ≡ Some (BadWord 2 Wait) }
     ensures wait_denying { line_fault Three 2 (denying_line_table_with (key_with_text (codes "wait") (codes "missing")
         ∷ [])) ≡ Some (BadWord 2 Wait) }
-    ensures explain_last { line_fault Three 2 (line_table_with_keys (key_with_text (codes "explain") (codes "x") ∷ []))
-        ≡ Some (BadWord 2 Explain) }
+    ensures explain_next { line_fault Four 2 (line_table_with_keys (key_with_text (codes "conditions") (codes "x")
+        ∷ key_with_text (codes "explain") (codes "x") ∷ [])) ≡ Some (BadWord 2 Explain) }
+    ensures conditions_last { line_fault Four 2 (line_table_with_keys (key_with_text (codes "conditions") (codes "x") ∷ []))
+        ≡ Some (BadWord 2 Conditions) }
+    ensures conditions_denying { line_fault Four 2 (denying_line_table_with (key_with_text (codes "conditions") (codes "answered")
+        ∷ [])) ≡ Some (BadWord 2 Conditions) }
 {}
 
 /// What lines say by their words; each that doesn't stand is as in the versions before.
@@ -205,18 +221,33 @@ pub fn worked_policies_of_words()
 /// In the fourth version errors have a lifetime of their own, or none; in the third they have that of all others.
 #[tactic(auto, unfolding(crate::specs::LineTables::line_read))]
 pub fn worked_lifetimes_of_versions()
-    ensures none { (line_read Four (line_table_with_keys [])).policy ≡ plain true }
+    ensures none { (line_read Four (line_table_with_keys [])).policy ≡ plain_of_four }
     ensures lifetime { (line_read Four (line_table_with_keys (key_with_number (codes "lifetime") 60 ∷ []))).policy
-        ≡ record (plain true) { lifetime = Some 60 } }
+        ≡ record plain_of_four { lifetime = Some 60 } }
     ensures of_errors { (line_read Four (line_table_with_keys (key_with_number (codes "error-lifetime") 5 ∷ []))).policy
-        ≡ record (plain true) { error_lifetime = Some 5 } }
+        ≡ record plain_of_four { error_lifetime = Some 5 } }
     ensures both { (line_read Four (line_table_with_keys (key_with_number (codes "error-lifetime") 5
         ∷ key_with_number (codes "lifetime") 60 ∷ []))).policy
-        ≡ record (plain true) { lifetime = Some 60; error_lifetime = Some 5 } }
+        ≡ record plain_of_four { lifetime = Some 60; error_lifetime = Some 5 } }
     ensures of_three { (line_read Three (line_table_with_keys (key_with_number (codes "lifetime") 60 ∷ []))).policy
         ≡ record (plain true) { lifetime = Some 60; error_lifetime = Some 60 } }
     ensures others { (line_read Four (line_table_with_keys (key_with_text (codes "errors") (codes "not-stored")
-        ∷ []))).policy ≡ record (plain true) { stores_errors = false } }
+        ∷ []))).policy ≡ record plain_of_four { stores_errors = false } }
+{}
+
+/// In the fourth version the conditions of clients stay with the proxy, unless the line says else, denies or has its
+/// cache off; in the third they are the origin's.
+#[tactic(auto, unfolding(crate::specs::LineTables::line_read))]
+pub fn worked_conditions_of_versions()
+    ensures of_three { (line_read Three (line_table_with_keys [])).policy.forwards_conditions ≡ true }
+    ensures of_four { (line_read Four (line_table_with_keys [])).policy.forwards_conditions ≡ false }
+    ensures answered { (line_read Four (line_table_with_keys (key_with_text (codes "conditions") (codes "answered") ∷ []))).policy
+        ≡ plain_of_four }
+    ensures forwarded { (line_read Four (line_table_with_keys (key_with_text (codes "conditions") (codes "forwarded") ∷ []))).policy
+        ≡ plain true }
+    ensures off { (line_read Four (line_table_with_keys (key_with_text (codes "cache") (codes "off") ∷ []))).policy
+        ≡ plain false }
+    ensures denying { (line_read Four (denying_line_table_with [])).policy ≡ plain true }
 {}
 
 /// A whole table of version 3.
@@ -239,6 +270,7 @@ pub fn a_table_with_words_is_read()
           heeds_requests = false;
           waits_for_stale = true;
           explains_storing = true;
+          forwards_conditions = true;
         };
       } ∷ [];
     })) }
@@ -254,7 +286,7 @@ pub fn a_table_with_a_lifetime_of_errors_is_read()
       max_stored = 1000;
       max_store = None;
       lines = record (line_with_method None (codes "GET") (codes "/") origin_8081) {
-        policy = record (plain true) { lifetime = Some 60; error_lifetime = Some 5 };
+        policy = record plain_of_four { lifetime = Some 60; error_lifetime = Some 5 };
       } ∷ [];
     })) }
 {}

@@ -2,7 +2,8 @@
 ghost use Rattle.std.specs.Prelude.{◌≡◌};
 ghost use Rattle.toml.specs.View.{table_view};
 ghost use Rattle.hx_allow.specs.LineWords.{key_has_one_of_two, key_has_text, line_denies, line_takes_words};
-ghost use Rattle.hx_allow.specs.LineWords.{says_second, word_of_error_lifetime, policy_of_line_table};
+ghost use Rattle.hx_allow.specs.LineWords.{says_second, word_of_error_lifetime};
+ghost use Rattle.hx_allow.specs.LineWords.{leaves_conditions_to_origin, policy_of_line_table};
 ghost use Rattle.hx_allow.specs.Rows.{plain_row};
 
 use crate::config_faults::LineWord;
@@ -65,6 +66,14 @@ fn word_of_error_lifetime(version: TableVersion) -> LineWord
     }
 }
 
+/// Whether the conditions of clients are the origin's to judge.
+fn leaves_conditions_to_origin(version: TableVersion, table: &Table) -> bool
+    ensures { result ≡ leaves_conditions_to_origin version (table_view table.now) }
+{
+    let row = LineWord::Conditions.row();
+    !(row.is_known_in(version) && line_takes_words(table)) || says_second(row, table)
+}
+
 /// What a line without fault says of caching, in a table of a version.
 pub fn policy_of_line_table(version: TableVersion, table: &Table) -> Policy
     ensures { result ≡ policy_of_line_table version (table_view table.now) }
@@ -79,5 +88,6 @@ pub fn policy_of_line_table(version: TableVersion, table: &Table) -> Policy
         heeds_requests: !says_second(LineWord::RequestDirectives.row(), table),
         waits_for_stale: says_second(LineWord::Wait.row(), table),
         explains_storing: says_second(LineWord::Explain.row(), table),
+        forwards_conditions: leaves_conditions_to_origin(version, table),
     }
 }

@@ -89,7 +89,7 @@ pub(crate) const TOP_KEYS: [TopKey; 7] = [
 ];
 
 /// The keys of a line, in the order in which they are looked at.
-pub(crate) const LINE_KEYS: [LineKey; 13] = [
+pub(crate) const LINE_KEYS: [LineKey; 14] = [
     LineKey::Host,
     LineKey::Methods,
     LineKey::Path,
@@ -103,11 +103,12 @@ pub(crate) const LINE_KEYS: [LineKey; 13] = [
     LineKey::Word(LineWord::RequestDirectives),
     LineKey::Word(LineWord::Wait),
     LineKey::Word(LineWord::Explain),
+    LineKey::Word(LineWord::Conditions),
 ];
 
 /// What is told of a key that isn't known, with the keys that a version adds.
 pub(crate) const WORDS_OF_UNKNOWN_KEY: &str =
-    "a key isn't known where it stands; correct its spelling or delete it: behind [[line]] keys belong to that line; cache needs version = 2, 3 or 4, lifetime, stale-if-error, set-cookie, errors, request-directives, wait and explain need version = 3 or 4, and max_store and error-lifetime need version = 4";
+    "a key isn't known where it stands; correct its spelling or delete it: behind [[line]] keys belong to that line; cache needs version = 2, 3 or 4, lifetime, stale-if-error, set-cookie, errors, request-directives, wait and explain need version = 3 or 4, and max_store, error-lifetime and conditions need version = 4";
 
 impl NumberKey {
     pub(crate) fn row(self) -> Row
@@ -181,6 +182,11 @@ impl LineWord {
             ),
             LineWord::Wait => Row::of_caching("wait", Three, OneOf("missing", "missing-or-stale")),
             LineWord::Explain => Row::of_caching("explain", Three, OneOf("reuse", "storing")),
+            LineWord::Conditions => Row::of_caching(
+                "conditions",
+                Four,
+                OneOf("answered", "forwarded"),
+            ),
         }
     }
 }

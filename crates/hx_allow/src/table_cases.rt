@@ -7,6 +7,7 @@ ghost use Rattle.hx_policy.specs.Policies.{plain};
 ghost use Rattle.hx_allow.specs.Examples.{denying_line_table_with, line_table, repeated_value, key_with_method};
 ghost use Rattle.hx_allow.specs.Examples.{key_with_number, array_of_values, table_of_pairs, line_with_method};
 ghost use Rattle.hx_allow.specs.Examples.{origin_8081, key_with_text, top_table, bounded_table, line_table_with_keys};
+ghost use Rattle.hx_allow.specs.Examples.{line_of_four, plain_of_four};
 ghost use Rattle.hx_allow.specs.LineTables.{line_fault, line_read, lines_fault, lines_read};
 ghost use Rattle.hx_allow.specs.Tables.{judge_table, line_limit, lines_at, version_of, is_out_of_memory};
 ghost use Rattle.hx_allow.specs.declared.config_faults.ConfigFault.TheVariants.{UnknownKey, BadName, BadNumber};
@@ -260,7 +261,7 @@ pub fn worked_store_bounds()
           max_body = 1000;
           max_stored = 1000;
           max_store = Some 65536;
-          lines = line_with_method None (codes "GET") (codes "/") origin_8081 ∷ [];
+          lines = line_of_four ∷ [];
         }) }
     ensures unbounded { judge_table (top_table 4 2 (repeated_value 1 (table (line_table_with_keys [])))) ≡ Ok (record {
       name = codes "edge";
@@ -268,7 +269,7 @@ pub fn worked_store_bounds()
       max_body = 1000;
       max_stored = 1000;
       max_store = None;
-      lines = line_with_method None (codes "GET") (codes "/") origin_8081 ∷ [];
+      lines = line_of_four ∷ [];
     }) }
     ensures with_a_word { judge_table (top_table 4 2 (repeated_value 1
         (table (line_table_with_keys (key_with_number (codes "lifetime") 60 ∷ []))))) ≡ Ok (record {
@@ -277,9 +278,7 @@ pub fn worked_store_bounds()
           max_body = 1000;
           max_stored = 1000;
           max_store = None;
-          lines = record (line_with_method None (codes "GET") (codes "/") origin_8081) {
-            policy = record (plain true) { lifetime = Some 60 };
-          } ∷ [];
+          lines = record line_of_four { policy = record plain_of_four { lifetime = Some 60 } } ∷ [];
         }) }
 {}
 

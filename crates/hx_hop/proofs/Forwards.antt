@@ -1,5 +1,5 @@
 -- What goes forward of the lines of a request.
-use Rattle.std.proofs.Common.{◌≡◌, ℕ, suc, Bool, not, ◌&&◌, List, [], ◌∷◌, ◌++◌, length, map, refl, ap, codes}
+use Rattle.std.proofs.Common.{◌≡◌, ℕ, suc, Bool, not, ◌&&◌, ◌||◌, List, [], ◌∷◌, ◌++◌, length, map, refl, ap, codes}
 use Rattle.std.specs.Prelude.{filter, Option, Some, None, is_some}
 use Rattle.std.proofs.lemmas.List.Elements.{filter-append}
 use Rattle.hx_fields.specs.declared.field_line.Field.{Field}
@@ -12,8 +12,8 @@ use Rattle.hx_hop.specs.Stripping.{stripped}
 use Rattle.hx_hop.proofs.Lines.{filter_no_hit, list_any_fewer, list_any_none_left, not_true}
 
 pub ends_with_via : ForwardEndsWithVia
-ends_with_via request target name conditions =
-    (line (codes "Host") (host_text target.key) ∷ client_lines (is_some conditions) (fields_that_go_on_of request.fields) ++ condition_lines conditions, refl)
+ends_with_via keeps request target name conditions =
+    (line (codes "Host") (host_text target.key) ∷ client_lines (keeps || is_some conditions) (fields_that_go_on_of request.fields) ++ condition_lines conditions, refl)
 
 client_has_none : (conditional : Bool) (fields : List Field) → filter (is_named (codes "Host")) (client_lines conditional (fields_that_go_on_of fields)) ≡ []
 client_has_none conditional fields =
@@ -42,7 +42,7 @@ rest_has_none front back last f b l =
     rw (filter-append (is_named (codes "Host")) (front ++ back) last, filter-append (is_named (codes "Host")) front back, f, b, l) refl
 
 pub sends_one_host : OneHostIsForwarded
-sends_one_host request target name conditions =
+sends_one_host keeps request target name conditions =
     ap (λ lines. suc (length (map (λ (f : Field). f.value) lines)))
-    (rest_has_none (client_lines (is_some conditions) (fields_that_go_on_of request.fields)) (condition_lines conditions) (line (codes "Via") (via_text request.minor name) ∷ [])
-    (client_has_none (is_some conditions) request.fields) (conditions_have_none conditions) refl)
+    (rest_has_none (client_lines (keeps || is_some conditions) (fields_that_go_on_of request.fields)) (condition_lines conditions) (line (codes "Via") (via_text request.minor name) ∷ [])
+    (client_has_none (keeps || is_some conditions) request.fields) (conditions_have_none conditions) refl)

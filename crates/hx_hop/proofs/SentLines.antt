@@ -9,7 +9,7 @@ use Rattle.hx_fields.specs.Names.{is_same_name}
 use Rattle.hx_hop.specs.declared.conditions.Conditions.{Conditions}
 use Rattle.hx_hop.specs.Asking.{fields_that_go_on_of}
 use Rattle.hx_hop.specs.Forwarding.{client_lines, condition_lines, forwarded_of, host_text, is_condition, line, line_if_present, via_text}
-use Rattle.hx_hop.specs.PassedOnFields.{ConnectionClosesWhereAsked, StatusIsKept, DefaultPortIsLeftOut, NoExpectIsForwarded, NoHopFieldIsForwarded, NoLengthFieldIsForwarded, WhatWasAskedIsForwarded, ConnectionStaysOpen, ViaShowsTheVersion, OtherPortsAreWritten}
+use Rattle.hx_hop.specs.PassedOnFields.{ConnectionClosesWhereAsked, KeptConditionsStayBehind, StatusIsKept, DefaultPortIsLeftOut, NoExpectIsForwarded, NoHopFieldIsForwarded, NoLengthFieldIsForwarded, WhatWasAskedIsForwarded, ConnectionStaysOpen, ViaShowsTheVersion, OtherPortsAreWritten}
 use Rattle.hx_hop.specs.Stripping.{connection_names, hop_names, is_hop_line, is_hop_name, stripped}
 use Rattle.hx_hop.proofs.Lines.{is_among-same, list_any_fewer, list_any_none_left, not_true}
 use Rattle.hx_hop.proofs.Stripped.{takes_out_theirs}
@@ -54,31 +54,48 @@ module _ (q : Field → Bool) where
   sends_none host via client conditions h c d v = rw (h, list_any-append q (client ++ conditions) (via ∷ []), list_any-append q client conditions, c, d, v) refl
 
 pub sends_no_hop_field : NoHopFieldIsForwarded
-sends_no_hop_field request target name conditions field hop =
+sends_no_hop_field keeps request target name conditions field hop =
     let q = is_named field in
     let out = takes_out_theirs request.fields field (listed (is_hop_name field) (connection_names request.fields field) hop) in
-    sends_none q (line (codes "Host") (host_text target.key)) (line (codes "Via") (via_text request.minor name)) (client_lines (is_some conditions) (fields_that_go_on_of request.fields)) (condition_lines conditions)
-    (own_name (codes "Host") field refl hop) (client_none q (is_some conditions) request.fields (kept_none q request.fields out))
+    sends_none q (line (codes "Host") (host_text target.key)) (line (codes "Via") (via_text request.minor name)) (client_lines (keeps || is_some conditions) (fields_that_go_on_of request.fields)) (condition_lines conditions)
+    (own_name (codes "Host") field refl hop) (client_none q (keeps || is_some conditions) request.fields (kept_none q request.fields out))
     (conditions_none q conditions (λ v. own_name (codes "If-None-Match") field refl hop) (λ v. own_name (codes "If-Modified-Since") field refl hop))
     (own_name (codes "Via") field refl hop)
 
 pub sends_no_expect : NoExpectIsForwarded
-sends_no_expect request target name conditions =
+sends_no_expect keeps request target name conditions =
     let q = is_named (codes "Expect") in
     let out = list_any_none_left (λ f. not (q f)) q (λ f e. not_true _ e) (without_named (stripped request.fields) (codes "Host")) in
-    sends_none q (line (codes "Host") (host_text target.key)) (line (codes "Via") (via_text request.minor name)) (client_lines (is_some conditions) (fields_that_go_on_of request.fields)) (condition_lines conditions)
-    refl (client_none q (is_some conditions) request.fields out) (conditions_none q conditions (λ v. refl) (λ v. refl)) refl
+    sends_none q (line (codes "Host") (host_text target.key)) (line (codes "Via") (via_text request.minor name)) (client_lines (keeps || is_some conditions) (fields_that_go_on_of request.fields)) (condition_lines conditions)
+    refl (client_none q (keeps || is_some conditions) request.fields out) (conditions_none q conditions (λ v. refl) (λ v. refl)) refl
 
 pub sends_no_length : NoLengthFieldIsForwarded
-sends_no_length request target name conditions none =
+sends_no_length keeps request target name conditions none =
     let q = is_named (codes "Content-Length") in
     let out = list_any_fewer (λ f. not (is_hop_line request.fields f)) q request.fields none in
-    sends_none q (line (codes "Host") (host_text target.key)) (line (codes "Via") (via_text request.minor name)) (client_lines (is_some conditions) (fields_that_go_on_of request.fields)) (condition_lines conditions)
-    refl (client_none q (is_some conditions) request.fields (kept_none q request.fields out)) (conditions_none q conditions (λ v. refl) (λ v. refl)) refl
+    sends_none q (line (codes "Host") (host_text target.key)) (line (codes "Via") (via_text request.minor name)) (client_lines (keeps || is_some conditions) (fields_that_go_on_of request.fields)) (condition_lines conditions)
+    refl (client_none q (keeps || is_some conditions) request.fields (kept_none q request.fields out)) (conditions_none q conditions (λ v. refl) (λ v. refl)) refl
 
 pub sends_what_was_asked : WhatWasAskedIsForwarded
 unfolding forwarded_of
-sends_what_was_asked request target name conditions = (refl, refl, refl, refl)
+sends_what_was_asked keeps request target name conditions = (refl, refl, refl, refl)
+
+-- a line that isn't one of the two conditions is named like neither
+not_named : (a b : Bool) → not (a || b) ≡ true → (a ≡ false) × (b ≡ false)
+not_named true b e = cc
+not_named false true e = cc
+not_named false false e = (refl, refl)
+
+pub keeps_conditions_behind : KeptConditionsStayBehind
+keeps_conditions_behind asked name =
+    let tag = is_named (codes "If-None-Match") in
+    let date = is_named (codes "If-Modified-Since") in
+    let host = line (codes "Host") (host_text asked.target.key) in
+    let via = line (codes "Via") (via_text asked.minor name) in
+    let passes : Field → Bool = λ f. not (tag f || date f) in (
+      sends_none tag host via (client_lines true asked.fields) [] refl (list_any_none_left passes tag (λ f e. (not_named (tag f) (date f) e).0) asked.fields) refl refl,
+      sends_none date host via (client_lines true asked.fields) [] refl (list_any_none_left passes date (λ f e. (not_named (tag f) (date f) e).1) asked.fields) refl refl,
+    )
 
 pub leaves_out_the_default_port : DefaultPortIsLeftOut
 leaves_out_the_default_port key h = rw h refl

@@ -23,9 +23,9 @@ via_text minor name = (if minor == 0 then codes "1.0 " else codes "1.1 ") ++ nam
 abbrev pub is_condition : Field → Bool
 is_condition f = is_named (codes "If-None-Match") f || is_named (codes "If-Modified-Since") f
 
--- the client's lines, without its conditions where the proxy sends its own
+-- the client's lines, without its conditions where the proxy sends its own, or keeps them
 abbrev pub client_lines : Bool → List Field → List Field
-client_lines conditional fields = filter (λ f. not (conditional && is_condition f)) fields
+client_lines without fields = filter (λ f. not (without && is_condition f)) fields
 
 abbrev pub line_if_present : List ℕ → Option (List ℕ) → List Field
 line_if_present name None = []
@@ -37,19 +37,20 @@ condition_lines None = []
 condition_lines (Some conditions) =
     line_if_present (codes "If-None-Match") conditions.etag ++ line_if_present (codes "If-Modified-Since") conditions.modified
 
--- in order: Host, the client's lines, the proxy's conditions, Via
-abbrev pub forwarded_lines : Asked → List ℕ → Option Conditions → List Field
-forwarded_lines asked name conditions =
-    line (codes "Host") (host_text asked.target.key) ∷ client_lines (is_some conditions) asked.fields
+-- in order: Host, the client's lines, the proxy's conditions, Via; the client's own conditions may be kept, to be
+-- judged on what is sent to it (RFC 9111, section 4.3.2)
+abbrev pub forwarded_lines : Bool → Asked → List ℕ → Option Conditions → List Field
+forwarded_lines keeps asked name conditions =
+    line (codes "Host") (host_text asked.target.key) ∷ client_lines (keeps || is_some conditions) asked.fields
     ++ condition_lines conditions
     ++ line (codes "Via") (via_text asked.minor name) ∷ []
 
 -- the request that goes to the origin
-unfoldable pub forwarded_of : Asked → List ℕ → Option Conditions → Request
-forwarded_of asked name conditions = record {
+unfoldable pub forwarded_of : Bool → Asked → List ℕ → Option Conditions → Request
+forwarded_of keeps asked name conditions = record {
   method = asked.method;
   target = asked.target.key.path_query;
   minor = 1;
-  fields = forwarded_lines asked name conditions;
+  fields = forwarded_lines keeps asked name conditions;
   content = asked.content;
 }

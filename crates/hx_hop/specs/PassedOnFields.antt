@@ -1,7 +1,8 @@
 -- What stripping, dating and forwarding leave, in the standard's words (RFC 9110, sections 6.6.1,
 -- 7.2, 7.6.1 and 7.6.3).
-use Rattle.std.specs.Prelude.{◌≡◌, ◌⊎◌, ℕ, ◌<◌, ◌==◌, true, false, ◌||◌, decimal, List, [], ◌∷◌, ◌++◌, codes, Option}
-use Rattle.std.specs.Prelude.{Some}
+use Rattle.std.specs.Prelude.{◌≡◌, ◌⊎◌, ℕ, ◌<◌, ◌==◌, Bool, true, false, ◌||◌, decimal, List, [], ◌∷◌, ◌++◌, codes}
+use Rattle.std.specs.Prelude.{Option}
+use Rattle.std.specs.Prelude.{Some, None}
 use Rattle.httpdate.specs.Date.{parse_secs}
 use Rattle.hx_fields.specs.declared.limits.TheConstants.{END_OF_TIME}
 use Rattle.hx_fields.specs.declared.field_line.Field.{Field}
@@ -13,6 +14,7 @@ use Rattle.hx_framing.specs.declared.messages.Response.{Response}
 use Rattle.hx_target.specs.declared.keys.Key.{Key}
 use Rattle.hx_hop.specs.Answering.{answered_of, dated_of, has_one_date}
 use Rattle.hx_hop.specs.Asking.{asked_with_target}
+use Rattle.hx_hop.specs.declared.request_view.Asked.{Asked}
 use Rattle.hx_hop.specs.Forwarding.{forwarded_lines, forwarded_of, host_text, line, via_text}
 use Rattle.hx_hop.specs.Moments.{date_text_of}
 use Rattle.hx_hop.specs.Stripping.{connection_names, is_hop_name, stripped}
@@ -46,38 +48,52 @@ DatingTwiceIsOnce = (fields : List Field) (now later : ℕ) → now < END_OF_TIM
 
 -- whatever a request had, one Host line goes forward
 abbrev pub OneHostIsForwarded : Type 0
-OneHostIsForwarded = (request : Request) (target : Target) (name : List ℕ) (conditions : Option Conditions) →
-    count_of (forwarded_lines (asked_with_target request target) name conditions) (codes "Host") ≡ 1
+OneHostIsForwarded = (keeps : Bool) (request : Request) (target : Target) (name : List ℕ)
+    (conditions : Option Conditions) →
+    count_of (forwarded_lines keeps (asked_with_target request target) name conditions) (codes "Host") ≡ 1
 
 -- and the proxy's Via comes last
 abbrev pub ForwardEndsWithVia : Type 0
-ForwardEndsWithVia = (request : Request) (target : Target) (name : List ℕ) (conditions : Option Conditions) →
-    (front : List Field) × (forwarded_lines (asked_with_target request target) name conditions
+ForwardEndsWithVia = (keeps : Bool) (request : Request) (target : Target) (name : List ℕ)
+    (conditions : Option Conditions) →
+    (front : List Field) × (forwarded_lines keeps (asked_with_target request target) name conditions
     ≡ front ++ line (codes "Via") (via_text request.minor name) ∷ [])
 
 -- no field of one connection goes forward, whatever the request had (RFC 9110, section 7.6.1)
 abbrev pub NoHopFieldIsForwarded : Type 0
 NoHopFieldIsForwarded =
-    (request : Request) (target : Target) (name : List ℕ) (conditions : Option Conditions) (field : List ℕ) →
-    is_hop_name field ≡ true → has_field (forwarded_lines (asked_with_target request target) name conditions) field
+    (keeps : Bool) (request : Request) (target : Target) (name : List ℕ) (conditions : Option Conditions)
+    (field : List ℕ) →
+    is_hop_name field ≡ true
+    → has_field (forwarded_lines keeps (asked_with_target request target) name conditions) field
     ≡ false
+
+-- where the proxy keeps the client's conditions, and has none of its own, none goes forward: so no 304 is asked for
+-- (RFC 9110, sections 13.1.2, 13.1.3 and 15.4.5)
+abbrev pub KeptConditionsStayBehind : Type 0
+KeptConditionsStayBehind = (asked : Asked) (name : List ℕ) →
+    (has_field (forwarded_lines true asked name None) (codes "If-None-Match") ≡ false)
+    × (has_field (forwarded_lines true asked name None) (codes "If-Modified-Since") ≡ false)
 
 -- nor does Expect, which the reader has carried out (RFC 9110, section 10.1.1)
 abbrev pub NoExpectIsForwarded : Type 0
-NoExpectIsForwarded = (request : Request) (target : Target) (name : List ℕ) (conditions : Option Conditions) →
-    has_field (forwarded_lines (asked_with_target request target) name conditions) (codes "Expect") ≡ false
+NoExpectIsForwarded = (keeps : Bool) (request : Request) (target : Target) (name : List ℕ)
+    (conditions : Option Conditions) →
+    has_field (forwarded_lines keeps (asked_with_target request target) name conditions) (codes "Expect") ≡ false
 
 -- nor a length of the client's, which the reader has taken out, so the writer's stands alone (RFC 9112, section 6.3)
 abbrev pub NoLengthFieldIsForwarded : Type 0
-NoLengthFieldIsForwarded = (request : Request) (target : Target) (name : List ℕ) (conditions : Option Conditions) →
+NoLengthFieldIsForwarded = (keeps : Bool) (request : Request) (target : Target) (name : List ℕ)
+    (conditions : Option Conditions) →
     has_field request.fields (codes "Content-Length") ≡ false
-    → has_field (forwarded_lines (asked_with_target request target) name conditions) (codes "Content-Length") ≡ false
+    → has_field (forwarded_lines keeps (asked_with_target request target) name conditions) (codes "Content-Length") ≡ false
 
 -- method and content go forward as they came, with the path and query of the target, in the proxy's own version
 -- (RFC 9110, sections 2.5 and 7.6; RFC 9112, section 3.2.1)
 abbrev pub WhatWasAskedIsForwarded : Type 0
-WhatWasAskedIsForwarded = (request : Request) (target : Target) (name : List ℕ) (conditions : Option Conditions) →
-    let sent = forwarded_of (asked_with_target request target) name conditions in
+WhatWasAskedIsForwarded = (keeps : Bool) (request : Request) (target : Target) (name : List ℕ)
+    (conditions : Option Conditions) →
+    let sent = forwarded_of keeps (asked_with_target request target) name conditions in
     (sent.method ≡ request.method) × (sent.content ≡ request.content) × (sent.target ≡ target.key.path_query)
     × (sent.minor ≡ 1)
 

@@ -52,17 +52,17 @@ fn is_condition(line: &Field) -> bool
         || is_same_name(line.name.as_slice(), b"If-Modified-Since")
 }
 
-/// Puts the client's lines at the end, without its conditions where the proxy sends its own.
+/// Puts the client's lines at the end, without its conditions where the proxy sends its own or keeps them.
 fn push_client_lines(
     alloc: Global,
     fields: &mut Fields,
     lines: &[Field],
-    conditional: bool,
+    without_conditions: bool,
 ) -> Result<(), AllocError>
-    ensures { OnOk result (fields.new ≡ fields.old ++ client_lines conditional lines.now) }
+    ensures { OnOk result (fields.new ≡ fields.old ++ client_lines without_conditions lines.now) }
 {
     for line in lines {
-        if !(conditional && is_condition(line)) {
+        if !(without_conditions && is_condition(line)) {
             fields.push_line(line.copy(alloc)?)?;
         }
     }
@@ -96,8 +96,10 @@ fn forwarded_lines(
     asked: &Asked,
     name: &[u8],
     conditions: Option<&Conditions>,
+    keeps_conditions: bool,
 ) -> Result<Fields, AllocError>
-    ensures { IfOk result (λ fields. fields ≡ forwarded_lines asked.now name.now (option_copied conditions.entry)) }
+    ensures { IfOk result (λ fields. fields
+        ≡ forwarded_lines keeps_conditions asked.now name.now (option_copied conditions.entry)) }
 {
     let mut fields = Fields::new(alloc);
     let host = host_text(alloc, &asked.target.key)?;
@@ -106,7 +108,7 @@ fn forwarded_lines(
         alloc,
         &mut fields,
         asked.fields.as_slice(),
-        conditions.is_some(),
+        keeps_conditions || conditions.is_some(),
     )?;
     push_conditions(&mut fields, conditions)?;
     let via = via_text(alloc, asked.minor, name)?;
@@ -115,22 +117,24 @@ fn forwarded_lines(
 }
 
 /// The request that goes to the origin of a target, through a proxy of this name, with the proxy's
-/// conditions in place of both of the client's (RFC 9110, sections 7.2, 7.6.3 and 13.1). Its fields end with
-/// Via: Content-Length and Connection are the writer's.
+/// conditions in place of both of the client's (RFC 9110, sections 7.2, 7.6.3 and 13.1). Where the client's are kept
+/// they don't go forward in any case. Its fields end with Via: Content-Length and Connection are the writer's.
 #[tactic(auto, unfolding(crate::specs::Forwarding::forwarded_of))]
 pub fn forward_request(
     alloc: Global,
     asked: &Asked,
     name: &[u8],
     conditions: Option<&Conditions>,
+    keeps_conditions: bool,
 ) -> Result<Request, AllocError>
-    ensures { IfOk result (λ request. request ≡ forwarded_of asked.now name.now (option_copied conditions.entry)) }
+    ensures { IfOk result (λ request. request
+        ≡ forwarded_of keeps_conditions asked.now name.now (option_copied conditions.entry)) }
 {
     Ok(Request {
         method: asked.method.clone()?,
         target: asked.target.key.path_query.copy(alloc)?,
         minor: 1,
-        fields: forwarded_lines(alloc, asked, name, conditions)?,
+        fields: forwarded_lines(alloc, asked, name, conditions, keeps_conditions)?,
         content: copy_content(alloc, asked.content.as_ref())?,
     })
 }

@@ -20,7 +20,7 @@ ghost use Rattle.hx_hop.specs.PassedOnFields.{DateShowsTheMoment, DatedHasOneDat
 ghost use Rattle.hx_hop.specs.PassedOnFields.{DatingTwiceIsOnce, OneHostIsForwarded, ForwardEndsWithVia};
 ghost use Rattle.hx_hop.specs.PassedOnFields.{NoHopFieldIsForwarded, NoExpectIsForwarded};
 ghost use Rattle.hx_hop.specs.PassedOnFields.{NoLengthFieldIsForwarded, WhatWasAskedIsForwarded, DefaultPortIsLeftOut};
-ghost use Rattle.hx_hop.specs.PassedOnFields.{OtherPortsAreWritten};
+ghost use Rattle.hx_hop.specs.PassedOnFields.{OtherPortsAreWritten, KeptConditionsStayBehind};
 ghost use Rattle.hx_hop.specs.PassedOnFields.{ViaShowsTheVersion, ConnectionClosesWhereAsked, ConnectionStaysOpen};
 ghost use Rattle.hx_hop.specs.PassedOnFields.{StatusIsKept};
 
@@ -36,10 +36,10 @@ pub fn a_request_is_asked_in_one_way()
 /// The forward of the first example, its forward with a condition, and one to another port.
 #[tactic(auto, unfolding(crate::specs::Forwarding::forwarded_of))]
 pub fn the_first_request_is_forwarded()
-    ensures text { request_text (forwarded_of first_asked (codes "edge") None) ≡ codes "GET /a HTTP/1.1\r\nHost: h\r\nVia: 1.1 edge\r\nConnection: close\r\n\r\n" }
-    ensures size { length (request_text (forwarded_of first_asked (codes "edge") None)) ≡ 62 }
-    ensures conditional { request_text (forwarded_of first_asked (codes "edge") (Some first_conditions)) ≡ codes "GET /a HTTP/1.1\r\nHost: h\r\nIf-None-Match: \"v1\"\r\nVia: 1.1 edge\r\nConnection: close\r\n\r\n" }
-    ensures conditional_size { length (request_text (forwarded_of first_asked (codes "edge") (Some first_conditions)))
+    ensures text { request_text (forwarded_of false first_asked (codes "edge") None) ≡ codes "GET /a HTTP/1.1\r\nHost: h\r\nVia: 1.1 edge\r\nConnection: close\r\n\r\n" }
+    ensures size { length (request_text (forwarded_of false first_asked (codes "edge") None)) ≡ 62 }
+    ensures conditional { request_text (forwarded_of false first_asked (codes "edge") (Some first_conditions)) ≡ codes "GET /a HTTP/1.1\r\nHost: h\r\nIf-None-Match: \"v1\"\r\nVia: 1.1 edge\r\nConnection: close\r\n\r\n" }
+    ensures conditional_size { length (request_text (forwarded_of false first_asked (codes "edge") (Some first_conditions)))
         ≡ 83 }
     ensures other_port { host_text asked_by_old_client.target.key ≡ codes "h:" ++ decimal 81 }
     ensures replaced { client_lines true asked_by_old_client.fields ≡ line (codes "Accept") (codes "*/*") ∷ [] }
@@ -70,9 +70,10 @@ pub fn one_host_goes_forward()
 #[tactic(auto, unfolding(crate::specs::Forwarding::forwarded_of))]
 pub fn absolute_form_is_rewritten()
     ensures kept { fields_that_go_on_of absolute_request.fields ≡ line (codes "X-B") (codes "2") ∷ [] }
-    ensures text { request_text (forwarded_of (asked_with_target absolute_request absolute_target) (codes "edge") None)
+    ensures text { request_text (forwarded_of false (asked_with_target absolute_request absolute_target)
+        (codes "edge") None)
         ≡ codes "GET / HTTP/1.1\r\nHost: h\r\nX-B: 2\r\nVia: 1.1 edge\r\nConnection: close\r\n\r\n" }
-    ensures size { length (request_text (forwarded_of (asked_with_target absolute_request absolute_target)
+    ensures size { length (request_text (forwarded_of false (asked_with_target absolute_request absolute_target)
         (codes "edge") None))
         ≡ 69 }
     ensures open { client_connection_closes absolute_request ≡ false }
@@ -106,6 +107,11 @@ pub fn moments_are_shown()
     ensures standard { date_text_of 784111777 ≡ codes "Sun, 06 Nov 1994 08:49:37 GMT" }
     ensures leap_day { date_text_of 951782400 ≡ codes "Tue, 29 Feb 2000 00:00:00 GMT" }
     ensures last { date_text_of 253402300799 ≡ codes "Fri, 31 Dec 9999 23:59:59 GMT" }
+{}
+
+/// The client's own conditions don't go forward where the proxy keeps them, and then none does but the proxy's.
+pub fn kept_conditions_stay_behind()
+    ensures { KeptConditionsStayBehind }
 {}
 
 /// What concerns the client's connection doesn't go forward, nor do Expect and the client's length;
@@ -208,12 +214,16 @@ pub fn what_goes_past_the_cache()
 {}
 
 /// The proxy's conditions stand behind the client's lines, the tag first (RFC 9110, sections 13.1.2
-/// and 13.1.3); without them the client's own go forward.
+/// and 13.1.3); without them the client's own go forward, unless the proxy keeps them.
 pub fn conditions_go_forward()
-    ensures both { forwarded_lines asked_by_old_client (codes "edge") (Some conditions_by_tag_and_date)
+    ensures both { forwarded_lines false asked_by_old_client (codes "edge") (Some conditions_by_tag_and_date)
         ≡ line (codes "Host") (codes "h:" ++ decimal 81) ∷ line (codes "Accept") (codes "*/*") ∷ line (codes "If-None-Match") (codes "\"v1\"")
         ∷ line (codes "If-Modified-Since") (codes "Thu, 01 Jan 1970 00:00:05 GMT") ∷ line (codes "Via") (codes "1.0 edge") ∷ [] }
     ensures the_clients { client_lines false asked_by_old_client.fields ≡ asked_by_old_client.fields }
+    ensures kept { forwarded_lines true asked_by_old_client (codes "edge") None
+        ≡ line (codes "Host") (codes "h:" ++ decimal 81) ∷ line (codes "Accept") (codes "*/*") ∷ line (codes "Via") (codes "1.0 edge") ∷ [] }
+    ensures kept_beside { forwarded_lines true asked_by_old_client (codes "edge") (Some conditions_by_tag_and_date)
+        ≡ forwarded_lines false asked_by_old_client (codes "edge") (Some conditions_by_tag_and_date) }
 {}
 
 /// A response is stripped, and dated once Connection's names are gone.

@@ -1,5 +1,5 @@
 -- What was read and asked is sent as one request.
-use Rattle.std.proofs.Common.{◌≡◌, inl, inr, ◌⊎◌, ℕ, ◌<◌, ◌≤◌, Bool, true, false, not, ◌&&◌, cond, List, [], ◌∷◌, ◌++◌, length, get_or, refl, arith}
+use Rattle.std.proofs.Common.{◌≡◌, inl, inr, ◌⊎◌, ℕ, ◌<◌, ◌≤◌, Bool, true, false, not, ◌&&◌, ◌||◌, cond, List, [], ◌∷◌, ◌++◌, length, get_or, refl, arith}
 use Rattle.std.specs.Prelude.{All, IfSome, Option, Some, None, codes, decimal, is_some, ◌==◌}
 use Rattle.std.specs.Char.{is_ascii_digit}
 use Rattle.std.specs.List.{list_all}
@@ -137,39 +137,39 @@ client_fits conditional fields all =
     (All-filter (λ f. not (is_named (codes "Host") f)) FieldIsWritable (stripped fields)
     (All-filter (λ f. not (is_hop_line fields f)) FieldIsWritable fields all)))
 
-lines_fit : (request : Request) (target : Target) (name : List ℕ) (conditions : Option Conditions) → RequestIsClean request → IsCleanTarget target → IsToken name → IfSome conditions ConditionsAreFieldValues
-    → All FieldIsWritable (forwarded_lines (asked_with_target request target) name conditions)
-lines_fit request target name conditions clean aim token are =
-    let client : List Field = client_lines (is_some conditions) (fields_that_go_on_of request.fields) in
+lines_fit : (request : Request) (target : Target) (name : List ℕ) (keeps : Bool) (conditions : Option Conditions) → RequestIsClean request → IsCleanTarget target → IsToken name → IfSome conditions ConditionsAreFieldValues
+    → All FieldIsWritable (forwarded_lines keeps (asked_with_target request target) name conditions)
+lines_fit request target name keeps conditions clean aim token are =
+    let client : List Field = client_lines (keeps || is_some conditions) (fields_that_go_on_of request.fields) in
     let via : Field = line (codes "Via") (via_text request.minor name) in
     let host : Field = line (codes "Host") (host_text target.key) in
     All-cons FieldIsWritable host (client ++ condition_lines conditions ++ via ∷ [])
     (line_of (codes "Host") (host_text target.key) host_token (omega arith) (visible_field_value (host_text target.key) (host_visible target.key aim.host aim.port)))
     (All-append FieldIsWritable (client ++ condition_lines conditions) (via ∷ [])
-    (All-append FieldIsWritable client (condition_lines conditions) (client_fits (is_some conditions) request.fields clean.fields) (conditions_fit conditions are))
+    (All-append FieldIsWritable client (condition_lines conditions) (client_fits (keeps || is_some conditions) request.fields clean.fields) (conditions_fit conditions are))
     (All-cons FieldIsWritable via [] (line_of (codes "Via") (via_text request.minor name) via_token (omega arith) (via_value request.minor name token)) (All-nil FieldIsWritable)))
 
 -- ---- the laws
 
 pub sends_parts_as_they_are : PartsAreForwardedAsTheyAre
 unfolding forwarded_of
-sends_parts_as_they_are max_body most ended continue_sent bytes rest request target name conditions reads judged token are small limits =
+sends_parts_as_they_are max_body most ended continue_sent bytes rest request target name keeps conditions reads judged token are small limits =
     let clean = read_is_clean max_body ended continue_sent bytes request rest reads in
     let aim = target_is_clean request.target (values_of request.fields (codes "Host")) target judged in
     record {
       method = clean.method;
       target = (aim.path.some, All-weaker IsVisible (λ b. is_uri_byte b ≡ true) uri_byte target.key.path_query aim.path.bytes);
       target_text = IsUtf8-from_ascii target.key.path_query (visible_ascii target.key.path_query aim.path.bytes);
-      fields = lines_fit request target name conditions clean aim token are;
-      lengths = sends_no_length request target name conditions clean.lengths;
-      codings = sends_no_hop_field request target name conditions (codes "transfer-encoding") refl;
-      expectations = sends_no_expect request target name conditions;
+      fields = lines_fit request target name keeps conditions clean aim token are;
+      lengths = sends_no_length keeps request target name conditions clean.lengths;
+      codings = sends_no_hop_field keeps request target name conditions (codes "transfer-encoding") refl;
+      expectations = sends_no_expect keeps request target name conditions;
       few = limits.few;
       short = limits.short;
       content = omega (arith, small, limits.content);
     }
 
 pub forwards_one_request : OneRequestIsForwarded
-forwards_one_request max_body most ended continue_sent bytes rest request target name conditions reads judged token are small limits over continued behind =
-    request_back (forwarded_of (asked_with_target request target) name conditions) most over continued behind
-    (sends_parts_as_they_are max_body most ended continue_sent bytes rest request target name conditions reads judged token are small limits) limits.content
+forwards_one_request max_body most ended continue_sent bytes rest request target name keeps conditions reads judged token are small limits over continued behind =
+    request_back (forwarded_of keeps (asked_with_target request target) name conditions) most over continued behind
+    (sends_parts_as_they_are max_body most ended continue_sent bytes rest request target name keeps conditions reads judged token are small limits) limits.content

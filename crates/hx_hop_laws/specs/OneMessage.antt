@@ -52,11 +52,11 @@ abbrev pub PartsAreForwardedAsTheyAre : Type 0
 PartsAreForwardedAsTheyAre =
     (max_body most : ℕ) (ended continue_sent : Bool) (bytes rest : List ℕ) (request : Request) (target : Target)
     (name : List ℕ)
-    (conditions : Option Conditions)
+    (keeps : Bool) (conditions : Option Conditions)
     → Reads max_body ended continue_sent bytes (Spelled request rest)
     → TargetIsJudged request.target (values_of request.fields (codes "Host")) (Ok target)
     → IsToken name → IfSome conditions ConditionsAreFieldValues
-    → let sent = forwarded_of (asked_with_target request target) name conditions in
+    → let sent = forwarded_of keeps (asked_with_target request target) name conditions in
     most < 2 ^ 64 → RequestIsWithinLimits most sent → RequestIsWritable sent
 
 -- and so its text is that of one request, whatever the origin's reader knows of the stream and
@@ -65,11 +65,11 @@ abbrev pub OneRequestIsForwarded : Type 0
 OneRequestIsForwarded =
     (max_body most : ℕ) (ended continue_sent : Bool) (bytes rest : List ℕ) (request : Request) (target : Target)
     (name : List ℕ)
-    (conditions : Option Conditions)
+    (keeps : Bool) (conditions : Option Conditions)
     → Reads max_body ended continue_sent bytes (Spelled request rest)
     → TargetIsJudged request.target (values_of request.fields (codes "Host")) (Ok target)
     → IsToken name → IfSome conditions ConditionsAreFieldValues
-    → let sent = forwarded_of (asked_with_target request target) name conditions in
+    → let sent = forwarded_of keeps (asked_with_target request target) name conditions in
     most < 2 ^ 64 → RequestIsWithinLimits most sent
     → (over continued : Bool) (behind : List ℕ)
     → Reads most over continued (request_text sent ++ behind) (Spelled (request_as_read_back sent) behind)

@@ -1,6 +1,6 @@
 -- The words of a line, and the statuses that a cache may give a lifetime.
 --
--- plain: a line without words of version 3     is_heuristic, is_error: statuses
+-- plain: a line without words of versions 3 and 4     is_heuristic, is_error: statuses
 -- given_lifetime: what the operator gives
 use Rattle.std.specs.Prelude.{ℕ, ◌==◌, nat_le, if◌then◌else◌, Bool, true, false, List, [], ◌∷◌, Option, None}
 use Rattle.std.specs.List.{list_any}
@@ -18,6 +18,7 @@ plain caches = record {
   heeds_requests = true;
   waits_for_stale = false;
   explains_storing = false;
+  forwards_conditions = true;
 }
 
 -- the statuses that are heuristically cacheable (RFC 9110, section 15.1)

@@ -4,8 +4,8 @@ ghost use Rattle.std.specs.Prelude.{◌≡◌, ◌≤◌, ◌<◌, ℕ, Bool, So
 ghost use Rattle.hx_policy.specs.Policies.{plain, is_heuristic, given_lifetime};
 ghost use Rattle.hx_policy.specs.declared.words.Policy.{Policy as Words};
 
-/// A line that has no word of version 3 gives no lifetime and no stale-if-error, stores and heeds
-/// what the written rules say, lets nobody wait for what is stale, and tells no storing rule.
+/// A line that has no word gives no lifetime and no stale-if-error, stores and heeds what the written rules say, lets
+/// nobody wait for what is stale, tells no storing rule, and leaves the conditions of clients to the origin.
 pub fn a_plain_policy_has_no_words()
     ensures caches { (caches : Bool) → (plain caches).caches ≡ caches }
     ensures lifetime { (caches : Bool) (status : ℕ) → given_lifetime (plain caches) status ≡ None }
@@ -15,6 +15,7 @@ pub fn a_plain_policy_has_no_words()
     ensures requests { (caches : Bool) → (plain caches).heeds_requests ≡ true }
     ensures waiting { (caches : Bool) → (plain caches).waits_for_stale ≡ false }
     ensures storing { (caches : Bool) → (plain caches).explains_storing ≡ false }
+    ensures conditions { (caches : Bool) → (plain caches).forwards_conditions ≡ true }
 {}
 
 /// A lifetime is given to a status that is heuristically cacheable, and to no other (RFC 9111, section 4.2.2): that of

@@ -4,7 +4,8 @@ ghost use Rattle.hx_policy.specs.Policies.{plain, given_lifetime};
 
 use crate::heuristics::{is_error, is_heuristic};
 
-/// What a line says of caching. Each word but the first needs version 3 of the table, and that of errors version 4.
+/// What a line says of caching. Each word but the first needs version 3 of the table, those of errors and of conditions
+/// version 4.
 #[derive(Clone, Copy, Debug, PartialEq, Eq)]
 pub struct Policy {
     /// Requests may be answered from the store, and their responses stored.
@@ -31,10 +32,13 @@ pub struct Policy {
     /// An answer that is passed on, isn't stored and tells no other detail tells the first storing
     /// rule against it (RFC 9211, section 2.8).
     pub explains_storing: bool,
+    /// The If-None-Match and If-Modified-Since of a GET that a stored response could answer go to the origin, which
+    /// judges them. Else they stay with the proxy, which judges them on what it sends (RFC 9111, section 4.3.2).
+    pub forwards_conditions: bool,
 }
 
 impl Policy {
-    /// The policy of a line that has no word of version 3.
+    /// The policy of a line that has no word, in a table of a version before the fourth.
     pub fn plain(caches: bool) -> Policy
         ensures { result ≡ plain caches }
     {
@@ -48,6 +52,7 @@ impl Policy {
             heeds_requests: true,
             waits_for_stale: false,
             explains_storing: false,
+            forwards_conditions: true,
         }
     }
 

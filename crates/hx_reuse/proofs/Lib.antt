@@ -11,3 +11,4 @@ pub mod PromiseLemmas
 pub mod WordLemmas
 pub mod LineLemmas
 pub mod TableLemmas
+pub mod KeptConditions

@@ -112,6 +112,14 @@ stale_if_error_policy n = record (plain true) { stale_if_error = Some n }
 abbrev pub ignore_directives_policy : Policy
 ignore_directives_policy = record (plain true) { heeds_requests = false }
 
+-- and one that keeps the conditions of clients
+abbrev pub keep_conditions_policy : Policy
+keep_conditions_policy = record (plain true) { forwards_conditions = false }
+
+-- a GET of /a with these lines and one condition more
+abbrev pub get_a_if_none_match : List Field → Asked
+get_a_if_none_match fields = get_a_with (line (codes "If-None-Match") (codes "\"e\"") ∷ fields)
+
 -- what is stored at 0 with these lines, of another status
 abbrev pub stored_with_status : ℕ → List Field → Stored
 stored_with_status status fields = record (stored_at 0 [] fields) { status = status }

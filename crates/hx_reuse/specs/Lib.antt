@@ -11,3 +11,4 @@ pub mod PlainLines
 pub mod LineWordsInReuse
 pub mod RuleTables
 pub mod Cases
+pub mod Conditions

@@ -6,6 +6,8 @@ ghost use Rattle.hx_reuse.specs.ChosenAndNamed.{WhatMayBeSentIsSent, NothingElse
 ghost use Rattle.hx_reuse.specs.ChosenAndNamed.{SentResponseIsFound};
 ghost use Rattle.hx_reuse.specs.ChosenAndNamed.{LeastReuseRuleIsNamed, ForwardsWhereARuleApplies, ForwardsWithoutCache};
 ghost use Rattle.hx_reuse.specs.ChosenAndNamed.{WordsOfReuseRulesDiffer, WordsOfErrorRulesDiffer};
+ghost use Rattle.hx_reuse.specs.Conditions.{ConditionsOfACacheableGetStay, NoOtherConditionsStay};
+ghost use Rattle.hx_reuse.specs.Conditions.{PlainLineKeepsNoConditions};
 ghost use Rattle.hx_reuse.specs.Reusable.{WhatMayBeReusedIsReused, NothingElseIsReused};
 ghost use Rattle.hx_reuse.specs.OnError.{WhatMayBeSentOnErrorIsSent, NothingElseIsSentOnError, LeastErrorRuleIsNamed};
 ghost use Rattle.hx_reuse.specs.OnError.{NamedErrorRuleApplies};
@@ -111,13 +113,21 @@ pub fn what_has_to_be_validated_is()
 {}
 
 /// With a line that has no words nothing is asked but what the standards' conditions say, and a
-/// response lasts as long as it states.
+/// response lasts as long as it states; the conditions of clients are the origin's.
 pub fn default_policy_changes_nothing()
     ensures lifetime { PlainLineGivesNoLifetime }
     ensures rules { PlainLineAsksTheSame }
     ensures decision { PlainLineDecidesTheSame }
     ensures error_rules { PlainLineAsksTheSameOnError }
     ensures leave { PlainLinePermitsTheSameOnError }
+    ensures conditions { PlainLineKeepsNoConditions }
+{}
+
+/// The conditions of a client stay with the proxy exactly where its request is a GET that a stored response could
+/// answer, the operator lets the store answer it, and the line doesn't forward them.
+pub fn the_conditions_of_a_cacheable_get_stay()
+    ensures every { ConditionsOfACacheableGetStay }
+    ensures only { NoOtherConditionsStay }
 {}
 
 /// The lifetime that a line gives changes nothing of a response that states its own, nor of one

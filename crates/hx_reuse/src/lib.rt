@@ -5,10 +5,12 @@
 //! `specs/ErrorRules.antt`, their words in `specs/RuleNames.antt`. What they come to, in the standards'
 //! own lists, is `specs/Reusable.antt` and `specs/OnError.antt`, what an origin can rely on
 //! `specs/Promises.antt`, and what the words of a line change `specs/LineWordsInReuse.antt`; `laws` proves
-//! it. Nothing here reads a clock or changes a store.
+//! it. `specs/Conditions.antt` says whose matter the conditions of a client are. Nothing here reads a clock or changes
+//! a store.
 #![tactic(auto)]
 
 mod chosen;
+mod conditions;
 mod decision;
 mod laws;
 mod lifetimes;
@@ -17,13 +19,15 @@ mod reuse_rules;
 mod rule;
 mod worked_cases;
 
+pub use crate::conditions::{forwards_condition, keeps_conditions};
 pub use crate::decision::{Decision, decide};
 pub use crate::laws::{
     a_given_lifetime_counts, a_hit_is_held, a_stated_lifetime_stays,
     default_policy_changes_nothing, details_of_the_rules, forward_names_the_least_rule,
     ignored_directives_are_not_asked, no_other_requests_variant_is_sent, no_other_variant_is_sent,
     nothing_is_reused_against_the_operator, reasons_of_the_rules, sent_on_error_where_it_may_be,
-    sent_where_it_may_be_reused, sent_where_no_rule_applies, the_least_error_rule_is_named,
+    sent_where_it_may_be_reused, sent_where_no_rule_applies,
+    the_conditions_of_a_cacheable_get_stay, the_least_error_rule_is_named,
     the_operators_stale_if_error_counts, the_preferred_that_matches_is_chosen,
     the_tables_of_the_rules_agree, what_has_to_be_validated_is, words_name_the_rule,
     words_of_the_error_rules,
@@ -37,5 +41,5 @@ pub use crate::worked_cases::{
     minute_from_the_line, moment_goes_backwards, no_lifetime_is_only_validated,
     of_two_alike_the_later_comes_first, reload_is_ignored, request_max_age_and_only_if_cached,
     seconds_of_errors, stale_if_error_of_request, stale_if_error_of_response,
-    vary_values_are_compared,
+    vary_values_are_compared, whose_condition_stays,
 };

@@ -7,6 +7,7 @@ ghost use Rattle.hx_fields.specs.Examples.{line};
 ghost use Rattle.hx_directives.specs.Answers.{directive_occurs};
 ghost use Rattle.hx_directives.specs.declared.names.Directive.TheVariants.{OnlyIfCached};
 ghost use Rattle.hx_policy.specs.Policies.{plain};
+ghost use Rattle.hx_reuse.specs.Conditions.{keeps_conditions, forwards_condition};
 ghost use Rattle.hx_reuse.specs.Rules.{decision_of, reuse_rule_of};
 ghost use Rattle.hx_reuse.specs.ErrorRules.{permission_on_error, error_rule_of};
 ghost use Rattle.hx_reuse.specs.Cases.{cache_control_fields, accept_language, get_a_with, get_b, get_a_with_content};
@@ -15,7 +16,7 @@ ghost use Rattle.hx_reuse.specs.Cases.{one_held_in_german, one_held_with_etag, r
 ghost use Rattle.hx_reuse.specs.Cases.{error_lifetime_policy};
 ghost use Rattle.hx_reuse.specs.Cases.{stale_if_error_policy, ignore_directives_policy, stored_with_status};
 ghost use Rattle.hx_reuse.specs.Cases.{one_held_of_status, variant_made_at, default_made_at, english_and_default};
-ghost use Rattle.hx_reuse.specs.Cases.{get_a_in};
+ghost use Rattle.hx_reuse.specs.Cases.{get_a_in, keep_conditions_policy, get_a_if_none_match};
 
 use crate::{Decision, ErrorRule, ReuseRule};
 
@@ -293,4 +294,27 @@ pub fn minute_after_an_error()
     ensures with_a_lifetime { permission_on_error (record (stale_if_error_policy 60) { lifetime = Some 10 })
         (stored_with_status 200 []) [] 70
         ≡ Ok tt }
+{}
+
+/// Conditions of clients over a line that keeps those of a GET that a stored response could answer: which stay, and
+/// which go to the origin.
+pub fn whose_condition_stays()
+    ensures kept { keeps_conditions keep_conditions_policy (get_a_if_none_match []) ≡ true }
+    ensures without_any { keeps_conditions keep_conditions_policy (get_a_with []) ≡ true }
+    ensures of_a_head { keeps_conditions keep_conditions_policy (record
+        (get_a_if_none_match []) { method = codes "HEAD" }) ≡ false }
+    ensures of_a_range { keeps_conditions keep_conditions_policy (get_a_if_none_match (line (codes "Range")
+        (codes "bytes=0-1") ∷ [])) ≡ false }
+    ensures beside_if_match { keeps_conditions keep_conditions_policy (get_a_if_none_match (line (codes "If-Match")
+        (codes "*") ∷ [])) ≡ false }
+    ensures with_content { keeps_conditions keep_conditions_policy (get_a_with_content (codes "x") []) ≡ false }
+    ensures without_cache { keeps_conditions (record keep_conditions_policy { caches = false }) (get_a_if_none_match [])
+        ≡ false }
+    ensures by_a_plain_line { keeps_conditions (plain true) (get_a_if_none_match []) ≡ false }
+    ensures kept_behind { forwards_condition keep_conditions_policy (get_a_if_none_match []) ≡ false }
+    ensures tag { forwards_condition (plain true) (get_a_if_none_match []) ≡ true }
+    ensures date { forwards_condition (plain true) (get_a_with (line (codes "If-Modified-Since") (codes "x") ∷ [])) ≡ true }
+    ensures none { forwards_condition (plain true) (get_a_with (accept_language (codes "de") ∷ [])) ≡ false }
+    ensures range { forwards_condition keep_conditions_policy (get_a_if_none_match (line (codes "Range")
+        (codes "bytes=0-1") ∷ [])) ≡ true }
 {}

@@ -1,3 +1,4 @@
+pub mod ClientConditions
 pub mod Lines
 pub mod Tags
 pub mod Replaced

@@ -1,5 +1,6 @@
 pub mod Answering
 pub mod Cases
+pub mod ClientConditions
 pub mod EntityTags
 pub mod TagsAndFreshening
 pub mod NotModified

@@ -1,5 +1,8 @@
--- When a client's own condition is met by a stored response, and what the 304 to it carries
+-- When a client's own condition is met by what it would be sent, and what the 304 in its place carries
 -- (RFC 9110, sections 13.1.2, 13.1.3 and 15.4.5; RFC 9111, section 4.3.2).
+--
+-- gets_304, fields_of_304: of a stored response
+-- answer_gets_304, fields_of_304_to_answer: of an answer of the origin
 use Rattle.std.specs.Prelude.{ℕ, nat_le, ◌==◌, if◌then◌else◌, Bool, false, not, ◌&&◌, ◌||◌, List, filter, bytes_eq}
 use Rattle.std.specs.Prelude.{codes, option_and_then, unwrap_or, Option, Some, None}
 use Rattle.std.specs.List.{list_any}
@@ -64,3 +67,34 @@ is_carried_by_304 tagged line =
 
 abbrev pub fields_of_304 : List Field → List Field
 fields_of_304 fields = filter (is_carried_by_304 (has_field fields (codes "ETag"))) fields
+
+-- ---- in place of an answer of the origin
+
+-- a moment that isn't before another, if both are known
+abbrev pub is_not_before_if_stated : Option ℕ → Option ℕ → Bool
+is_not_before_if_stated since None = false
+is_not_before_if_stated since (Some changed) = is_not_before since changed
+
+-- If-Modified-Since = HTTP-date: the answer states when it last changed, which isn't later. Where it doesn't state it
+-- the field is ignored (RFC 9110, section 13.1.3); a Date stands for it in a stored response alone (RFC 9111,
+-- section 4.3.2).
+abbrev pub is_stated_unchanged_since : List Field → List Field → Bool
+is_stated_unchanged_since request fields =
+    is_not_before_if_stated (single_date (values_of request (codes "If-Modified-Since")))
+    (single_date (values_of fields (codes "Last-Modified")))
+
+-- a client has the answer of this status and these lines already
+abbrev pub answer_gets_304 : Asked → ℕ → List Field → Bool
+answer_gets_304 asked status fields =
+    (status == 200)
+    && (if has_field asked.fields (codes "If-None-Match") then if_none_match_names asked.fields fields
+    else is_stated_unchanged_since asked.fields fields)
+
+-- own: the 304 to the one who asked has the answer's Age and its cookies too, since no other response brings them
+-- ("What a 304 in place of an answer carries")
+abbrev pub is_carried_to_asker : Bool → Field → Bool
+is_carried_to_asker tagged line =
+    is_carried_by_304 tagged line || (is_named (codes "Age") line || is_named (codes "Set-Cookie") line)
+
+abbrev pub fields_of_304_to_answer : List Field → List Field
+fields_of_304_to_answer fields = filter (is_carried_to_asker (has_field fields (codes "ETag"))) fields

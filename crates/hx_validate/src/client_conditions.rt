@@ -1,4 +1,5 @@
-//! Conditions of clients, judged against a stored response (RFC 9110, sections 13.1.2, 13.1.3 and 15.4.5).
+//! Conditions of clients, judged against a stored response or an answer of the origin (RFC 9110, sections 13.1.2,
+//! 13.1.3 and 15.4.5).
 //!
 //! The definitions are in `specs/NotModified.antt`. Whether a stored response may be sent at all is decided before.
 ghost use Rattle.std.specs.Prelude.{◌≡◌, codes, IfOk, Some, option_map};
@@ -9,6 +10,8 @@ ghost use Rattle.hx_validate.specs.EntityTags.{tagged};
 ghost use Rattle.hx_validate.specs.NotModified.{last_changed, tag_of_stored, is_carried_by_304, is_not_before};
 ghost use Rattle.hx_validate.specs.NotModified.{is_weakly_equal_tag, if_none_match_lists};
 ghost use Rattle.hx_validate.specs.NotModified.{if_none_match_names, fields_of_304, is_unchanged_since, gets_304};
+ghost use Rattle.hx_validate.specs.NotModified.{is_not_before_if_stated, is_stated_unchanged_since, answer_gets_304};
+ghost use Rattle.hx_validate.specs.NotModified.{is_carried_to_asker, fields_of_304_to_answer};
 
 use crate::entity_tags::EntityTag;
 use crate::stored_validators::tag_value;
@@ -126,6 +129,40 @@ pub fn client_wants_304(asked: &Asked, entry: &Entry) -> bool
     }
 }
 
+fn is_not_before_if_stated(moment: Option<u64>, changed: Option<u64>) -> bool
+    ensures { result ≡ is_not_before_if_stated moment changed }
+{
+    match changed {
+        Some(changed) => is_not_before(moment, changed),
+        None => false,
+    }
+}
+
+/// Whether an answer states that it hasn't changed since If-Modified-Since.
+fn is_stated_unchanged_since(request: &Fields, fields: &Fields) -> bool
+    ensures { result ≡ is_stated_unchanged_since request.now fields.now }
+{
+    is_not_before_if_stated(
+        single_date(request, b"If-Modified-Since"),
+        single_date(fields, b"Last-Modified"),
+    )
+}
+
+/// Whether a client has an answer of the origin already, so that a 304 is sent in its place: the status and the lines
+/// of the answer, as rules see them, are handed in. Without Last-Modified its If-Modified-Since is ignored (RFC 9110,
+/// section 13.1.3). No memory is taken.
+pub fn client_has_answer(asked: &Asked, status: u16, fields: &Fields) -> bool
+    ensures { result ≡ answer_gets_304 asked.now status fields.now }
+{
+    if status != OK {
+        false
+    } else if asked.fields.has(b"If-None-Match") {
+        if_none_match_names(&asked.fields, fields)
+    } else {
+        is_stated_unchanged_since(&asked.fields, fields)
+    }
+}
+
 /// Whether a 304 carries a line of a stored response, which has an ETag line or not.
 fn is_carried_by_304(line: &Field, tagged: bool) -> bool
     ensures { result ≡ is_carried_by_304 tagged line.now }
@@ -148,6 +185,30 @@ pub fn not_modified(alloc: Global, entry: &Entry) -> Result<Fields, AllocError>
     let mut carried = Fields::new(alloc);
     for line in entry.fields.as_slice() {
         if is_carried_by_304(line, tagged) {
+            carried.push(line.name.as_slice(), line.value.as_slice())?;
+        }
+    }
+    Ok(carried)
+}
+
+/// Whether a 304 in place of an answer carries a line of it.
+fn is_carried_to_asker(line: &Field, tagged: bool) -> bool
+    ensures { result ≡ is_carried_to_asker tagged line.now }
+{
+    let name = line.name.as_slice();
+    is_carried_by_304(line, tagged)
+        || is_same_name(name, b"Age")
+        || is_same_name(name, b"Set-Cookie")
+}
+
+/// The lines of the 304 that stands for an answer of these lines. Its only error is out of memory.
+pub fn answer_not_modified(alloc: Global, fields: &Fields) -> Result<Fields, AllocError>
+    ensures { IfOk result (λ carried. carried ≡ fields_of_304_to_answer fields.now) }
+{
+    let tagged = fields.has(b"ETag");
+    let mut carried = Fields::new(alloc);
+    for line in fields.as_slice() {
+        if is_carried_to_asker(line, tagged) {
             carried.push(line.name.as_slice(), line.value.as_slice())?;
         }
     }

@@ -18,7 +18,9 @@ ghost use Rattle.hx_validate.specs.TagsAndFreshening.{NominatedByTheNewLines, St
 ghost use Rattle.hx_validate.specs.TagsAndFreshening.{EachEntityTagIsRead};
 ghost use Rattle.hx_validate.specs.TagsAndFreshening.{EntityTagIsOfTheGrammar, LinesOfItsNamesAreReplaced};
 ghost use Rattle.hx_validate.specs.TagsAndFreshening.{StrongEqualityIsNarrower, SameTagAnswers};
-ghost use Rattle.hx_validate.specs.NotModified.{fields_of_304, gets_304};
+ghost use Rattle.hx_validate.specs.ClientConditions.{FalseConditionGets304, NoOtherConditionGets304};
+ghost use Rattle.hx_validate.specs.ClientConditions.{StoredIsJudgedAlike};
+ghost use Rattle.hx_validate.specs.NotModified.{fields_of_304, gets_304, answer_gets_304, fields_of_304_to_answer};
 ghost use Rattle.hx_validate.specs.Room.{LeavesRoomForAll, LeavesRoomForNoMore, LeavesRoomToTheByte, head_leaves_room};
 ghost use Rattle.hx_validate.specs.Validators.{conditions_of, has_validator};
 
@@ -174,6 +176,40 @@ pub fn if_modified_since_compares_dates()
         (record (stored_with []) { status = 404 }) ≡ false }
 {}
 
+/// An answer of the origin gets the client a 304 exactly where the client's own condition is false of it; and who gets
+/// one for it gets one for it out of the store.
+pub fn a_304_stands_where_the_condition_is_false()
+    ensures every { FalseConditionGets304 }
+    ensures only { NoOtherConditionGets304 }
+    ensures alike { StoredIsJudgedAlike }
+{}
+
+/// Conditions held against an answer: the tag in front of the date, a status of 200 alone, and no date but
+/// Last-Modified.
+#[tactic(auto, unfolding(httpdate::proofs::OnLiterals::httpdate_on_literals))]
+pub fn answers_are_judged_by_conditions()
+    ensures star { answer_gets_304 (asked_with (if_none_match_line (codes "*") ∷ [])) 200 [] ≡ true }
+    ensures weak { answer_gets_304 (asked_with (if_none_match_line (codes "W/\"e\"")
+        ∷ [])) 200 (etag_line (codes "\"e\"") ∷ []) ≡ true }
+    ensures second { answer_gets_304 (asked_with (if_none_match_line (codes "\"a\", \"e\"")
+        ∷ [])) 200 (etag_line (codes "\"e\"") ∷ []) ≡ true }
+    ensures other { answer_gets_304 (asked_with (if_none_match_line (codes "\"f\"")
+        ∷ [])) 200 (etag_line (codes "\"e\"") ∷ []) ≡ false }
+    ensures other_status { answer_gets_304 (asked_with (if_none_match_line (codes "*") ∷ [])) 404 [] ≡ false }
+    ensures partial { answer_gets_304 (asked_with (if_none_match_line (codes "*") ∷ [])) 206 [] ≡ false }
+    ensures hides { answer_gets_304 (asked_with (if_none_match_line (codes "\"f\"") ∷ if_modified_since_line
+        (codes "Thu, 01 Jan 1970 00:00:05 GMT") ∷ [])) 200 (last_modified_line (codes "Thu, 01 Jan 1970 00:00:05 GMT") ∷ []) ≡ false }
+    ensures equal { answer_gets_304 (asked_with (if_modified_since_line (codes "Thu, 01 Jan 1970 00:00:05 GMT") ∷ [])) 200
+        (last_modified_line (codes "Thu, 01 Jan 1970 00:00:05 GMT") ∷ []) ≡ true }
+    ensures earlier { answer_gets_304 (asked_with (if_modified_since_line (codes "Thu, 01 Jan 1970 00:00:04 GMT") ∷ [])) 200
+        (last_modified_line (codes "Thu, 01 Jan 1970 00:00:05 GMT") ∷ []) ≡ false }
+    ensures unstated { answer_gets_304 (asked_with (if_modified_since_line (codes "Thu, 01 Jan 1970 00:01:40 GMT") ∷ [])) 200
+        (line (codes "Date") (codes "Thu, 01 Jan 1970 00:01:40 GMT") ∷ []) ≡ false }
+    ensures no_date { answer_gets_304 (asked_with (if_modified_since_line (codes "yesterday") ∷ [])) 200
+        (last_modified_line (codes "Thu, 01 Jan 1970 00:00:05 GMT") ∷ []) ≡ false }
+    ensures none { answer_gets_304 (asked_with []) 200 (etag_line (codes "\"e\"") ∷ []) ≡ false }
+{}
+
 /// What isn't a line of it stays, but for the moments; what is kept of the request goes by the new lines.
 pub fn the_rest_of_it_stays()
     ensures rest { TheRestStays }
@@ -204,6 +240,19 @@ pub fn lines_of_a_304()
     ensures vary { fields_of_304 (line (codes "Vary") (codes "a") ∷ []) ≡ line (codes "Vary") (codes "a") ∷ [] }
     ensures others { fields_of_304 (line (codes "Set-Cookie") (codes "a") ∷ line (codes "Content-Type") (codes "b")
         ∷ line (codes "Content-Length") (codes "1") ∷ line (codes "Server") (codes "c") ∷ []) ≡ [] }
+{}
+
+/// The lines that a 304 in place of an answer carries beside them: its Age and its cookies.
+pub fn lines_of_a_304_to_an_answer()
+    ensures age { fields_of_304_to_answer (line (codes "Age") (codes "1") ∷ []) ≡ line (codes "Age") (codes "1") ∷ [] }
+    ensures cookies { fields_of_304_to_answer (line (codes "Set-Cookie") (codes "a") ∷ line (codes "set-cookie") (codes "b") ∷ [])
+        ≡ line (codes "Set-Cookie") (codes "a") ∷ line (codes "set-cookie") (codes "b") ∷ [] }
+    ensures etag { fields_of_304_to_answer (last_modified_line (codes "b") ∷ etag_line (codes "a") ∷ [])
+        ≡ etag_line (codes "a") ∷ [] }
+    ensures modified { fields_of_304_to_answer (last_modified_line (codes "b") ∷ [])
+        ≡ last_modified_line (codes "b") ∷ [] }
+    ensures others { fields_of_304_to_answer (line (codes "Content-Type") (codes "b") ∷ line (codes "Content-Encoding") (codes "c")
+        ∷ line (codes "Server") (codes "c") ∷ []) ≡ [] }
 {}
 
 /// What is added to lines that leave room for it stays within the limits of a head: whatever it is,

@@ -236,7 +236,7 @@ parts false b c d h = absurd (false≢true h)
 gets_lead : (policy : Policy) (awaited : Awaited) (asked : Asked) (p : ℕ → Bool) (es : Numbered) → GetArrivalsPass asked.target.key p es → SelectedArrivalsPass (leads_waiters policy awaited asked) p es
 gets_lead policy awaited asked p [] h = tt
 gets_lead policy awaited asked p (e ∷ es) h =
-    (λ w. h.0 (parts (same_key e.1.asked.target.key asked.target.key) (is_get e.1.asked) (is_forwarded e.1.stage) (asks_for awaited e.1 && (not policy.waits_for_stale || may_serve asked e.1)) w), gets_lead policy awaited asked p es h.1)
+    (λ w. h.0 (parts (same_key e.1.asked.target.key asked.target.key) (is_get e.1.asked) (is_forwarded e.1.stage) (asks_for awaited e.1 && (not policy.waits_for_stale || may_serve policy asked e.1)) w), gets_lead policy awaited asked p es h.1)
 
 pub leaders : (policy : Policy) (awaited : Awaited) (asked : Asked) (ns : List ℕ) (es : Numbered) → IsStrictlySortedBy nat_cmp ns → GetArrivalsPass asked.target.key (λ k. list_any (λ n. at k n) ns) es → LeadersLeft policy awaited asked ns es
 leaders policy awaited asked ns es s h = (gets_lead policy awaited asked (λ k. list_any (λ n. at k n) ns) es h, s)

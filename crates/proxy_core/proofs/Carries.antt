@@ -34,6 +34,7 @@ use Rattle.proxy_core.specs.Leading.{waits_for}
 use Rattle.proxy_core.specs.Awaiting.{leader_of_request}
 use Rattle.proxy_core.specs.Outcomes.{find_exchange, exchange_id_of_event, outcome_of_arrival, outcome_of_allowed_request, outcome_of_waiting_or_forwarding, outcome_without_stored_response, outcome_of_wake, is_only_if_cached, forward_text, fallback_for, outcome_of_failure, is_error_status, outcome_of_passing_on_or_stale, outcome_of_304, outcome_of_answer, outcome_of}
 use Rattle.proxy_core.specs.State.{State, overtaken_exchange, released_exchange, forwarded_exchange, waiting_exchange, line_of_verdict, rule_of_decision, serial_named_by_decision, exchange_gone_forward, exchange_forwarded_again, exchange_sent_forward, exchanges_after_wake, open_exchanges_after}
+use Rattle.proxy_core.specs.Starts.{StoreAtStart}
 use Rattle.proxy_core.specs.Traces.{Item, initial_state, state_after_trace, IsGood}
 use Rattle.proxy_core.specs.Histories.{open_exchanges, IsGoodHistory}
 use Rattle.proxy_core.specs.Promises.{outcome_goes_forward, count_of_outcomes}
@@ -59,7 +60,7 @@ module _ (table : Table) (es : List Stored) (xs : List Exchange) (now : ℕ) (as
 
   pub record WentBy (line : ℕ) (bytes : List ℕ) : Type 0 where
     pub on : IsSentOn line
-    pub bytes_are : bytes ≡ forward_text table asked (condition_about_serial es on.against)
+    pub bytes_are : bytes ≡ forward_text table line asked (condition_about_serial es on.against)
 
   -- what a request that arrives does, where it isn't answered
   Goes : Outcome → Type 0
@@ -95,7 +96,7 @@ module _ (table : Table) (es : List Stored) (xs : List Exchange) (now : ℕ) (as
 
 -- it goes where it went, without conditions
 abbrev pub IsAgain : Table → Exchange → Outcome → Type 0
-IsAgain table x (Forward line bytes) = (line ≡ x.line) × (bytes ≡ forward_text table x.asked None)
+IsAgain table x (Forward line bytes) = (line ≡ x.line) × (bytes ≡ forward_text table x.line x.asked None)
 IsAgain table x (Waits leader) = Unit {0}
 IsAgain table x (Reply r) = Unit {0}
 IsAgain table x Ended = Unit {0}
@@ -123,23 +124,23 @@ again_by table es now x r next d = by_304 (is_validation x r)
     by_unasked false = by_error (is_error_status r.status) (fallback_for (policy_of table.lines x.line) es x.asked now d)
 
     by_304 : (b : Bool) → IsAgain table x (cond b (outcome_of_304 table es now x r (stored_response_validated es x r now) d)
-        (cond (is_304_without_condition x.asked r) (outcome_of_failure table es now x BadAnswer (Some r.status) (fallback_for (policy_of table.lines x.line) es x.asked now d))
+        (cond (is_304_without_condition (policy_of table.lines x.line) x.asked r) (outcome_of_failure table es now x BadAnswer (Some r.status) (fallback_for (policy_of table.lines x.line) es x.asked now d))
         (outcome_of_passing_on_or_stale table es now x r next (is_error_status r.status) (fallback_for (policy_of table.lines x.line) es x.asked now d))))
     by_304 true = by_validation (stored_response_validated es x r now) d
-    by_304 false = by_unasked (is_304_without_condition x.asked r)
+    by_304 false = by_unasked (is_304_without_condition (policy_of table.lines x.line) x.asked r)
 
 -- ---- an item more
 
 not_of : (id : ℕ) (event : Event) (p : Bool) → eqb (exchange_id_of_event event) id ≡ false → (eqb (exchange_id_of_event event) id && p) ≡ false
 not_of id event p n = ap (λ b. b && p) n
 
-module _ (table : Table) (limit : ℕ) where
+module _ (table : Table) (start : StoreAtStart) where
   -- what an exchange did since it was judged
   abbrev Went : Exchange → List Item → List Item → ℕ → Outcome → Type 0
-  Went x since before now o = WentForwardOnce table limit x since before now o ⊎ (WentForwardASecondTime table x since ⊎ HasWaitedSinceItsArrival table limit x since before o)
+  Went x since before now o = WentForwardOnce table start x since before now o ⊎ (WentForwardASecondTime table x since ⊎ HasWaitedSinceItsArrival table start x since before o)
 
   -- of another id
-  further : (i : Item) (x : Exchange) (past : List Item) → eqb (exchange_id_of_event i.event) x.id ≡ false → ExchangeWasJudged table limit x past → ExchangeWasJudged table limit x (i ∷ past)
+  further : (i : Item) (x : Exchange) (past : List Item) → eqb (exchange_id_of_event i.event) x.id ≡ false → ExchangeWasJudged table start x past → ExchangeWasJudged table start x (i ∷ past)
   further i x past n h = record {
     since = i ∷ h.since;
     before = h.before;
@@ -188,7 +189,7 @@ module _ (table : Table) (limit : ℕ) where
       }))
 
   -- the mark is no part of it
-  marked : (z : Exchange) (past : List Item) → ExchangeWasJudged table limit z past → ExchangeWasJudged table limit (record z { overtaken = true }) past
+  marked : (z : Exchange) (past : List Item) → ExchangeWasJudged table start z past → ExchangeWasJudged table start (record z { overtaken = true }) past
   marked z past h = record {
     since = h.since;
     before = h.before;
@@ -234,7 +235,7 @@ module _ (table : Table) (limit : ℕ) where
       }))
 
   -- one that waits is released
-  freed : (i : ℕ) (z : Exchange) (past : List Item) → waits_for i z.stage ≡ true → ExchangeWasJudged table limit z past → ExchangeWasJudged table limit (record z { stage = Released }) past
+  freed : (i : ℕ) (z : Exchange) (past : List Item) → waits_for i z.stage ≡ true → ExchangeWasJudged table start z past → ExchangeWasJudged table start (record z { stage = Released }) past
   freed i z past waits h = record {
     since = h.since;
     before = h.before;
@@ -264,8 +265,8 @@ module _ (table : Table) (limit : ℕ) where
         condition = w.condition;
       }))
 
-  overtakes : (key : Key) (z : Exchange) (past : List Item) → ExchangeWasJudged table limit z past → ExchangeWasJudged table limit (overtaken_exchange key z) past
-  overtakes key z past h = elim (same_key z.asked.target.key key) as (λ b. ExchangeWasJudged table limit (cond b (record z { overtaken = true }) z) past) [
+  overtakes : (key : Key) (z : Exchange) (past : List Item) → ExchangeWasJudged table start z past → ExchangeWasJudged table start (overtaken_exchange key z) past
+  overtakes key z past h = elim (same_key z.asked.target.key key) as (λ b. ExchangeWasJudged table start (cond b (record z { overtaken = true }) z) past) [
     | true ↦ marked z past h
     | false ↦ h
   ]
@@ -276,10 +277,10 @@ module _ (table : Table) (limit : ℕ) where
     | false ↦ refl
   ]
 
-  releases : (i : ℕ) (z : Exchange) (past : List Item) → ExchangeWasJudged table limit z past → ExchangeWasJudged table limit (released_exchange i z) past
+  releases : (i : ℕ) (z : Exchange) (past : List Item) → ExchangeWasJudged table start z past → ExchangeWasJudged table start (released_exchange i z) past
   releases i z past h = by_test (waits_for i z.stage) refl
     where
-      by_test : (b : Bool) → waits_for i z.stage ≡ b → ExchangeWasJudged table limit (cond b (record z { stage = Released }) z) past
+      by_test : (b : Bool) → waits_for i z.stage ≡ b → ExchangeWasJudged table start (cond b (record z { stage = Released }) z) past
       by_test true waits = freed i z past waits h
       by_test false waits = h
 
@@ -291,7 +292,7 @@ module _ (table : Table) (limit : ℕ) where
 
   -- carried by the exchange of an id
   abbrev Carried : ℕ → List Item → Exchange → Type 0
-  Carried id past x = ExchangeWasJudged table limit x past × (x.id ≡ id)
+  Carried id past x = ExchangeWasJudged table start x past × (x.id ≡ id)
 
   carried_released : (id : ℕ) (past : List Item) (gone : Option ℕ) (o : Option Exchange) (x : Exchange) →
       ((z : Exchange) → o ≡ Some z → Carried id past z) → released_by gone o ≡ Some x → Carried id past x
@@ -317,28 +318,28 @@ module _ (table : Table) (limit : ℕ) where
       let c = carried_overtaken id past key (released_by gone o) x (λ z q. carried_released id past gone o z f q) h in
       (further i x past (ap (eqb (exchange_id_of_event i.event)) c.1 ∙ n) c.0, c.1)
 
-module _ (table : Table) (limit first : ℕ) where
+module _ (table : Table) (start : StoreAtStart) (first : ℕ) where
   abbrev exchange : ℕ → List Item → Option Exchange
-  exchange id past = find_exchange id (state_after_trace (initial_state table limit first) past).exchanges
+  exchange id past = find_exchange id (state_after_trace (initial_state table start first) past).exchanges
 
   -- at the arrival
-  carried_first : (past : List Item) → IsGood (initial_state table limit first) past → (now id : ℕ) (asked : Asked) (o : Outcome) (x : Exchange) →
-      Goes table (state_after_trace (initial_state table limit first) past).entries (state_after_trace (initial_state table limit first) past).exchanges now asked o → exchange id past ≡ None →
-      find_exchange id (open_exchanges_after table (state_after_trace (initial_state table limit first) past).entries (state_after_trace (initial_state table limit first) past).exchanges (Arrive now id asked) o) ≡ Some x →
-      Carried table limit id (record { event = Arrive now id asked; outcome = o } ∷ past) x
+  carried_first : (past : List Item) → IsGood (initial_state table start first) past → (now id : ℕ) (asked : Asked) (o : Outcome) (x : Exchange) →
+      Goes table (state_after_trace (initial_state table start first) past).entries (state_after_trace (initial_state table start first) past).exchanges now asked o → exchange id past ≡ None →
+      find_exchange id (open_exchanges_after table (state_after_trace (initial_state table start first) past).entries (state_after_trace (initial_state table start first) past).exchanges (Arrive now id asked) o) ≡ Some x →
+      Carried table start id (record { event = Arrive now id asked; outcome = o } ∷ past) x
   unfolding Goes
   carried_first past g now id asked (Reply r) x h free found = absurd (none_some _ x free found)
   carried_first past g now id asked Ended x h free found = absurd (none_some _ x free found)
   carried_first past g now id asked (Waits leader) x on free found =
-      let s = state_after_trace (initial_state table limit first) past in
+      let s = state_after_trace (initial_state table start first) past in
       let line = line_of_verdict (verdict_of table.lines asked.method asked.target) in
       let y = waiting_exchange table s.entries now id asked line leader in
       let here : y ≡ x = same_Some y x (sym (find-push id s.exchanges y free ∙ ap (λ b. cond b (Some y) (find_exchange id s.exchanges)) (eq-eqb id id refl)) ∙ found) in
-      let held = entries_are_held table limit first past g in
+      let held = entries_are_held table start first past g in
       let named = names_the_least (policy_of table.lines line) s.entries asked now on.rule on.against on.decided in
       let rule : y.rule ≡ on.rule = ap rule_of_decision on.decided in
       let condition : y.condition ≡ condition_about_serial s.entries on.against = ap (λ (d : Decision). condition_about_serial s.entries (serial_named_by_decision d)) on.decided in
-      subst (Carried table limit id (record { event = Arrive now id asked; outcome = Waits leader } ∷ past)) here (
+      subst (Carried table start id (record { event = Arrive now id asked; outcome = Waits leader } ∷ past)) here (
         record {
           since = [];
           before = past;
@@ -362,15 +363,15 @@ module _ (table : Table) (limit first : ℕ) where
         refl,
       )
   carried_first past g now id asked (Forward line bytes) x w free found =
-      let s = state_after_trace (initial_state table limit first) past in
+      let s = state_after_trace (initial_state table start first) past in
       let y = forwarded_exchange table s.entries now id asked line in
       let on = w.on in
       let here : y ≡ x = same_Some y x (sym (find-push id s.exchanges y free ∙ ap (λ b. cond b (Some y) (find_exchange id s.exchanges)) (eq-eqb id id refl)) ∙ found) in
-      let held = entries_are_held table limit first past g in
+      let held = entries_are_held table start first past g in
       let named = names_the_least (policy_of table.lines line) s.entries asked now on.rule on.against on.decided in
       let rule : y.rule ≡ on.rule = ap rule_of_decision on.decided in
       let condition : y.condition ≡ condition_about_serial s.entries on.against = ap (λ (d : Decision). condition_about_serial s.entries (serial_named_by_decision d)) on.decided in
-      subst (Carried table limit id (record { event = Arrive now id asked; outcome = Forward line bytes } ∷ past)) here (
+      subst (Carried table start id (record { event = Arrive now id asked; outcome = Forward line bytes } ∷ past)) here (
         record {
           since = [];
           before = past;
@@ -388,24 +389,24 @@ module _ (table : Table) (limit first : ℕ) where
             against = on.against;
             names = subst (λ (es : List Stored). RuleNamesTheResponse es asked y.rule on.against) held (subst (λ (q : ReuseRule). RuleNamesTheResponse s.entries asked q on.against) (sym rule) named.1);
             condition = condition ∙ ap (λ (es : List Stored). condition_about_serial es on.against) held;
-            outcome_is = ap (λ (b : List ℕ). Forward line b) (w.bytes_are ∙ ap (forward_text table asked) (sym condition));
+            outcome_is = ap (λ (b : List ℕ). Forward line b) (w.bytes_are ∙ ap (forward_text table line asked) (sym condition));
           });
         },
         refl,
       )
 
   -- when it is woken
-  carried_woken : (past : List Item) → IsGood (initial_state table limit first) past → (now id : ℕ) (z : Exchange) (o : Outcome) (x : Exchange) (d : Decision) → Carried table limit id past z →
-      exchange id past ≡ Some z → decision_of (policy_of table.lines z.line) (state_after_trace (initial_state table limit first) past).entries z.asked now ≡ d → o ≡ outcome_of_wake table (state_after_trace (initial_state table limit first) past).entries now z d →
+  carried_woken : (past : List Item) → IsGood (initial_state table start first) past → (now id : ℕ) (z : Exchange) (o : Outcome) (x : Exchange) (d : Decision) → Carried table start id past z →
+      exchange id past ≡ Some z → decision_of (policy_of table.lines z.line) (state_after_trace (initial_state table start first) past).entries z.asked now ≡ d → o ≡ outcome_of_wake table (state_after_trace (initial_state table start first) past).entries now z d →
       outcome_goes_forward o ≡ true →
-      find_exchange id (open_exchanges_after table (state_after_trace (initial_state table limit first) past).entries (state_after_trace (initial_state table limit first) past).exchanges (Wake now id) o) ≡ Some x →
-      Carried table limit id (record { event = Wake now id; outcome = o } ∷ past) x
+      find_exchange id (open_exchanges_after table (state_after_trace (initial_state table start first) past).entries (state_after_trace (initial_state table start first) past).exchanges (Wake now id) o) ≡ Some x →
+      Carried table start id (record { event = Wake now id; outcome = o } ∷ past) x
   carried_woken past g now id z o x (decision.Hit t) c z_is d h out found = absurd (false≢true (sym (ap outcome_goes_forward h) ∙ out))
   carried_woken past g now id z o x (decision.Forward rule against) c z_is d h out found =
-      let s = state_after_trace (initial_state table limit first) past in
+      let s = state_after_trace (initial_state table start first) past in
       let es = s.entries in
       let xs = s.exchanges in
-      let bytes = forward_text table z.asked (condition_about_serial es against) in
+      let bytes = forward_text table z.line z.asked (condition_about_serial es against) in
       let q = rule_of_decision (decision_of (policy_of table.lines z.line) es z.asked now) in
       let m = serial_named_by_decision (decision_of (policy_of table.lines z.line) es z.asked now) in
       let k = condition_about_serial es m in
@@ -415,11 +416,11 @@ module _ (table : Table) (limit first : ℕ) where
       ∙ (find-map (exchange_sent_forward id now q m k) (sent_out-id id now q m k) id xs
       ∙ (ap (option_map (exchange_sent_forward id now q m k)) z_is ∙ ap (λ b. Some (cond b (exchange_gone_forward now q m k z) z)) (found-id id xs z z_is))) in
       let here : y ≡ x = same_Some y x (sym at ∙ (ap (λ (o : Outcome). find_exchange id (open_exchanges_after table es xs (Wake now id) o)) (sym h) ∙ found)) in
-      let held = entries_are_held table limit first past g in
+      let held = entries_are_held table start first past g in
       let named = names_the_least (policy_of table.lines z.line) es z.asked now rule against d in
       let rule_is : y.rule ≡ rule = ap rule_of_decision d in
       let condition : y.condition ≡ condition_about_serial es against = ap (λ (d : Decision). condition_about_serial es (serial_named_by_decision d)) d in
-      subst (Carried table limit id (record { event = Wake now id; outcome = o } ∷ past)) here (
+      subst (Carried table start id (record { event = Wake now id; outcome = o } ∷ past)) here (
         record {
           since = [];
           before = past;
@@ -437,19 +438,19 @@ module _ (table : Table) (limit first : ℕ) where
             against = against;
             names = subst (λ (es : List Stored). RuleNamesTheResponse es z.asked y.rule against) held (subst (λ (q : ReuseRule). RuleNamesTheResponse es z.asked q against) (sym rule_is) named.1);
             condition = condition ∙ ap (λ (es : List Stored). condition_about_serial es against) held;
-            outcome_is = h ∙ ap (λ (c : Option Condition). Forward z.line (forward_text table z.asked c)) (sym condition);
+            outcome_is = h ∙ ap (λ (c : Option Condition). Forward z.line (forward_text table z.line z.asked c)) (sym condition);
           });
         },
         c.1,
       )
 
   -- behind an answer
-  carried_again : (past : List Item) (now id : ℕ) (r : Response) (z : Exchange) (line : ℕ) (bytes : List ℕ) (x : Exchange) → Carried table limit id past z →
+  carried_again : (past : List Item) (now id : ℕ) (r : Response) (z : Exchange) (line : ℕ) (bytes : List ℕ) (x : Exchange) → Carried table start id past z →
       exchange id past ≡ Some z → IsAgain table z (Forward line bytes) →
-      find_exchange id (map (exchange_forwarded_again id now) (state_after_trace (initial_state table limit first) past).exchanges) ≡ Some x →
-      Carried table limit id (record { event = Answer now id r; outcome = Forward line bytes } ∷ past) x
+      find_exchange id (map (exchange_forwarded_again id now) (state_after_trace (initial_state table start first) past).exchanges) ≡ Some x →
+      Carried table start id (record { event = Answer now id r; outcome = Forward line bytes } ∷ past) x
   carried_again past now id r z line bytes x c z_is goes found =
-      let xs = (state_after_trace (initial_state table limit first) past).exchanges in
+      let xs = (state_after_trace (initial_state table start first) past).exchanges in
       let h = c.0 in
       let y = out_again now z in
       let here : y ≡ x = same_Some y x (sym (find-gone_out id now id xs ∙ ap (option_map (exchange_forwarded_again id now)) z_is ∙ ap (λ b. Some (cond b (out_again now z) z)) (found-id id xs z z_is)) ∙ found) in
@@ -459,7 +460,7 @@ module _ (table : Table) (limit first : ℕ) where
       ∙ ap (λ n. record { event = Answer now z.id r; outcome = Forward n bytes }) goes.0
       ∙ ap (λ (b : List ℕ). record { event = Answer now z.id r; outcome = Forward z.line b }) goes.1
       in
-      subst (Carried table limit id (item ∷ past)) here (
+      subst (Carried table start id (item ∷ past)) here (
         record {
           since = item ∷ h.since;
           before = h.before;
@@ -485,35 +486,35 @@ module _ (table : Table) (limit first : ℕ) where
         c.1,
       )
 
-  again_at : (past : List Item) (id : ℕ) (i : Item) (z x : Exchange) → Carried table limit id past z → exchange id past ≡ Some z → eqb (exchange_id_of_event i.event) id ≡ true →
+  again_at : (past : List Item) (id : ℕ) (i : Item) (z x : Exchange) → Carried table start id past z → exchange id past ≡ Some z → eqb (exchange_id_of_event i.event) id ≡ true →
       judges_a_request i.event ≡ false → outcome_goes_forward i.outcome ≡ true →
-      i.outcome ≡ outcome_of table (state_after_trace (initial_state table limit first) past).entries (state_after_trace (initial_state table limit first) past).exchanges (exchange (exchange_id_of_event i.event) past) (state_after_trace (initial_state table limit first) past).next i.event →
-      find_exchange id (open_exchanges_after table (state_after_trace (initial_state table limit first) past).entries (state_after_trace (initial_state table limit first) past).exchanges i.event i.outcome) ≡ Some x →
-      Carried table limit id (i ∷ past) x
+      i.outcome ≡ outcome_of table (state_after_trace (initial_state table start first) past).entries (state_after_trace (initial_state table start first) past).exchanges (exchange (exchange_id_of_event i.event) past) (state_after_trace (initial_state table start first) past).next i.event →
+      find_exchange id (open_exchanges_after table (state_after_trace (initial_state table start first) past).entries (state_after_trace (initial_state table start first) past).exchanges i.event i.outcome) ≡ Some x →
+      Carried table start id (i ∷ past) x
   again_at past id i z x c z_is same late out is found = by_event i.event i.outcome same late out is found
     where
       es : List Stored
-      es = (state_after_trace (initial_state table limit first) past).entries
+      es = (state_after_trace (initial_state table start first) past).entries
 
       xs : List Exchange
-      xs = (state_after_trace (initial_state table limit first) past).exchanges
+      xs = (state_after_trace (initial_state table start first) past).exchanges
 
       next : Option ℕ
-      next = (state_after_trace (initial_state table limit first) past).next
+      next = (state_after_trace (initial_state table start first) past).next
 
       by_answer : (now n : ℕ) (r : Response) (o : Outcome) → n ≡ id → outcome_goes_forward o ≡ true → o ≡ outcome_of_answer table es now z r next (decision_of (policy_of table.lines z.line) es z.asked now) →
-          find_exchange id (open_exchanges_after table es xs (Answer now n r) o) ≡ Some x → Carried table limit id (record { event = Answer now n r; outcome = o } ∷ past) x
+          find_exchange id (open_exchanges_after table es xs (Answer now n r) o) ≡ Some x → Carried table start id (record { event = Answer now n r; outcome = o } ∷ past) x
       by_answer now n r (Reply reply) e out is found = absurd (false≢true out)
       by_answer now n r (Waits leader) e out is found = absurd (false≢true out)
       by_answer now n r Ended e out is found = absurd (false≢true out)
       by_answer now n r (Forward line bytes) e out is found =
-          subst (λ m. Carried table limit id (record { event = Answer now m r; outcome = Forward line bytes } ∷ past) x) (sym e)
+          subst (λ m. Carried table start id (record { event = Answer now m r; outcome = Forward line bytes } ∷ past) x) (sym e)
           (carried_again past now id r z line bytes x c z_is (subst (IsAgain table z) (sym is) (again_by table es now z r next (decision_of (policy_of table.lines z.line) es z.asked now)))
           (ap (λ m. find_exchange id (map (exchange_forwarded_again m now) xs)) (sym e) ∙ found))
 
       by_event : (event : Event) (o : Outcome) → eqb (exchange_id_of_event event) id ≡ true → judges_a_request event ≡ false → outcome_goes_forward o ≡ true →
           o ≡ outcome_of table es xs (exchange (exchange_id_of_event event) past) next event → find_exchange id (open_exchanges_after table es xs event o) ≡ Some x →
-          Carried table limit id (record { event = event; outcome = o } ∷ past) x
+          Carried table start id (record { event = event; outcome = o } ∷ past) x
       by_event (Arrive now n asked) o same late out is found = absurd (false≢true (sym late))
       by_event (Answer now n r) o same late out is found =
           let e : n ≡ id = eqb-true n id same in
@@ -527,55 +528,55 @@ module _ (table : Table) (limit first : ℕ) where
       by_event (Wake now n) o same late out is found = absurd (false≢true (sym late))
       by_event (Abandon n) o same late out is found = absurd (false≢true (sym (ap outcome_goes_forward is) ∙ out))
 
-  pub carries : (past : List Item) → IsGood (initial_state table limit first) past → (id : ℕ) (x : Exchange) → exchange id past ≡ Some x → Carried table limit id past x
+  pub carries : (past : List Item) → IsGood (initial_state table start first) past → (id : ℕ) (x : Exchange) → exchange id past ≡ Some x → Carried table start id past x
   carries [] g id x h = absurd (cc)
-  carries (i ∷ past) g id x h = by_move (λ z q. carries past g.1 id z q) (exchange id (i ∷ past)) (move_of table (state_after_trace (initial_state table limit first) past) i id (same_table (initial_state table limit first) past) g.0) h refl
+  carries (i ∷ past) g id x h = by_move (λ z q. carries past g.1 id z q) (exchange id (i ∷ past)) (move_of table (state_after_trace (initial_state table start first) past) i id (same_table (initial_state table start first) past) g.0) h refl
     where
       s : State
-      s = state_after_trace (initial_state table limit first) past
+      s = state_after_trace (initial_state table start first) past
 
       at_table : find_exchange id (open_exchanges_after table s.entries s.exchanges i.event i.outcome) ≡ exchange id (i ∷ past)
-      at_table = ap (λ (t : Table). find_exchange id (open_exchanges_after t s.entries s.exchanges i.event i.outcome)) (sym (same_table (initial_state table limit first) past))
+      at_table = ap (λ (t : Table). find_exchange id (open_exchanges_after t s.entries s.exchanges i.event i.outcome)) (sym (same_table (initial_state table start first) past))
 
       at_arrival : (now : ℕ) (asked : Asked) → i.event ≡ Arrive now id asked → exchange id past ≡ None → find_exchange id (open_exchanges_after table s.entries s.exchanges (Arrive now id asked) i.outcome) ≡ Some x →
-          Carried table limit id (record { event = Arrive now id asked; outcome = i.outcome } ∷ past) x
+          Carried table start id (record { event = Arrive now id asked; outcome = i.outcome } ∷ past) x
       at_arrival now asked e x_is found =
           carried_first past g.1 now id asked i.outcome x
           (subst (Goes table s.entries s.exchanges now asked) (sym (g.0.outcome_is ∙ ap (λ (v : Event). outcome_of table s.entries s.exchanges (find_exchange (exchange_id_of_event v) s.exchanges) s.next v) e))
           (goes_by table s.entries s.exchanges now asked (verdict_of table.lines asked.method asked.target) refl)) x_is found
 
-      by_move : ((z : Exchange) → exchange id past ≡ Some z → Carried table limit id past z) → (y : Option Exchange) → Move id (find_exchange (exchange_id_of_event i.event) s.exchanges) i.event i.outcome (exchange id past) y → y ≡ Some x → exchange id (i ∷ past) ≡ y →
-          Carried table limit id (i ∷ past) x
+      by_move : ((z : Exchange) → exchange id past ≡ Some z → Carried table start id past z) → (y : Option Exchange) → Move id (find_exchange (exchange_id_of_event i.event) s.exchanges) i.event i.outcome (exchange id past) y → y ≡ Some x → exchange id (i ∷ past) ≡ y →
+          Carried table start id (i ∷ past) x
       by_move was y (apart n e) h k =
-          carried_apart table limit id i past (key_taken_by_step (asked_of (find_exchange (exchange_id_of_event i.event) s.exchanges)) i.event i.outcome) (ended_by i.event i.outcome) (exchange id past) x n was (sym e ∙ h)
+          carried_apart table start id i past (key_taken_by_step (asked_of (find_exchange (exchange_id_of_event i.event) s.exchanges)) i.event i.outcome) (ended_by i.event i.outcome) (exchange id past) x n was (sym e ∙ h)
       by_move was y (opens at es now asked line e x_is f q) h k =
           let item : record { event = Arrive now id asked; outcome = i.outcome } ≡ i = ap (λ (v : Event). record { event = v; outcome = i.outcome }) (sym e) in
-          subst (λ (j : Item). Carried table limit id (j ∷ past) x) item
+          subst (λ (j : Item). Carried table start id (j ∷ past) x) item
           (at_arrival now asked e x_is (ap (λ (v : Event). find_exchange id (open_exchanges_after table s.entries s.exchanges v i.outcome)) (sym e) ∙ at_table ∙ k ∙ h))
       by_move was y (queues at es now asked line leader e x_is f l q) h k =
           let item : record { event = Arrive now id asked; outcome = i.outcome } ≡ i = ap (λ (v : Event). record { event = v; outcome = i.outcome }) (sym e) in
-          subst (λ (j : Item). Carried table limit id (j ∷ past) x) item
+          subst (λ (j : Item). Carried table start id (j ∷ past) x) item
           (at_arrival now asked e x_is (ap (λ (v : Event). find_exchange id (open_exchanges_after table s.entries s.exchanges v i.outcome)) (sym e) ∙ at_table ∙ k ∙ h))
       by_move was y (passes t e x_is f q) h k = absurd (none_some y x q h)
       by_move was y (again z now t e z_is c f q j r) h k =
           again_at past id i z x (was z z_is) z_is t j f g.0.outcome_is (at_table ∙ k ∙ h)
       by_move was y (wakes at es z now e z_is r f q) h k =
           let item : record { event = Wake now id; outcome = i.outcome } ≡ i = ap (λ (v : Event). record { event = v; outcome = i.outcome }) (sym e) in
-          subst (λ (j : Item). Carried table limit id (j ∷ past) x) item
+          subst (λ (j : Item). Carried table start id (j ∷ past) x) item
           (carried_woken past g.1 now id z i.outcome x (decision_of (policy_of table.lines z.line) s.entries z.asked now) (was z z_is) z_is refl
           (g.0.outcome_is ∙ (ap (λ (v : Event). outcome_of table s.entries s.exchanges (find_exchange (exchange_id_of_event v) s.exchanges) s.next v) e ∙ ap (λ (w : Option Exchange). outcome_of table s.entries s.exchanges w s.next (Wake now id)) z_is)) f
           (ap (λ (v : Event). find_exchange id (open_exchanges_after table s.entries s.exchanges v i.outcome)) (sym e) ∙ at_table ∙ k ∙ h))
       by_move was y (closes z t e x_is f q) h k = absurd (none_some y x q h)
 
 pub carries_its_arrival : OpenExchangeCarriesItsArrival
-carries_its_arrival table limit first id trace x g h =
-    let p = good_plain table limit first trace g in
-    carries table limit first trace p id x (ap (find_exchange id) (exchanges_are_open table limit first trace p) ∙ h)
+carries_its_arrival table start first id trace x g h =
+    let p = good_plain table start first trace g in
+    carries table start first trace p id x (ap (find_exchange id) (exchanges_are_open table start first trace p) ∙ h)
 
-pub least_when_judged : (table : Table) (limit first id : ℕ) (trace : List Item) (x : Exchange) → IsGoodHistory table limit first trace →
-    find_exchange id (open_exchanges table limit trace) ≡ Some x → RuleWasLeastWhenJudged table limit x trace
-least_when_judged table limit first id trace x g h =
-    let a = (carries_its_arrival table limit first id trace x g h).0 in
+pub least_when_judged : (table : Table) (start : StoreAtStart) (first id : ℕ) (trace : List Item) (x : Exchange) → IsGoodHistory table start first trace →
+    find_exchange id (open_exchanges table start trace) ≡ Some x → RuleWasLeastWhenJudged table start x trace
+least_when_judged table start first id trace x g h =
+    let a = (carries_its_arrival table start first id trace x g h).0 in
     record {
       since = a.since;
       before = a.before;

@@ -2,6 +2,7 @@
 use Rattle.std.proofs.Common.{◌≡◌, ℕ, List, [], ◌∷◌, ◌∙◌, ap, subst}
 use Rattle.hx_allow.specs.TableLines.{Table}
 use Rattle.proxy_core.specs.State.{State, StepIsAccepted, state_after}
+use Rattle.proxy_core.specs.Starts.{StoreAtStart}
 use Rattle.proxy_core.specs.Traces.{Item, initial_state, state_after_trace, ItemIsAccepted, IsGood}
 use Rattle.proxy_core.specs.Driving.{CoreWentThrough, PromisesOfADrivenCore}
 use Rattle.proxy_core.proofs.Tracing.{same_table, same_limit}
@@ -9,18 +10,18 @@ use Rattle.proxy_core.proofs.HeldLaw.{good_held, entries_are_held, exchanges_are
 use Rattle.proxy_core.proofs.Headlines.{headline}
 
 -- good over the list that the core keeps
-record IsDriven (table : Table) (limit first : ℕ) (trace : List Item) (core : State) : Type 0 where
-  good : IsGood (initial_state table limit first) trace
-  leaves : core ≡ state_after_trace (initial_state table limit first) trace
+record IsDriven (table : Table) (start : StoreAtStart) (first : ℕ) (trace : List Item) (core : State) : Type 0 where
+  good : IsGood (initial_state table start first) trace
+  leaves : core ≡ state_after_trace (initial_state table start first) trace
 
-driven : (table : Table) (limit first : ℕ) (trace : List Item) (core : State) → CoreWentThrough table limit first trace core → IsDriven table limit first trace core
-driven table limit first [] core h = record { good = tt; leaves = h }
-driven table limit first (item ∷ past) core h =
-    let start = initial_state table limit first in
-    let was = driven table limit first past h.0 h.1 in
-    let here : StepIsAccepted (state_after_trace start past) item.event item.outcome core = subst (λ (s : State). StepIsAccepted s item.event item.outcome core) was.leaves h.2 in
-    let accepts : ItemIsAccepted table (state_after_trace start past).entries (state_after_trace start past).exchanges (state_after_trace start past).next item =
-    subst (λ (t : Table). ItemIsAccepted t (state_after_trace start past).entries (state_after_trace start past).exchanges (state_after_trace start past).next item) (same_table start past)
+driven : (table : Table) (start : StoreAtStart) (first : ℕ) (trace : List Item) (core : State) → CoreWentThrough table start first trace core → IsDriven table start first trace core
+driven table start first [] core h = record { good = h.1; leaves = h.0 }
+driven table start first (item ∷ past) core h =
+    let begun = initial_state table start first in
+    let was = driven table start first past h.0 h.1 in
+    let here : StepIsAccepted (state_after_trace begun past) item.event item.outcome core = subst (λ (s : State). StepIsAccepted s item.event item.outcome core) was.leaves h.2 in
+    let accepts : ItemIsAccepted table (state_after_trace begun past).entries (state_after_trace begun past).exchanges (state_after_trace begun past).next item =
+    subst (λ (t : Table). ItemIsAccepted t (state_after_trace begun past).entries (state_after_trace begun past).exchanges (state_after_trace begun past).next item) (same_table begun past)
     record { allowed = here.allowed; outcome_is = here.outcome_is } in
     record {
       good = (accepts, was.good);
@@ -28,15 +29,15 @@ driven table limit first (item ∷ past) core h =
     }
 
 pub promises_of_a_driven_core : PromisesOfADrivenCore
-promises_of_a_driven_core table limit first trace core h =
-    let d = driven table limit first trace core h in
-    let good = good_held table limit first trace d.good in
+promises_of_a_driven_core table start first trace core h =
+    let d = driven table start first trace core h in
+    let good = good_held table start first trace d.good in
     record {
-      table_is = ap (λ (s : State). s.table) d.leaves ∙ same_table (initial_state table limit first) trace;
-      limit_is = ap (λ (s : State). s.limit) d.leaves ∙ same_limit (initial_state table limit first) trace;
+      table_is = ap (λ (s : State). s.table) d.leaves ∙ same_table (initial_state table start first) trace;
+      limit_is = ap (λ (s : State). s.limit) d.leaves ∙ same_limit (initial_state table start first) trace;
       good = good;
-      headline = headline table limit first trace good;
-      entries_are = ap (λ (s : State). s.entries) d.leaves ∙ entries_are_held table limit first trace d.good;
-      exchanges_are = ap (λ (s : State). s.exchanges) d.leaves ∙ exchanges_are_open table limit first trace d.good;
-      next_is = ap (λ (s : State). s.next) d.leaves ∙ next_is_counted table limit first trace d.good;
+      headline = headline table start first trace good;
+      entries_are = ap (λ (s : State). s.entries) d.leaves ∙ entries_are_held table start first trace d.good;
+      exchanges_are = ap (λ (s : State). s.exchanges) d.leaves ∙ exchanges_are_open table start first trace d.good;
+      next_is = ap (λ (s : State). s.next) d.leaves ∙ next_is_counted table start first trace d.good;
     }

@@ -44,6 +44,7 @@ use Rattle.proxy_core.specs.Carrying.{RuleWasLeastWhenJudged}
 use Rattle.proxy_core.specs.Naming.{AnswerNamesErrorRule, AnswerNamesFirstRule, EachOtherAnswerNamesTheFirstRule}
 use Rattle.proxy_core.proofs.Carries.{least_when_judged}
 use Rattle.proxy_core.proofs.HeldLaw.{good_plain, entries_are_held, stands_for}
+use Rattle.proxy_core.specs.Starts.{StoreAtStart}
 
 module _ (policy : Policy) (es : List Stored) (distinct : Distinct (serials es)) (now : ℕ) (asked : Asked) where
   -- where nothing is sent after a failure: the rule, and the error rule beside it
@@ -97,79 +98,79 @@ module _ (policy : Policy) (es : List Stored) (distinct : Distinct (serials es))
           subst (IsRefused rule) some (subst (λ (r : ReuseRule). IsRefused r (Some e)) same (refused_by q s e d_is k))
 
 -- what was held and open before an item, and that each open exchange keeps the least rule of its arrival
-module _ (table : Table) (limit : ℕ) (past : List Item) (distinct : Distinct (serials (held_entries table limit past))) (next : Option ℕ) where
+module _ (table : Table) (start : StoreAtStart) (past : List Item) (distinct : Distinct (serials (held_entries table start past))) (next : Option ℕ) where
   abbrev es : List Stored
-  es = held_entries table limit past
+  es = held_entries table start past
 
-  arrival_names : (xs : List Exchange) (x : Option Exchange) (now id : ℕ) (asked : Asked) → AnswerNamesFirstRule table limit past next x (Arrive now id asked) (outcome_of_arrival table es xs now asked (verdict_of table.lines asked.method asked.target))
+  arrival_names : (xs : List Exchange) (x : Option Exchange) (now id : ℕ) (asked : Asked) → AnswerNamesFirstRule table start past next x (Arrive now id asked) (outcome_of_arrival table es xs now asked (verdict_of table.lines asked.method asked.target))
   arrival_names xs x now id asked = by_verdict (verdict_of table.lines asked.method asked.target) refl
     where
-      on : (line : ℕ) (condition : Option Condition) (leader : Option ℕ) → AnswerNamesFirstRule table limit past next x (Arrive now id asked) (outcome_of_waiting_or_forwarding table line asked condition leader)
+      on : (line : ℕ) (condition : Option Condition) (leader : Option ℕ) → AnswerNamesFirstRule table start past next x (Arrive now id asked) (outcome_of_waiting_or_forwarding table line asked condition leader)
       on line condition None = tt
       on line condition (Some leader) = tt
 
       unless : (line : ℕ) (rule : ReuseRule) (against : Option ℕ) (b : Bool) → verdict_of table.lines asked.method asked.target ≡ verdict.Allowed line →
           decision_of (policy_of table.lines line) es asked now ≡ decision.Forward rule against → is_only_if_cached asked ≡ b →
-          AnswerNamesFirstRule table limit past next x (Arrive now id asked) (outcome_without_stored_response table es xs line now asked rule (condition_about_serial es against) b)
+          AnswerNamesFirstRule table start past next x (Arrive now id asked) (outcome_without_stored_response table es xs line now asked rule (condition_about_serial es against) b)
       unless line rule against true v d k = λ h. inr (inr (line, rule, v, k, (names_the_least (policy_of table.lines line) es asked now rule against d).0, refl))
       unless line rule against false v d k = on line (condition_about_serial es against) (leader_of_request (policy_of table.lines line) es xs asked rule)
 
       by_decision : (line : ℕ) (d : Decision) → verdict_of table.lines asked.method asked.target ≡ verdict.Allowed line → decision_of (policy_of table.lines line) es asked now ≡ d →
-          AnswerNamesFirstRule table limit past next x (Arrive now id asked) (outcome_of_allowed_request table es xs line now asked d)
+          AnswerNamesFirstRule table start past next x (Arrive now id asked) (outcome_of_allowed_request table es xs line now asked d)
       by_decision line (decision.Hit s) v k = λ h. absurd (false≢true h)
       by_decision line (decision.Forward rule against) v k = unless line rule against (is_only_if_cached asked) v k refl
 
-      by_verdict : (v : Verdict) → verdict_of table.lines asked.method asked.target ≡ v → AnswerNamesFirstRule table limit past next x (Arrive now id asked) (outcome_of_arrival table es xs now asked v)
+      by_verdict : (v : Verdict) → verdict_of table.lines asked.method asked.target ≡ v → AnswerNamesFirstRule table start past next x (Arrive now id asked) (outcome_of_arrival table es xs now asked v)
       by_verdict (verdict.Allowed line) v = by_decision line (decision_of (policy_of table.lines line) es asked now) v refl
       by_verdict (verdict.DeniedBy line) v = λ h. inl (line, v, refl)
       by_verdict verdict.NoLine v = λ h. inr (inl (v, refl))
 
   failure_names : (x : Exchange) (now id : ℕ) (kind : FailKind) (fallback : Fallback) → fallback_for (policy_of table.lines x.line) es x.asked now (decision_of (policy_of table.lines x.line) es x.asked now) ≡ fallback →
-      AnswerNamesFirstRule table limit past next (Some x) (Fail now id kind) (outcome_of_failure table es now x kind None fallback)
+      AnswerNamesFirstRule table start past next (Some x) (Fail now id kind) (outcome_of_failure table es now x kind None fallback)
   failure_names x now id kind (Sends s detail) k = λ h. absurd (false≢true h)
   failure_names x now id kind (Refuses rule error) k = λ h.
       let r = refuses_is (policy_of table.lines x.line) es distinct now x.asked (decision_of (policy_of table.lines x.line) es x.asked now) rule error refl k in
       (rule, error, r.least, r.named, refl)
 
-  module _ (x : Exchange) (kept : RuleWasLeastWhenJudged table limit x past) (now id : ℕ) (r : Response) where
-    unasked_names : (fallback : Fallback) → is_304_without_condition x.asked r ≡ true → fallback_for (policy_of table.lines x.line) es x.asked now (decision_of (policy_of table.lines x.line) es x.asked now) ≡ fallback →
-        AnswerNamesFirstRule table limit past next (Some x) (Answer now id r) (outcome_of_failure table es now x BadAnswer (Some r.status) fallback)
+  module _ (x : Exchange) (kept : RuleWasLeastWhenJudged table start x past) (now id : ℕ) (r : Response) where
+    unasked_names : (fallback : Fallback) → is_304_without_condition (policy_of table.lines x.line) x.asked r ≡ true → fallback_for (policy_of table.lines x.line) es x.asked now (decision_of (policy_of table.lines x.line) es x.asked now) ≡ fallback →
+        AnswerNamesFirstRule table start past next (Some x) (Answer now id r) (outcome_of_failure table es now x BadAnswer (Some r.status) fallback)
     unasked_names (Sends s detail) u k = λ h. absurd (false≢true h)
     unasked_names (Refuses rule error) u k = λ h.
         let q = refuses_is (policy_of table.lines x.line) es distinct now x.asked (decision_of (policy_of table.lines x.line) es x.asked now) rule error refl k in
         inr (u, (rule, error, q.least, q.named, refl))
 
-    passed_names : (b : Bool) (fallback : Fallback) → is_304_without_condition x.asked r ≡ false → AnswerNamesFirstRule table limit past next (Some x) (Answer now id r) (outcome_of_passing_on_or_stale table es now x r next b fallback)
+    passed_names : (b : Bool) (fallback : Fallback) → is_304_without_condition (policy_of table.lines x.line) x.asked r ≡ false → AnswerNamesFirstRule table start past next (Some x) (Answer now id r) (outcome_of_passing_on_or_stale table es now x r next b fallback)
     passed_names true (Sends s detail) n = λ h. absurd (false≢true h)
     passed_names true (Refuses rule error) n = λ h. inl (n, (kept, refl))
     passed_names false fallback n = λ h. inl (n, (kept, refl))
 
-    validation_names : (o : Option Stored) (d : Decision) → AnswerNamesFirstRule table limit past next (Some x) (Answer now id r) (outcome_of_304 table es now x r o d)
+    validation_names : (o : Option Stored) (d : Decision) → AnswerNamesFirstRule table start past next (Some x) (Answer now id r) (outcome_of_304 table es now x r o d)
     validation_names (Some e) d = λ h. absurd (false≢true h)
     validation_names None (decision.Hit s) = λ h. absurd (false≢true h)
     validation_names None (decision.Forward rule against) = tt
 
-    answer_names : AnswerNamesFirstRule table limit past next (Some x) (Answer now id r) (outcome_of_answer table es now x r next (decision_of (policy_of table.lines x.line) es x.asked now))
+    answer_names : AnswerNamesFirstRule table start past next (Some x) (Answer now id r) (outcome_of_answer table es now x r next (decision_of (policy_of table.lines x.line) es x.asked now))
     answer_names = by_304 (is_validation x r)
       where
-        by_unasked : (b : Bool) → is_304_without_condition x.asked r ≡ b →
-            AnswerNamesFirstRule table limit past next (Some x) (Answer now id r) (cond b (outcome_of_failure table es now x BadAnswer (Some r.status) (fallback_for (policy_of table.lines x.line) es x.asked now (decision_of (policy_of table.lines x.line) es x.asked now)))
+        by_unasked : (b : Bool) → is_304_without_condition (policy_of table.lines x.line) x.asked r ≡ b →
+            AnswerNamesFirstRule table start past next (Some x) (Answer now id r) (cond b (outcome_of_failure table es now x BadAnswer (Some r.status) (fallback_for (policy_of table.lines x.line) es x.asked now (decision_of (policy_of table.lines x.line) es x.asked now)))
             (outcome_of_passing_on_or_stale table es now x r next (is_error_status r.status) (fallback_for (policy_of table.lines x.line) es x.asked now (decision_of (policy_of table.lines x.line) es x.asked now))))
         by_unasked true k = unasked_names (fallback_for (policy_of table.lines x.line) es x.asked now (decision_of (policy_of table.lines x.line) es x.asked now)) k refl
         by_unasked false k = passed_names (is_error_status r.status) (fallback_for (policy_of table.lines x.line) es x.asked now (decision_of (policy_of table.lines x.line) es x.asked now)) k
 
-        by_304 : (b : Bool) → AnswerNamesFirstRule table limit past next (Some x) (Answer now id r) (cond b (outcome_of_304 table es now x r (stored_response_validated es x r now) (decision_of (policy_of table.lines x.line) es x.asked now))
-            (cond (is_304_without_condition x.asked r) (outcome_of_failure table es now x BadAnswer (Some r.status) (fallback_for (policy_of table.lines x.line) es x.asked now (decision_of (policy_of table.lines x.line) es x.asked now)))
+        by_304 : (b : Bool) → AnswerNamesFirstRule table start past next (Some x) (Answer now id r) (cond b (outcome_of_304 table es now x r (stored_response_validated es x r now) (decision_of (policy_of table.lines x.line) es x.asked now))
+            (cond (is_304_without_condition (policy_of table.lines x.line) x.asked r) (outcome_of_failure table es now x BadAnswer (Some r.status) (fallback_for (policy_of table.lines x.line) es x.asked now (decision_of (policy_of table.lines x.line) es x.asked now)))
             (outcome_of_passing_on_or_stale table es now x r next (is_error_status r.status) (fallback_for (policy_of table.lines x.line) es x.asked now (decision_of (policy_of table.lines x.line) es x.asked now)))))
         by_304 true = validation_names (stored_response_validated es x r now) (decision_of (policy_of table.lines x.line) es x.asked now)
-        by_304 false = by_unasked (is_304_without_condition x.asked r) refl
+        by_304 false = by_unasked (is_304_without_condition (policy_of table.lines x.line) x.asked r) refl
 
-  woken_names : (x : Exchange) (now id : ℕ) (d : Decision) → AnswerNamesFirstRule table limit past next (Some x) (Wake now id) (outcome_of_wake table es now x d)
+  woken_names : (x : Exchange) (now id : ℕ) (d : Decision) → AnswerNamesFirstRule table start past next (Some x) (Wake now id) (outcome_of_wake table es now x d)
   woken_names x now id (decision.Hit s) = λ h. absurd (false≢true h)
   woken_names x now id (decision.Forward rule against) = tt
 
-  names_by_event : (xs : List Exchange) (x : Option Exchange) (event : Event) → ((z : Exchange) → x ≡ Some z → RuleWasLeastWhenJudged table limit z past) →
-      AnswerNamesFirstRule table limit past next x event (outcome_of table es xs x next event)
+  names_by_event : (xs : List Exchange) (x : Option Exchange) (event : Event) → ((z : Exchange) → x ≡ Some z → RuleWasLeastWhenJudged table start z past) →
+      AnswerNamesFirstRule table start past next x event (outcome_of table es xs x next event)
   names_by_event xs x (Arrive now id asked) kept = arrival_names xs x now id asked
   names_by_event xs (Some x) (Answer now id r) kept = answer_names x (kept x refl) now id r
   names_by_event xs None (Answer now id r) kept = tt
@@ -180,16 +181,16 @@ module _ (table : Table) (limit : ℕ) (past : List Item) (distinct : Distinct (
   names_by_event xs x (Abandon id) kept = tt
 
 -- no serial is held twice
-pub held_distinct : (table : Table) (limit first : ℕ) (past : List Item) → IsGoodHistory table limit first past → Distinct (serials (held_entries table limit past))
-held_distinct table limit first past g =
-    let p = good_plain table limit first past g in
-    subst Distinct (sym (ap serials (sym (entries_are_held table limit first past p)) ∙ (stands_for table limit first past p).serials_are))
-    (Distinct-filter _ _ (Distinct-recent (changes_of (store_changes table limit past))))
+pub held_distinct : (table : Table) (start : StoreAtStart) (first : ℕ) (past : List Item) → IsGoodHistory table start first past → Distinct (serials (held_entries table start past))
+held_distinct table start first past g =
+    let p = good_plain table start first past g in
+    subst Distinct (sym (ap serials (sym (entries_are_held table start first past p)) ∙ (stands_for table start first past p).serials_are))
+    (Distinct-filter _ _ (Distinct-recent (changes_of (store_changes table start past))))
 
 pub names_first_rules : EachOtherAnswerNamesTheFirstRule
-names_first_rules table limit first item past g =
-    let xs = open_exchanges table limit past in
+names_first_rules table start first item past g =
+    let xs = open_exchanges table start past in
     let x = find_exchange (exchange_id_of_event item.event) xs in
-    subst (AnswerNamesFirstRule table limit past (next_serial first past) x item.event) (sym g.0.outcome_is)
-    (names_by_event table limit past (held_distinct table limit first past g.1) (next_serial first past) xs x item.event
-    (λ z h. least_when_judged table limit first (exchange_id_of_event item.event) past z g.1 h))
+    subst (AnswerNamesFirstRule table start past (next_serial first past) x item.event) (sym g.0.outcome_is)
+    (names_by_event table start past (held_distinct table start first past g.1) (next_serial first past) xs x item.event
+    (λ z h. least_when_judged table start first (exchange_id_of_event item.event) past z g.1 h))

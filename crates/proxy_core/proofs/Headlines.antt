@@ -40,7 +40,8 @@ use Rattle.proxy_core.specs.Awaiting.{leader_of_request}
 use Rattle.proxy_core.specs.Storing.{is_304_without_condition}
 use Rattle.proxy_core.specs.Validating.{condition_about_serial, is_validation, stored_response_validated}
 use Rattle.proxy_core.specs.Outcomes.{find_exchange, exchange_id_of_event, outcome_of_event, outcome_of, fallback_for, outcome_of_wake, outcome_of_arrival, outcome_of_allowed_request, outcome_without_stored_response, outcome_of_waiting_or_forwarding, outcome_of_failure, outcome_of_passing_on_or_stale, outcome_of_304, outcome_of_answer, is_error_status, is_only_if_cached, forward_text, or_fault, fault_if_not_forwarded, fault_if_not_released, fault_at_exchange}
-use Rattle.proxy_core.specs.State.{serial_used_by_outcome}
+use Rattle.proxy_core.specs.State.{serial_used_by_outcome, bounds_of}
+use Rattle.proxy_core.specs.Starts.{StoreAtStart, StartStands}
 use Rattle.proxy_core.specs.Traces.{Item, initial_state}
 use Rattle.proxy_core.specs.Histories.{held_entries, open_exchanges, next_serial, IsGoodHistory}
 use Rattle.proxy_core.specs.Promises.{outcome_goes_forward, request_after_event, latest_request_of}
@@ -57,7 +58,7 @@ use Rattle.proxy_core.proofs.SentResponses.{sends_what_is_held}
 use Rattle.proxy_core.proofs.StoredAnswers.{stores_where_it_may, stores_nowhere_else, stores_the_next, removes_just_that}
 use Rattle.proxy_core.proofs.Tracing.{denied_leave_no_trace}
 use Rattle.proxy_core.proofs.TwiceForward.{twice_forward_one_reply}
-use Rattle.proxy_core.proofs.Unsent.{nothing_invalidated_is_sent}
+use Rattle.proxy_core.proofs.Unsent.{nothing_invalidated_is_sent, nothing_invalidated_since}
 
 not_forward : {P : Type 0} (o : Outcome) (line : ℕ) (bytes : List ℕ) → outcome_goes_forward o ≡ false → o ≡ Forward line bytes → P
 not_forward {P} o line bytes back h =
@@ -68,7 +69,7 @@ not_forward {P} o line bytes back h =
 abbrev Goes : Table → List Stored → List Item → ℕ → List ℕ → Event → Type 0
 Goes table es past line bytes event =
     (asked : Asked) × (condition : Option Condition) × (request_after_event (exchange_id_of_event event) event (latest_request_of (exchange_id_of_event event) past) ≡ Some asked) × (verdict_of table.lines asked.method asked.target ≡ Allowed line)
-    × IsConditionOfEvent (policy_of table.lines line) es asked event condition × (bytes ≡ forward_text table asked condition)
+    × IsConditionOfEvent (policy_of table.lines line) es asked event condition × (bytes ≡ forward_text table line asked condition)
 
 abbrev bytes_in : Outcome → List ℕ
 bytes_in (Forward line bytes) = bytes
@@ -147,7 +148,7 @@ module _ (table : Table) (es : List Stored) where
       d = decision_of (policy_of table.lines x.line) es x.asked now
 
       Is : Outcome → Type 0
-      Is o = (NeedsSecondForward table es x now id r → o ≡ Forward x.line (forward_text table x.asked None)) × ((NeedsSecondForward table es x now id r → ⊥) → IsClientReply o)
+      Is o = (NeedsSecondForward table es x now id r → o ≡ Forward x.line (forward_text table x.line x.asked None)) × ((NeedsSecondForward table es x now id r → ⊥) → IsClientReply o)
 
       validates : is_validation x r ≡ true → (o : Option Stored) → stored_response_validated es x r now ≡ o → (k : Decision) → d ≡ k → Is (outcome_of_304 table es now x r o k)
       validates y (Some e) v k dk = (λ asks. absurd (asks.1 e.serial (inl (y, (e, v, refl)))), λ no. (_, refl))
@@ -162,9 +163,9 @@ module _ (table : Table) (es : List Stored) where
 
       by_304 : (b : Bool) → is_validation x r ≡ b →
           Is (cond b (outcome_of_304 table es now x r (stored_response_validated es x r now) d)
-          (cond (is_304_without_condition x.asked r) (outcome_of_failure table es now x BadAnswer (Some r.status) (fallback_for (policy_of table.lines x.line) es x.asked now d)) (outcome_of_passing_on_or_stale table es now x r next (is_error_status r.status) (fallback_for (policy_of table.lines x.line) es x.asked now d))))
+          (cond (is_304_without_condition (policy_of table.lines x.line) x.asked r) (outcome_of_failure table es now x BadAnswer (Some r.status) (fallback_for (policy_of table.lines x.line) es x.asked now d)) (outcome_of_passing_on_or_stale table es now x r next (is_error_status r.status) (fallback_for (policy_of table.lines x.line) es x.asked now d))))
       by_304 true k = validates k (stored_response_validated es x r now) refl d refl
-      by_304 false k = (λ asks. no_true (sym k ∙ asks.0), λ no. by_unasked (is_304_without_condition x.asked r))
+      by_304 false k = (λ asks. no_true (sym k ∙ asks.0), λ no. by_unasked (is_304_without_condition (policy_of table.lines x.line) x.asked r))
         where
           by_unasked : (b : Bool) → IsClientReply (cond b (outcome_of_failure table es now x BadAnswer (Some r.status) (fallback_for (policy_of table.lines x.line) es x.asked now d)) (outcome_of_passing_on_or_stale table es now x r next (is_error_status r.status) (fallback_for (policy_of table.lines x.line) es x.asked now d)))
           by_unasked true = failed_replies now x BadAnswer (Some r.status) (fallback_for (policy_of table.lines x.line) es x.asked now d)
@@ -228,9 +229,9 @@ module _ (table : Table) (es : List Stored) where
       by_unasked false = passes (is_error_status r.status) (fallback_for (policy_of table.lines x.line) es x.asked now d)
 
       by_304 : (b : Bool) → close_in x.asked.close (cond b (outcome_of_304 table es now x r (stored_response_validated es x r now) d)
-          (cond (is_304_without_condition x.asked r) (outcome_of_failure table es now x BadAnswer (Some r.status) (fallback_for (policy_of table.lines x.line) es x.asked now d)) (outcome_of_passing_on_or_stale table es now x r next (is_error_status r.status) (fallback_for (policy_of table.lines x.line) es x.asked now d)))) ≡ x.asked.close
+          (cond (is_304_without_condition (policy_of table.lines x.line) x.asked r) (outcome_of_failure table es now x BadAnswer (Some r.status) (fallback_for (policy_of table.lines x.line) es x.asked now d)) (outcome_of_passing_on_or_stale table es now x r next (is_error_status r.status) (fallback_for (policy_of table.lines x.line) es x.asked now d)))) ≡ x.asked.close
       by_304 true = validates (stored_response_validated es x r now) d
-      by_304 false = by_unasked (is_304_without_condition x.asked r)
+      by_304 false = by_unasked (is_304_without_condition (policy_of table.lines x.line) x.asked r)
 
   wake_closes : (now : ℕ) (x : Exchange) (d : Decision) → close_in x.asked.close (outcome_of_wake table es now x d) ≡ x.asked.close
   wake_closes now x (decision.Hit s) = refl
@@ -257,20 +258,20 @@ module _ (table : Table) (es : List Stored) where
   closes_by xs None next (Wake now id) h = absurd (cc)
   closes_by xs x next (Abandon id) h = refl
 
-module _ (table : Table) (limit first : ℕ) where
+module _ (table : Table) (start : StoreAtStart) (first : ℕ) where
   -- the outcome, where the event is known
-  outcome_at : (item : Item) (past : List Item) → IsGoodHistory table limit first (item ∷ past) → (event : Event) → item.event ≡ event →
-      item.outcome ≡ outcome_of_event table (held_entries table limit past) (open_exchanges table limit past) (next_serial first past) event
-  outcome_at item past g event e = g.0.outcome_is ∙ ap (λ (v : Event). outcome_of_event table (held_entries table limit past) (open_exchanges table limit past) (next_serial first past) v) e
+  outcome_at : (item : Item) (past : List Item) → IsGoodHistory table start first (item ∷ past) → (event : Event) → item.event ≡ event →
+      item.outcome ≡ outcome_of_event table (held_entries table start past) (open_exchanges table start past) (next_serial first past) event
+  outcome_at item past g event e = g.0.outcome_is ∙ ap (λ (v : Event). outcome_of_event table (held_entries table start past) (open_exchanges table start past) (next_serial first past) v) e
 
-  goes : (item : Item) (past : List Item) → IsGoodHistory table limit first (item ∷ past) → RequestGoesForwardWhereAllowed table limit item past
+  goes : (item : Item) (past : List Item) → IsGoodHistory table start first (item ∷ past) → RequestGoesForwardWhereAllowed table start item past
   goes item past g line bytes h = by_event item.event refl
     where
       es : List Stored
-      es = held_entries table limit past
+      es = held_entries table start past
 
       xs : List Exchange
-      xs = open_exchanges table limit past
+      xs = open_exchanges table start past
 
       by_arrival : (now id : ℕ) (asked : Asked) → verdict_of table.lines asked.method asked.target ≡ Allowed line → RequestReachesCacheOrOrigin table es xs now asked line item.outcome →
           Goes table es past line bytes (Arrive now id asked)
@@ -294,8 +295,8 @@ module _ (table : Table) (limit first : ℕ) where
       by_answer now id r None w_is o = absurd (cc)
       by_answer now id r (Some x) w_is o =
           let again = subst (IsAgain table x) (sym o) (again_by table es now x r (next_serial first past) (decision_of (policy_of table.lines x.line) es x.asked now)) in
-          let carried = (carries_its_arrival table limit first id past x g.1 w_is).0 in
-          (x.asked, None, has_its_request table limit first id past x g.1 w_is, carried.line_allows ∙ ap (λ n. Allowed n) (sym again.0), refl, again.1)
+          let carried = (carries_its_arrival table start first id past x g.1 w_is).0 in
+          (x.asked, None, has_its_request table start first id past x g.1 w_is, carried.line_allows ∙ ap (λ n. Allowed n) (sym again.0), refl, again.1 ∙ ap (λ n. forward_text table n x.asked None) (sym again.0))
 
       by_failure : (now id : ℕ) (kind : FailKind) (w : Option Exchange) → Forward line bytes ≡ outcome_of table es xs w (next_serial first past) (Fail now id kind) → Goes table es past line bytes (Fail now id kind)
       by_failure now id kind None o = absurd (cc)
@@ -311,21 +312,21 @@ module _ (table : Table) (limit first : ℕ) where
           by_decision (decision.Hit s) k h = absurd (cc)
           by_decision (decision.Forward rule against) k h =
               let same : line ≡ x.line = cc in
-              let carried = (carries_its_arrival table limit first id past x g.1 w_is).0 in
+              let carried = (carries_its_arrival table start first id past x g.1 w_is).0 in
               let named = names_the_least (policy_of table.lines x.line) es x.asked now rule against k in (
                 x.asked,
                 condition_about_serial es against,
-                has_its_request table limit first id past x g.1 w_is,
+                has_its_request table start first id past x g.1 w_is,
                 carried.line_allows ∙ ap (λ n. Allowed n) (sym same),
                 (rule, against, subst (λ n. IsLeastReuseRule (policy_of table.lines n) es x.asked now rule) (sym same) named.0, named.1, refl),
-                ap bytes_in h,
+                ap bytes_in h ∙ ap (λ n. forward_text table n x.asked (condition_about_serial es against)) (sym same),
               )
 
       by_event : (event : Event) → item.event ≡ event → Goes table es past line bytes item.event
       by_event (Arrive now id asked) e =
-          let goes = forwards_nothing_else table limit first now id line asked bytes item past g e h in
+          let goes = forwards_nothing_else table start first now id line asked bytes item past g e h in
           subst (Goes table es past line bytes) (sym e)
-          (by_arrival now id asked goes.0 (reaches_where_allowed table limit first now id line asked item past g e goes.0))
+          (by_arrival now id asked goes.0 (reaches_where_allowed table start first now id line asked item past g e goes.0))
       by_event (Answer now id r) e =
           subst (Goes table es past line bytes) (sym e)
           (by_answer now id r (find_exchange id xs) refl (sym h ∙ outcome_at item past g (Answer now id r) e))
@@ -339,28 +340,28 @@ module _ (table : Table) (limit first : ℕ) where
           let none : Forward line bytes ≡ Ended = sym h ∙ outcome_at item past g (Abandon id) e in
           absurd (cc)
 
-  comes : (item : Item) (past : List Item) → IsGoodHistory table limit first (item ∷ past) → EventComesWhereItMay table limit item past
-  comes item past g = may_come (find_exchange (exchange_id_of_event item.event) (open_exchanges table limit past)) item.event g.0.allowed
+  comes : (item : Item) (past : List Item) → IsGoodHistory table start first (item ∷ past) → EventComesWhereItMay table start item past
+  comes item past g = may_come (find_exchange (exchange_id_of_event item.event) (open_exchanges table start past)) item.event g.0.allowed
 
-  goes_on : (item : Item) (past : List Item) → IsGoodHistory table limit first (item ∷ past) → ExchangeGoesOnToItsAnswer table limit item past
+  goes_on : (item : Item) (past : List Item) → IsGoodHistory table start first (item ∷ past) → ExchangeGoesOnToItsAnswer table start item past
   goes_on item past g =
-      let es = held_entries table limit past in
-      let xs = open_exchanges table limit past in
+      let es = held_entries table start past in
+      let xs = open_exchanges table start past in
       let x = find_exchange (exchange_id_of_event item.event) xs in
-      subst (ExchangeGoesOnBy table es x item.event) (sym g.0.outcome_is) (goes_on_by table es (held_distinct table limit first past g.1) xs x (next_serial first past) item.event g.0.allowed)
+      subst (ExchangeGoesOnBy table es x item.event) (sym g.0.outcome_is) (goes_on_by table es (held_distinct table start first past g.1) xs x (next_serial first past) item.event g.0.allowed)
 
-  stores : (item : Item) (past : List Item) → IsGoodHistory table limit first (item ∷ past) → AnswerIsStoredExactlyWhereItMayBe table limit first item past
+  stores : (item : Item) (past : List Item) → IsGoodHistory table start first (item ∷ past) → AnswerIsStoredExactlyWhereItMayBe table start first item past
   stores item past g = (
-    λ now id x r e found unused may. stores_where_it_may table limit first now id x r item past g e found unused may,
-    λ s stored. (stores_the_next table limit first s item past g stored, stores_nowhere_else table limit first s item past g stored),
+    λ now id x r e found unused may. stores_where_it_may table start first now id x r item past g e found unused may,
+    λ s stored. (stores_the_next table start first s item past g stored, stores_nowhere_else table start first s item past g stored),
   )
 
   -- a reply closes as its request says
-  closes : (item : Item) (past : List Item) → IsGoodHistory table limit first (item ∷ past) → ConnectionClosesAsAsked item past
+  closes : (item : Item) (past : List Item) → IsGoodHistory table start first (item ∷ past) → ConnectionClosesAsAsked item past
   closes item past g reply h =
-      by_event item.event refl (find_exchange (exchange_id_of_event item.event) (open_exchanges table limit past)) refl
-      (subst (Closes table (held_entries table limit past) (find_exchange (exchange_id_of_event item.event) (open_exchanges table limit past)) item.event) (sym g.0.outcome_is)
-      (closes_by table (held_entries table limit past) (open_exchanges table limit past) (find_exchange (exchange_id_of_event item.event) (open_exchanges table limit past)) (next_serial first past) item.event g.0.allowed))
+      by_event item.event refl (find_exchange (exchange_id_of_event item.event) (open_exchanges table start past)) refl
+      (subst (Closes table (held_entries table start past) (find_exchange (exchange_id_of_event item.event) (open_exchanges table start past)) item.event) (sym g.0.outcome_is)
+      (closes_by table (held_entries table start past) (open_exchanges table start past) (find_exchange (exchange_id_of_event item.event) (open_exchanges table start past)) (next_serial first past) item.event g.0.allowed))
     where
       Is : Event → Type 0
       Is event = (asked : Asked) × (request_after_event (exchange_id_of_event event) event (latest_request_of (exchange_id_of_event event) past) ≡ Some asked) × (reply.close ≡ asked.close)
@@ -368,46 +369,53 @@ module _ (table : Table) (limit first : ℕ) where
       closed_by : (c : Bool) → close_in c item.outcome ≡ c → reply.close ≡ c
       closed_by c k = sym (ap (close_in c) h) ∙ k
 
-      by_event : (event : Event) → item.event ≡ event → (w : Option Exchange) → find_exchange (exchange_id_of_event item.event) (open_exchanges table limit past) ≡ w → Closes table (held_entries table limit past) w event item.outcome → Is event
+      by_event : (event : Event) → item.event ≡ event → (w : Option Exchange) → find_exchange (exchange_id_of_event item.event) (open_exchanges table start past) ≡ w → Closes table (held_entries table start past) w event item.outcome → Is event
       by_event (Arrive now id asked) e w w_is k = (asked, ap (λ b. cond b (Some asked) (latest_request_of id past)) (eq-eqb id id refl), closed_by asked.close k)
       by_event (Answer now id r) e (Some x) w_is k =
-          (x.asked, has_its_request table limit first id past x g.1 (sym (ap (λ (v : Event). find_exchange (exchange_id_of_event v) (open_exchanges table limit past)) e) ∙ w_is), closed_by x.asked.close k)
+          (x.asked, has_its_request table start first id past x g.1 (sym (ap (λ (v : Event). find_exchange (exchange_id_of_event v) (open_exchanges table start past)) e) ∙ w_is), closed_by x.asked.close k)
       by_event (Answer now id r) e None w_is k = absurd k
       by_event (Fail now id kind) e (Some x) w_is k =
-          (x.asked, has_its_request table limit first id past x g.1 (sym (ap (λ (v : Event). find_exchange (exchange_id_of_event v) (open_exchanges table limit past)) e) ∙ w_is), closed_by x.asked.close k)
+          (x.asked, has_its_request table start first id past x g.1 (sym (ap (λ (v : Event). find_exchange (exchange_id_of_event v) (open_exchanges table start past)) e) ∙ w_is), closed_by x.asked.close k)
       by_event (Fail now id kind) e None w_is k = absurd k
       by_event (Wake now id) e (Some x) w_is k =
-          (x.asked, has_its_request table limit first id past x g.1 (sym (ap (λ (v : Event). find_exchange (exchange_id_of_event v) (open_exchanges table limit past)) e) ∙ w_is), closed_by x.asked.close k)
+          (x.asked, has_its_request table start first id past x g.1 (sym (ap (λ (v : Event). find_exchange (exchange_id_of_event v) (open_exchanges table start past)) e) ∙ w_is), closed_by x.asked.close k)
       by_event (Wake now id) e None w_is k = absurd k
       by_event (Abandon id) e w w_is k =
           let none : Replied reply ≡ Ended = sym h ∙ k in
           absurd (cc)
 
-  each : (P : Item → List Item → Type 0) → ((item : Item) (past : List Item) → IsGoodHistory table limit first (item ∷ past) → P item past) →
-      (trace : List Item) → IsGoodHistory table limit first trace → HoldsAtEachItem P trace
+  each : (P : Item → List Item → Type 0) → ((item : Item) (past : List Item) → IsGoodHistory table start first (item ∷ past) → P item past) →
+      (trace : List Item) → IsGoodHistory table start first trace → HoldsAtEachItem P trace
   each P f [] g = tt
   each P f (item ∷ past) g = (f item past g, each P f past g.1)
 
-  pub headline : (trace : List Item) → IsGoodHistory table limit first trace → Headline table limit first trace
+  -- what is held at first may be
+  begins : (trace : List Item) → IsGoodHistory table start first trace → StartStands (bounds_of table start.limit) (Some first) start.entries
+  begins [] g = g
+  begins (item ∷ past) g = begins past g.1
+
+  pub headline : (trace : List Item) → IsGoodHistory table start first trace → Headline table start first trace
   headline trace g =
-      let plain = good_plain table limit first trace g in
+      let plain = good_plain table start first trace g in
       record {
-        comes_where_it_may = each (EventComesWhereItMay table limit) comes trace g;
-        reaches_where_allowed = each (RequestReachesExactlyWhereAllowed table limit)
-            (λ item past g now id asked e. (λ line v. reaches_where_allowed table limit first now id line asked item past g e v, λ n. refuses_where_not_allowed table limit first now id asked item past g e n)) trace g;
-        goes_where_allowed = each (RequestGoesForwardWhereAllowed table limit) goes trace g;
-        goes_on_to_its_answer = each (ExchangeGoesOnToItsAnswer table limit) goes_on trace g;
-        sends_where_one_may_be = each (StoredResponseIsSentExactlyWhereItMayBe table limit)
-            (λ item past g s. (λ may. sends_what_may_be_sent table limit first s item past g may, λ h. sends_nothing_else table limit first s item past g h)) trace g;
-        sends_that_response = each (SentResponseIsTheStoredOne table limit) (λ item past g s h. sends_what_is_held table limit first s item past g h) trace g;
-        names_the_first_rule = each (OtherAnswerNamesTheFirstRule table limit first) (λ item past g. names_first_rules table limit first item past g) trace g;
-        stores_where_it_may = each (AnswerIsStoredExactlyWhereItMayBe table limit first) stores trace g;
-        removes_what_goes = each (StoredResponsesAreRemovedExactlyWhereTheyMustBe table limit) (λ item past g. removes_just_that table limit first item past g) trace g;
+        begins_as_it_may = begins trace g;
+        comes_where_it_may = each (EventComesWhereItMay table start) comes trace g;
+        reaches_where_allowed = each (RequestReachesExactlyWhereAllowed table start)
+            (λ item past g now id asked e. (λ line v. reaches_where_allowed table start first now id line asked item past g e v, λ n. refuses_where_not_allowed table start first now id asked item past g e n)) trace g;
+        goes_where_allowed = each (RequestGoesForwardWhereAllowed table start) goes trace g;
+        goes_on_to_its_answer = each (ExchangeGoesOnToItsAnswer table start) goes_on trace g;
+        sends_where_one_may_be = each (StoredResponseIsSentExactlyWhereItMayBe table start)
+            (λ item past g s. (λ may. sends_what_may_be_sent table start first s item past g may, λ h. sends_nothing_else table start first s item past g h)) trace g;
+        sends_that_response = each (SentResponseIsTheStoredOne table start) (λ item past g s h. sends_what_is_held table start first s item past g h) trace g;
+        names_the_first_rule = each (OtherAnswerNamesTheFirstRule table start first) (λ item past g. names_first_rules table start first item past g) trace g;
+        stores_where_it_may = each (AnswerIsStoredExactlyWhereItMayBe table start first) stores trace g;
+        removes_what_goes = each (StoredResponsesAreRemovedExactlyWhereTheyMustBe table start) (λ item past g. removes_just_that table start first item past g) trace g;
         closes_as_asked = each ConnectionClosesAsAsked closes trace g;
-        nothing_invalidated_is_sent = nothing_invalidated_is_sent table limit first trace plain;
-        twice_forward_one_reply = twice_forward_one_reply (initial_state table limit first) trace plain;
-        denied_leave_no_trace = denied_leave_no_trace (initial_state table limit first) trace plain;
+        nothing_invalidated_is_sent = nothing_invalidated_is_sent table start first trace plain;
+        nothing_invalidated_since = nothing_invalidated_since table start first trace plain;
+        twice_forward_one_reply = twice_forward_one_reply (initial_state table start first) trace plain;
+        denied_leave_no_trace = denied_leave_no_trace (initial_state table start first) trace plain;
       }
 
 pub every_good_trace_has_it : EveryGoodTraceHasTheHeadline
-every_good_trace_has_it table limit first trace g = headline table limit first trace g
+every_good_trace_has_it table start first trace g = headline table start first trace g

@@ -12,7 +12,7 @@ use Rattle.hx_store.specs.Shelf.{serials, holds_serial, find_entry, without_seri
 use Rattle.hx_store.proofs.FoundSerials.{finds_those}
 use Rattle.hx_store.proofs.Fronts.{front_of_within}
 use Rattle.proxy_core.specs.State.{entries_without_serials}
-use Rattle.proxy_core.specs.Histories.{weight_if_any}
+use Rattle.proxy_core.specs.Starts.{weight_if_any}
 
 pub serials-filter : (p : ℕ → Bool) (es : List Stored) → serials (filter (λ e. p e.serial) es) ≡ filter p (serials es)
 serials-filter p [] = refl

@@ -25,11 +25,13 @@ use Rattle.proxy_core.specs.declared.core_fault.CoreFault.{CoreFault}
 use Rattle.proxy_core.specs.Validating.{stored_response_is_answered, freshened_by_304}
 use Rattle.proxy_core.specs.Outcomes.{find_exchange, exchange_id_of_event, outcome_of_event, step_fault}
 use Rattle.proxy_core.specs.State.{State, state_after, open_exchanges_after, entries_after, NoSerialIsHeldFrom, serial_stored_by_outcome, serial_used_by_outcome, serials_removed_by_outcome, next_serial_after, serial_after_this, stored_response_by_answer, stored_response_as_used, entries_after_storing, entries_after_use, entries_without_serials, bounds_of, cut_where_touched}
+use Rattle.proxy_core.specs.Starts.{StoreAtStart, StartStands, weight_if_any}
 use Rattle.proxy_core.specs.Traces.{Item, initial_state, state_after_trace, IsGood, ItemIsAccepted, RunStopsAt}
-use Rattle.proxy_core.specs.Histories.{store_change_of, store_changes, weight_if_any, held_serials, open_exchanges, held_entry, held_entries, next_serial, IsGoodHistory, stored_response_after, HistoryStopsAt}
+use Rattle.proxy_core.specs.Histories.{store_change_of, store_changes, held_serials, open_exchanges, held_entry, held_entries, next_serial, IsGoodHistory, stored_response_after, HistoryStopsAt}
 use Rattle.proxy_core.proofs.Held.{NoneFrom-taken, NoneFrom-fresh, NoneFrom-next, NoneFrom-cut}
 use Rattle.proxy_core.proofs.Leaving.{serial_stays}
-use Rattle.proxy_core.proofs.HeldEntries.{EachIs, EachIs-nil, EachIs-all, EachIs-filter, EachIs-cut, EachIs-weights, EachIs-taken, EachIs-cons, EachIs-but, EachIs-same, EachIs-find, serials-filter, serials-taken, taken_is}
+use Rattle.proxy_core.proofs.Beginning.{held_at_start, found_at_start}
+use Rattle.proxy_core.proofs.HeldEntries.{EachIs, EachIs-all, EachIs-filter, EachIs-cut, EachIs-weights, EachIs-taken, EachIs-cons, EachIs-but, EachIs-same, EachIs-find, serials-filter, serials-taken, taken_is}
 use Rattle.proxy_core.proofs.StepKinds.{Kind, idle, uses, stores, kind_in}
 
 -- the list after a step before the last ones go, by what it stored, used and removed
@@ -152,13 +154,6 @@ kept es x event next st us rm look (stores s e a b q f k off) h n =
 
 -- ---- the last ones go
 
-within_nil : (bounds : StoreBounds) → IsWithin bounds weight_of []
-within_nil bounds = record { number = omega arith; weighs = none_weighs bounds.bytes }
-  where
-    none_weighs : (bytes : Option ℕ) → IfSome bytes (λ most. sum_by weight_of [] ≤ most)
-    none_weighs None = tt
-    none_weighs (Some most) = omega arith
-
 within_taken : (bounds : StoreBounds) (rm : List ℕ) (es : List Stored) → IsWithin bounds weight_of es → IsWithin bounds weight_of (entries_without_serials rm es)
 within_taken bounds rm es h = subst (IsWithin bounds weight_of) (sym (taken_is rm es)) (filter_is_within bounds (λ e. not (serial_is_in e.serial rm)) es h)
 
@@ -180,47 +175,47 @@ touched_is_cut bounds es x event next st us rm (stores s e a b q f k off) h =
 -- ---- one item more
 
 -- the weights of an item's responses, by which the last ones go of what was held before with what it did
-pub held_serials_more : (table : Table) (limit : ℕ) (i : Item) (past : List Item) → (weights : ℕ → ℕ)
-    × (held_serials table limit (i ∷ past) ≡ front_within (bounds_of table limit) weights (recent_after_change (store_change_of i) (held_serials table limit past)))
-held_serials_more table limit i past =
-    let weights : ℕ → ℕ = λ s. weight_if_any (stored_response_after (find_exchange (exchange_id_of_event i.event) (open_exchanges table limit past)) i.event i.outcome (held_entry table limit past) s) in
-    (weights, weighed_held_more (bounds_of table limit) (record { change = store_change_of i; weights = weights }) (store_changes table limit past))
+pub held_serials_more : (table : Table) (start : StoreAtStart) (i : Item) (past : List Item) → (weights : ℕ → ℕ)
+    × (held_serials table start (i ∷ past) ≡ front_within (bounds_of table start.limit) weights (recent_after_change (store_change_of i) (held_serials table start past)))
+held_serials_more table start i past =
+    let weights : ℕ → ℕ = λ s. weight_if_any (stored_response_after (find_exchange (exchange_id_of_event i.event) (open_exchanges table start past)) i.event i.outcome (held_entry table start past) s) in
+    (weights, weighed_held_more (bounds_of table start.limit) (record { change = store_change_of i; weights = weights }) (store_changes table start past))
 
 -- what is held after an item was held before it, or is what it stored
-pub held_before_cut : (table : Table) (limit : ℕ) (i : Item) (past : List Item) (s : ℕ) → serial_is_in s (held_serials table limit (i ∷ past)) ≡ true →
-    serial_is_in s (recent_after_change (store_change_of i) (held_serials table limit past)) ≡ true
-held_before_cut table limit i past s h =
-    let q = held_serials_more table limit i past in
-    let xs = recent_after_change (store_change_of i) (held_serials table limit past) in
-    (and_parts (serial_is_in s xs) (stands_within (bounds_of table limit) q.0 xs s)
-    (sym (is_in-within (bounds_of table limit) q.0 s xs) ∙ sym (ap (serial_is_in s) q.1) ∙ h)).0
+pub held_before_cut : (table : Table) (start : StoreAtStart) (i : Item) (past : List Item) (s : ℕ) → serial_is_in s (held_serials table start (i ∷ past)) ≡ true →
+    serial_is_in s (recent_after_change (store_change_of i) (held_serials table start past)) ≡ true
+held_before_cut table start i past s h =
+    let q = held_serials_more table start i past in
+    let xs = recent_after_change (store_change_of i) (held_serials table start past) in
+    (and_parts (serial_is_in s xs) (stands_within (bounds_of table start.limit) q.0 xs s)
+    (sym (is_in-within (bounds_of table start.limit) q.0 s xs) ∙ sym (ap (serial_is_in s) q.1) ∙ h)).0
 
 -- the core stands for a trace
-pub record Stands (table : Table) (limit first : ℕ) (past : List Item) (st : State) : Type 0 where
+pub record Stands (table : Table) (start : StoreAtStart) (first : ℕ) (past : List Item) (st : State) : Type 0 where
   pub table_is : st.table ≡ table
-  pub limit_is : st.limit ≡ limit
-  pub serials_are : serials st.entries ≡ held_serials table limit past
-  pub entries_are : EachIs (held_entry table limit past) st.entries
-  pub within : IsWithin (bounds_of table limit) weight_of st.entries
-  pub exchanges_are : st.exchanges ≡ open_exchanges table limit past
+  pub limit_is : st.limit ≡ start.limit
+  pub serials_are : serials st.entries ≡ held_serials table start past
+  pub entries_are : EachIs (held_entry table start past) st.entries
+  pub within : IsWithin (bounds_of table start.limit) weight_of st.entries
+  pub exchanges_are : st.exchanges ≡ open_exchanges table start past
   pub next_is : st.next ≡ next_serial first past
   pub fresh : NoSerialIsHeldFrom st.next st.entries
 
-held_is : (table : Table) (limit first : ℕ) (past : List Item) (st : State) → Stands table limit first past st → st.entries ≡ held_entries table limit past
-held_is table limit first past st p =
-    sym (EachIs-all (held_entry table limit past) st.entries p.entries_are) ∙ ap (filter_map (held_entry table limit past)) p.serials_are
+held_is : (table : Table) (start : StoreAtStart) (first : ℕ) (past : List Item) (st : State) → Stands table start first past st → st.entries ≡ held_entries table start past
+held_is table start first past st p =
+    sym (EachIs-all (held_entry table start past) st.entries p.entries_are) ∙ ap (filter_map (held_entry table start past)) p.serials_are
 
-stands_more : (table : Table) (limit first : ℕ) (past : List Item) (st : State) (i : Item) → Stands table limit first past st →
-    ItemIsAccepted table st.entries st.exchanges st.next i → Stands table limit first (i ∷ past) (state_after st i.event i.outcome)
-stands_more table limit first past st i p a =
+stands_more : (table : Table) (start : StoreAtStart) (first : ℕ) (past : List Item) (st : State) (i : Item) → Stands table start first past st →
+    ItemIsAccepted table st.entries st.exchanges st.next i → Stands table start first (i ∷ past) (state_after st i.event i.outcome)
+stands_more table start first past st i p a =
     let event = i.event in
     let o = i.outcome in
     let es = st.entries in
     let x = find_exchange (exchange_id_of_event event) st.exchanges in
-    let look : ℕ → Option Stored = held_entry table limit past in
+    let look : ℕ → Option Stored = held_entry table start past in
     let kind : Kind es x event st.next (serial_stored_by_outcome o) (serial_used_by_outcome o) (serials_removed_by_outcome o) = kind_in table st i p.fresh a in
     let item = store_change_of i in
-    let bounds = bounds_of table limit in
+    let bounds = bounds_of table start.limit in
     let raw = list_before es x event (serial_stored_by_outcome o) (serial_used_by_outcome o) (serials_removed_by_outcome o) in
     let k = kept es x event st.next (serial_stored_by_outcome o) (serial_used_by_outcome o) (serials_removed_by_outcome o) look kind p.entries_are p.fresh in
     let look' : ℕ → Option Stored = look_after x event (serial_stored_by_outcome o) (serial_used_by_outcome o) look in
@@ -237,91 +232,91 @@ stands_more table limit first past st i p a =
           ∙ serials_are_cut bounds (λ s. weight_if_any (look' s)) raw (EachIs-weights look' raw k.entries_are)
           ∙ ap (front_within bounds (λ s. weight_if_any (look' s))) k.serials_are
           ∙ ap (λ xs. front_within bounds (λ s. weight_if_any (look' s)) (recent_after_change item xs)) p.serials_are
-          ∙ ap (λ xs. front_within bounds (λ s. weight_if_any (look_after (find_exchange (exchange_id_of_event event) xs) event (serial_stored_by_outcome o) (serial_used_by_outcome o) look s)) (recent_after_change item (held_serials table limit past))) p.exchanges_are
+          ∙ ap (λ xs. front_within bounds (λ s. weight_if_any (look_after (find_exchange (exchange_id_of_event event) xs) event (serial_stored_by_outcome o) (serial_used_by_outcome o) look s)) (recent_after_change item (held_serials table start past))) p.exchanges_are
           ∙ sym (weighed_held_more bounds (record {
             change = item;
-            weights = λ s. weight_if_any (stored_response_after (find_exchange (exchange_id_of_event event) (open_exchanges table limit past)) event o look s);
-          }) (store_changes table limit past));
-      entries_are = EachIs-same look' (stored_response_after (find_exchange (exchange_id_of_event event) (open_exchanges table limit past)) event o look) _
+            weights = λ s. weight_if_any (stored_response_after (find_exchange (exchange_id_of_event event) (open_exchanges table start past)) event o look s);
+          }) (store_changes table start past));
+      entries_are = EachIs-same look' (stored_response_after (find_exchange (exchange_id_of_event event) (open_exchanges table start past)) event o look) _
           (λ s. ap (λ xs. look_after (find_exchange (exchange_id_of_event event) xs) event (serial_stored_by_outcome o) (serial_used_by_outcome o) look s) (sym p.exchanges_are))
           (subst (EachIs look') (sym e) (EachIs-cut look' bounds raw k.entries_are));
       within = subst (IsWithin bounds weight_of) (sym e) (cut_is_longest bounds weight_of raw).is_within;
       exchanges_are = ap (λ (t : Table). open_exchanges_after t st.entries st.exchanges event o) p.table_is
-          ∙ ap (λ zs. open_exchanges_after table zs st.exchanges event o) (held_is table limit first past st p)
-          ∙ ap (λ xs. open_exchanges_after table (held_entries table limit past) xs event o) p.exchanges_are;
+          ∙ ap (λ zs. open_exchanges_after table zs st.exchanges event o) (held_is table start first past st p)
+          ∙ ap (λ xs. open_exchanges_after table (held_entries table start past) xs event o) p.exchanges_are;
       next_is = ap (λ n. next_serial_after n (serial_stored_by_outcome o)) p.next_is;
       fresh = subst (NoSerialIsHeldFrom (next_serial_after st.next (serial_stored_by_outcome o))) (sym e)
           (NoneFrom-cut (next_serial_after st.next (serial_stored_by_outcome o)) bounds raw k.fresh);
     }
 
 -- what a good trace leaves stands for it
-pub stands_for : (table : Table) (limit first : ℕ) (past : List Item) → IsGood (initial_state table limit first) past → Stands table limit first past (state_after_trace (initial_state table limit first) past)
-stands_for table limit first [] g = record {
+pub stands_for : (table : Table) (start : StoreAtStart) (first : ℕ) (past : List Item) → IsGood (initial_state table start first) past → Stands table start first past (state_after_trace (initial_state table start first) past)
+stands_for table start first [] g = record {
   table_is = refl;
   limit_is = refl;
-  serials_are = refl;
-  entries_are = EachIs-nil (λ s. None);
-  within = within_nil (bounds_of table limit);
+  serials_are = sym (held_at_start (bounds_of table start.limit) start.entries g.distinct g.within);
+  entries_are = found_at_start start.entries g.distinct;
+  within = g.within;
   exchanges_are = refl;
   next_is = refl;
-  fresh = λ s l. refl;
+  fresh = g.below_next;
 }
-stands_for table limit first (i ∷ past) g =
-    stands_more table limit first past (state_after_trace (initial_state table limit first) past) i (stands_for table limit first past g.1) g.0
+stands_for table start first (i ∷ past) g =
+    stands_more table start first past (state_after_trace (initial_state table start first) past) i (stands_for table start first past g.1) g.0
 
 -- the bounded list has what is held
-pub entries_are_held : (table : Table) (limit first : ℕ) (past : List Item) → IsGood (initial_state table limit first) past →
-    (state_after_trace (initial_state table limit first) past).entries ≡ held_entries table limit past
-entries_are_held table limit first past g = held_is table limit first past (state_after_trace (initial_state table limit first) past) (stands_for table limit first past g)
+pub entries_are_held : (table : Table) (start : StoreAtStart) (first : ℕ) (past : List Item) → IsGood (initial_state table start first) past →
+    (state_after_trace (initial_state table start first) past).entries ≡ held_entries table start past
+entries_are_held table start first past g = held_is table start first past (state_after_trace (initial_state table start first) past) (stands_for table start first past g)
 
 -- the other things that a trace leaves
-pub exchanges_are_open : (table : Table) (limit first : ℕ) (past : List Item) → IsGood (initial_state table limit first) past →
-    (state_after_trace (initial_state table limit first) past).exchanges ≡ open_exchanges table limit past
-exchanges_are_open table limit first past g = (stands_for table limit first past g).exchanges_are
+pub exchanges_are_open : (table : Table) (start : StoreAtStart) (first : ℕ) (past : List Item) → IsGood (initial_state table start first) past →
+    (state_after_trace (initial_state table start first) past).exchanges ≡ open_exchanges table start past
+exchanges_are_open table start first past g = (stands_for table start first past g).exchanges_are
 
-pub next_is_counted : (table : Table) (limit first : ℕ) (past : List Item) → IsGood (initial_state table limit first) past →
-    (state_after_trace (initial_state table limit first) past).next ≡ next_serial first past
-next_is_counted table limit first past g = (stands_for table limit first past g).next_is
+pub next_is_counted : (table : Table) (start : StoreAtStart) (first : ℕ) (past : List Item) → IsGood (initial_state table start first) past →
+    (state_after_trace (initial_state table start first) past).next ≡ next_serial first past
+next_is_counted table start first past g = (stands_for table start first past g).next_is
 
 -- the passage: from what is good over a bounded list to what is good over what is held
-pub good_held : (table : Table) (limit first : ℕ) (past : List Item) → IsGood (initial_state table limit first) past → IsGoodHistory table limit first past
-good_held table limit first [] g = tt
-good_held table limit first (i ∷ past) g =
-    let p = stands_for table limit first past g.1 in
-    let st = state_after_trace (initial_state table limit first) past in
+pub good_held : (table : Table) (start : StoreAtStart) (first : ℕ) (past : List Item) → IsGood (initial_state table start first) past → IsGoodHistory table start first past
+good_held table start first [] g = g
+good_held table start first (i ∷ past) g =
+    let p = stands_for table start first past g.1 in
+    let st = state_after_trace (initial_state table start first) past in
     let a = g.0 in (
       record {
         allowed = ap (λ xs. step_fault xs i.event) (sym p.exchanges_are) ∙ a.allowed;
         outcome_is = a.outcome_is
-            ∙ ap (λ es. outcome_of_event table es st.exchanges st.next i.event) (held_is table limit first past st p)
-            ∙ ap (λ xs. outcome_of_event table (held_entries table limit past) xs st.next i.event) p.exchanges_are
-            ∙ ap (λ n. outcome_of_event table (held_entries table limit past) (open_exchanges table limit past) n i.event) p.next_is;
+            ∙ ap (λ es. outcome_of_event table es st.exchanges st.next i.event) (held_is table start first past st p)
+            ∙ ap (λ xs. outcome_of_event table (held_entries table start past) xs st.next i.event) p.exchanges_are
+            ∙ ap (λ n. outcome_of_event table (held_entries table start past) (open_exchanges table start past) n i.event) p.next_is;
       },
-      good_held table limit first past g.1,
+      good_held table start first past g.1,
     )
 
 -- and back
-pub good_plain : (table : Table) (limit first : ℕ) (past : List Item) → IsGoodHistory table limit first past → IsGood (initial_state table limit first) past
-good_plain table limit first [] g = tt
-good_plain table limit first (i ∷ past) g =
-    let plain = good_plain table limit first past g.1 in
-    let p = stands_for table limit first past plain in
-    let st = state_after_trace (initial_state table limit first) past in
+pub good_plain : (table : Table) (start : StoreAtStart) (first : ℕ) (past : List Item) → IsGoodHistory table start first past → IsGood (initial_state table start first) past
+good_plain table start first [] g = g
+good_plain table start first (i ∷ past) g =
+    let plain = good_plain table start first past g.1 in
+    let p = stands_for table start first past plain in
+    let st = state_after_trace (initial_state table start first) past in
     let a = g.0 in (
       record {
         allowed = ap (λ xs. step_fault xs i.event) p.exchanges_are ∙ a.allowed;
         outcome_is = a.outcome_is
-            ∙ sym (ap (λ es. outcome_of_event table es st.exchanges st.next i.event) (held_is table limit first past st p)
-            ∙ ap (λ xs. outcome_of_event table (held_entries table limit past) xs st.next i.event) p.exchanges_are
-            ∙ ap (λ n. outcome_of_event table (held_entries table limit past) (open_exchanges table limit past) n i.event) p.next_is);
+            ∙ sym (ap (λ es. outcome_of_event table es st.exchanges st.next i.event) (held_is table start first past st p)
+            ∙ ap (λ xs. outcome_of_event table (held_entries table start past) xs st.next i.event) p.exchanges_are
+            ∙ ap (λ n. outcome_of_event table (held_entries table start past) (open_exchanges table start past) n i.event) p.next_is);
       },
       plain,
     )
 
 -- the fault at the next event, said of the exchanges that are open
-pub stops_held : (table : Table) (limit first : ℕ) (past : List Item) (next : Option Event) (fault : CoreFault) → IsGood (initial_state table limit first) past →
-    RunStopsAt (state_after_trace (initial_state table limit first) past) next fault → HistoryStopsAt (open_exchanges table limit past) next fault
-stops_held table limit first past None fault g r = r
-stops_held table limit first past (Some e) fault g r =
-    let k : step_fault (state_after_trace (initial_state table limit first) past).exchanges e ≡ step_fault (open_exchanges table limit past) e = ap (λ xs. step_fault xs e) (exchanges_are_open table limit first past g) in
+pub stops_held : (table : Table) (start : StoreAtStart) (first : ℕ) (past : List Item) (next : Option Event) (fault : CoreFault) → IsGood (initial_state table start first) past →
+    RunStopsAt (state_after_trace (initial_state table start first) past) next fault → HistoryStopsAt (open_exchanges table start past) next fault
+stops_held table start first past None fault g r = r
+stops_held table start first past (Some e) fault g r =
+    let k : step_fault (state_after_trace (initial_state table start first) past).exchanges e ≡ step_fault (open_exchanges table start past) e = ap (λ xs. step_fault xs e) (exchanges_are_open table start first past g) in
     elim r [ inl a ↦ inl (sym k ∙ a) | inr b ↦ inr (sym k ∙ b.0, b.1) ]

@@ -24,33 +24,35 @@ use Rattle.proxy_core.specs.declared.event.Event.TheVariants.{Answer}
 use Rattle.proxy_core.specs.Outcomes.{find_exchange, exchange_id_of_event}
 use Rattle.proxy_core.specs.Storing.{stored_response_made, weight_of_answer}
 use Rattle.proxy_core.specs.State.{bounds_of, serial_stored_by_outcome, serial_used_by_outcome, serials_removed_by_outcome, stored_response_by_answer, entries_after, entries_after_use, entries_after_storing, cut_where_touched}
+use Rattle.proxy_core.specs.Starts.{StoreAtStart, change_that_stores}
 use Rattle.proxy_core.specs.Traces.{Item, initial_state, state_after_trace}
 use Rattle.proxy_core.specs.Histories.{store_change_of, store_changes, held_serials, held_entry, held_entries, open_exchanges, IsGoodHistory}
 use Rattle.proxy_core.specs.Bounds.{HeldIsWithinTheBounds, StoredIsHeld, StoredWeighsNoMoreThanTheStore, HeldByNumberAlone, StoreChangesAreThose}
+use Rattle.proxy_core.proofs.Beginning.{changes_are_start}
 use Rattle.proxy_core.proofs.HeldLaw.{good_plain, entries_are_held, stands_for}
 use Rattle.proxy_core.proofs.StoredAnswers.{IsStored, stored_at}
 
 pub held_is_within : HeldIsWithinTheBounds
-held_is_within table limit first trace good =
-    let plain = good_plain table limit first trace good in
-    subst (IsWithin (bounds_of table limit) weight_of) (entries_are_held table limit first trace plain) (stands_for table limit first trace plain).within
+held_is_within table start first trace good =
+    let plain = good_plain table start first trace good in
+    subst (IsWithin (bounds_of table start.limit) weight_of) (entries_are_held table start first trace plain) (stands_for table start first trace plain).within
 
 -- ---- without a bound of bytes
 
 pub changes_are_those : StoreChangesAreThose
-changes_are_those table limit [] = refl
-changes_are_those table limit (i ∷ past) = ap (λ xs. store_change_of i ∷ xs) (changes_are_those table limit past)
+changes_are_those table start [] = changes_are_start start.entries
+changes_are_those table start (i ∷ past) = ap (λ xs. store_change_of i ∷ xs) (changes_are_those table start past)
 
 pub held_by_number_alone : HeldByNumberAlone
-held_by_number_alone table limit past none =
-    let bounds_are : bounds_of table limit ≡ record { entries = limit; bytes = None } = ap (λ (bytes : Option ℕ). record { entries = limit; bytes = bytes }) none in
-    by_bounds (bounds_of table limit) bounds_are
+held_by_number_alone table start past none =
+    let bounds_are : bounds_of table start.limit ≡ record { entries = start.limit; bytes = None } = ap (λ (bytes : Option ℕ). record { entries = start.limit; bytes = bytes }) none in
+    by_bounds (bounds_of table start.limit) bounds_are
   where
     open_held : StoreBounds → List ℕ
-    open_held bounds = weighed_held_of bounds (store_changes table limit past)
+    open_held bounds = weighed_held_of bounds (store_changes table start past)
 
-    by_bounds : (bounds : StoreBounds) → bounds ≡ record { entries = limit; bytes = None } → open_held bounds ≡ held_of limit (map store_change_of past)
-    by_bounds bounds are = ap open_held are ∙ held_by_number limit (store_changes table limit past) ∙ ap (held_of limit) (changes_are_those table limit past)
+    by_bounds : (bounds : StoreBounds) → bounds ≡ record { entries = start.limit; bytes = None } → open_held bounds ≡ held_of start.limit (map store_change_of past ++ map change_that_stores start.entries)
+    by_bounds bounds are = ap open_held are ∙ held_by_number start.limit (store_changes table start past) ∙ ap (held_of start.limit) (changes_are_those table start past)
 
 -- ---- what is stored
 
@@ -65,8 +67,8 @@ made_weighs serial x r now =
 made_fits : (bound : Option ℕ) (serial : ℕ) (x : Exchange) (r : Response) (now : ℕ) → IfSome bound (λ most. weight_of_answer x r now ≤ most) → IfSome bound (λ most. weight_of (stored_response_made serial x r now) ≤ most)
 made_fits bound serial x r now h = IfSome_then bound h (λ most p. let less = made_weighs serial x r now in omega arith)
 
-alone_fits : (table : Table) (limit : ℕ) (e : Stored) → 1 ≤ limit → IfSome table.max_store (λ most. weight_of e ≤ most) → IsWithin (bounds_of table limit) weight_of (e ∷ [])
-alone_fits table limit e room h = record {
+alone_fits : (table : Table) (start : StoreAtStart) (e : Stored) → 1 ≤ start.limit → IfSome table.max_store (λ most. weight_of e ≤ most) → IsWithin (bounds_of table start.limit) weight_of (e ∷ [])
+alone_fits table start e room h = record {
   number = omega arith;
   weighs = IfSome_then table.max_store h (λ most p. omega (arith, sum_by-cons weight_of e []));
 }
@@ -78,48 +80,48 @@ first_of : (s : ℕ) (o : Option ℕ) (a b : Option Stored) → o ≡ Some s →
 first_of s o a b h = ap (λ (o : Option ℕ). cond (is_that_serial o s) a b) h ∙ ap (λ t. cond t a b) (eq-eqb s s refl)
 
 -- the response that an item stores
-record Made (table : Table) (limit serial : ℕ) (item : Item) (past : List Item) : Type 0 where
+record Made (table : Table) (start : StoreAtStart) (serial : ℕ) (item : Item) (past : List Item) : Type 0 where
   made : Stored
   serial_is : made.serial ≡ serial
-  is : stored_response_by_answer (find_exchange (exchange_id_of_event item.event) (open_exchanges table limit past)) item.event serial ≡ Some made
+  is : stored_response_by_answer (find_exchange (exchange_id_of_event item.event) (open_exchanges table start past)) item.event serial ≡ Some made
   fits : IfSome table.max_store (λ most. weight_of made ≤ most)
 
-made_by : (table : Table) (limit first serial : ℕ) (item : Item) (past : List Item) → IsGoodHistory table limit first (item ∷ past) → serial_stored_by_outcome item.outcome ≡ Some serial → Made table limit serial item past
-made_by table limit first serial item past good stored =
-    let is = stored_at table limit first serial item past good stored in
+made_by : (table : Table) (start : StoreAtStart) (first serial : ℕ) (item : Item) (past : List Item) → IsGoodHistory table start first (item ∷ past) → serial_stored_by_outcome item.outcome ≡ Some serial → Made table start serial item past
+made_by table start first serial item past good stored =
+    let is = stored_at table start first serial item past good stored in
     let a = is.answer in
     record {
       made = stored_response_made serial a.exchange a.response a.now;
       serial_is = refl;
-      is = ap (λ e. stored_response_by_answer (find_exchange (exchange_id_of_event e) (open_exchanges table limit past)) e serial) a.event_is
+      is = ap (λ e. stored_response_by_answer (find_exchange (exchange_id_of_event e) (open_exchanges table start past)) e serial) a.event_is
           ∙ ap (λ (o : Option Exchange). stored_response_by_answer o (Answer a.now a.id a.response) serial) a.is_open;
       fits = made_fits table.max_store serial a.exchange a.response a.now is.fits;
     }
 
 pub stored_weighs_no_more : StoredWeighsNoMoreThanTheStore
-stored_weighs_no_more table limit first serial e item past good stored look =
-    let m = made_by table limit first serial item past good stored in
-    let form : held_entry table limit (item ∷ past) serial ≡ Some m.made = first_of serial (serial_stored_by_outcome item.outcome) _ _ stored ∙ m.is in
+stored_weighs_no_more table start first serial e item past good stored look =
+    let m = made_by table start first serial item past good stored in
+    let form : held_entry table start (item ∷ past) serial ≡ Some m.made = first_of serial (serial_stored_by_outcome item.outcome) _ _ stored ∙ m.is in
     subst (λ (f : Stored). IfSome table.max_store (λ most. weight_of f ≤ most)) (some_same (sym form ∙ look)) m.fits
 
 pub stored_is_held : StoredIsHeld
-stored_is_held table limit first serial item past room good stored =
-    let m = made_by table limit first serial item past good stored in
-    let plain = good_plain table limit first (item ∷ past) good in
-    let st = state_after_trace (initial_state table limit first) past in
-    let p = stands_for table limit first past plain.1 in
+stored_is_held table start first serial item past room good stored =
+    let m = made_by table start first serial item past good stored in
+    let plain = good_plain table start first (item ∷ past) good in
+    let st = state_after_trace (initial_state table start first) past in
+    let p = stands_for table start first past plain.1 in
     let x = find_exchange (exchange_id_of_event item.event) st.exchanges in
     let used = serial_used_by_outcome item.outcome in
     let removed = serials_removed_by_outcome item.outcome in
-    let bounds_are : bounds_of st.table st.limit ≡ bounds_of table limit = ap (λ (t : Table). bounds_of t st.limit) p.table_is ∙ ap (bounds_of table) p.limit_is in
+    let bounds_are : bounds_of st.table st.limit ≡ bounds_of table start.limit = ap (λ (t : Table). bounds_of t st.limit) p.table_is ∙ ap (bounds_of table) p.limit_is in
     let rest = without_serials removed (entries_after_use x item.event used st.entries) in
     let here : stored_response_by_answer x item.event serial ≡ Some m.made = ap (λ xs. stored_response_by_answer (find_exchange (exchange_id_of_event item.event) xs) item.event serial) p.exchanges_are ∙ m.is in
-    let after : entries_after (bounds_of st.table st.limit) st.entries x item.event item.outcome ≡ cut_to_bounds (bounds_of table limit) (m.made ∷ rest) =
+    let after : entries_after (bounds_of st.table st.limit) st.entries x item.event item.outcome ≡ cut_to_bounds (bounds_of table start.limit) (m.made ∷ rest) =
     ap (λ o. cut_where_touched (bounds_of st.table st.limit) o used (entries_after_storing x item.event o removed (entries_after_use x item.event used st.entries))) stored
     ∙ ap (λ (b : StoreBounds). cut_to_bounds b (with_in_front (stored_response_by_answer x item.event serial) rest)) bounds_are
-    ∙ ap (λ (o : Option Stored). cut_to_bounds (bounds_of table limit) (with_in_front o rest)) here
+    ∙ ap (λ (o : Option Stored). cut_to_bounds (bounds_of table start.limit) (with_in_front o rest)) here
     in
-    let front = first_stays (bounds_of table limit) weight_of m.made rest (alone_fits table limit m.made room m.fits) in
-    let held = stands_for table limit first (item ∷ past) plain in
+    let front = first_stays (bounds_of table start.limit) weight_of m.made rest (alone_fits table start m.made room m.fits) in
+    let held = stands_for table start first (item ∷ past) plain in
     ap (serial_is_in serial) (sym held.serials_are ∙ ap serials (after ∙ front.1))
     ∙ ap (λ b. b || serial_is_in serial (serials front.0)) (eq-eqb m.made.serial serial m.serial_is)

@@ -17,6 +17,7 @@ use Rattle.hx_allow.specs.Matching.{verdict_of, policy_of}
 use Rattle.hx_reuse.specs.Rules.{decision_of}
 use Rattle.proxy_core.specs.Validating.{condition_about_serial}
 use Rattle.proxy_core.specs.State.{overtaken_exchange, released_exchange, exchanges_after_end, exchanges_after_close, forwarded_exchange, waiting_exchange, line_of_verdict, rule_of_decision, serial_named_by_decision, exchange_forwarded_again, exchanges_after_wake, key_invalidated_by_response, open_exchanges_after}
+use Rattle.proxy_core.specs.Starts.{StoreAtStart}
 use Rattle.proxy_core.specs.Traces.{Item, initial_state, state_after_trace, IsGood}
 use Rattle.proxy_core.specs.Promises.{is_arrival_event, NoRequestArrives}
 use Rattle.proxy_core.specs.Carrying.{ArrivesBefore, IdsAreInOrderOfArrival, exchange_ids, ExchangesAreOpenInOrderOfArrival}
@@ -260,13 +261,13 @@ in_order_step table es xs past (Abandon id) o free h =
     let i : Item = record { event = Abandon id; outcome = o } in
     same_ids (ids-closed id xs) (without_one id (exchange_ids xs) (i ∷ past) (further i past (exchange_ids xs) (late_apart i (exchange_ids xs) refl) h))
 
-in_order_all : (table : Table) (limit first : ℕ) (past : List Item) → IsGood (initial_state table limit first) past → InOrder (exchange_ids (state_after_trace (initial_state table limit first) past).exchanges) past
-in_order_all table limit first [] g = record { arrived = tt; order = tt }
-in_order_all table limit first (i ∷ past) g =
-    let s = state_after_trace (initial_state table limit first) past in
-    in_order_step s.table s.entries s.exchanges past i.event i.outcome g.0.allowed (in_order_all table limit first past g.1)
+in_order_all : (table : Table) (start : StoreAtStart) (first : ℕ) (past : List Item) → IsGood (initial_state table start first) past → InOrder (exchange_ids (state_after_trace (initial_state table start first) past).exchanges) past
+in_order_all table start first [] g = record { arrived = tt; order = tt }
+in_order_all table start first (i ∷ past) g =
+    let s = state_after_trace (initial_state table start first) past in
+    in_order_step s.table s.entries s.exchanges past i.event i.outcome g.0.allowed (in_order_all table start first past g.1)
 
 pub open_in_order_of_arrival : ExchangesAreOpenInOrderOfArrival
-open_in_order_of_arrival table limit first trace g =
-    let p = good_plain table limit first trace g in
-    subst (λ (xs : List Exchange). IdsAreInOrderOfArrival (exchange_ids xs) trace) (exchanges_are_open table limit first trace p) (in_order_all table limit first trace p).order
+open_in_order_of_arrival table start first trace g =
+    let p = good_plain table start first trace g in
+    subst (λ (xs : List Exchange). IdsAreInOrderOfArrival (exchange_ids xs) trace) (exchanges_are_open table start first trace p) (in_order_all table start first trace p).order

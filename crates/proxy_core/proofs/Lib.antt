@@ -11,6 +11,7 @@ pub mod Moves
 pub mod TwiceForward
 pub mod HeldEntries
 pub mod StepKinds
+pub mod Beginning
 pub mod HeldLaw
 pub mod Marks
 pub mod Unsent
@@ -44,3 +45,5 @@ pub mod Overtaking
 pub mod AddedLines
 pub mod Cutting
 pub mod HeldWithin
+pub mod Restarts
+pub mod ConditionsKept

@@ -19,6 +19,7 @@ use Rattle.proxy_core.specs.Promises.{outcome_goes_forward, is_arrival_event, co
 use Rattle.proxy_core.specs.declared.open.stage.Stage.TheVariants.{Forwarded, Waiting, Released}
 use Rattle.proxy_core.specs.Leading.{waits_for}
 use Rattle.proxy_core.specs.State.{released_exchange}
+use Rattle.proxy_core.specs.Starts.{StoreAtStart}
 use Rattle.proxy_core.proofs.ExchangeLists.{overtaken_by, released_by}
 use Rattle.proxy_core.proofs.Moves.{Move, apart, opens, queues, passes, again, wakes, closes, asked_of, ended_by, move_of, key_taken_by_answer, key_taken_by_step}
 use Rattle.proxy_core.proofs.Carries.{carries}
@@ -80,12 +81,12 @@ asked_more id w event o x y b a (again z now t e q c k h j s) f g = asked_late i
 asked_more id w event o x y b a (wakes table es z now e q s k h) f g = ap (λ v. request_after_event id v b) e ∙ f a (ap asked_of q ∙ sym (ap asked_of h) ∙ g)
 asked_more id w event o x y b a (closes z t e q k h) f g = absurd (none_asked y a h g)
 
-pub asked_is : (table : Table) (limit first : ℕ) (past : List Item) → IsGood (initial_state table limit first) past → (id : ℕ) (a : Asked) →
-    asked_of (find_exchange id (state_after_trace (initial_state table limit first) past).exchanges) ≡ Some a → latest_request_of id past ≡ Some a
-asked_is table limit first [] g id a h = absurd (cc)
-asked_is table limit first (i ∷ past) g id a k =
-    asked_more id _ i.event i.outcome _ _ (latest_request_of id past) a (move_of table (state_after_trace (initial_state table limit first) past) i id (same_table (initial_state table limit first) past) g.0)
-    (λ a q. asked_is table limit first past g.1 id a q) k
+pub asked_is : (table : Table) (start : StoreAtStart) (first : ℕ) (past : List Item) → IsGood (initial_state table start first) past → (id : ℕ) (a : Asked) →
+    asked_of (find_exchange id (state_after_trace (initial_state table start first) past).exchanges) ≡ Some a → latest_request_of id past ≡ Some a
+asked_is table start first [] g id a h = absurd (cc)
+asked_is table start first (i ∷ past) g id a k =
+    asked_more id _ i.event i.outcome _ _ (latest_request_of id past) a (move_of table (state_after_trace (initial_state table start first) past) i id (same_table (initial_state table start first) past) g.0)
+    (λ a q. asked_is table start first past g.1 id a q) k
 
 -- what an item invalidates, by the exchange and by the items before
 key_is : (w : Option Exchange) (event : Event) (b : Option Asked) → fault_at_exchange w event ≡ None → ((a : Asked) → asked_of w ≡ Some a → b ≡ Some a) →
@@ -99,26 +100,26 @@ key_is None (Wake now i) b f h = absurd (cc)
 key_is None (Abandon i) b f h = absurd (cc)
 
 -- and as its outcome shows it
-shown : (table : Table) (limit : ℕ) (past : List Item) (es : List Stored) (xs : List Exchange) (next : Option ℕ) (w : Option Exchange) (event : Event) (o : Outcome) →
-    ((z : Exchange) → w ≡ Some z → ExchangeWasJudged table limit z past) → o ≡ outcome_of table es xs w next event →
+shown : (table : Table) (start : StoreAtStart) (past : List Item) (es : List Stored) (xs : List Exchange) (next : Option ℕ) (w : Option Exchange) (event : Event) (o : Outcome) →
+    ((z : Exchange) → w ≡ Some z → ExchangeWasJudged table start z past) → o ≡ outcome_of table es xs w next event →
     key_invalidated_by_event (asked_of w) event ≡ key_taken_by_step (asked_of w) event o
-shown table limit past es xs next None event o a is = refl
-shown table limit past es xs next (Some z) (Answer now i r) o a is =
-    status_is_shown table limit z past (a z refl) es now r next ∙ ap (key_taken_by_answer z.asked r) (sym is)
-shown table limit past es xs next (Some z) (Arrive now i asked) o a is = refl
-shown table limit past es xs next (Some z) (Fail now i kind) o a is = refl
-shown table limit past es xs next (Some z) (Wake now i) o a is = refl
-shown table limit past es xs next (Some z) (Abandon i) o a is = refl
+shown table start past es xs next None event o a is = refl
+shown table start past es xs next (Some z) (Answer now i r) o a is =
+    status_is_shown table start z past (a z refl) es now r next ∙ ap (key_taken_by_answer z.asked r) (sym is)
+shown table start past es xs next (Some z) (Arrive now i asked) o a is = refl
+shown table start past es xs next (Some z) (Fail now i kind) o a is = refl
+shown table start past es xs next (Some z) (Wake now i) o a is = refl
+shown table start past es xs next (Some z) (Abandon i) o a is = refl
 
-pub same_key_of_step : (table : Table) (limit first : ℕ) (i : Item) (past : List Item) → IsGood (initial_state table limit first) (i ∷ past) →
+pub same_key_of_step : (table : Table) (start : StoreAtStart) (first : ℕ) (i : Item) (past : List Item) → IsGood (initial_state table start first) (i ∷ past) →
     key_invalidated_by_event (latest_request_of (exchange_id_of_event i.event) past) i.event
-    ≡ key_taken_by_step (asked_of (find_exchange (exchange_id_of_event i.event) (state_after_trace (initial_state table limit first) past).exchanges)) i.event i.outcome
-same_key_of_step table limit first i past g =
-    let s = state_after_trace (initial_state table limit first) past in
+    ≡ key_taken_by_step (asked_of (find_exchange (exchange_id_of_event i.event) (state_after_trace (initial_state table start first) past).exchanges)) i.event i.outcome
+same_key_of_step table start first i past g =
+    let s = state_after_trace (initial_state table start first) past in
     let id = exchange_id_of_event i.event in
     let w = find_exchange id s.exchanges in
-    key_is w i.event (latest_request_of id past) g.0.allowed (λ a q. asked_is table limit first past g.1 id a q)
-    ∙ shown table limit past s.entries s.exchanges s.next w i.event i.outcome (λ z q. (carries table limit first past g.1 id z q).0) g.0.outcome_is
+    key_is w i.event (latest_request_of id past) g.0.allowed (λ a q. asked_is table start first past g.1 id a q)
+    ∙ shown table start past s.entries s.exchanges s.next w i.event i.outcome (λ z q. (carries table start first past g.1 id z q).0) g.0.outcome_is
 
 -- ---- from a going forward on
 
@@ -204,21 +205,21 @@ none_of_some key [] past h = tt
 none_of_some key (i ∷ items) past h =
     let p = or_parts (invalidates_key key i (items ++ past)) (some_item_invalidates key items past) h in (p.0, none_of_some key items past p.1)
 
-module _ (table : Table) (limit first : ℕ) (f : Item) (before : List Item) (id : ℕ) where
+module _ (table : Table) (start : StoreAtStart) (first : ℕ) (f : Item) (before : List Item) (id : ℕ) where
   abbrev exchange : List Item → Option Exchange
-  exchange items = find_exchange id (state_after_trace (initial_state table limit first) (items ++ f ∷ before)).exchanges
+  exchange items = find_exchange id (state_after_trace (initial_state table start first) (items ++ f ∷ before)).exchanges
 
   -- the exchange, where its request is at the origin: that request, and its mark
   abbrev IsOut : List Item → Type 0
   IsOut items = (z : Exchange) → exchange items ≡ Some z → z.stage ≡ Forwarded →
       (latest_request_of id (f ∷ before) ≡ Some z.asked) × (z.overtaken ≡ some_item_invalidates z.asked.target.key items (f ∷ before))
 
-  out_step : (i : Item) (items : List Item) → IsGood (initial_state table limit first) (i ∷ (items ++ f ∷ before)) → (eqb (exchange_id_of_event i.event) id && outcome_goes_forward i.outcome) ≡ false →
+  out_step : (i : Item) (items : List Item) → IsGood (initial_state table start first) (i ∷ (items ++ f ∷ before)) → (eqb (exchange_id_of_event i.event) id && outcome_goes_forward i.outcome) ≡ false →
       IsOut items → (y : Option Exchange) →
-      Move id (find_exchange (exchange_id_of_event i.event) (state_after_trace (initial_state table limit first) (items ++ f ∷ before)).exchanges) i.event i.outcome (exchange items) y →
+      Move id (find_exchange (exchange_id_of_event i.event) (state_after_trace (initial_state table start first) (items ++ f ∷ before)).exchanges) i.event i.outcome (exchange items) y →
       (z : Exchange) → y ≡ Some z → z.stage ≡ Forwarded → (latest_request_of id (f ∷ before) ≡ Some z.asked) × (z.overtaken ≡ some_item_invalidates z.asked.target.key (i ∷ items) (f ∷ before))
   out_step i items g n out y (apart a e) z q stage =
-      let key = key_taken_by_step (asked_of (find_exchange (exchange_id_of_event i.event) (state_after_trace (initial_state table limit first) (items ++ f ∷ before)).exchanges)) i.event i.outcome in
+      let key = key_taken_by_step (asked_of (find_exchange (exchange_id_of_event i.event) (state_after_trace (initial_state table start first) (items ++ f ∷ before)).exchanges)) i.event i.outcome in
       let u = unmarked key (released_by (ended_by i.event i.outcome) (exchange items)) z (sym e ∙ q) in
       let stays = sym u.stage ∙ stage in
       let was = out u.was (unreleased (ended_by i.event i.outcome) (exchange items) u.was u.x_is stays) stays in (
@@ -226,7 +227,7 @@ module _ (table : Table) (limit first : ℕ) (f : Item) (before : List Item) (id
         u.overtaken
             ∙ ap (λ b. b || is_invalidated_key key u.was.asked.target.key) was.1
             ∙ or_swap (some_item_invalidates u.was.asked.target.key items (f ∷ before)) (is_invalidated_key key u.was.asked.target.key)
-            ∙ ap (λ o. is_invalidated_key o u.was.asked.target.key || some_item_invalidates u.was.asked.target.key items (f ∷ before)) (sym (same_key_of_step table limit first i (items ++ f ∷ before) g))
+            ∙ ap (λ o. is_invalidated_key o u.was.asked.target.key || some_item_invalidates u.was.asked.target.key items (f ∷ before)) (sym (same_key_of_step table start first i (items ++ f ∷ before) g))
             ∙ ap (λ (r : Asked). some_item_invalidates r.target.key (i ∷ items) (f ∷ before)) (sym u.asked),
       )
   out_step i items g n out y (queues table es now asked line leader e x_is q l p) z r stage =
@@ -247,13 +248,13 @@ module _ (table : Table) (limit first : ℕ) (f : Item) (before : List Item) (id
   out_step i items g n out y (closes v u e q p t) z r stage = absurd (none_some y z t r)
 
   -- since f, by which the exchange went forward last
-  pub out_since : (items : List Item) → IsGood (initial_state table limit first) (items ++ f ∷ before) → outcome_goes_forward f.outcome ≡ true → exchange_id_of_event f.event ≡ id →
+  pub out_since : (items : List Item) → IsGood (initial_state table start first) (items ++ f ∷ before) → outcome_goes_forward f.outcome ≡ true → exchange_id_of_event f.event ≡ id →
       count_of_outcomes outcome_goes_forward id items ≡ 0 → (z : Exchange) → exchange items ≡ Some z → z.stage ≡ Forwarded →
       (latest_request_of id (f ∷ before) ≡ Some z.asked) × (z.overtaken ≡ some_item_invalidates z.asked.target.key items (f ∷ before))
   out_since [] g o e n = λ z q stage. (
-    asked_is table limit first (f ∷ before) g id z.asked (ap asked_of q),
-    out_now id _ f.event f.outcome _ _ z (move_of table (state_after_trace (initial_state table limit first) before) f id (same_table (initial_state table limit first) before) g.0) (eq-eqb (exchange_id_of_event f.event) id e) o q,
+    asked_is table start first (f ∷ before) g id z.asked (ap asked_of q),
+    out_now id _ f.event f.outcome _ _ z (move_of table (state_after_trace (initial_state table start first) before) f id (same_table (initial_state table start first) before) g.0) (eq-eqb (exchange_id_of_event f.event) id e) o q,
   )
   out_since (i ∷ items) g o e n =
       let m = none_more _ _ n in
-      out_step i items g m.0 (out_since items g.1 o e m.1) _ (move_of table (state_after_trace (initial_state table limit first) (items ++ f ∷ before)) i id (same_table (initial_state table limit first) (items ++ f ∷ before)) g.0)
+      out_step i items g m.0 (out_since items g.1 o e m.1) _ (move_of table (state_after_trace (initial_state table start first) (items ++ f ∷ before)) i id (same_table (initial_state table start first) (items ++ f ∷ before)) g.0)

@@ -128,10 +128,10 @@ again_asked : (table : Table) (es : List Stored) (now : ℕ) (x : Exchange) (r :
 again_asked table es now x r next d h = by_304 (is_validation x r) h
   where
     by_304 : (b : Bool) → outcome_goes_forward (cond b (outcome_of_304 table es now x r (stored_response_validated es x r now) d)
-        (cond (is_304_without_condition x.asked r) (outcome_of_failure table es now x BadAnswer (Some r.status) (fallback_for (policy_of table.lines x.line) es x.asked now d))
+        (cond (is_304_without_condition (policy_of table.lines x.line) x.asked r) (outcome_of_failure table es now x BadAnswer (Some r.status) (fallback_for (policy_of table.lines x.line) es x.asked now d))
         (outcome_of_passing_on_or_stale table es now x r next (is_error_status r.status) (fallback_for (policy_of table.lines x.line) es x.asked now d)))) ≡ true → b ≡ true
     by_304 true h = refl
-    by_304 false h = absurd (by_unasked (is_304_without_condition x.asked r) h)
+    by_304 false h = absurd (by_unasked (is_304_without_condition (policy_of table.lines x.line) x.asked r) h)
       where
         by_unasked : (b : Bool) → outcome_goes_forward (cond b (outcome_of_failure table es now x BadAnswer (Some r.status) (fallback_for (policy_of table.lines x.line) es x.asked now d))
             (outcome_of_passing_on_or_stale table es now x r next (is_error_status r.status) (fallback_for (policy_of table.lines x.line) es x.asked now d))) ≡ true → ⊥
@@ -172,7 +172,7 @@ same_key_invalidated table es now x r next =
     let d = decision_of (policy_of table.lines x.line) es x.asked now in
     let o = outcome_of_answer table es now x r next d in
     let v = is_validation x r in
-    let n = is_304_without_condition x.asked r in
+    let n = is_304_without_condition (policy_of table.lines x.line) x.asked r in
     let e = is_error_status r.status in
     let c = nat_le 200 r.status && nat_le r.status 399 in
     let by_304 : v ≡ true → reply_uses_no_stored_response o ≡ false = λ h.
@@ -258,10 +258,10 @@ answer_either table es now x r next d = by_304 (is_validation x r)
     by_unasked false = by_error (is_error_status r.status) (fallback_for (policy_of table.lines x.line) es x.asked now d)
 
     by_304 : (b : Bool) → is_either (cond b (outcome_of_304 table es now x r (stored_response_validated es x r now) d)
-        (cond (is_304_without_condition x.asked r) (outcome_of_failure table es now x BadAnswer (Some r.status) (fallback_for (policy_of table.lines x.line) es x.asked now d))
+        (cond (is_304_without_condition (policy_of table.lines x.line) x.asked r) (outcome_of_failure table es now x BadAnswer (Some r.status) (fallback_for (policy_of table.lines x.line) es x.asked now d))
         (outcome_of_passing_on_or_stale table es now x r next (is_error_status r.status) (fallback_for (policy_of table.lines x.line) es x.asked now d)))) ≡ true
     by_304 true = again_or_sent (stored_response_validated es x r now) d
-    by_304 false = by_unasked (is_304_without_condition x.asked r)
+    by_304 false = by_unasked (is_304_without_condition (policy_of table.lines x.line) x.asked r)
 
 module _ (table : Table) (es : List Stored) (xs : List Exchange) (next : Option ℕ) (id : ℕ) where
   -- the exchange of the step's id ends

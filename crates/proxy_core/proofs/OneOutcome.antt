@@ -44,7 +44,8 @@ use Rattle.proxy_core.specs.Storing.{storing_rule_to_explain, is_304_without_con
 use Rattle.proxy_core.specs.Validating.{condition_about_serial, is_validation, stored_response_validated}
 use Rattle.proxy_core.specs.Replies.{stored_text, passed_answer_text, refusal_reply_text, is_head}
 use Rattle.proxy_core.specs.Outcomes.{hit_status_info, find_exchange, exchange_id_of_event, outcome_of_event, outcome_of_refusal, forwarded_status_info, forward_text, or_fault, fault_if_not_forwarded, fault_if_not_released, fault_at_exchange, step_fault}
-use Rattle.proxy_core.specs.State.{serial_stored_by_outcome, serial_used_by_outcome, serials_removed_by_outcome, stored_response_as_used}
+use Rattle.proxy_core.specs.State.{serial_stored_by_outcome, serial_used_by_outcome, serials_removed_by_outcome, stored_response_as_used, bounds_of}
+use Rattle.proxy_core.specs.Starts.{StoreAtStart, StartStands}
 use Rattle.proxy_core.specs.Traces.{Item}
 use Rattle.proxy_core.specs.Histories.{held_entries, open_exchanges, next_serial, IsGoodHistory}
 use Rattle.proxy_core.specs.Sending.{StoredResponseIsReusable, StoredResponseMayBeSentAt, RequestGoesForward, NoLeaderIsOpen, RequestWaitsForTheFirst, RequestReachesCacheOrOrigin, RequestIsTurnedAway, DetailWordAfterError, DetailWordAtAnswer, CacheStatusShowsHow, IsAbout, ReplyIsThatStoredResponse}
@@ -111,7 +112,7 @@ forward_same : (table : Table) (es : List Stored) (asked : Asked) (now line : �
 forward_same table es asked now line a b o p m n =
     let rule : a ≡ b = one_rule (policy_of table.lines line) es asked now a b m.is_least n.is_least in
     let against : m.against ≡ n.against = one_named (policy_of table.lines line) es asked now b m.against n.against (subst (λ r. RuleNamesTheResponse es asked r m.against) rule m.names) n.names in
-    m.outcome_is ∙ ap (λ c. Forward line (forward_text table asked (condition_about_serial es c))) against ∙ sym n.outcome_is
+    m.outcome_is ∙ ap (λ c. Forward line (forward_text table line asked (condition_about_serial es c))) against ∙ sym n.outcome_is
 
 module _ (table : Table) (es : List Stored) (distinct : Distinct (serials es)) (xs : List Exchange) (now : ℕ) (asked : Asked) where
   turned_same : (o p : Outcome) → RequestIsTurnedAway table now asked o → RequestIsTurnedAway table now asked p → o ≡ p
@@ -224,21 +225,21 @@ removed_same table es x (Wake now id) a b stored used = refl
 removed_same table es x (Abandon id) a b stored used = refl
 
 -- what is asked of one outcome of an event, by the exchange of its id
-record Fits (table : Table) (limit first : ℕ) (past : List Item) (x : Option Exchange) (event : Event) (o : Outcome) : Type 0 where
-  goes_on : ExchangeGoesOnBy table (held_entries table limit past) x event o
-  sends : (s : ℕ) → (StoredResponseMayBeSentAt table (held_entries table limit past) x event s → serial_used_by_outcome o ≡ Some s) × (serial_used_by_outcome o ≡ Some s → StoredResponseMayBeSentAt table (held_entries table limit past) x event s)
-  that : (s : ℕ) → serial_used_by_outcome o ≡ Some s → ReplyIsThatStoredResponse table (held_entries table limit past) x event o s
-  names : AnswerNamesFirstRule table limit past (next_serial first past) x event o
-  removes : ThoseAreRemoved table (held_entries table limit past) x event o
-  reaches : RequestReachesExactlyWhereAllowed table limit (record { event = event; outcome = o }) past
-  stores : AnswerIsStoredExactlyWhereItMayBe table limit first (record { event = event; outcome = o }) past
+record Fits (table : Table) (start : StoreAtStart) (first : ℕ) (past : List Item) (x : Option Exchange) (event : Event) (o : Outcome) : Type 0 where
+  goes_on : ExchangeGoesOnBy table (held_entries table start past) x event o
+  sends : (s : ℕ) → (StoredResponseMayBeSentAt table (held_entries table start past) x event s → serial_used_by_outcome o ≡ Some s) × (serial_used_by_outcome o ≡ Some s → StoredResponseMayBeSentAt table (held_entries table start past) x event s)
+  that : (s : ℕ) → serial_used_by_outcome o ≡ Some s → ReplyIsThatStoredResponse table (held_entries table start past) x event o s
+  names : AnswerNamesFirstRule table start past (next_serial first past) x event o
+  removes : ThoseAreRemoved table (held_entries table start past) x event o
+  reaches : RequestReachesExactlyWhereAllowed table start (record { event = event; outcome = o }) past
+  stores : AnswerIsStoredExactlyWhereItMayBe table start first (record { event = event; outcome = o }) past
   closes : ConnectionClosesAsAsked (record { event = event; outcome = o }) past
 
-module _ (table : Table) (limit first : ℕ) (past : List Item) (distinct : Distinct (serials (held_entries table limit past))) where
+module _ (table : Table) (start : StoreAtStart) (first : ℕ) (past : List Item) (distinct : Distinct (serials (held_entries table start past))) where
   abbrev es : List Stored
-  es = held_entries table limit past
+  es = held_entries table start past
 
-  module _ (x : Option Exchange) (event : Event) (o p : Outcome) (a : Fits table limit first past x event o) (b : Fits table limit first past x event p)
+  module _ (x : Option Exchange) (event : Event) (o p : Outcome) (a : Fits table start first past x event o) (b : Fits table start first past x event p)
       (final : AnswerHasFinalStatus (record { event = event; outcome = o }) past) where
     used_same : (u v : Option ℕ) → serial_used_by_outcome o ≡ u → serial_used_by_outcome p ≡ v → u ≡ v
     used_same (Some s) v h k = sym ((b.sends s).0 ((a.sends s).1 h)) ∙ k
@@ -283,8 +284,8 @@ module _ (table : Table) (limit first : ℕ) (past : List Item) (distinct : Dist
         both_reply one.reply two.reply one.outcome_is two.outcome_is (bytes_same table es distinct x event o p s one two)
 
     -- a reply that sends nothing held names the same rule
-    named : (m : Reply) → o ≡ Replied m → serial_used_by_outcome o ≡ None → AnswerNamesByEvent table limit past (next_serial first past) x event m.bytes m.stored
-    named m h unused = subst (AnswerNamesFirstRule table limit past (next_serial first past) x event) h a.names (ap is_none (sym (ap serial_used_by_outcome h) ∙ unused))
+    named : (m : Reply) → o ≡ Replied m → serial_used_by_outcome o ≡ None → AnswerNamesByEvent table start past (next_serial first past) x event m.bytes m.stored
+    named m h unused = subst (AnswerNamesFirstRule table start past (next_serial first past) x event) h a.names (ap is_none (sym (ap serial_used_by_outcome h) ∙ unused))
 
   on_error_same : (x : Exchange) (now : ℕ) (kind : FailKind) (m n : List ℕ) → AnswerAfterFailureNames table es now x kind m → AnswerAfterFailureNames table es now x kind n → m ≡ n
   on_error_same x now kind m n (q, error, least, names, is) (r, error2, least2, names2, is2) =
@@ -294,24 +295,24 @@ module _ (table : Table) (limit first : ℕ) (past : List Item) (distinct : Dist
       ∙ ap (λ z. refusal_reply_text (date_text_of now) (Origin kind r z) x.asked.close (is_head x.asked)) same ∙ sym is2
 
   module _ (o p : Outcome) (unused : serial_used_by_outcome o ≡ None) (other_unused : serial_used_by_outcome p ≡ None) where
-    arrival_same : (x : Option Exchange) (now id : ℕ) (asked : Asked) → Fits table limit first past x (Arrive now id asked) o → Fits table limit first past x (Arrive now id asked) p → o ≡ p
+    arrival_same : (x : Option Exchange) (now id : ℕ) (asked : Asked) → Fits table start first past x (Arrive now id asked) o → Fits table start first past x (Arrive now id asked) p → o ≡ p
     arrival_same x now id asked a b = by_verdict (verdict_of table.lines asked.method asked.target) refl
       where
         turned : ((line : ℕ) → verdict_of table.lines asked.method asked.target ≢ verdict.Allowed line) → o ≡ p
-        turned none = turned_same table es distinct (open_exchanges table limit past) now asked o p ((a.reaches now id asked refl).1 none) ((b.reaches now id asked refl).1 none)
+        turned none = turned_same table es distinct (open_exchanges table start past) now asked o p ((a.reaches now id asked refl).1 none) ((b.reaches now id asked refl).1 none)
 
         by_verdict : (v : Verdict) → verdict_of table.lines asked.method asked.target ≡ v → o ≡ p
         by_verdict (verdict.Allowed line) v =
-            reached_same table es distinct (open_exchanges table limit past) now asked line o p unused other_unused ((a.reaches now id asked refl).0 line v) ((b.reaches now id asked refl).0 line v)
+            reached_same table es distinct (open_exchanges table start past) now asked line o p unused other_unused ((a.reaches now id asked refl).0 line v) ((b.reaches now id asked refl).0 line v)
         by_verdict (verdict.DeniedBy n) v = turned (λ line h. let no : verdict.DeniedBy n ≡ verdict.Allowed line = sym v ∙ h in absurd (cc))
         by_verdict verdict.NoLine v = turned (λ line h. let no : verdict.NoLine ≡ verdict.Allowed line = sym v ∙ h in absurd (cc))
 
-    answer_same : (now id : ℕ) (x : Exchange) (r : Response) (a : Fits table limit first past (Some x) (Answer now id r) o) (b : Fits table limit first past (Some x) (Answer now id r) p) →
+    answer_same : (now id : ℕ) (x : Exchange) (r : Response) (a : Fits table start first past (Some x) (Answer now id r) o) (b : Fits table start first past (Some x) (Answer now id r) p) →
         AnswerHasFinalStatus (record { event = Answer now id r; outcome = o }) past → AnswerHasFinalStatus (record { event = Answer now id r; outcome = p }) past → o ≡ p
     answer_same now id x r a b final final2 = by_304 (is_validation x r) refl
       where
-        by_unasked : (u : Bool) → is_304_without_condition x.asked r ≡ u → (m n : Reply) → o ≡ Replied m → p ≡ Replied n → AnswerNamesByEvent table limit past (next_serial first past) (Some x) (Answer now id r) m.bytes m.stored →
-            AnswerNamesByEvent table limit past (next_serial first past) (Some x) (Answer now id r) n.bytes n.stored → m.bytes ≡ n.bytes
+        by_unasked : (u : Bool) → is_304_without_condition (policy_of table.lines x.line) x.asked r ≡ u → (m n : Reply) → o ≡ Replied m → p ≡ Replied n → AnswerNamesByEvent table start past (next_serial first past) (Some x) (Answer now id r) m.bytes m.stored →
+            AnswerNamesByEvent table start past (next_serial first past) (Some x) (Answer now id r) n.bytes n.stored → m.bytes ≡ n.bytes
         by_unasked u is m n h k (inl (i, (kept, one))) (inl (j, (kept2, two))) =
             one
             ∙ ap (λ (s : Option ℕ). passed_answer_text (policy_of table.lines x.line) table.name x r now (is_some s) (storing_rule_to_explain table x r now (next_serial first past))) (stored_same (Some x) (Answer now id r) o p a b final m.stored n.stored (ap serial_stored_by_outcome h) (ap serial_stored_by_outcome k))
@@ -323,7 +324,7 @@ module _ (table : Table) (limit first : ℕ) (past : List Item) (distinct : Dist
         replies : IsClientReply o → IsClientReply p → o ≡ p
         replies (m, h) (n, k) =
             both_reply (Some x) (Answer now id r) o p a b final m n h k
-            (by_unasked (is_304_without_condition x.asked r) refl m n h k
+            (by_unasked (is_304_without_condition (policy_of table.lines x.line) x.asked r) refl m n h k
             (named (Some x) (Answer now id r) o p a b final m h unused) (named (Some x) (Answer now id r) p o b a final2 n k other_unused))
 
         by_304 : (t : Bool) → is_validation x r ≡ t → o ≡ p
@@ -331,7 +332,7 @@ module _ (table : Table) (limit first : ℕ) (past : List Item) (distinct : Dist
             a.goes_on.0 (y, λ s may. never_one s (sym unused ∙ (a.sends s).0 may)) ∙ sym (b.goes_on.0 (y, λ s may. never_one s (sym other_unused ∙ (b.sends s).0 may)))
         by_304 false n = replies (a.goes_on.1 (λ asks. no_true (sym n ∙ asks.0))) (b.goes_on.1 (λ asks. no_true (sym n ∙ asks.0)))
 
-    failure_same : (now id : ℕ) (x : Exchange) (kind : FailKind) (a : Fits table limit first past (Some x) (Fail now id kind) o) (b : Fits table limit first past (Some x) (Fail now id kind) p) →
+    failure_same : (now id : ℕ) (x : Exchange) (kind : FailKind) (a : Fits table start first past (Some x) (Fail now id kind) o) (b : Fits table start first past (Some x) (Fail now id kind) p) →
         AnswerHasFinalStatus (record { event = Fail now id kind; outcome = o }) past → AnswerHasFinalStatus (record { event = Fail now id kind; outcome = p }) past → o ≡ p
     failure_same now id x kind a b final final2 =
         let m = a.goes_on in
@@ -339,7 +340,7 @@ module _ (table : Table) (limit first : ℕ) (past : List Item) (distinct : Dist
         both_reply (Some x) (Fail now id kind) o p a b final m.0 n.0 m.1 n.1
         (on_error_same x now kind m.0.bytes n.0.bytes (named (Some x) (Fail now id kind) o p a b final m.0 m.1 unused) (named (Some x) (Fail now id kind) p o b a final2 n.0 n.1 other_unused))
 
-    wake_same : (now id : ℕ) (x : Exchange) (a : Fits table limit first past (Some x) (Wake now id) o) (b : Fits table limit first past (Some x) (Wake now id) p) →
+    wake_same : (now id : ℕ) (x : Exchange) (a : Fits table start first past (Some x) (Wake now id) o) (b : Fits table start first past (Some x) (Wake now id) p) →
         AnswerHasFinalStatus (record { event = Wake now id; outcome = o }) past → AnswerHasFinalStatus (record { event = Wake now id; outcome = p }) past → o ≡ p
     wake_same now id x a b final final2 = by_ways a.goes_on b.goes_on
       where
@@ -348,7 +349,7 @@ module _ (table : Table) (limit first : ℕ) (past : List Item) (distinct : Dist
         by_ways (inr m) (inl (n, k)) = absurd (named (Some x) (Wake now id) p o b a final2 n k other_unused)
         by_ways (inr (q, m)) (inr (r, n)) = forward_same table es x.asked now x.line q r o p m n
 
-    unused_same : (x : Option Exchange) (event : Event) → EventMayCome x event → (a : Fits table limit first past x event o) (b : Fits table limit first past x event p) →
+    unused_same : (x : Option Exchange) (event : Event) → EventMayCome x event → (a : Fits table start first past x event o) (b : Fits table start first past x event p) →
         AnswerHasFinalStatus (record { event = event; outcome = o }) past → AnswerHasFinalStatus (record { event = event; outcome = p }) past → o ≡ p
     unused_same x (Arrive now id asked) come a b final final2 = arrival_same x now id asked a b
     unused_same (Some x) (Answer now id r) come a b final final2 = answer_same now id x r a b final final2
@@ -359,7 +360,7 @@ module _ (table : Table) (limit first : ℕ) (past : List Item) (distinct : Dist
     unused_same None (Wake now id) come a b final final2 = absurd come
     unused_same x (Abandon id) come a b final final2 = a.goes_on ∙ sym b.goes_on
 
-  one_outcome : (x : Option Exchange) (event : Event) (o p : Outcome) → EventMayCome x event → (a : Fits table limit first past x event o) (b : Fits table limit first past x event p) →
+  one_outcome : (x : Option Exchange) (event : Event) (o p : Outcome) → EventMayCome x event → (a : Fits table start first past x event o) (b : Fits table start first past x event p) →
       AnswerHasFinalStatus (record { event = event; outcome = o }) past → AnswerHasFinalStatus (record { event = event; outcome = p }) past → o ≡ p
   one_outcome x event o p come a b final final2 = by_used (serial_used_by_outcome o) refl
     where
@@ -390,8 +391,8 @@ no_fault None (Abandon id) h = absurd h
 
 -- ---- the law
 
-module _ (table : Table) (limit first : ℕ) where
-  fits : (item : Item) (past : List Item) → Headline table limit first (item ∷ past) → Fits table limit first past (find_exchange (exchange_id_of_event item.event) (open_exchanges table limit past)) item.event item.outcome
+module _ (table : Table) (start : StoreAtStart) (first : ℕ) where
+  fits : (item : Item) (past : List Item) → Headline table start first (item ∷ past) → Fits table start first past (find_exchange (exchange_id_of_event item.event) (open_exchanges table start past)) item.event item.outcome
   fits item past h = record {
     goes_on = h.goes_on_to_its_answer.0;
     sends = h.sends_where_one_may_be.0;
@@ -405,37 +406,38 @@ module _ (table : Table) (limit first : ℕ) where
 
   -- the steps alone
   record EachFits (trace : List Item) : Type 0 where
-    comes : HoldsAtEachItem (λ item past. EventMayCome (find_exchange (exchange_id_of_event item.event) (open_exchanges table limit past)) item.event) trace
-    fit : HoldsAtEachItem (λ item past. Fits table limit first past (find_exchange (exchange_id_of_event item.event) (open_exchanges table limit past)) item.event item.outcome) trace
+    begins : StartStands (bounds_of table start.limit) (Some first) start.entries
+    comes : HoldsAtEachItem (λ item past. EventMayCome (find_exchange (exchange_id_of_event item.event) (open_exchanges table start past)) item.event) trace
+    fit : HoldsAtEachItem (λ item past. Fits table start first past (find_exchange (exchange_id_of_event item.event) (open_exchanges table start past)) item.event item.outcome) trace
     final : HoldsAtEachItem AnswerHasFinalStatus trace
 
-  good : (trace : List Item) → EachFits trace → IsGoodHistory table limit first trace
-  good [] h = tt
+  good : (trace : List Item) → EachFits trace → IsGoodHistory table start first trace
+  good [] h = h.begins
   good (item ∷ past) h =
-      let before = good past record { comes = h.comes.1; fit = h.fit.1; final = h.final.1 } in
-      let xs = open_exchanges table limit past in
+      let before = good past record { begins = h.begins; comes = h.comes.1; fit = h.fit.1; final = h.final.1 } in
+      let xs = open_exchanges table start past in
       let fault : step_fault xs item.event ≡ None = no_fault (find_exchange (exchange_id_of_event item.event) xs) item.event h.comes.0 in
-      let right : Outcome = outcome_of_event table (held_entries table limit past) xs (next_serial first past) item.event in
-      let whole = headline table limit first (record { event = item.event; outcome = right } ∷ past) (record { allowed = fault; outcome_is = refl }, before) in (
+      let right : Outcome = outcome_of_event table (held_entries table start past) xs (next_serial first past) item.event in
+      let whole = headline table start first (record { event = item.event; outcome = right } ∷ past) (record { allowed = fault; outcome_is = refl }, before) in (
         record {
           allowed = fault;
           outcome_is =
-              one_outcome table limit first past (held_distinct table limit first past before) (find_exchange (exchange_id_of_event item.event) xs) item.event item.outcome right h.comes.0 h.fit.0
+              one_outcome table start first past (held_distinct table start first past before) (find_exchange (exchange_id_of_event item.event) xs) item.event item.outcome right h.comes.0 h.fit.0
               (fits (record { event = item.event; outcome = right }) past whole) h.final.0 h.final.0;
         },
         before,
       )
 
-  each_fits : (trace : List Item) (h : Headline table limit first trace) → HoldsAtEachItem (λ item past. Fits table limit first past (find_exchange (exchange_id_of_event item.event) (open_exchanges table limit past)) item.event item.outcome) trace
+  each_fits : (trace : List Item) (h : Headline table start first trace) → HoldsAtEachItem (λ item past. Fits table start first past (find_exchange (exchange_id_of_event item.event) (open_exchanges table start past)) item.event item.outcome) trace
   each_fits trace h =
       zip trace h.goes_on_to_its_answer h.sends_where_one_may_be h.sends_that_response h.names_the_first_rule h.removes_what_goes h.reaches_where_allowed h.stores_where_it_may h.closes_as_asked
     where
-      zip : (trace : List Item) → HoldsAtEachItem (ExchangeGoesOnToItsAnswer table limit) trace → HoldsAtEachItem (StoredResponseIsSentExactlyWhereItMayBe table limit) trace → HoldsAtEachItem (SentResponseIsTheStoredOne table limit) trace → HoldsAtEachItem (OtherAnswerNamesTheFirstRule table limit first) trace →
-          HoldsAtEachItem (StoredResponsesAreRemovedExactlyWhereTheyMustBe table limit) trace → HoldsAtEachItem (RequestReachesExactlyWhereAllowed table limit) trace → HoldsAtEachItem (AnswerIsStoredExactlyWhereItMayBe table limit first) trace → HoldsAtEachItem ConnectionClosesAsAsked trace →
-          HoldsAtEachItem (λ item past. Fits table limit first past (find_exchange (exchange_id_of_event item.event) (open_exchanges table limit past)) item.event item.outcome) trace
+      zip : (trace : List Item) → HoldsAtEachItem (ExchangeGoesOnToItsAnswer table start) trace → HoldsAtEachItem (StoredResponseIsSentExactlyWhereItMayBe table start) trace → HoldsAtEachItem (SentResponseIsTheStoredOne table start) trace → HoldsAtEachItem (OtherAnswerNamesTheFirstRule table start first) trace →
+          HoldsAtEachItem (StoredResponsesAreRemovedExactlyWhereTheyMustBe table start) trace → HoldsAtEachItem (RequestReachesExactlyWhereAllowed table start) trace → HoldsAtEachItem (AnswerIsStoredExactlyWhereItMayBe table start first) trace → HoldsAtEachItem ConnectionClosesAsAsked trace →
+          HoldsAtEachItem (λ item past. Fits table start first past (find_exchange (exchange_id_of_event item.event) (open_exchanges table start past)) item.event item.outcome) trace
       zip [] a b c d e f g i = tt
       zip (item ∷ past) a b c d e f g i =
           (record { goes_on = a.0; sends = b.0; that = c.0; names = d.0; removes = e.0; reaches = f.0; stores = g.0; closes = i.0 }, zip past a.1 b.1 c.1 d.1 e.1 f.1 g.1 i.1)
 
 pub no_other_trace_has_it : NoOtherTraceHasTheHeadline
-no_other_trace_has_it table limit first trace h final = good table limit first trace (record { comes = h.comes_where_it_may; fit = each_fits table limit first trace h; final = final })
+no_other_trace_has_it table start first trace h final = good table start first trace (record { begins = h.begins_as_it_may; comes = h.comes_where_it_may; fit = each_fits table start first trace h; final = final })

@@ -18,6 +18,7 @@ use Rattle.proxy_core.specs.Outcomes.{find_exchange, exchange_id_of_event, fault
 use Rattle.proxy_core.specs.declared.open.stage.Stage.TheVariants.{Released}
 use Rattle.proxy_core.specs.Leading.{waits_for}
 use Rattle.proxy_core.specs.State.{State, released_exchange, overtaken_exchange, forwarded_exchange, waiting_exchange, line_of_verdict, rule_of_decision, open_exchanges_after}
+use Rattle.proxy_core.specs.Starts.{StoreAtStart}
 use Rattle.proxy_core.specs.Traces.{Item, initial_state, state_after_trace, IsGood}
 use Rattle.proxy_core.specs.Histories.{held_entries, open_exchanges}
 use Rattle.proxy_core.specs.Promises.{outcome_goes_forward, outcome_ends_exchange, is_arrival_event, NoRequestArrives}
@@ -92,10 +93,10 @@ module _ (start : State) (before : List Item) (arrival : Item) where
       (move_of start.table (state_after_trace start (items ++ arrival ∷ before)) i (exchange_id_of_event arrival.event) (same_table start (items ++ arrival ∷ before)) g.0) n.0 (open_plain items g.1 a n.1)
 
 pub open_from_arrival_to_end : ExchangeIsOpenFromArrivalToEnd
-open_from_arrival_to_end table limit first items before arrival g a n =
-    let p = good_plain table limit first (items ++ arrival ∷ before) g in
-    sym (ap (λ xs. is_some (find_exchange (exchange_id_of_event arrival.event) xs)) (exchanges_are_open table limit first (items ++ arrival ∷ before) p))
-    ∙ open_plain (initial_state table limit first) before arrival items p a n
+open_from_arrival_to_end table start first items before arrival g a n =
+    let p = good_plain table start first (items ++ arrival ∷ before) g in
+    sym (ap (λ xs. is_some (find_exchange (exchange_id_of_event arrival.event) xs)) (exchanges_are_open table start first (items ++ arrival ∷ before) p))
+    ∙ open_plain (initial_state table start first) before arrival items p a n
 
 -- ---- of which no request arrived
 
@@ -115,29 +116,29 @@ none_step id w event o x y (wakes table es z now ev x_is s f h) a i = absurd (fa
 none_step id w event o x y (again z now t ev x_is c f h j s) a i = absurd (false≢true (ap is_some (sym i ∙ x_is)))
 none_step id w event o x y (closes z t ev x_is f h) a i = h
 
-none_plain : (table : Table) (limit first id : ℕ) (trace : List Item) → IsGood (initial_state table limit first) trace → NoRequestArrives id trace →
-    find_exchange id (state_after_trace (initial_state table limit first) trace).exchanges ≡ None
-none_plain table limit first id [] g n = refl
-none_plain table limit first id (i ∷ past) g n =
-    none_step _ _ _ _ _ _ (move_of table (state_after_trace (initial_state table limit first) past) i id (same_table (initial_state table limit first) past) g.0) n.0 (none_plain table limit first id past g.1 n.1)
+none_plain : (table : Table) (start : StoreAtStart) (first id : ℕ) (trace : List Item) → IsGood (initial_state table start first) trace → NoRequestArrives id trace →
+    find_exchange id (state_after_trace (initial_state table start first) trace).exchanges ≡ None
+none_plain table start first id [] g n = refl
+none_plain table start first id (i ∷ past) g n =
+    none_step _ _ _ _ _ _ (move_of table (state_after_trace (initial_state table start first) past) i id (same_table (initial_state table start first) past) g.0) n.0 (none_plain table start first id past g.1 n.1)
 
 pub open_by_arrival_alone : ExchangeOpensByArrivalAlone
-open_by_arrival_alone table limit first id trace g n =
-    let p = good_plain table limit first trace g in
-    sym (ap (find_exchange id) (exchanges_are_open table limit first trace p)) ∙ none_plain table limit first id trace p n
+open_by_arrival_alone table start first id trace g n =
+    let p = good_plain table start first trace g in
+    sym (ap (find_exchange id) (exchanges_are_open table start first trace p)) ∙ none_plain table start first id trace p n
 
 -- ---- its request, its rule and its mark
 
 pub has_its_request : OpenExchangeHasItsRequest
-has_its_request table limit first id trace x g h =
-    let p = good_plain table limit first trace g in
-    asked_is table limit first trace p id x.asked (ap asked_of (ap (find_exchange id) (exchanges_are_open table limit first trace p) ∙ h))
+has_its_request table start first id trace x g h =
+    let p = good_plain table start first trace g in
+    asked_is table start first trace p id x.asked (ap asked_of (ap (find_exchange id) (exchanges_are_open table start first trace p) ∙ h))
 
 pub overtaken_where_invalidated : ExchangeIsOvertakenWhereInvalidated
-overtaken_where_invalidated table limit first items before f x g o n h stage =
-    let p = good_plain table limit first (items ++ f ∷ before) g in
-    (out_since table limit first f before (exchange_id_of_event f.event) items p o refl n x
-    (ap (find_exchange (exchange_id_of_event f.event)) (exchanges_are_open table limit first (items ++ f ∷ before) p) ∙ h) stage).1
+overtaken_where_invalidated table start first items before f x g o n h stage =
+    let p = good_plain table start first (items ++ f ∷ before) g in
+    (out_since table start first f before (exchange_id_of_event f.event) items p o refl n x
+    (ap (find_exchange (exchange_id_of_event f.event)) (exchanges_are_open table start first (items ++ f ∷ before) p) ∙ h) stage).1
 
 overtake_rule : (rule : ℕ → ReuseRule) (key : Key) (x : Exchange) → x.rule ≡ rule x.line → (overtaken_exchange key x).rule ≡ rule (overtaken_exchange key x).line
 overtake_rule rule key x h = elim (same_key x.asked.target.key key) as (λ b. (cond b (record x { overtaken = true }) x).rule ≡ rule (cond b (record x { overtaken = true }) x).line) [
@@ -210,31 +211,31 @@ pub id_was_free : (w : Option Exchange) (now id : ℕ) (asked : Asked) → fault
 id_was_free None now id asked h = refl
 id_was_free (Some x) now id asked h = absurd (cc)
 
-module _ (table : Table) (limit first now id : ℕ) (asked : Asked) (before : List Item) (o : Outcome) where
+module _ (table : Table) (start : StoreAtStart) (first now id : ℕ) (asked : Asked) (before : List Item) (o : Outcome) where
   abbrev arrival : Item
   arrival = record { event = Arrive now id asked; outcome = o }
 
-  abbrev start : State
-  start = initial_state table limit first
+  abbrev begun : State
+  begun = initial_state table start first
 
-  rule_plain : (items : List Item) → IsGood start (items ++ arrival ∷ before) → NoRequestIsJudged id items →
-      HasRule (rule_for table (state_after_trace start before).entries asked now) (find_exchange id (state_after_trace start (items ++ arrival ∷ before)).exchanges)
+  rule_plain : (items : List Item) → IsGood begun (items ++ arrival ∷ before) → NoRequestIsJudged id items →
+      HasRule (rule_for table (state_after_trace begun before).entries asked now) (find_exchange id (state_after_trace begun (items ++ arrival ∷ before)).exchanges)
   rule_plain [] g n =
-      let s = state_after_trace start before in
-      subst (λ (t : Table). HasRule (rule_for table s.entries asked now) (find_exchange id (open_exchanges_after t s.entries s.exchanges (Arrive now id asked) o))) (sym (same_table start before))
+      let s = state_after_trace begun before in
+      subst (λ (t : Table). HasRule (rule_for table s.entries asked now) (find_exchange id (open_exchanges_after t s.entries s.exchanges (Arrive now id asked) o))) (sym (same_table begun before))
       (rule_first table s.entries s.exchanges now id asked o (id_was_free (find_exchange id s.exchanges) now id asked g.0.allowed))
   rule_plain (i ∷ items) g n =
-      rule_step (rule_for table (state_after_trace start before).entries asked now) id _ _ _ _ _
-      (move_of table (state_after_trace start (items ++ arrival ∷ before)) i id (same_table start (items ++ arrival ∷ before)) g.0) n.0 (rule_plain items g.1 n.1)
+      rule_step (rule_for table (state_after_trace begun before).entries asked now) id _ _ _ _ _
+      (move_of table (state_after_trace begun (items ++ arrival ∷ before)) i id (same_table begun (items ++ arrival ∷ before)) g.0) n.0 (rule_plain items g.1 n.1)
 
-  rule_held : (items : List Item) (x : Exchange) → IsGood start (items ++ arrival ∷ before) → NoRequestIsJudged id items →
-      find_exchange id (open_exchanges table limit (items ++ arrival ∷ before)) ≡ Some x → x.rule ≡ rule_of_decision (decision_of (policy_of table.lines x.line) (held_entries table limit before) asked now)
+  rule_held : (items : List Item) (x : Exchange) → IsGood begun (items ++ arrival ∷ before) → NoRequestIsJudged id items →
+      find_exchange id (open_exchanges table start (items ++ arrival ∷ before)) ≡ Some x → x.rule ≡ rule_of_decision (decision_of (policy_of table.lines x.line) (held_entries table start before) asked now)
   unfolding HasRule
   rule_held items x p n h =
-      let here = ap (find_exchange id) (exchanges_are_open table limit first (items ++ arrival ∷ before) p) ∙ h in
-      let es_is = entries_are_held table limit first before (part start (items ++ arrival ∷ []) before (subst (IsGood start) (split items) p)) in
-      let has : HasRule (rule_for table (state_after_trace start before).entries asked now) (Some x) =
-      subst (HasRule (rule_for table (state_after_trace start before).entries asked now)) here (rule_plain items p n)
+      let here = ap (find_exchange id) (exchanges_are_open table start first (items ++ arrival ∷ before) p) ∙ h in
+      let es_is = entries_are_held table start first before (part begun (items ++ arrival ∷ []) before (subst (IsGood begun) (split items) p)) in
+      let has : HasRule (rule_for table (state_after_trace begun before).entries asked now) (Some x) =
+      subst (HasRule (rule_for table (state_after_trace begun before).entries asked now)) here (rule_plain items p n)
       in
       has ∙ ap (λ es. rule_for table es asked now x.line) es_is
     where
@@ -243,8 +244,8 @@ module _ (table : Table) (limit first now id : ℕ) (asked : Asked) (before : Li
       split (i ∷ items) = ap (λ zs. i ∷ zs) (split items)
 
 pub keeps_its_rule : OpenExchangeKeepsItsRule
-keeps_its_rule table limit first now id asked items before arrival x g e n h =
+keeps_its_rule table start first now id asked items before arrival x g e n h =
     let same : arrival ≡ record { event = Arrive now id asked; outcome = arrival.outcome } = ap (λ (v : Event). record { event = v; outcome = arrival.outcome }) e in
-    let p = subst (λ (a : Item). IsGood (initial_state table limit first) (items ++ a ∷ before)) same (good_plain table limit first (items ++ arrival ∷ before) g) in
-    rule_held table limit first now id asked before arrival.outcome items x p n
-    (subst (λ (a : Item). find_exchange id (open_exchanges table limit (items ++ a ∷ before)) ≡ Some x) same h)
+    let p = subst (λ (a : Item). IsGood (initial_state table start first) (items ++ a ∷ before)) same (good_plain table start first (items ++ arrival ∷ before) g) in
+    rule_held table start first now id asked before arrival.outcome items x p n
+    (subst (λ (a : Item). find_exchange id (open_exchanges table start (items ++ a ∷ before)) ≡ Some x) same h)

@@ -22,6 +22,7 @@ use Rattle.proxy_core.specs.declared.core_fault.CoreFault.{CoreFault}
 use Rattle.proxy_core.specs.Validating.{condition_about_serial}
 use Rattle.proxy_core.specs.Outcomes.{step_fault, forward_text, outcome_of_event}
 use Rattle.proxy_core.specs.State.{serials_removed_by_outcome, serial_stored_by_outcome, serial_used_by_outcome}
+use Rattle.proxy_core.specs.Starts.{empty_store}
 use Rattle.proxy_core.specs.Traces.{Item}
 use Rattle.proxy_core.specs.Histories.{held_entries, next_serial, open_exchanges}
 use Rattle.proxy_core.specs.Promises.{latest_request_of}
@@ -61,16 +62,16 @@ all_final (item_of ∷ past) h =
 
 -- a test that the last outcome passes, and the right one doesn't
 pub refuse : (before : List Event) (event : Event) (outcome : Outcome) (test : Outcome → Bool) → finals (trace_with_wrong_item before event outcome) ≡ true → test outcome ≡ true →
-    test (outcome_of_event edge_table (held_entries edge_table 2 (trace_of_good_events before)) (open_exchanges edge_table 2 (trace_of_good_events before)) (next_serial 1 (trace_of_good_events before)) event) ≡ false → HeadlineRefuses (trace_with_wrong_item before event outcome)
+    test (outcome_of_event edge_table (held_entries edge_table (empty_store 2) (trace_of_good_events before)) (open_exchanges edge_table (empty_store 2) (trace_of_good_events before)) (next_serial 1 (trace_of_good_events before)) event) ≡ false → HeadlineRefuses (trace_with_wrong_item before event outcome)
 refuse before event outcome test final passes fails h =
-    let is = (no_other_trace_has_it edge_table 2 1 (trace_with_wrong_item before event outcome) h (all_final (trace_with_wrong_item before event outcome) final)).0.outcome_is in
+    let is = (no_other_trace_has_it edge_table (empty_store 2) 1 (trace_with_wrong_item before event outcome) h (all_final (trace_with_wrong_item before event outcome) final)).0.outcome_is in
     false≢true (sym fails ∙ sym (ap test is) ∙ passes)
 
 -- the event can't come
 pub never_comes : (before : List Event) (event : Event) (outcome : Outcome) (fault : CoreFault) → finals (trace_with_wrong_item before event outcome) ≡ true →
-    step_fault (open_exchanges edge_table 2 (trace_of_good_events before)) event ≡ Some fault → HeadlineRefuses (trace_with_wrong_item before event outcome)
+    step_fault (open_exchanges edge_table (empty_store 2) (trace_of_good_events before)) event ≡ Some fault → HeadlineRefuses (trace_with_wrong_item before event outcome)
 never_comes before event outcome fault final applies h =
-    let allowed = (no_other_trace_has_it edge_table 2 1 (trace_with_wrong_item before event outcome) h (all_final (trace_with_wrong_item before event outcome) final)).0.allowed in
+    let allowed = (no_other_trace_has_it edge_table (empty_store 2) 1 (trace_with_wrong_item before event outcome) h (all_final (trace_with_wrong_item before event outcome) final)).0.allowed in
     let never : Some fault ≡ None = sym applies ∙ allowed in
     absurd (cc)
 
@@ -118,27 +119,27 @@ closes Ended = false
 -- ---- what goes forward at an arrival
 
 module _ (past : List Item) (now id line : ℕ) (asked : Asked) (bytes : List ℕ) (rule : ReuseRule) (against : Option ℕ)
-    (decided : decision_of (policy_of edge_table.lines line) (held_entries edge_table 2 past) asked now ≡ decision.Forward rule against) where
-  condition_is : (condition : Option Condition) → IsConditionOfEvent (policy_of edge_table.lines line) (held_entries edge_table 2 past) asked (Arrive now id asked) condition →
-      condition ≡ condition_about_serial (held_entries edge_table 2 past) against
+    (decided : decision_of (policy_of edge_table.lines line) (held_entries edge_table (empty_store 2) past) asked now ≡ decision.Forward rule against) where
+  condition_is : (condition : Option Condition) → IsConditionOfEvent (policy_of edge_table.lines line) (held_entries edge_table (empty_store 2) past) asked (Arrive now id asked) condition →
+      condition ≡ condition_about_serial (held_entries edge_table (empty_store 2) past) against
   condition_is condition (r, named, least, names, is) =
-      let known = names_the_least (policy_of edge_table.lines line) (held_entries edge_table 2 past) asked now rule against decided in
-      let same : r ≡ rule = one_rule (policy_of edge_table.lines line) (held_entries edge_table 2 past) asked now r rule least known.0 in
+      let known = names_the_least (policy_of edge_table.lines line) (held_entries edge_table (empty_store 2) past) asked now rule against decided in
+      let same : r ≡ rule = one_rule (policy_of edge_table.lines line) (held_entries edge_table (empty_store 2) past) asked now r rule least known.0 in
       is
-      ∙ ap (condition_about_serial (held_entries edge_table 2 past))
-      (one_named (policy_of edge_table.lines line) (held_entries edge_table 2 past) asked now rule named against (subst (λ q. RuleNamesTheResponse (held_entries edge_table 2 past) asked q named) same names) known.1)
+      ∙ ap (condition_about_serial (held_entries edge_table (empty_store 2) past))
+      (one_named (policy_of edge_table.lines line) (held_entries edge_table (empty_store 2) past) asked now rule named against (subst (λ q. RuleNamesTheResponse (held_entries edge_table (empty_store 2) past) asked q named) same names) known.1)
 
   -- a test that these bytes pass, and those that have to go forward don't
-  pub refuse_bytes : (test : List ℕ → Bool) → test bytes ≡ true → test (forward_text edge_table asked (condition_about_serial (held_entries edge_table 2 past) against)) ≡ false → GoingForwardIsWrong past (Arrive now id asked) (Forward line bytes)
+  pub refuse_bytes : (test : List ℕ → Bool) → test bytes ≡ true → test (forward_text edge_table line asked (condition_about_serial (held_entries edge_table (empty_store 2) past) against)) ≡ false → GoingForwardIsWrong past (Arrive now id asked) (Forward line bytes)
   refuse_bytes test passes fails h = by_parts (h line bytes refl)
     where
       by_parts : (q : Asked) × (condition : Option Condition) × (latest_request_of id (item_of (Arrive now id asked) (Forward line bytes) ∷ past) ≡ Some q) × (verdict_of edge_table.lines q.method q.target ≡ Allowed line)
-          × IsConditionOfEvent (policy_of edge_table.lines line) (held_entries edge_table 2 past) q (Arrive now id asked) condition × (bytes ≡ forward_text edge_table q condition) → ⊥
+          × IsConditionOfEvent (policy_of edge_table.lines line) (held_entries edge_table (empty_store 2) past) q (Arrive now id asked) condition × (bytes ≡ forward_text edge_table line q condition) → ⊥
       by_parts (q, condition, is, allowed, carries, text) =
           let own : asked ≡ q = same_Some asked q (sym (ap (λ b. cond b (Some asked) (latest_request_of id past)) (eq-eqb id id refl)) ∙ is) in
-          let carried = condition_is condition (subst (λ z. IsConditionOfEvent (policy_of edge_table.lines line) (held_entries edge_table 2 past) z (Arrive now id asked) condition) (sym own) carries) in
+          let carried = condition_is condition (subst (λ z. IsConditionOfEvent (policy_of edge_table.lines line) (held_entries edge_table (empty_store 2) past) z (Arrive now id asked) condition) (sym own) carries) in
           false≢true
-          (sym fails ∙ ap (λ c. test (forward_text edge_table asked c)) (sym carried) ∙ ap (λ z. test (forward_text edge_table z condition)) own ∙ sym (ap test text) ∙ passes)
+          (sym fails ∙ ap (λ c. test (forward_text edge_table line asked c)) (sym carried) ∙ ap (λ z. test (forward_text edge_table line z condition)) own ∙ sym (ap test text) ∙ passes)
 
 -- the line isn't the one that allows it
 pub refuse_line : (now id line : ℕ) (asked : Asked) (bytes : List ℕ) → (verdict_of edge_table.lines asked.method asked.target ≡ Allowed line → ⊥) → GoingForwardIsWrong [] (Arrive now id asked) (Forward line bytes)

@@ -45,6 +45,7 @@ use Rattle.proxy_core.specs.Storing.{is_304_without_condition}
 use Rattle.proxy_core.specs.Awaiting.{leader_of_request}
 use Rattle.proxy_core.specs.Outcomes.{find_exchange, exchange_id_of_event, outcome_of_arrival, outcome_of_allowed_request, outcome_of_waiting_or_forwarding, outcome_without_stored_response, outcome_of_wake, is_only_if_cached, error_rule_at, fallback_with_error_rule, fallback_for, outcome_of_failure, is_error_status, outcome_of_passing_on_or_stale, outcome_of_304, outcome_of_answer, outcome_of, outcome_of_event, forward_text}
 use Rattle.proxy_core.specs.State.{serial_used_by_outcome}
+use Rattle.proxy_core.specs.Starts.{StoreAtStart}
 use Rattle.proxy_core.specs.Traces.{Item}
 use Rattle.proxy_core.specs.Histories.{IsGoodHistory, held_entries, open_exchanges, next_serial}
 use Rattle.proxy_core.specs.Sending.{StoredResponseIsReusable, MayBeSentInsteadOfError, IsStoredFallback, StoredResponseMayBeSentAt, RequestReachesCacheOrOrigin, RequestIsTurnedAway, NoLeaderIsOpen, StoredResponseIsSentWhereItMayBe, StoredResponseIsSentNowhereElse, RequestIsForwardedWhereAllowed, RequestIsForwardedNowhereElse, AllowedRequestReachesCacheOrOrigin, OtherRequestIsRefused}
@@ -263,17 +264,17 @@ module _ (table : Table) (es : List Stored) (distinct : Distinct (serials es)) (
         d : Decision
         d = decision_of (policy_of table.lines x.line) es x.asked now
 
-        by_unasked : (b : Bool) → is_304_without_condition x.asked r ≡ b → IsUsed (cond b (outcome_of_failure table es now x BadAnswer (Some r.status) (fallback_for (policy_of table.lines x.line) es x.asked now (decision_of (policy_of table.lines x.line) es x.asked now)))
+        by_unasked : (b : Bool) → is_304_without_condition (policy_of table.lines x.line) x.asked r ≡ b → IsUsed (cond b (outcome_of_failure table es now x BadAnswer (Some r.status) (fallback_for (policy_of table.lines x.line) es x.asked now (decision_of (policy_of table.lines x.line) es x.asked now)))
             (outcome_of_passing_on_or_stale table es now x r next (is_error_status r.status) (fallback_for (policy_of table.lines x.line) es x.asked now (decision_of (policy_of table.lines x.line) es x.asked now)))) →
-            ((is_304_without_condition x.asked r || is_error_status r.status) ≡ true) × IsStoredFallback (policy_of table.lines x.line) es x.asked now s
+            ((is_304_without_condition (policy_of table.lines x.line) x.asked r || is_error_status r.status) ≡ true) × IsStoredFallback (policy_of table.lines x.line) es x.asked now s
         by_unasked true k h =
             (ap (λ b. b || is_error_status r.status) k, used_failed now x BadAnswer (Some r.status) s (fallback_for (policy_of table.lines x.line) es x.asked now (decision_of (policy_of table.lines x.line) es x.asked now)) refl h)
         by_unasked false k h =
             let p = used_passed (is_error_status r.status) (fallback_for (policy_of table.lines x.line) es x.asked now (decision_of (policy_of table.lines x.line) es x.asked now)) refl h in
-            (or_right (is_304_without_condition x.asked r) (is_error_status r.status) p.0, p.1)
+            (or_right (is_304_without_condition (policy_of table.lines x.line) x.asked r) (is_error_status r.status) p.0, p.1)
 
         by_304 : (b : Bool) → is_validation x r ≡ b → IsUsed (cond b (outcome_of_304 table es now x r (stored_response_validated es x r now) (decision_of (policy_of table.lines x.line) es x.asked now))
-            (cond (is_304_without_condition x.asked r) (outcome_of_failure table es now x BadAnswer (Some r.status) (fallback_for (policy_of table.lines x.line) es x.asked now (decision_of (policy_of table.lines x.line) es x.asked now)))
+            (cond (is_304_without_condition (policy_of table.lines x.line) x.asked r) (outcome_of_failure table es now x BadAnswer (Some r.status) (fallback_for (policy_of table.lines x.line) es x.asked now (decision_of (policy_of table.lines x.line) es x.asked now)))
             (outcome_of_passing_on_or_stale table es now x r next (is_error_status r.status) (fallback_for (policy_of table.lines x.line) es x.asked now (decision_of (policy_of table.lines x.line) es x.asked now))))) →
             StoredResponseMayBeSentAt table es (Some x) (Answer now id r) s
         by_304 true k h = by_kind (used_revalidated (stored_response_validated es x r now) (decision_of (policy_of table.lines x.line) es x.asked now) refl refl h)
@@ -282,7 +283,7 @@ module _ (table : Table) (es : List Stored) (distinct : Distinct (serials es)) (
                 StoredResponseMayBeSentAt table es (Some x) (Answer now id r) s
             by_kind (inl outcome_of_answer) = inl (k, outcome_of_answer)
             by_kind (inr anyway) = inr (inl (k, anyway.0, anyway.1))
-        by_304 false k h = let p = by_unasked (is_304_without_condition x.asked r) refl h in inr (inr (k, p.0, p.1))
+        by_304 false k h = let p = by_unasked (is_304_without_condition (policy_of table.lines x.line) x.asked r) refl h in inr (inr (k, p.0, p.1))
 
     -- the other way round
     fallback_uses : (b e : Bool) → (b || e) ≡ true → IsStoredFallback (policy_of table.lines x.line) es x.asked now s →
@@ -298,21 +299,21 @@ module _ (table : Table) (es : List Stored) (distinct : Distinct (serials es)) (
     answered_uses (inl may) =
         let d = decision_of (policy_of table.lines x.line) es x.asked now in
         let e = may.1.0 in
-        ap (λ b. serial_used_by_outcome (cond b (outcome_of_304 table es now x r (stored_response_validated es x r now) d) (cond (is_304_without_condition x.asked r) (outcome_of_failure table es now x BadAnswer (Some r.status) (fallback_for (policy_of table.lines x.line) es x.asked now d))
+        ap (λ b. serial_used_by_outcome (cond b (outcome_of_304 table es now x r (stored_response_validated es x r now) d) (cond (is_304_without_condition (policy_of table.lines x.line) x.asked r) (outcome_of_failure table es now x BadAnswer (Some r.status) (fallback_for (policy_of table.lines x.line) es x.asked now d))
         (outcome_of_passing_on_or_stale table es now x r next (is_error_status r.status) (fallback_for (policy_of table.lines x.line) es x.asked now d))))) may.0
         ∙ ap (λ (o : Option Stored). serial_used_by_outcome (outcome_of_304 table es now x r o d)) may.1.1
         ∙ ap (λ n. Some n) (serial_stays x r now e ∙ may.1.2)
     answered_uses (inr (inl may)) =
         let d = decision_of (policy_of table.lines x.line) es x.asked now in
-        ap (λ b. serial_used_by_outcome (cond b (outcome_of_304 table es now x r (stored_response_validated es x r now) d) (cond (is_304_without_condition x.asked r) (outcome_of_failure table es now x BadAnswer (Some r.status) (fallback_for (policy_of table.lines x.line) es x.asked now d))
+        ap (λ b. serial_used_by_outcome (cond b (outcome_of_304 table es now x r (stored_response_validated es x r now) d) (cond (is_304_without_condition (policy_of table.lines x.line) x.asked r) (outcome_of_failure table es now x BadAnswer (Some r.status) (fallback_for (policy_of table.lines x.line) es x.asked now d))
         (outcome_of_passing_on_or_stale table es now x r next (is_error_status r.status) (fallback_for (policy_of table.lines x.line) es x.asked now d))))) may.0
         ∙ ap (λ (o : Option Stored). serial_used_by_outcome (outcome_of_304 table es now x r o d)) may.1
         ∙ ap (λ (k : Decision). serial_used_by_outcome (outcome_of_304 table es now x r None k)) (reusable_hit (policy_of table.lines x.line) es distinct x.asked now s may.2)
     answered_uses (inr (inr may)) =
         let d = decision_of (policy_of table.lines x.line) es x.asked now in
-        ap (λ b. serial_used_by_outcome (cond b (outcome_of_304 table es now x r (stored_response_validated es x r now) d) (cond (is_304_without_condition x.asked r) (outcome_of_failure table es now x BadAnswer (Some r.status) (fallback_for (policy_of table.lines x.line) es x.asked now d))
+        ap (λ b. serial_used_by_outcome (cond b (outcome_of_304 table es now x r (stored_response_validated es x r now) d) (cond (is_304_without_condition (policy_of table.lines x.line) x.asked r) (outcome_of_failure table es now x BadAnswer (Some r.status) (fallback_for (policy_of table.lines x.line) es x.asked now d))
         (outcome_of_passing_on_or_stale table es now x r next (is_error_status r.status) (fallback_for (policy_of table.lines x.line) es x.asked now d))))) may.0
-        ∙ fallback_uses (is_304_without_condition x.asked r) (is_error_status r.status) may.1 may.2
+        ∙ fallback_uses (is_304_without_condition (policy_of table.lines x.line) x.asked r) (is_error_status r.status) may.1 may.2
 
   -- a request that waited
   used_woken : (now : ℕ) (x : Exchange) (s : ℕ) (d : Decision) → decision_of (policy_of table.lines x.line) es x.asked now ≡ d → serial_used_by_outcome (outcome_of_wake table es now x d) ≡ Some s →
@@ -343,35 +344,35 @@ module _ (table : Table) (es : List Stored) (distinct : Distinct (serials es)) (
   used_may_be x next (Abandon id) s h = absurd (never_one s h)
 
 pub sends_what_may_be_sent : StoredResponseIsSentWhereItMayBe
-sends_what_may_be_sent table limit first s item past g may =
-    let xs = open_exchanges table limit past in
+sends_what_may_be_sent table start first s item past g may =
+    let xs = open_exchanges table start past in
     ap serial_used_by_outcome g.0.outcome_is
-    ∙ may_be_used table (held_entries table limit past) (held_distinct table limit first past g.1) xs (find_exchange (exchange_id_of_event item.event) xs) (next_serial first past) item.event s may
+    ∙ may_be_used table (held_entries table start past) (held_distinct table start first past g.1) xs (find_exchange (exchange_id_of_event item.event) xs) (next_serial first past) item.event s may
 
 pub sends_nothing_else : StoredResponseIsSentNowhereElse
-sends_nothing_else table limit first s item past g h =
-    let xs = open_exchanges table limit past in
-    used_may_be table (held_entries table limit past) (held_distinct table limit first past g.1) xs (find_exchange (exchange_id_of_event item.event) xs) (next_serial first past) item.event s
+sends_nothing_else table start first s item past g h =
+    let xs = open_exchanges table start past in
+    used_may_be table (held_entries table start past) (held_distinct table start first past g.1) xs (find_exchange (exchange_id_of_event item.event) xs) (next_serial first past) item.event s
     (sym (ap serial_used_by_outcome g.0.outcome_is) ∙ h)
 
 -- ---- going forward
 
-pub arrival_is : (table : Table) (limit first now id : ℕ) (asked : Asked) (item : Item) (past : List Item) → IsGoodHistory table limit first (item ∷ past) → item.event ≡ Arrive now id asked →
-    item.outcome ≡ outcome_of_arrival table (held_entries table limit past) (open_exchanges table limit past) now asked (verdict_of table.lines asked.method asked.target)
-arrival_is table limit first now id asked item past g e =
-    g.0.outcome_is ∙ ap (λ (v : Event). outcome_of_event table (held_entries table limit past) (open_exchanges table limit past) (next_serial first past) v) e
+pub arrival_is : (table : Table) (start : StoreAtStart) (first now id : ℕ) (asked : Asked) (item : Item) (past : List Item) → IsGoodHistory table start first (item ∷ past) → item.event ≡ Arrive now id asked →
+    item.outcome ≡ outcome_of_arrival table (held_entries table start past) (open_exchanges table start past) now asked (verdict_of table.lines asked.method asked.target)
+arrival_is table start first now id asked item past g e =
+    g.0.outcome_is ∙ ap (λ (v : Event). outcome_of_event table (held_entries table start past) (open_exchanges table start past) (next_serial first past) v) e
 
 pub forwards_where_allowed : RequestIsForwardedWhereAllowed
-forwards_where_allowed table limit first now id line asked rule item past g e v least other none =
-    let es = held_entries table limit past in
-    let xs = open_exchanges table limit past in
+forwards_where_allowed table start first now id line asked rule item past g e v least other none =
+    let es = held_entries table start past in
+    let xs = open_exchanges table start past in
     let d = forwards (policy_of table.lines line) es asked now rule least in (
-      forward_text table asked (condition_about_serial es d.0),
-      arrival_is table limit first now id asked item past g e
+      forward_text table line asked (condition_about_serial es d.0),
+      arrival_is table start first now id asked item past g e
           ∙ ap (λ (v : Verdict). outcome_of_arrival table es xs now asked v) v
           ∙ ap (λ (d : Decision). outcome_of_allowed_request table es xs line now asked d) d.1
           ∙ ap (λ b. outcome_without_stored_response table es xs line now asked rule (condition_about_serial es d.0) b) other
-          ∙ ap (λ (leader : Option ℕ). outcome_of_waiting_or_forwarding table line asked (condition_about_serial es d.0) leader) (leads_for_none (policy_of table.lines line) es (held_distinct table limit first past g.1) xs asked now rule least none),
+          ∙ ap (λ (leader : Option ℕ). outcome_of_waiting_or_forwarding table line asked (condition_about_serial es d.0) leader) (leads_for_none (policy_of table.lines line) es (held_distinct table start first past g.1) xs asked now rule least none),
     )
 
 -- what is known of a request that goes forward at its arrival
@@ -411,9 +412,9 @@ forward_parts table es distinct xs now line asked bytes (verdict.DeniedBy n) v h
 forward_parts table es distinct xs now line asked bytes verdict.NoLine v h = absurd (cc)
 
 pub forwards_nothing_else : RequestIsForwardedNowhereElse
-forwards_nothing_else table limit first now id line asked bytes item past g e h =
-    forward_parts table (held_entries table limit past) (held_distinct table limit first past g.1) (open_exchanges table limit past) now line asked bytes (verdict_of table.lines asked.method asked.target) refl
-    (sym (arrival_is table limit first now id asked item past g e) ∙ h)
+forwards_nothing_else table start first now id line asked bytes item past g e h =
+    forward_parts table (held_entries table start past) (held_distinct table start first past g.1) (open_exchanges table start past) now line asked bytes (verdict_of table.lines asked.method asked.target) refl
+    (sym (arrival_is table start first now id asked item past g e) ∙ h)
 
 -- ---- reaching cache or origin
 
@@ -451,16 +452,16 @@ module _ (table : Table) (es : List Stored) (distinct : Distinct (serials es)) (
   refuse verdict.NoLine v n = inr (v, refl)
 
 pub reaches_where_allowed : AllowedRequestReachesCacheOrOrigin
-reaches_where_allowed table limit first now id line asked item past g e v =
-    let es = held_entries table limit past in
-    let xs = open_exchanges table limit past in
+reaches_where_allowed table start first now id line asked item past g e v =
+    let es = held_entries table start past in
+    let xs = open_exchanges table start past in
     subst (RequestReachesCacheOrOrigin table es xs now asked line)
-    (sym (arrival_is table limit first now id asked item past g e ∙ ap (λ (v : Verdict). outcome_of_arrival table es xs now asked v) v))
-    (reach table es (held_distinct table limit first past g.1) xs now asked line (decision_of (policy_of table.lines line) es asked now) refl)
+    (sym (arrival_is table start first now id asked item past g e ∙ ap (λ (v : Verdict). outcome_of_arrival table es xs now asked v) v))
+    (reach table es (held_distinct table start first past g.1) xs now asked line (decision_of (policy_of table.lines line) es asked now) refl)
 
 pub refuses_where_not_allowed : OtherRequestIsRefused
-refuses_where_not_allowed table limit first now id asked item past g e n =
-    let es = held_entries table limit past in
-    let xs = open_exchanges table limit past in
-    subst (RequestIsTurnedAway table now asked) (sym (arrival_is table limit first now id asked item past g e))
-    (refuse table es (held_distinct table limit first past g.1) xs now asked (verdict_of table.lines asked.method asked.target) refl n)
+refuses_where_not_allowed table start first now id asked item past g e n =
+    let es = held_entries table start past in
+    let xs = open_exchanges table start past in
+    subst (RequestIsTurnedAway table now asked) (sym (arrival_is table start first now id asked item past g e))
+    (refuse table es (held_distinct table start first past g.1) xs now asked (verdict_of table.lines asked.method asked.target) refl n)

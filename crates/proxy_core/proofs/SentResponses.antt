@@ -224,10 +224,10 @@ module _ (table : Table) (es : List Stored) (distinct : Distinct (serials es)) w
         by_unasked false n = passes (is_error_status r.status) (fallback_for (policy_of table.lines x.line) es x.asked now (decision_of (policy_of table.lines x.line) es x.asked now)) refl n
 
         by_304 : (b : Bool) → is_validation x r ≡ b → Is (cond b (outcome_of_304 table es now x r (stored_response_validated es x r now) (decision_of (policy_of table.lines x.line) es x.asked now))
-            (cond (is_304_without_condition x.asked r) (outcome_of_failure table es now x BadAnswer (Some r.status) (fallback_for (policy_of table.lines x.line) es x.asked now (decision_of (policy_of table.lines x.line) es x.asked now)))
+            (cond (is_304_without_condition (policy_of table.lines x.line) x.asked r) (outcome_of_failure table es now x BadAnswer (Some r.status) (fallback_for (policy_of table.lines x.line) es x.asked now (decision_of (policy_of table.lines x.line) es x.asked now)))
             (outcome_of_passing_on_or_stale table es now x r next (is_error_status r.status) (fallback_for (policy_of table.lines x.line) es x.asked now (decision_of (policy_of table.lines x.line) es x.asked now)))))
         by_304 true k = validates (stored_response_validated es x r now) (decision_of (policy_of table.lines x.line) es x.asked now) k refl refl
-        by_304 false k = by_unasked (is_304_without_condition x.asked r) k
+        by_304 false k = by_unasked (is_304_without_condition (policy_of table.lines x.line) x.asked r) k
 
   woken_sends : (x : Exchange) (now id s : ℕ) (d : Decision) → decision_of (policy_of table.lines x.line) es x.asked now ≡ d → serial_used_by_outcome (outcome_of_wake table es now x d) ≡ Some s →
       ReplyIsThatStoredResponse table es (Some x) (Wake now id) (outcome_of_wake table es now x d) s
@@ -250,9 +250,9 @@ module _ (table : Table) (es : List Stored) (distinct : Distinct (serials es)) w
   sends_by_event xs x next (Abandon id) s h = absurd (never_one s h)
 
 pub sends_what_is_held : SendsWhatIsHeld
-sends_what_is_held table limit first s item past g h =
-    let es = held_entries table limit past in
-    let xs = open_exchanges table limit past in
+sends_what_is_held table start first s item past g h =
+    let es = held_entries table start past in
+    let xs = open_exchanges table start past in
     let x = find_exchange (exchange_id_of_event item.event) xs in
     subst (λ (o : Outcome). serial_used_by_outcome o ≡ Some s → ReplyIsThatStoredResponse table es x item.event o s) (sym g.0.outcome_is)
-    (sends_by_event table es (held_distinct table limit first past g.1) xs x (next_serial first past) item.event s) h
+    (sends_by_event table es (held_distinct table start first past g.1) xs x (next_serial first past) item.event s) h

@@ -18,6 +18,7 @@ use Rattle.proxy_core.specs.Carrying.{ExchangeWasJudged, IsEventThatJudges, Went
 use Rattle.proxy_core.specs.StoredAnswers.{KeyStaysValidSinceItWent}
 use Rattle.proxy_core.proofs.Marks.{none_of_some}
 use Rattle.proxy_core.proofs.OpenLaws.{overtaken_where_invalidated}
+use Rattle.proxy_core.specs.Starts.{StoreAtStart}
 
 -- ---- its request is at the origin
 
@@ -50,10 +51,10 @@ together : (xs ys : List Item) (y : Item) (zs : List Item) → (xs ++ y ∷ ys) 
 together [] ys y zs = refl
 together (x ∷ xs) ys y zs = ap (λ (is : List Item). x ∷ is) (together xs ys y zs)
 
-went_last : (table : Table) (limit : ℕ) (x : Exchange) (past : List Item) → x.stage ≡ Forwarded → ExchangeWasJudged table limit x past → WentLast past x
-went_last table limit x past out judged = by_way judged.went
+went_last : (table : Table) (start : StoreAtStart) (x : Exchange) (past : List Item) → x.stage ≡ Forwarded → ExchangeWasJudged table start x past → WentLast past x
+went_last table start x past out judged = by_way judged.went
   where
-    by_way : WentForwardOnce table limit x judged.since judged.before judged.now judged.item.outcome ⊎ (WentForwardASecondTime table x judged.since ⊎ HasWaitedSinceItsArrival table limit x judged.since judged.before judged.item.outcome) → WentLast past x
+    by_way : WentForwardOnce table start x judged.since judged.before judged.now judged.item.outcome ⊎ (WentForwardASecondTime table x judged.since ⊎ HasWaitedSinceItsArrival table start x judged.since judged.before judged.item.outcome) → WentLast past x
     by_way (inl once) = record {
       since = judged.since;
       before = judged.before;
@@ -84,13 +85,13 @@ some_of_none : (key : Key) (items past : List Item) → NoItemInvalidates key it
 some_of_none key [] past h = refl
 some_of_none key (i ∷ items) past h = ap (λ b. b || some_item_invalidates key items past) h.0 ∙ some_of_none key items past h.1
 
-module _ (table : Table) (limit first : ℕ) (past : List Item) (good : IsGoodHistory table limit first past) (x : Exchange) (found : find_exchange x.id (open_exchanges table limit past) ≡ Some x) (out : x.stage ≡ Forwarded) where
+module _ (table : Table) (start : StoreAtStart) (first : ℕ) (past : List Item) (good : IsGoodHistory table start first past) (x : Exchange) (found : find_exchange x.id (open_exchanges table start past) ≡ Some x) (out : x.stage ≡ Forwarded) where
   mark_is : (since before : List Item) (went : Item) → past ≡ since ++ went ∷ before → exchange_id_of_event went.event ≡ x.id → outcome_goes_forward went.outcome ≡ true → count_of_outcomes outcome_goes_forward x.id since ≡ 0 →
       x.overtaken ≡ some_item_invalidates x.asked.target.key since (went ∷ before)
   mark_is since before went is id goes last =
-      overtaken_where_invalidated table limit first since before went x (subst (IsGoodHistory table limit first) is good) goes
+      overtaken_where_invalidated table start first since before went x (subst (IsGoodHistory table start first) is good) goes
       (ap (λ n. count_of_outcomes outcome_goes_forward n since) id ∙ last)
-      (ap (λ n. find_exchange n (open_exchanges table limit (since ++ went ∷ before))) id ∙ sym (ap (λ (is : List Item). find_exchange x.id (open_exchanges table limit is)) is) ∙ found)
+      (ap (λ n. find_exchange n (open_exchanges table start (since ++ went ∷ before))) id ∙ sym (ap (λ (is : List Item). find_exchange x.id (open_exchanges table start is)) is) ∙ found)
       out
 
   pub unmarked : KeyStaysValidSinceItWent past x → x.overtaken ≡ false
@@ -98,9 +99,9 @@ module _ (table : Table) (limit first : ℕ) (past : List Item) (good : IsGoodHi
       mark_is stays.since stays.before stays.went stays.past_is stays.is_of_exchange stays.goes_forward stays.is_the_last
       ∙ some_of_none x.asked.target.key stays.since (stays.went ∷ stays.before) stays.nothing_invalidates
 
-  pub stays_valid : ExchangeWasJudged table limit x past → x.overtaken ≡ false → KeyStaysValidSinceItWent past x
+  pub stays_valid : ExchangeWasJudged table start x past → x.overtaken ≡ false → KeyStaysValidSinceItWent past x
   stays_valid judged plain =
-      let last = went_last table limit x past out judged in
+      let last = went_last table start x past out judged in
       record {
         since = last.since;
         before = last.before;

@@ -189,10 +189,10 @@ module _ (table : Table) (es : List Stored) (now id : ℕ) (x : Exchange) (r : R
       by_unasked false = kind_unless (is_error_status r.status) (fallback_for (policy_of table.lines x.line) es x.asked now (decision_of (policy_of table.lines x.line) es x.asked now)) g found
 
       by_304 : (b : Bool) → KindOf es (Some x) (Answer now id r) next (cond b (outcome_of_304 table es now x r (stored_response_validated es x r now) (decision_of (policy_of table.lines x.line) es x.asked now))
-          (cond (is_304_without_condition x.asked r) (outcome_of_failure table es now x BadAnswer (Some r.status) (fallback_for (policy_of table.lines x.line) es x.asked now (decision_of (policy_of table.lines x.line) es x.asked now)))
+          (cond (is_304_without_condition (policy_of table.lines x.line) x.asked r) (outcome_of_failure table es now x BadAnswer (Some r.status) (fallback_for (policy_of table.lines x.line) es x.asked now (decision_of (policy_of table.lines x.line) es x.asked now)))
           (outcome_of_passing_on_or_stale table es now x r next (is_error_status r.status) (fallback_for (policy_of table.lines x.line) es x.asked now (decision_of (policy_of table.lines x.line) es x.asked now)))))
       by_304 true = kind_revalidated (stored_response_validated es x r now) (decision_of (policy_of table.lines x.line) es x.asked now) refl refl
-      by_304 false = by_unasked (is_304_without_condition x.asked r)
+      by_304 false = by_unasked (is_304_without_condition (policy_of table.lines x.line) x.asked r)
 
 kind_of : (table : Table) (es : List Stored) (xs : List Exchange) (x : Option Exchange) (event : Event) (next : Option ℕ) → NoSerialIsHeldFrom next es →
     KindOf es x event next (outcome_of table es xs x next event)

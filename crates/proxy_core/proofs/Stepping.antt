@@ -144,7 +144,7 @@ module _ (s : State) (now id : ℕ) (early : moment_too_late_fault now ≡ None)
   -- or goes forward
   pub wake_out : (x : Exchange) (rule : ReuseRule) (against : Option ℕ) (o : Outcome) (t : State) → find_exchange id s.exchanges ≡ Some x → fault_if_not_released x.stage ≡ None
       → decision_of (policy_of s.table.lines x.line) s.entries x.asked now ≡ decision.Forward rule against
-      → o ≡ Forward x.line (forward_text s.table x.asked (condition_about_serial s.entries against))
+      → o ≡ Forward x.line (forward_text s.table x.line x.asked (condition_about_serial s.entries against))
       → t ≡ st s.table s.limit s.entries (map (exchange_sent_forward id now rule against (condition_about_serial s.entries against)) s.exchanges) s.next → StepIsAccepted s (Wake now id) o t
   wake_out x rule against o t here stage d is t_is =
       let event : Event = Wake now id in

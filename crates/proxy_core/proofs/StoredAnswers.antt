@@ -37,6 +37,7 @@ use Rattle.proxy_core.specs.declared.steps.fallback.Fallback.TheVariants.{Sends,
 use Rattle.proxy_core.specs.Awaiting.{leader_of_request}
 use Rattle.proxy_core.specs.Outcomes.{outcome_of_allowed_request, outcome_of_answer, outcome_of_arrival, outcome_of_failure, fallback_for, find_exchange, forward_text, forwarded_status_info, exchange_id_of_event, is_error_status, is_only_if_cached, outcome_of, outcome_of_passing_on, outcome_of_passing_on_or_stale, outcome_of_304, outcome_of_sending_stored, outcome_of_waiting_or_forwarding, outcome_of_sending_freshened, serial_of_stored_answer, outcome_without_stored_response, outcome_of_wake, step_fault, fault_at_exchange}
 use Rattle.proxy_core.specs.State.{serial_stored_by_outcome, serial_used_by_outcome, serials_removed_by_outcome}
+use Rattle.proxy_core.specs.Starts.{StoreAtStart}
 use Rattle.proxy_core.specs.Storing.{weight_of_answer, replaced_by, storing_rule_to_explain, storing_facts_of_answer, is_storable, is_304_without_condition}
 use Rattle.proxy_core.specs.Validating.{is_above, stored_response_asked_about, condition_about_serial, stored_response_if_answered, freshened_may_be_kept, is_validation, freshened_by_304, stored_response_validated}
 use Rattle.proxy_core.specs.Traces.{Item}
@@ -173,46 +174,46 @@ module _ (table : Table) (x : Exchange) (r : Response) (now : ℕ) (next : Optio
           by_unasked false k = passed_only (is_error_status r.status) (fallback_for (policy_of table.lines x.line) es x.asked now d) k
 
           by_304 : (b : Bool)
-              → serial_stored_by_outcome (cond b (outcome_of_304 table es now x r (stored_response_validated es x r now) d) (cond (is_304_without_condition x.asked r) (outcome_of_failure table es now x BadAnswer (Some r.status) (fallback_for (policy_of table.lines x.line) es x.asked now d)) (outcome_of_passing_on_or_stale table es now x r next (is_error_status r.status) (fallback_for (policy_of table.lines x.line) es x.asked now d)))) ≡ Some s
+              → serial_stored_by_outcome (cond b (outcome_of_304 table es now x r (stored_response_validated es x r now) d) (cond (is_304_without_condition (policy_of table.lines x.line) x.asked r) (outcome_of_failure table es now x BadAnswer (Some r.status) (fallback_for (policy_of table.lines x.line) es x.asked now d)) (outcome_of_passing_on_or_stale table es now x r next (is_error_status r.status) (fallback_for (policy_of table.lines x.line) es x.asked now d)))) ≡ Some s
               → (is_storable table x r now next ≡ true)
-              × (serial_used_by_outcome (cond b (outcome_of_304 table es now x r (stored_response_validated es x r now) d) (cond (is_304_without_condition x.asked r) (outcome_of_failure table es now x BadAnswer (Some r.status) (fallback_for (policy_of table.lines x.line) es x.asked now d)) (outcome_of_passing_on_or_stale table es now x r next (is_error_status r.status) (fallback_for (policy_of table.lines x.line) es x.asked now d)))) ≡ None) × (next ≡ Some s)
+              × (serial_used_by_outcome (cond b (outcome_of_304 table es now x r (stored_response_validated es x r now) d) (cond (is_304_without_condition (policy_of table.lines x.line) x.asked r) (outcome_of_failure table es now x BadAnswer (Some r.status) (fallback_for (policy_of table.lines x.line) es x.asked now d)) (outcome_of_passing_on_or_stale table es now x r next (is_error_status r.status) (fallback_for (policy_of table.lines x.line) es x.asked now d)))) ≡ None) × (next ≡ Some s)
           by_304 true k = absurd (validated_never (stored_response_validated es x r now) d k)
-          by_304 false k = by_unasked (is_304_without_condition x.asked r) k
+          by_304 false k = by_unasked (is_304_without_condition (policy_of table.lines x.line) x.asked r) k
 
 -- ---- the laws
 
 -- no fault stands where an answer was accepted
-no_fault_at : (table : Table) (limit : ℕ) (past : List Item) (item : Item) (now id : ℕ) (x : Exchange) (r : Response) → step_fault (open_exchanges table limit past) item.event ≡ None →
-    item.event ≡ Answer now id r → find_exchange id (open_exchanges table limit past) ≡ Some x → fault_at_exchange (Some x) (Answer now id r) ≡ None
-no_fault_at table limit past item now id x r allowed event is_open =
-    let here : step_fault (open_exchanges table limit past) (Answer now id r) ≡ None = sym (ap (step_fault (open_exchanges table limit past)) event) ∙ allowed in
+no_fault_at : (table : Table) (start : StoreAtStart) (past : List Item) (item : Item) (now id : ℕ) (x : Exchange) (r : Response) → step_fault (open_exchanges table start past) item.event ≡ None →
+    item.event ≡ Answer now id r → find_exchange id (open_exchanges table start past) ≡ Some x → fault_at_exchange (Some x) (Answer now id r) ≡ None
+no_fault_at table start past item now id x r allowed event is_open =
+    let here : step_fault (open_exchanges table start past) (Answer now id r) ≡ None = sym (ap (step_fault (open_exchanges table start past)) event) ∙ allowed in
     sym (ap (λ (o : Option Exchange). fault_at_exchange o (Answer now id r)) is_open) ∙ here
 
 pub stores_where_it_may : AnswerIsStoredWhereItMayBe
-stores_where_it_may table limit first now id x r item past good event is_open unused may =
-    let es = held_entries table limit past in
-    let xs = open_exchanges table limit past in
+stores_where_it_may table start first now id x r item past good event is_open unused may =
+    let es = held_entries table start past in
+    let xs = open_exchanges table start past in
     let next = next_serial first past in
     let d = decision_of (policy_of table.lines x.line) es x.asked now in
     let here : item.outcome ≡ outcome_of table es xs (find_exchange id xs) next (Answer now id r) =
     good.0.outcome_is ∙ ap (λ (e : Event). outcome_of table es xs (find_exchange (exchange_id_of_event e) xs) next e) event in
     let is : item.outcome ≡ outcome_of_answer table es now x r next d = here ∙ ap (λ (o : Option Exchange). outcome_of table es xs o next (Answer now id r)) is_open in
-    let out = at_the_origin x now id r (no_fault_at table limit past item now id x r good.0.allowed event is_open) in
-    let same : x.id ≡ id = (carries_its_arrival table limit first id past x good.1 is_open).1 in
+    let out = at_the_origin x now id r (no_fault_at table start past item now id x r good.0.allowed event is_open) in
+    let same : x.id ≡ id = (carries_its_arrival table start first id past x good.1 is_open).1 in
     ap serial_stored_by_outcome is
-    ∙ stored_answer table x r now next es d past (unmarked table limit first past good.1 x (ap (λ n. find_exchange n xs) same ∙ is_open) out) may (sym (ap serial_used_by_outcome is) ∙ unused)
+    ∙ stored_answer table x r now next es d past (unmarked table start first past good.1 x (ap (λ n. find_exchange n xs) same ∙ is_open) out) may (sym (ap serial_used_by_outcome is) ∙ unused)
 
 -- what is stored, at the answer to an exchange, under the next serial
-pub record IsStored (table : Table) (limit first s : ℕ) (item : Item) (past : List Item) : Type 0 where
+pub record IsStored (table : Table) (start : StoreAtStart) (first s : ℕ) (item : Item) (past : List Item) : Type 0 where
   pub next_is : next_serial first past ≡ Some s
-  pub answer : IsAnswerThatMayBeStored table limit first item past
+  pub answer : IsAnswerThatMayBeStored table start first item past
   pub fits : IfSome table.max_store (λ most. weight_of_answer answer.exchange answer.response answer.now ≤ most)
 
-pub stored_at : (table : Table) (limit first s : ℕ) (item : Item) (past : List Item) → IsGoodHistory table limit first (item ∷ past) → serial_stored_by_outcome item.outcome ≡ Some s →
-    IsStored table limit first s item past
-stored_at table limit first s item past good stored =
-    let es = held_entries table limit past in
-    let xs = open_exchanges table limit past in
+pub stored_at : (table : Table) (start : StoreAtStart) (first s : ℕ) (item : Item) (past : List Item) → IsGoodHistory table start first (item ∷ past) → serial_stored_by_outcome item.outcome ≡ Some s →
+    IsStored table start first s item past
+stored_at table start first s item past good stored =
+    let es = held_entries table start past in
+    let xs = open_exchanges table start past in
     let next = next_serial first past in
     let t = storing_of table es xs (find_exchange (exchange_id_of_event item.event) xs) next item.event s (sym (ap serial_stored_by_outcome good.0.outcome_is) ∙ stored) in
     let d = decision_of (policy_of table.lines t.z.line) es t.z.asked t.now in
@@ -220,8 +221,8 @@ stored_at table limit first s item past good stored =
     let is : item.outcome ≡ outcome_of_answer table es t.now t.z t.r next d =
     good.0.outcome_is ∙ ap (λ (o : Option Exchange). outcome_of table es xs o next item.event) t.w_is ∙ ap (λ (e : Event). outcome_of table es xs (Some t.z) next e) t.event_is in
     let parts = stored_only table t.z t.r t.now next es d s (sym (ap serial_stored_by_outcome is) ∙ stored) in
-    let out = at_the_origin t.z t.now t.i t.r (no_fault_at table limit past item t.now t.i t.z t.r good.0.allowed t.event_is found) in
-    let carried = carries_its_arrival table limit first t.i past t.z good.1 found in
+    let out = at_the_origin t.z t.now t.i t.r (no_fault_at table start past item t.now t.i t.z t.r good.0.allowed t.event_is found) in
+    let carried = carries_its_arrival table start first t.i past t.z good.1 found in
     record {
       next_is = parts.2;
       answer = record {
@@ -232,17 +233,17 @@ stored_at table limit first s item past good stored =
         event_is = t.event_is;
         is_open = found;
         nothing_is_sent_instead = ap serial_used_by_outcome is ∙ parts.1;
-        may_be_stored = may_be table t.z t.r t.now next past (stays_valid table limit first past good.1 t.z (ap (λ n. find_exchange n xs) carried.1 ∙ found) out carried.0) parts.0;
+        may_be_stored = may_be table t.z t.r t.now next past (stays_valid table start first past good.1 t.z (ap (λ n. find_exchange n xs) carried.1 ∙ found) out carried.0) parts.0;
       };
       fits = fits_the_store table t.z t.r t.now next parts.0;
     }
 
 pub stores_nowhere_else : NothingElseIsStored
-stores_nowhere_else table limit first s item past good stored = (stored_at table limit first s item past good stored).answer
+stores_nowhere_else table start first s item past good stored = (stored_at table start first s item past good stored).answer
 
-pub stores_the_next : (table : Table) (limit first s : ℕ) (item : Item) (past : List Item) → IsGoodHistory table limit first (item ∷ past) → serial_stored_by_outcome item.outcome ≡ Some s →
+pub stores_the_next : (table : Table) (start : StoreAtStart) (first s : ℕ) (item : Item) (past : List Item) → IsGoodHistory table start first (item ∷ past) → serial_stored_by_outcome item.outcome ≡ Some s →
     next_serial first past ≡ Some s
-stores_the_next table limit first s item past good stored = (stored_at table limit first s item past good stored).next_is
+stores_the_next table start first s item past good stored = (stored_at table start first s item past good stored).next_is
 
 -- ---- what is taken away
 
@@ -364,7 +365,7 @@ module _ (table : Table) (es : List Stored) (now : ℕ) (x : Exchange) (r : Resp
       by_entry None = refl
       by_entry (Some e) = ap (λ b. cond b (Some e) None) (never_answered x r now e n)
 
-  failed_goes : is_validation x r ≡ false → is_304_without_condition x.asked r ≡ true → (fallback : Fallback) → Goes (outcome_of_failure table es now x BadAnswer (Some r.status) fallback)
+  failed_goes : is_validation x r ≡ false → is_304_without_condition (policy_of table.lines x.line) x.asked r ≡ true → (fallback : Fallback) → Goes (outcome_of_failure table es now x BadAnswer (Some r.status) fallback)
   failed_goes n u (Sends serial detail) = sym (nothing_held_for (outcome_of_sending_stored table es serial now (forwarded_status_info (policy_of table.lines x.line) x (Some r.status) (Some detail)) x.asked) refl ∙ no_304_goes n)
   failed_goes n u (Refuses rule error) =
       let unsafe = not (is_among safe_methods x.asked.method) in
@@ -393,21 +394,21 @@ module _ (table : Table) (es : List Stored) (now : ℕ) (x : Exchange) (r : Resp
       ap (λ n. cond (freshened_may_be_kept table x r (freshened_by_304 x r now e)) [] (n ∷ [])) (serial_stays x r now e)
       ∙ sym (nothing_held_for (outcome_of_sending_freshened table x r now (freshened_by_304 x r now e)) refl ∙ ap (serial_not_kept_after_304 table x now r) v)
   revalidated_goes None (decision.Hit s) v = sym (nothing_held_for (outcome_of_sending_stored table es s now (forwarded_status_info (policy_of table.lines x.line) x (Some r.status) (Some ReuseAfter304)) x.asked) refl ∙ ap (serial_not_kept_after_304 table x now r) v)
-  revalidated_goes None (decision.Forward rule against) v = sym (nothing_held_for (Forward x.line (forward_text table x.asked None)) refl ∙ ap (serial_not_kept_after_304 table x now r) v)
+  revalidated_goes None (decision.Forward rule against) v = sym (nothing_held_for (Forward x.line (forward_text table x.line x.asked None)) refl ∙ ap (serial_not_kept_after_304 table x now r) v)
 
   answer_goes : (d : Decision) → Goes (outcome_of_answer table es now x r next d)
   answer_goes d = by_304 (is_validation x r) refl
     where
-      by_unasked : is_validation x r ≡ false → (b : Bool) → is_304_without_condition x.asked r ≡ b →
+      by_unasked : is_validation x r ≡ false → (b : Bool) → is_304_without_condition (policy_of table.lines x.line) x.asked r ≡ b →
           Goes (cond b (outcome_of_failure table es now x BadAnswer (Some r.status) (fallback_for (policy_of table.lines x.line) es x.asked now d)) (outcome_of_passing_on_or_stale table es now x r next (is_error_status r.status) (fallback_for (policy_of table.lines x.line) es x.asked now d)))
       by_unasked n true u = failed_goes n u (fallback_for (policy_of table.lines x.line) es x.asked now d)
       by_unasked n false u = unless_goes n (is_error_status r.status) refl (fallback_for (policy_of table.lines x.line) es x.asked now d)
 
       by_304 : (b : Bool) → is_validation x r ≡ b →
           Goes (cond b (outcome_of_304 table es now x r (stored_response_validated es x r now) d)
-          (cond (is_304_without_condition x.asked r) (outcome_of_failure table es now x BadAnswer (Some r.status) (fallback_for (policy_of table.lines x.line) es x.asked now d)) (outcome_of_passing_on_or_stale table es now x r next (is_error_status r.status) (fallback_for (policy_of table.lines x.line) es x.asked now d))))
+          (cond (is_304_without_condition (policy_of table.lines x.line) x.asked r) (outcome_of_failure table es now x BadAnswer (Some r.status) (fallback_for (policy_of table.lines x.line) es x.asked now d)) (outcome_of_passing_on_or_stale table es now x r next (is_error_status r.status) (fallback_for (policy_of table.lines x.line) es x.asked now d))))
       by_304 true k = revalidated_goes (stored_response_validated es x r now) d refl
-      by_304 false k = by_unasked k (is_304_without_condition x.asked r) refl
+      by_304 false k = by_unasked k (is_304_without_condition (policy_of table.lines x.line) x.asked r) refl
 
 -- what the status of an answer to an open exchange says is what its outcome shows
 abbrev StatusIsShown : Table → List Stored → Option ℕ → Exchange → Type 0
@@ -454,11 +455,11 @@ module _ (table : Table) (es : List Stored) (xs : List Exchange) (next : Option 
   goes_by_event x (Abandon id) shown = refl
 
 pub removes_just_that : ItemRemovesExactlyThese
-removes_just_that table limit first item past good =
-    let es = held_entries table limit past in
-    let xs = open_exchanges table limit past in
+removes_just_that table start first item past good =
+    let es = held_entries table start past in
+    let xs = open_exchanges table start past in
     let x = find_exchange (exchange_id_of_event item.event) xs in
     removed_in_words table es x item.event item.outcome
     (subst (λ (o : Outcome). serials_removed_by_outcome o ≡ serials_removed_at table es x item.event o) (sym good.0.outcome_is)
     (goes_by_event table es xs (next_serial first past) x item.event
-    (λ z is now r. status_is_shown table limit z past (carries_its_arrival table limit first (exchange_id_of_event item.event) past z good.1 is).0 es now r (next_serial first past))))
+    (λ z is now r. status_is_shown table start z past (carries_its_arrival table start first (exchange_id_of_event item.event) past z good.1 is).0 es now r (next_serial first past))))

@@ -25,6 +25,7 @@ use Rattle.proxy_core.specs.Leading.{leader_if_awaited}
 use Rattle.proxy_core.proofs.Awaits.{operator_awaits_nothing}
 use Rattle.proxy_core.specs.Outcomes.{find_exchange, exchange_id_of_event, outcome_of_arrival, outcome_of_allowed_request, outcome_of_waiting_or_forwarding, outcome_without_stored_response, is_only_if_cached}
 use Rattle.proxy_core.specs.State.{serial_stored_by_outcome, serial_used_by_outcome}
+use Rattle.proxy_core.specs.Starts.{StoreAtStart}
 use Rattle.proxy_core.specs.Traces.{Item}
 use Rattle.proxy_core.specs.Histories.{held_entries, open_exchanges, next_serial}
 use Rattle.proxy_core.specs.Carrying.{WentForwardOnce, WentForwardASecondTime, HasWaitedSinceItsArrival, ExchangeWasJudged}
@@ -55,74 +56,74 @@ module _ (table : Table) (line : ℕ) (off : (policy_of table.lines line).caches
   no_fallback held asked now s n same (inr may) = no_word n same may.1.operator_allows
 
   -- an exchange over the line asks about no held response
-  no_condition : (limit : ℕ) (x : Exchange) (past : List Item) → x.line ≡ line → ExchangeWasJudged table limit x past → x.condition ≡ None
-  no_condition limit x past same a = by_going a.went
+  no_condition : (start : StoreAtStart) (x : Exchange) (past : List Item) → x.line ≡ line → ExchangeWasJudged table start x past → x.condition ≡ None
+  no_condition start x past same a = by_going a.went
     where
       late : names_chosen x.rule ≡ true → ⊥
-      late h = no_word x.line same (allowed_by (policy_of table.lines x.line) (held_entries table limit a.before) x.asked a.now x.rule a.rule_is_least h)
+      late h = no_word x.line same (allowed_by (policy_of table.lines x.line) (held_entries table start a.before) x.asked a.now x.rule a.rule_is_least h)
 
-      by_name : (against : Option ℕ) → RuleNamesTheResponse (held_entries table limit a.before) x.asked x.rule against → against ≡ None
+      by_name : (against : Option ℕ) → RuleNamesTheResponse (held_entries table start a.before) x.asked x.rule against → against ≡ None
       by_name against (inl low) = low.1
       by_name against (inr high) = absurd (late high.0)
 
-      by_going : WentForwardOnce table limit x a.since a.before a.now a.item.outcome ⊎ (WentForwardASecondTime table x a.since ⊎ HasWaitedSinceItsArrival table limit x a.since a.before a.item.outcome) → x.condition ≡ None
-      by_going (inl once) = once.condition ∙ ap (condition_about_serial (held_entries table limit a.before)) (by_name once.against once.names)
+      by_going : WentForwardOnce table start x a.since a.before a.now a.item.outcome ⊎ (WentForwardASecondTime table x a.since ⊎ HasWaitedSinceItsArrival table start x a.since a.before a.item.outcome) → x.condition ≡ None
+      by_going (inl once) = once.condition ∙ ap (condition_about_serial (held_entries table start a.before)) (by_name once.against once.names)
       by_going (inr (inl more)) = more.condition
-      by_going (inr (inr waits)) = waits.condition ∙ ap (condition_about_serial (held_entries table limit a.before)) (by_name waits.against waits.names)
+      by_going (inr (inr waits)) = waits.condition ∙ ap (condition_about_serial (held_entries table start a.before)) (by_name waits.against waits.names)
 
   no_validation : (x : Exchange) (r : Response) → x.condition ≡ None → is_validation x r ≡ true → ⊥
   no_validation x r none h = false≢true (sym (and_none (r.status == 304)) ∙ ap (λ (c : Option Condition). (r.status == 304) && is_some c) (sym none) ∙ h)
 
-  nothing_sent : (limit s : ℕ) (past : List Item) (x : Option Exchange) (event : Event) → ((z : Exchange) → x ≡ Some z → ExchangeWasJudged table limit z past) →
-      EventGoesOverLine table x event line → StoredResponseMayBeSentAt table (held_entries table limit past) x event s → ⊥
-  nothing_sent limit s past x (Arrive now id asked) carries over may =
-      not_reusable (held_entries table limit past) asked now s may.0 (same_line may.0 line (sym may.1 ∙ over)) may.2
-  nothing_sent limit s past (Some x) (Answer now id r) carries over (inl may) = no_validation x r (no_condition limit x past over (carries x refl)) may.0
-  nothing_sent limit s past (Some x) (Answer now id r) carries over (inr (inl may)) = not_reusable (held_entries table limit past) x.asked now s x.line over may.2
-  nothing_sent limit s past (Some x) (Answer now id r) carries over (inr (inr may)) = no_fallback (held_entries table limit past) x.asked now s x.line over may.2
-  nothing_sent limit s past (Some x) (Fail now id kind) carries over may = no_fallback (held_entries table limit past) x.asked now s x.line over may
-  nothing_sent limit s past None (Answer now id r) carries over may = over
-  nothing_sent limit s past None (Fail now id kind) carries over may = over
-  nothing_sent limit s past (Some x) (Wake now id) carries over may = not_reusable (held_entries table limit past) x.asked now s x.line over may
-  nothing_sent limit s past None (Wake now id) carries over may = over
-  nothing_sent limit s past (Some x) (Abandon id) carries over may = may
-  nothing_sent limit s past None (Abandon id) carries over may = may
+  nothing_sent : (start : StoreAtStart) (s : ℕ) (past : List Item) (x : Option Exchange) (event : Event) → ((z : Exchange) → x ≡ Some z → ExchangeWasJudged table start z past) →
+      EventGoesOverLine table x event line → StoredResponseMayBeSentAt table (held_entries table start past) x event s → ⊥
+  nothing_sent start s past x (Arrive now id asked) carries over may =
+      not_reusable (held_entries table start past) asked now s may.0 (same_line may.0 line (sym may.1 ∙ over)) may.2
+  nothing_sent start s past (Some x) (Answer now id r) carries over (inl may) = no_validation x r (no_condition start x past over (carries x refl)) may.0
+  nothing_sent start s past (Some x) (Answer now id r) carries over (inr (inl may)) = not_reusable (held_entries table start past) x.asked now s x.line over may.2
+  nothing_sent start s past (Some x) (Answer now id r) carries over (inr (inr may)) = no_fallback (held_entries table start past) x.asked now s x.line over may.2
+  nothing_sent start s past (Some x) (Fail now id kind) carries over may = no_fallback (held_entries table start past) x.asked now s x.line over may
+  nothing_sent start s past None (Answer now id r) carries over may = over
+  nothing_sent start s past None (Fail now id kind) carries over may = over
+  nothing_sent start s past (Some x) (Wake now id) carries over may = not_reusable (held_entries table start past) x.asked now s x.line over may
+  nothing_sent start s past None (Wake now id) carries over may = over
+  nothing_sent start s past (Some x) (Abandon id) carries over may = may
+  nothing_sent start s past None (Abandon id) carries over may = may
 
 pub sends_nothing_over_it : NothingStoredIsSentOverUncachedLine
-sends_nothing_over_it table limit first line item past g over off =
-    let x = find_exchange (exchange_id_of_event item.event) (open_exchanges table limit past) in
+sends_nothing_over_it table start first line item past g over off =
+    let x = find_exchange (exchange_id_of_event item.event) (open_exchanges table start past) in
     none_there (serial_used_by_outcome item.outcome) (λ s h.
-    nothing_sent table line off limit s past x item.event
-    (λ z is. (carries_its_arrival table limit first (exchange_id_of_event item.event) past z g.1 is).0) over (sends_nothing_else table limit first s item past g h))
+    nothing_sent table line off start s past x item.event
+    (λ z is. (carries_its_arrival table start first (exchange_id_of_event item.event) past z g.1 is).0) over (sends_nothing_else table start first s item past g h))
 
 pub stores_nothing_over_it : NothingIsStoredOverUncachedLine
-stores_nothing_over_it table limit first line item past g over off =
-    let xs = open_exchanges table limit past in
+stores_nothing_over_it table start first line item past g over off =
+    let xs = open_exchanges table start past in
     let x = find_exchange (exchange_id_of_event item.event) xs in
     none_there (serial_stored_by_outcome item.outcome) (λ s h.
-    let t = storing_of table (held_entries table limit past) xs x (next_serial first past) item.event s (sym (ap serial_stored_by_outcome g.0.outcome_is) ∙ h) in
+    let t = storing_of table (held_entries table start past) xs x (next_serial first past) item.event s (sym (ap serial_stored_by_outcome g.0.outcome_is) ∙ h) in
     let here : EventGoesOverLine table (Some t.z) (Answer t.now t.i t.r) line =
     subst (λ (v : Event). EventGoesOverLine table (Some t.z) v line) t.event_is (subst (λ (w : Option Exchange). EventGoesOverLine table w item.event line) t.w_is over)
     in
     no_word table line off t.z.line here t.plain.cached)
 
 pub goes_forward_over_it : RequestGoesForwardOverUncachedLine
-goes_forward_over_it table limit first now id line asked item past g e v off =
-    let es = held_entries table limit past in
-    let xs = open_exchanges table limit past in
+goes_forward_over_it table start first now id line asked item past g e v off =
+    let es = held_entries table start past in
+    let xs = open_exchanges table start past in
     let d : decision_of (policy_of table.lines line) es asked now ≡ decision.Forward Operator None = sym (by_operator (policy_of table.lines line) es asked now off) in
     let is : item.outcome ≡ outcome_without_stored_response table es xs line now asked Operator None (is_only_if_cached asked) =
-    arrival_is table limit first now id asked item past g e
+    arrival_is table start first now id asked item past g e
     ∙ ap (λ (w : Verdict). outcome_of_arrival table es xs now asked w) v
     ∙ ap (λ (k : Decision). outcome_of_allowed_request table es xs line now asked k) d
     in
     by_word (is_only_if_cached asked) refl is
   where
-    by_word : (b : Bool) → is_only_if_cached asked ≡ b → item.outcome ≡ outcome_without_stored_response table (held_entries table limit past) (open_exchanges table limit past) line now asked Operator None b → RequestIsAnsweredByTheOperator table now asked line item.outcome
+    by_word : (b : Bool) → is_only_if_cached asked ≡ b → item.outcome ≡ outcome_without_stored_response table (held_entries table start past) (open_exchanges table start past) line now asked Operator None b → RequestIsAnsweredByTheOperator table now asked line item.outcome
     by_word true k is = inr (k, is)
     by_word false k is = inl (
       k,
       is
-          ∙ ap (λ (o : Option Awaited). outcome_of_waiting_or_forwarding table line asked None (leader_if_awaited (policy_of table.lines line) asked (open_exchanges table limit past) o))
-          (operator_awaits_nothing (policy_of table.lines line) (held_entries table limit past) asked),
+          ∙ ap (λ (o : Option Awaited). outcome_of_waiting_or_forwarding table line asked None (leader_if_awaited (policy_of table.lines line) asked (open_exchanges table start past) o))
+          (operator_awaits_nothing (policy_of table.lines line) (held_entries table start past) asked),
     )

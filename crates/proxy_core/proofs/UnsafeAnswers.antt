@@ -24,6 +24,7 @@ use Rattle.proxy_core.specs.Promises.{key_invalidated_by_answer}
 use Rattle.proxy_core.specs.Carrying.{ExchangeWasJudged, WentForwardOnce, WentForwardASecondTime, HasWaitedSinceItsArrival}
 use Rattle.proxy_core.proofs.Moves.{and_none, key_taken_by_answer, same_key_invalidated}
 use Rattle.proxy_core.proofs.UnsafeRequests.{by_no_method}
+use Rattle.proxy_core.specs.Starts.{StoreAtStart}
 
 -- the rule of the method comes before those on the chosen response
 behind_the_method : (r : ReuseRule) → names_chosen r ≡ true → reuse_rule_number rules.Method < reuse_rule_number r
@@ -46,7 +47,7 @@ behind_the_method rules.PastMaxStale h = omega arith
 behind_the_method rules.StaleMaxAge h = omega arith
 behind_the_method rules.StaleMinFresh h = omega arith
 
-module _ (table : Table) (limit : ℕ) (x : Exchange) (past : List Item) (a : ExchangeWasJudged table limit x past) where
+module _ (table : Table) (start : StoreAtStart) (x : Exchange) (past : List Item) (a : ExchangeWasJudged table start x past) where
   -- an unsafe request asks about no held response
   no_condition : is_among safe_methods x.asked.method ≡ false → x.condition ≡ None
   no_condition u = by_going a.went
@@ -54,14 +55,14 @@ module _ (table : Table) (limit : ℕ) (x : Exchange) (past : List Item) (a : Ex
       late : names_chosen x.rule ≡ true → ⊥
       late h = false≢true (sym (a.rule_is_least.none_before rules.Method (behind_the_method x.rule h)) ∙ by_no_method x.asked.method u)
 
-      by_name : (against : Option ℕ) → RuleNamesTheResponse (held_entries table limit a.before) x.asked x.rule against → against ≡ None
+      by_name : (against : Option ℕ) → RuleNamesTheResponse (held_entries table start a.before) x.asked x.rule against → against ≡ None
       by_name against (inl low) = low.1
       by_name against (inr high) = absurd (late high.0)
 
-      by_going : WentForwardOnce table limit x a.since a.before a.now a.item.outcome ⊎ (WentForwardASecondTime table x a.since ⊎ HasWaitedSinceItsArrival table limit x a.since a.before a.item.outcome) → x.condition ≡ None
-      by_going (inl once) = once.condition ∙ ap (condition_about_serial (held_entries table limit a.before)) (by_name once.against once.names)
+      by_going : WentForwardOnce table start x a.since a.before a.now a.item.outcome ⊎ (WentForwardASecondTime table x a.since ⊎ HasWaitedSinceItsArrival table start x a.since a.before a.item.outcome) → x.condition ≡ None
+      by_going (inl once) = once.condition ∙ ap (condition_about_serial (held_entries table start a.before)) (by_name once.against once.names)
       by_going (inr (inl more)) = more.condition
-      by_going (inr (inr waits)) = waits.condition ∙ ap (condition_about_serial (held_entries table limit a.before)) (by_name waits.against waits.names)
+      by_going (inr (inr waits)) = waits.condition ∙ ap (condition_about_serial (held_entries table start a.before)) (by_name waits.against waits.names)
 
   validates_nothing : (r : Response) → is_among safe_methods x.asked.method ≡ false → is_validation x r ≡ false
   validates_nothing r u = ap (λ (c : Option Condition). (r.status == 304) && is_some c) (no_condition u) ∙ and_none (r.status == 304)

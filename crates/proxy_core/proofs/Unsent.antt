@@ -1,7 +1,8 @@
 -- Nothing invalidated is sent.
-use Rattle.std.proofs.Common.{◌≡◌, ℕ, ◌+◌, ◌<◌, ◌≤◌, ◌^◌, Bool, true, false, not, cond, ◌&&◌, ◌||◌, eqb, ltb, Option, None, Some, List, [], ◌∷◌, ◌++◌, refl, sym, ◌∙◌, ap, subst, arith, inl, inr}
+use Rattle.std.proofs.Common.{◌≡◌, ℕ, ◌+◌, ◌<◌, ◌≤◌, ◌^◌, Bool, true, false, not, cond, ◌&&◌, ◌||◌, eqb, ltb, leb, Option, None, Some, List, [], ◌∷◌, ◌++◌, refl, sym, ◌∙◌, ap, subst, arith, inl, inr}
 use Rattle.std.specs.Prelude.{option_map, bytes_eq, codes, nat_le}
-use Rattle.std.proofs.lemmas.Bool.{cases_Bool, eqb-true, eq-eqb, false≢true, false_from_ne_true, or_left}
+use Rattle.std.proofs.lemmas.Bool.{cases_Bool, eqb-true, eq-eqb, leb-true, leb-false, false≢true, false_from_ne_true, or_left}
+use Rattle.std.proofs.lemmas.List.{append-nil}
 use Rattle.std.proofs.lemmas.Bool.Decides.{nat_tests}
 use Rattle.std.proofs.lemmas.Option.{same_Some}
 use Rattle.http.specs.Method.{safe_methods, is_among}
@@ -16,7 +17,7 @@ use Rattle.hx_allow.specs.declared.verdicts.Verdict.{Verdict}
 use Rattle.hx_allow.specs.declared.verdicts.Verdict.TheVariants as verdict
 use Rattle.hx_store.specs.Stored.{Stored}
 use Rattle.hx_store.specs.Serials.{serial_is_in}
-use Rattle.hx_store.specs.Shelf.{holds_serial, serials_of}
+use Rattle.hx_store.specs.Shelf.{holds_serial, find_entry, serials_of}
 use Rattle.hx_store.specs.Recency.{is_that_serial, stores_or_uses}
 use Rattle.hx_store.proofs.Recency.{is_in-after}
 use Rattle.hx_store.proofs.EntryLists.{find-serial, find_holds}
@@ -41,10 +42,11 @@ use Rattle.proxy_core.specs.Storing.{storing_rule_to_explain, storing_facts_of_a
 use Rattle.proxy_core.specs.Leading.{is_forwarded}
 use Rattle.proxy_core.specs.Awaiting.{leader_of_request}
 use Rattle.proxy_core.specs.Outcomes.{find_exchange, exchange_id_of_event, outcome_of_arrival, outcome_of_allowed_request, outcome_of_waiting_or_forwarding, outcome_without_stored_response, outcome_of_wake, fault_at_exchange, is_only_if_cached, fallback_for, outcome_of_failure, is_error_status, outcome_of_passing_on, outcome_of_passing_on_or_stale, serials_removed_by_answer, serial_of_stored_answer, outcome_of_304, outcome_of_answer, outcome_of}
-use Rattle.proxy_core.specs.State.{serial_stored_by_outcome, serial_used_by_outcome, serials_removed_by_outcome, next_serial_after, serial_after_this, stored_response_by_answer, stored_response_as_used}
+use Rattle.proxy_core.specs.State.{State, serial_stored_by_outcome, serial_used_by_outcome, serials_removed_by_outcome, next_serial_after, serial_after_this, stored_response_by_answer, stored_response_as_used, bounds_of, NoSerialIsHeldFrom}
+use Rattle.proxy_core.specs.Starts.{StoreAtStart, StartStands}
 use Rattle.proxy_core.specs.Traces.{Item, initial_state, state_after_trace, IsGood}
 use Rattle.proxy_core.specs.Histories.{held_serials, held_entry, store_change_of, exchanges_and_responses_after}
-use Rattle.proxy_core.specs.Promises.{reply_uses_no_stored_response, is_invalidated_key, invalidates_key, NoItemInvalidates, NothingInvalidatedIsSent}
+use Rattle.proxy_core.specs.Promises.{reply_uses_no_stored_response, is_invalidated_key, invalidates_key, NoItemInvalidates, NothingInvalidatedIsSent, NothingInvalidatedSinceTheStartIsSent}
 use Rattle.proxy_core.proofs.Storable.{none_of}
 use Rattle.proxy_core.proofs.Leaving.{key_stays}
 use Rattle.proxy_core.proofs.HeldEntries.{EachIs-find, held_found, some_of_key}
@@ -151,10 +153,10 @@ module _ (table : Table) (es : List Stored) (now i : ℕ) (x : Exchange) (r : Re
       by_unasked false h = stored_unless (is_error_status r.status) (fallback_for (policy_of table.lines x.line) es x.asked now d) h
 
       by_304 : (b : Bool) → serial_stored_by_outcome (cond b (outcome_of_304 table es now x r (stored_response_validated es x r now) d)
-          (cond (is_304_without_condition x.asked r) (outcome_of_failure table es now x BadAnswer (Some r.status) (fallback_for (policy_of table.lines x.line) es x.asked now d))
+          (cond (is_304_without_condition (policy_of table.lines x.line) x.asked r) (outcome_of_failure table es now x BadAnswer (Some r.status) (fallback_for (policy_of table.lines x.line) es x.asked now d))
           (outcome_of_passing_on_or_stale table es now x r next (is_error_status r.status) (fallback_for (policy_of table.lines x.line) es x.asked now d)))) ≡ Some s → Storing table (Some x) (Answer now i r) next s
       by_304 true h = absurd (stored_304 table es now x r (stored_response_validated es x r now) d s h)
-      by_304 false h = by_unasked (is_304_without_condition x.asked r) h
+      by_304 false h = by_unasked (is_304_without_condition (policy_of table.lines x.line) x.asked r) h
 
 pub storing_of : (table : Table) (es : List Stored) (xs : List Exchange) (w : Option Exchange) (next : Option ℕ) (event : Event) (s : ℕ) →
     serial_stored_by_outcome (outcome_of table es xs w next event) ≡ Some s → Storing table w event next s
@@ -215,12 +217,12 @@ answer_removes table es now x r next k h =
     let c = nat_le 200 r.status && nat_le r.status 399 in
     let p = key_parts x r k h in
     let t = tested (not (is_among safe_methods x.asked.method)) c (is_validation x r) p.0 in
-    elim (cases_Bool (is_304_without_condition x.asked r)) [
+    elim (cases_Bool (is_304_without_condition (policy_of table.lines x.line) x.asked r)) [
       | inl u ↦ (
           let refuses = unsafe_refuses (policy_of table.lines x.line) es x.asked now (turned (is_among safe_methods x.asked.method) t.unsafe) in
           ap serials_removed_by_outcome (failed_at (outcome_of_304 table es now x r (stored_response_validated es x r now) d)
           (outcome_of_failure table es now x BadAnswer (Some r.status) (fallback_for (policy_of table.lines x.line) es x.asked now d))
-          (outcome_of_passing_on_or_stale table es now x r next (is_error_status r.status) (fallback_for (policy_of table.lines x.line) es x.asked now d)) (is_validation x r) (is_304_without_condition x.asked r) t.no_validation u)
+          (outcome_of_passing_on_or_stale table es now x r next (is_error_status r.status) (fallback_for (policy_of table.lines x.line) es x.asked now d)) (is_validation x r) (is_304_without_condition (policy_of table.lines x.line) x.asked r) t.no_validation u)
           ∙ ap (λ (o : Fallback). serials_removed_by_outcome (outcome_of_failure table es now x BadAnswer (Some r.status) o)) refuses.1
           ∙ ap (λ b. cond (b && c) (serials_of x.asked.target.key es) []) t.unsafe
           ∙ ap (λ b. cond b (serials_of x.asked.target.key es) []) t.no_error
@@ -231,7 +233,7 @@ answer_removes table es now x r next k h =
           let unstored : is_storable table x r now next ≡ false = false_from_ne_true _ (λ e.
           let plain = storable_is table x r now next e in
           false≢true (sym (ap not plain.safe) ∙ t.unsafe)) in
-          ap serials_removed_by_outcome (passed_at table es now x r next d (is_validation x r) (is_304_without_condition x.asked r) (is_error_status r.status) t.no_validation f fine)
+          ap serials_removed_by_outcome (passed_at table es now x r next d (is_validation x r) (is_304_without_condition (policy_of table.lines x.line) x.asked r) (is_error_status r.status) t.no_validation f fine)
           ∙ ap (λ b. serials_removed_by_answer es x r (cond b next None)) unstored
           ∙ ap (λ b. cond b (serials_of x.asked.target.key es) []) p.0
           ∙ ap (λ key. serials_of key es) p.1
@@ -262,6 +264,13 @@ Below s (Some n) = s < n
 below_next : (s n : ℕ) → s ≤ n → Below s (serial_after_this n)
 unfolding Below
 below_next s n h = elim (ltb (n + 1) (2 ^ 64)) as (λ b. Below s (cond b (Some (n + 1)) None)) [ true ↦ omega arith | false ↦ tt ]
+
+below_first : (s n : ℕ) (es : List Stored) → NoSerialIsHeldFrom (Some n) es → holds_serial s es ≡ true → Below s (Some n)
+unfolding Below
+below_first s n es h m = elim (cases_Bool (leb n s)) [
+  | inl t ↦ absurd (false≢true (sym (h s (leb-true n s t)) ∙ m))
+  | inr f ↦ leb-false n s f
+]
 
 -- what an item does to a serial stored before it
 record Older (s : ℕ) (next st us : Option ℕ) (es : List Stored) : Type 0 where
@@ -324,25 +333,25 @@ key_kept x event st us look s n =
 
 -- ---- from the storing to the sending
 
-module _ (table : Table) (limit first : ℕ) where
+module _ (table : Table) (start : StoreAtStart) (first : ℕ) where
   -- an item that a stored and held serial lives through: it was held before, and the item doesn't invalidate its key
   record Executes (s : ℕ) (k : Key) (i : Item) (past : List Item) : Type 0 where
-    held_before : serial_is_in s (held_serials table limit past) ≡ true
+    held_before : serial_is_in s (held_serials table start past) ≡ true
     clean : invalidates_key k i past ≡ false
 
-  executes : (s : ℕ) (k : Key) (i : Item) (past : List Item) → IsGood (initial_state table limit first) (i ∷ past) → Below s (state_after_trace (initial_state table limit first) past).next →
-      key_of (held_entry table limit past s) ≡ Some k → serial_is_in s (held_serials table limit (i ∷ past)) ≡ true → Executes s k i past
+  executes : (s : ℕ) (k : Key) (i : Item) (past : List Item) → IsGood (initial_state table start first) (i ∷ past) → Below s (state_after_trace (initial_state table start first) past).next →
+      key_of (held_entry table start past s) ≡ Some k → serial_is_in s (held_serials table start (i ∷ past)) ≡ true → Executes s k i past
   unfolding key_of
   executes s k i past g l q m =
-      let p = stands_for table limit first past g.1 in
-      let st = state_after_trace (initial_state table limit first) past in
+      let p = stands_for table start first past g.1 in
+      let st = state_after_trace (initial_state table start first) past in
       let es = st.entries in
       let w = find_exchange (exchange_id_of_event i.event) st.exchanges in
       let d = older s es w i.event st.next (serial_stored_by_outcome i.outcome) (serial_used_by_outcome i.outcome) (serials_removed_by_outcome i.outcome) (kind_in table st i p.fresh g.0) l in
       let item = store_change_of i in
-      let before = held_serials table limit past in
+      let before = held_serials table start past in
       let inside : ((stores_or_uses item s || serial_is_in s before) && not (serial_is_in s (serials_removed_by_outcome i.outcome))) ≡ true =
-      sym (is_in-after s item before) ∙ held_before_cut table limit i past s m
+      sym (is_in-after s item before) ∙ held_before_cut table start i past s m
       in
       let stays : not (serial_is_in s (serials_removed_by_outcome i.outcome)) ≡ true = and_right (stores_or_uses item s || serial_is_in s before) (not (serial_is_in s (serials_removed_by_outcome i.outcome))) inside in
       let came : ((is_that_serial (serial_stored_by_outcome i.outcome) s || is_that_serial (serial_used_by_outcome i.outcome) s) || serial_is_in s before) ≡ true = and_left _ _ inside in
@@ -353,10 +362,10 @@ module _ (table : Table) (limit first : ℕ) where
       ]
       in
       let f = held_found s es (ap (serial_is_in s) p.serials_are ∙ was) in
-      let its_key : f.0.key ≡ k = same_Some f.0.key k (ap key_of (sym (EachIs-find (held_entry table limit past) s es f.0 f.1 p.entries_are)) ∙ q) in
+      let its_key : f.0.key ≡ k = same_Some f.0.key k (ap key_of (sym (EachIs-find (held_entry table start past) s es f.0 f.1 p.entries_are)) ∙ q) in
       record {
         held_before = was;
-        clean = ap (λ o. is_invalidated_key o k) (same_key_of_step table limit first i past g)
+        clean = ap (λ o. is_invalidated_key o k) (same_key_of_step table start first i past g)
             ∙ false_from_ne_true _ (λ t.
             let named = gone_key (key_taken_by_step (asked_of w) i.event i.outcome) t in
             let r : serials_removed_by_outcome i.outcome ≡ serials_of named.0 es = removes_key table es st.exchanges w st.next i.event i.outcome named.0 g.0.outcome_is named.1 in
@@ -369,51 +378,83 @@ module _ (table : Table) (limit first : ℕ) where
       gone_key (Some gone) t = (gone, refl, t)
 
   record Since (s : ℕ) (k : Key) (storing : Item) (past items : List Item) : Type 0 where
-    below : Below s (state_after_trace (initial_state table limit first) (items ++ storing ∷ past)).next
-    key : key_of (held_entry table limit (items ++ storing ∷ past) s) ≡ Some k
-    clean : serial_is_in s (held_serials table limit (items ++ storing ∷ past)) ≡ true → NoItemInvalidates k items (storing ∷ past)
+    below : Below s (state_after_trace (initial_state table start first) (items ++ storing ∷ past)).next
+    key : key_of (held_entry table start (items ++ storing ∷ past) s) ≡ Some k
+    clean : serial_is_in s (held_serials table start (items ++ storing ∷ past)) ≡ true → NoItemInvalidates k items (storing ∷ past)
 
-  since : (s : ℕ) (k : Key) (storing : Item) (past : List Item) (items : List Item) → IsGood (initial_state table limit first) (items ++ storing ∷ past) →
+  since : (s : ℕ) (k : Key) (storing : Item) (past : List Item) (items : List Item) → IsGood (initial_state table start first) (items ++ storing ∷ past) →
       Since s k storing past [] → Since s k storing past items
   since s k storing past [] g b = b
   since s k storing past (i ∷ items) g b =
       let so = since s k storing past items g.1 b in
       let all = items ++ storing ∷ past in
-      let p = stands_for table limit first all g.1 in
-      let st = state_after_trace (initial_state table limit first) all in
+      let p = stands_for table start first all g.1 in
+      let st = state_after_trace (initial_state table start first) all in
       let w = find_exchange (exchange_id_of_event i.event) st.exchanges in
       let d = older s st.entries w i.event st.next (serial_stored_by_outcome i.outcome) (serial_used_by_outcome i.outcome) (serials_removed_by_outcome i.outcome) (kind_in table st i p.fresh g.0) so.below in
-      let v = find_exchange (exchange_id_of_event i.event) (exchanges_and_responses_after table limit all).exchanges in
+      let v = find_exchange (exchange_id_of_event i.event) (exchanges_and_responses_after table start all).exchanges in
       record {
         below = d.below;
-        key = key_kept v i.event (serial_stored_by_outcome i.outcome) (serial_used_by_outcome i.outcome) (held_entry table limit all) s d.not_stored ∙ so.key;
+        key = key_kept v i.event (serial_stored_by_outcome i.outcome) (serial_used_by_outcome i.outcome) (held_entry table start all) s d.not_stored ∙ so.key;
         clean = λ m.
             let r = executes s k i all g so.below so.key m in
             (r.clean, so.clean r.held_before);
       }
 
+  -- the same from the start on, of what was held at first
+  record SinceStart (s : ℕ) (k : Key) (items : List Item) : Type 0 where
+    below : Below s (state_after_trace (initial_state table start first) items).next
+    key : key_of (held_entry table start items s) ≡ Some k
+    clean : serial_is_in s (held_serials table start items) ≡ true → NoItemInvalidates k items []
+
+  since_start : (s : ℕ) (k : Key) (items : List Item) → IsGood (initial_state table start first) items → SinceStart s k [] → SinceStart s k items
+  since_start s k [] g b = b
+  since_start s k (i ∷ items) g b =
+      let so = since_start s k items g.1 b in
+      let p = stands_for table start first items g.1 in
+      let st = state_after_trace (initial_state table start first) items in
+      let w = find_exchange (exchange_id_of_event i.event) st.exchanges in
+      let d = older s st.entries w i.event st.next (serial_stored_by_outcome i.outcome) (serial_used_by_outcome i.outcome) (serials_removed_by_outcome i.outcome) (kind_in table st i p.fresh g.0) so.below in
+      let v = find_exchange (exchange_id_of_event i.event) (exchanges_and_responses_after table start items).exchanges in
+      record {
+        below = d.below;
+        key = key_kept v i.event (serial_stored_by_outcome i.outcome) (serial_used_by_outcome i.outcome) (held_entry table start items) s d.not_stored ∙ so.key;
+        clean = λ m.
+            let r = executes s k i items g so.below so.key m in
+            (subst (λ zs. invalidates_key k i zs ≡ false) (sym (append-nil items)) r.clean, so.clean r.held_before);
+      }
+
+  -- what is held at first has a serial below the first that is given
+  held_since_start : (s : ℕ) (e : Stored) → StartStands (bounds_of table start.limit) (Some first) start.entries → find_entry s start.entries ≡ Some e → SinceStart s e.key []
+  unfolding key_of
+  held_since_start s e h f = record {
+    below = below_first s first start.entries h.below_next (ap (λ z. holds_serial z start.entries) (sym (find-serial s start.entries e f)) ∙ find_holds s start.entries e f);
+    key = ap key_of f;
+    clean = λ m. tt;
+  }
+
   -- what is known of a storing
   record Known (s : ℕ) (storing : Item) (past : List Item) : Type 0 where
     z : Exchange
-    w_is : find_exchange (exchange_id_of_event storing.event) (state_after_trace (initial_state table limit first) past).exchanges ≡ Some z
+    w_is : find_exchange (exchange_id_of_event storing.event) (state_after_trace (initial_state table start first) past).exchanges ≡ Some z
     stage : z.stage ≡ Forwarded
     in_time : z.overtaken ≡ false
     since_then : Since s z.asked.target.key storing past []
     clean : (k : Key) → invalidates_key k storing past ≡ false
 
-  stored_is : (s : ℕ) (storing : Item) (past : List Item) → IsGood (initial_state table limit first) (storing ∷ past) → serial_stored_by_outcome storing.outcome ≡ Some s → Known s storing past
+  stored_is : (s : ℕ) (storing : Item) (past : List Item) → IsGood (initial_state table start first) (storing ∷ past) → serial_stored_by_outcome storing.outcome ≡ Some s → Known s storing past
   unfolding key_of
   stored_is s storing past g e =
-      let st = state_after_trace (initial_state table limit first) past in
-      let p = stands_for table limit first past g.1 in
+      let st = state_after_trace (initial_state table start first) past in
+      let p = stands_for table start first past g.1 in
       let w = find_exchange (exchange_id_of_event storing.event) st.exchanges in
       let d = storing_of table st.entries st.exchanges w st.next storing.event s (sym (ap serial_stored_by_outcome g.0.outcome_is) ∙ e) in
       let z = d.z in
-      let x_seen : find_exchange (exchange_id_of_event storing.event) (exchanges_and_responses_after table limit past).exchanges ≡ Some z =
+      let x_seen : find_exchange (exchange_id_of_event storing.event) (exchanges_and_responses_after table start past).exchanges ≡ Some z =
       ap (find_exchange (exchange_id_of_event storing.event)) (sym p.exchanges_are) ∙ d.w_is
       in
-      let v = find_exchange (exchange_id_of_event storing.event) (exchanges_and_responses_after table limit past).exchanges in
-      let look : ℕ → Option Stored = held_entry table limit past in
+      let v = find_exchange (exchange_id_of_event storing.event) (exchanges_and_responses_after table start past).exchanges in
+      let look : ℕ → Option Stored = held_entry table start past in
       let safe : not (is_among safe_methods z.asked.method) ≡ false = ap not d.plain.safe in
       record {
         z = z;
@@ -428,7 +469,7 @@ module _ (table : Table) (limit first : ℕ) where
               ∙ ap (λ v. stored_response_by_answer (Some z) v s) d.event_is);
           clean = λ m. tt;
         };
-        clean = λ k. ap (λ o. is_invalidated_key o k) (same_key_of_step table limit first storing past g
+        clean = λ k. ap (λ o. is_invalidated_key o k) (same_key_of_step table start first storing past g
             ∙ ap (λ x. key_taken_by_step (asked_of x) storing.event storing.outcome) d.w_is
             ∙ ap (λ v. key_taken_by_step (Some z.asked) v storing.outcome) d.event_is
             ∙ no_key z.asked.target.key (not (is_among safe_methods z.asked.method)) ((nat_le 200 d.r.status && nat_le d.r.status 399) && reply_uses_no_stored_response storing.outcome) safe);
@@ -450,22 +491,43 @@ sent_held es x event next st us rm s (uses t e a b f) h =
     ap (λ z. holds_serial z es) (sym (find-serial t es e f ∙ same)) ∙ find_holds t es e f
 sent_held es x event next st us rm s (stores t e a b q f k off) h = absurd (cc)
 
-pub nothing_invalidated_is_sent : (table : Table) (limit first : ℕ) (trace : List Item) → IsGood (initial_state table limit first) trace → NothingInvalidatedIsSent trace
-nothing_invalidated_is_sent table limit first trace g later middle between before sending storing f s asked e used stored forward same none ask =
+pub nothing_invalidated_is_sent : (table : Table) (start : StoreAtStart) (first : ℕ) (trace : List Item) → IsGood (initial_state table start first) trace → NothingInvalidatedIsSent trace
+nothing_invalidated_is_sent table start first trace g later middle between before sending storing f s asked e used stored forward same none ask =
     let base = between ++ f ∷ before in
-    let at_sending : IsGood (initial_state table limit first) (sending ∷ (middle ++ (storing ∷ base))) =
-    part (initial_state table limit first) later (sending ∷ (middle ++ (storing ∷ base))) (subst (IsGood (initial_state table limit first)) (sym e) g)
+    let at_sending : IsGood (initial_state table start first) (sending ∷ (middle ++ (storing ∷ base))) =
+    part (initial_state table start first) later (sending ∷ (middle ++ (storing ∷ base))) (subst (IsGood (initial_state table start first)) (sym e) g)
     in
-    let at_storing : IsGood (initial_state table limit first) (storing ∷ base) = part (initial_state table limit first) middle (storing ∷ base) at_sending.1 in
-    let d = stored_is table limit first s storing base at_storing stored in
-    let o = out_since table limit first f before (exchange_id_of_event storing.event) between at_storing.1 forward same none d.z d.w_is d.stage in
-    let st = state_after_trace (initial_state table limit first) (middle ++ storing ∷ base) in
-    let p = stands_for table limit first (middle ++ storing ∷ base) at_sending.1 in
-    let i = since table limit first s d.z.asked.target.key storing base middle at_sending.1 d.since_then in
-    let held : serial_is_in s (held_serials table limit (middle ++ storing ∷ base)) ≡ true =
+    let at_storing : IsGood (initial_state table start first) (storing ∷ base) = part (initial_state table start first) middle (storing ∷ base) at_sending.1 in
+    let d = stored_is table start first s storing base at_storing stored in
+    let o = out_since table start first f before (exchange_id_of_event storing.event) between at_storing.1 forward same none d.z d.w_is d.stage in
+    let st = state_after_trace (initial_state table start first) (middle ++ storing ∷ base) in
+    let p = stands_for table start first (middle ++ storing ∷ base) at_sending.1 in
+    let i = since table start first s d.z.asked.target.key storing base middle at_sending.1 d.since_then in
+    let held : serial_is_in s (held_serials table start (middle ++ storing ∷ base)) ≡ true =
     sym (ap (serial_is_in s) p.serials_are)
     ∙ sent_held st.entries _ sending.event st.next _ _ _ s (kind_in table st sending p.fresh at_sending.0) used
     in
     subst (λ (r : Asked). NoItemInvalidates r.target.key middle (storing ∷ base) × NoItemInvalidates r.target.key (storing ∷ between) (f ∷ before))
     (same_Some d.z.asked asked (sym o.0 ∙ ask))
     (i.clean held, (d.clean d.z.asked.target.key, none_of_some d.z.asked.target.key between (f ∷ before) (sym o.1 ∙ d.in_time)))
+
+-- ---- from the start to the sending
+
+begun : (start : State) (trace : List Item) → IsGood start trace → StartStands (bounds_of start.table start.limit) start.next start.entries
+begun start [] g = g
+begun start (i ∷ past) g = begun start past g.1
+
+pub nothing_invalidated_since : (table : Table) (start : StoreAtStart) (first : ℕ) (trace : List Item) → IsGood (initial_state table start first) trace →
+    NothingInvalidatedSinceTheStartIsSent start.entries trace
+nothing_invalidated_since table start first trace g later before sending s e is used found =
+    let at_sending : IsGood (initial_state table start first) (sending ∷ before) =
+    part (initial_state table start first) later (sending ∷ before) (subst (IsGood (initial_state table start first)) (sym is) g)
+    in
+    let st = state_after_trace (initial_state table start first) before in
+    let p = stands_for table start first before at_sending.1 in
+    let held : serial_is_in s (held_serials table start before) ≡ true =
+    sym (ap (serial_is_in s) p.serials_are)
+    ∙ sent_held st.entries _ sending.event st.next _ _ _ s (kind_in table st sending p.fresh at_sending.0) used
+    in
+    let h = held_since_start table start first s e (begun (initial_state table start first) before at_sending.1) found in
+    (since_start table start first s e.key before at_sending.1 h).clean held

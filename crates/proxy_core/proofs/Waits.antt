@@ -43,6 +43,7 @@ use Rattle.proxy_core.specs.declared.open.awaited.Awaited.TheVariants.{Missing, 
 use Rattle.proxy_core.specs.Validating.{condition_about_serial}
 use Rattle.proxy_core.specs.Outcomes.{find_exchange, exchange_id_of_event, outcome_of_arrival, outcome_of_allowed_request, outcome_of_waiting_or_forwarding, outcome_without_stored_response, is_only_if_cached, fallback_for, outcome_of_failure, outcome_of_wake, outcome_of, outcome_of_event, or_fault, fault_if_not_released, fault_at_exchange, step_fault, forward_text}
 use Rattle.proxy_core.specs.State.{State, overtaken_exchange, released_exchange, forwarded_exchange, waiting_exchange, rule_of_decision, serial_named_by_decision, open_exchanges_after, serial_used_by_outcome}
+use Rattle.proxy_core.specs.Starts.{StoreAtStart}
 use Rattle.proxy_core.specs.Traces.{Item, initial_state, state_after_trace, IsGood}
 use Rattle.proxy_core.specs.Histories.{held_entries, open_exchanges, next_serial, IsGoodHistory}
 use Rattle.proxy_core.specs.Promises.{outcome_goes_forward, outcome_ends_exchange, is_arrival_event, NoRequestArrives}
@@ -78,24 +79,24 @@ some_leads policy awaited asked id (x ∷ xs) z f h = by_test (λ g. some_leads 
 -- ---- who waits
 
 -- what becomes of a GET that may wait, where one leads
-waits_for_it : (table : Table) (limit first now id line l : ℕ) (asked : Asked) (awaited : Awaited) (item : Item) (past : List Item) → IsGoodHistory table limit first (item ∷ past) →
-    item.event ≡ Arrive now id asked → RequestCouldWait table limit past now line asked awaited → leader (policy_of table.lines line) awaited asked (open_exchanges table limit past) ≡ Some l → item.outcome ≡ Waits l
-waits_for_it table limit first now id line l asked awaited item past g e could led =
-    let es = held_entries table limit past in
-    let xs = open_exchanges table limit past in
+waits_for_it : (table : Table) (start : StoreAtStart) (first now id line l : ℕ) (asked : Asked) (awaited : Awaited) (item : Item) (past : List Item) → IsGoodHistory table start first (item ∷ past) →
+    item.event ≡ Arrive now id asked → RequestCouldWait table start past now line asked awaited → leader (policy_of table.lines line) awaited asked (open_exchanges table start past) ≡ Some l → item.outcome ≡ Waits l
+waits_for_it table start first now id line l asked awaited item past g e could led =
+    let es = held_entries table start past in
+    let xs = open_exchanges table start past in
     let rule = could.awaits.rule in
     let least = could.awaits.is_least in
     let d = forwards (policy_of table.lines line) es asked now rule least in
-    arrival_is table limit first now id asked item past g e
+    arrival_is table start first now id asked item past g e
     ∙ (ap (λ (v : Verdict). outcome_of_arrival table es xs now asked v) could.line_allows
     ∙ (ap (λ (d : Decision). outcome_of_allowed_request table es xs line now asked d) d.1
     ∙ (ap (λ b. outcome_without_stored_response table es xs line now asked rule (condition_about_serial es d.0) b) could.takes_others
-    ∙ ap (λ (o : Option ℕ). outcome_of_waiting_or_forwarding table line asked (condition_about_serial es d.0) o) (led_for (policy_of table.lines line) es (held_distinct table limit first past g.1) xs asked now rule least awaited l could.awaits led))))
+    ∙ ap (λ (o : Option ℕ). outcome_of_waiting_or_forwarding table line asked (condition_about_serial es d.0) o) (led_for (policy_of table.lines line) es (held_distinct table start first past g.1) xs asked now rule least awaited l could.awaits led))))
 
 pub waits_where_one_leads : RequestWaitsWhereOneLeads
-waits_where_one_leads table limit first now id line l asked awaited item past g e could f =
-    waits_for_it table limit first now id line l asked awaited item past g e could
-    (first_leads (policy_of table.lines line) awaited asked (open_exchanges table limit past) l f)
+waits_where_one_leads table start first now id line l asked awaited item past g e could f =
+    waits_for_it table start first now id line l asked awaited item past g e could
+    (first_leads (policy_of table.lines line) awaited asked (open_exchanges table start past) l f)
 
 -- what is known of a request that waits
 abbrev WaitsBy : Table → List Stored → List Exchange → ℕ → ℕ → Asked → Type 0
@@ -161,22 +162,22 @@ wait_is : (l : ℕ) → is_wait (Waits l) ≡ true
 wait_is l = refl
 
 pub waits_nowhere_else : RequestWaitsNowhereElse
-waits_nowhere_else table limit first l item past g h = by_event item.event refl
+waits_nowhere_else table start first l item past g h = by_event item.event refl
   where
     es : List Stored
-    es = held_entries table limit past
+    es = held_entries table start past
 
     xs : List Exchange
-    xs = open_exchanges table limit past
+    xs = open_exchanges table start past
 
-    late : is_arrival_event item.event ≡ false → RequestIsToWait table limit l item past
+    late : is_arrival_event item.event ≡ false → RequestIsToWait table start l item past
     late n =
-        absurd (false≢true (sym (ap is_wait g.0.outcome_is ∙ late_no_wait table (held_entries table limit past) (open_exchanges table limit past) (find_exchange (exchange_id_of_event item.event) (open_exchanges table limit past)) (next_serial first past) item.event n)
+        absurd (false≢true (sym (ap is_wait g.0.outcome_is ∙ late_no_wait table (held_entries table start past) (open_exchanges table start past) (find_exchange (exchange_id_of_event item.event) (open_exchanges table start past)) (next_serial first past) item.event n)
         ∙ (ap is_wait h ∙ wait_is l)))
 
-    by_event : (event : Event) → item.event ≡ event → RequestIsToWait table limit l item past
+    by_event : (event : Event) → item.event ≡ event → RequestIsToWait table start l item past
     by_event (Arrive now id asked) e =
-        let p = wait_parts table (held_entries table limit past) (held_distinct table limit first past g.1) (open_exchanges table limit past) now l asked (verdict_of table.lines asked.method asked.target) refl (sym (arrival_is table limit first now id asked item past g e) ∙ h) in
+        let p = wait_parts table (held_entries table start past) (held_distinct table start first past g.1) (open_exchanges table start past) now l asked (verdict_of table.lines asked.method asked.target) refl (sym (arrival_is table start first now id asked item past g e) ∙ h) in
         record {
           now = now;
           id = id;
@@ -185,7 +186,7 @@ waits_nowhere_else table limit first l item past g h = by_event item.event refl
           arrives = e;
           awaited = p.3.0;
           could = record { line_allows = p.1; takes_others = p.2; awaits = p.3.1 };
-          first_leads = led_by (policy_of table.lines p.0) p.3.0 asked (open_exchanges table limit past) l p.3.2;
+          first_leads = led_by (policy_of table.lines p.0) p.3.0 asked (open_exchanges table start past) l p.3.2;
         }
     by_event (Answer now id r) e = late (ap is_arrival_event e)
     by_event (Fail now id kind) e = late (ap is_arrival_event e)
@@ -268,15 +269,15 @@ stands_apart id l i items key x y n h s =
       unwoken = ap (λ b. cond (b && is_wake_event i.event) true (was_woken id items)) n ∙ s.unwoken;
     }
 
-module _ (table : Table) (limit first l : ℕ) (before : List Item) (arrival : Item) where
-  abbrev start : State
-  start = initial_state table limit first
+module _ (table : Table) (start : StoreAtStart) (first l : ℕ) (before : List Item) (arrival : Item) where
+  abbrev begun : State
+  begun = initial_state table start first
 
   abbrev id : ℕ
   id = exchange_id_of_event arrival.event
 
   abbrev exchange : List Item → Option Exchange
-  exchange items = find_exchange id (state_after_trace start (items ++ arrival ∷ before)).exchanges
+  exchange items = find_exchange id (state_after_trace begun (items ++ arrival ∷ before)).exchanges
 
   -- it waits, went forward, or is over
   data Fate (items : List Item) (y : Option Exchange) : Type 0 where
@@ -284,8 +285,8 @@ module _ (table : Table) (limit first l : ℕ) (before : List Item) (arrival : I
     out : (x : Exchange) → y ≡ Some x → x.stage ≡ Forwarded → Fate items y
     over : y ≡ None → Fate items y
 
-  at_first : IsGood start (arrival ∷ before) → arrival.outcome ≡ Waits l → StandsBy id l [] (exchange [])
-  at_first g w = by_move (exchange []) (move_of table (state_after_trace start before) arrival id (same_table start before) g.0)
+  at_first : IsGood begun (arrival ∷ before) → arrival.outcome ≡ Waits l → StandsBy id l [] (exchange [])
+  at_first g w = by_move (exchange []) (move_of table (state_after_trace begun before) arrival id (same_table begun before) g.0)
     where
       here : eqb (exchange_id_of_event arrival.event) (exchange_id_of_event arrival.event) ≡ true
       here = eq-eqb (exchange_id_of_event arrival.event) (exchange_id_of_event arrival.event) refl
@@ -296,7 +297,7 @@ module _ (table : Table) (limit first l : ℕ) (before : List Item) (arrival : I
       no_forward : outcome_goes_forward arrival.outcome ≡ true → ⊥
       no_forward h = false≢true (sym (ap outcome_goes_forward w) ∙ h)
 
-      by_move : (y : Option Exchange) → Move id (find_exchange (exchange_id_of_event arrival.event) (state_after_trace start before).exchanges) arrival.event arrival.outcome (find_exchange id (state_after_trace start before).exchanges) y → StandsBy id l [] y
+      by_move : (y : Option Exchange) → Move id (find_exchange (exchange_id_of_event arrival.event) (state_after_trace begun before).exchanges) arrival.event arrival.outcome (find_exchange id (state_after_trace begun before).exchanges) y → StandsBy id l [] y
       by_move y (apart n h) = absurd (false≢true (sym n ∙ here))
       by_move y (opens at es now asked line e x_is f h) = absurd (no_forward f)
       by_move y (queues at es now asked line m e x_is f k h) =
@@ -337,21 +338,21 @@ module _ (table : Table) (limit first l : ℕ) (before : List Item) (arrival : I
   fate_more i items x y w a (wakes at es z now e x_is r f h) s = out _ h refl
   fate_more i items x y w a (closes z t e x_is f h) s = over h
 
-  fate : (items : List Item) → IsGood start (items ++ arrival ∷ before) → arrival.outcome ≡ Waits l → NoRequestArrives id items → Fate items (exchange items)
+  fate : (items : List Item) → IsGood begun (items ++ arrival ∷ before) → arrival.outcome ≡ Waits l → NoRequestArrives id items → Fate items (exchange items)
   fate [] g w n = stands_by (at_first g w)
   fate (i ∷ items) g w n =
-      fate_more i items (exchange items) (exchange (i ∷ items)) _ n.0 (move_of table (state_after_trace start (items ++ arrival ∷ before)) i id (same_table start (items ++ arrival ∷ before)) g.0) (fate items g.1 w n.1)
+      fate_more i items (exchange items) (exchange (i ∷ items)) _ n.0 (move_of table (state_after_trace begun (items ++ arrival ∷ before)) i id (same_table begun (items ++ arrival ∷ before)) g.0) (fate items g.1 w n.1)
 
   -- while nothing happens to it
-  applies : (items : List Item) → IsGood start (items ++ arrival ∷ before) → arrival.outcome ≡ Waits l → NothingHappenedToExchange id items → StandsBy id l items (exchange items)
+  applies : (items : List Item) → IsGood begun (items ++ arrival ∷ before) → arrival.outcome ≡ Waits l → NothingHappenedToExchange id items → StandsBy id l items (exchange items)
   applies [] g w n = at_first g w
   applies (i ∷ items) g w n =
-      by_move (applies items g.1 w n.1) (exchange (i ∷ items)) (move_of table (state_after_trace start (items ++ arrival ∷ before)) i id (same_table start (items ++ arrival ∷ before)) g.0)
+      by_move (applies items g.1 w n.1) (exchange (i ∷ items)) (move_of table (state_after_trace begun (items ++ arrival ∷ before)) i id (same_table begun (items ++ arrival ∷ before)) g.0)
     where
       not_it : (e : Event) → i.event ≡ e → exchange_id_of_event e ≡ id → ⊥
       not_it e q same = false≢true (sym n.0 ∙ eq-eqb (exchange_id_of_event i.event) id (ap exchange_id_of_event q ∙ same))
 
-      by_move : StandsBy id l items (exchange items) → (y : Option Exchange) → Move id (find_exchange (exchange_id_of_event i.event) (state_after_trace start (items ++ arrival ∷ before)).exchanges) i.event i.outcome (exchange items) y → StandsBy id l (i ∷ items) y
+      by_move : StandsBy id l items (exchange items) → (y : Option Exchange) → Move id (find_exchange (exchange_id_of_event i.event) (state_after_trace begun (items ++ arrival ∷ before)).exchanges) i.event i.outcome (exchange items) y → StandsBy id l (i ∷ items) y
       by_move was y (apart k h) = stands_apart id l i items _ (exchange items) y k h was
       by_move was y (opens at es now asked line e x_is f h) = absurd (not_it (Arrive now id asked) e refl)
       by_move was y (queues at es now asked line m e x_is f k h) = absurd (not_it (Arrive now id asked) e refl)
@@ -361,10 +362,10 @@ module _ (table : Table) (limit first l : ℕ) (before : List Item) (arrival : I
       by_move was y (closes z t e x_is f h) = absurd (false≢true (sym n.0 ∙ t))
 
 pub waits_until_its_leader_ends : RequestWaitsUntilItsLeaderEnds
-waits_until_its_leader_ends table limit first l items before arrival g w n =
-    let p = good_plain table limit first (items ++ arrival ∷ before) g in
-    let s = applies table limit first l before arrival items p w n in
-    ap (λ xs. stage_of_exchange (find_exchange (exchange_id_of_event arrival.event) xs)) (sym (exchanges_are_open table limit first (items ++ arrival ∷ before) p))
+waits_until_its_leader_ends table start first l items before arrival g w n =
+    let p = good_plain table start first (items ++ arrival ∷ before) g in
+    let s = applies table start first l before arrival items p w n in
+    ap (λ xs. stage_of_exchange (find_exchange (exchange_id_of_event arrival.event) xs)) (sym (exchanges_are_open table start first (items ++ arrival ∷ before) p))
     ∙ (ap stage_of_exchange s.y_is ∙ ap (λ (t : Stage). Some t) s.stage)
 
 -- ---- the wake
@@ -381,18 +382,18 @@ closed_by l true h = refl
 closed_by l false h = absurd (false≢true h)
 
 pub woken_once_behind_its_leader : RequestIsWokenOnceBehindItsLeader
-woken_once_behind_its_leader table limit first now l items before wake arrival g w e n =
-    let p = good_plain table limit first (wake ∷ (items ++ arrival ∷ before)) g in
+woken_once_behind_its_leader table start first now l items before wake arrival g w e n =
+    let p = good_plain table start first (wake ∷ (items ++ arrival ∷ before)) g in
     let id = exchange_id_of_event arrival.event in
-    let xs = (state_after_trace (initial_state table limit first) (items ++ arrival ∷ before)).exchanges in
+    let xs = (state_after_trace (initial_state table start first) (items ++ arrival ∷ before)).exchanges in
     let r = ready_by xs now id (ap (step_fault xs) (sym e) ∙ p.0.allowed) in
-    by_fate r (fate table limit first l before arrival items p.1 w n)
+    by_fate r (fate table start first l before arrival items p.1 w n)
   where
     same_stage : (y : Option Exchange) (a b : Exchange) → y ≡ Some a → y ≡ Some b → a.stage ≡ b.stage
     same_stage y a b h k = ap (λ (z : Exchange). z.stage) (same_Some a b (sym h ∙ k))
 
-    by_fate : ExchangeMayBeWoken (exchange_id_of_event arrival.event) (state_after_trace (initial_state table limit first) (items ++ arrival ∷ before)).exchanges →
-        Fate table limit first l before arrival items (find_exchange (exchange_id_of_event arrival.event) (state_after_trace (initial_state table limit first) (items ++ arrival ∷ before)).exchanges) →
+    by_fate : ExchangeMayBeWoken (exchange_id_of_event arrival.event) (state_after_trace (initial_state table start first) (items ++ arrival ∷ before)).exchanges →
+        Fate table start first l before arrival items (find_exchange (exchange_id_of_event arrival.event) (state_after_trace (initial_state table start first) (items ++ arrival ∷ before)).exchanges) →
         (exchange_has_closed l items ≡ true) × (was_woken (exchange_id_of_event arrival.event) items ≡ false)
     by_fate r (stands_by s) =
         let same : r.x.stage ≡ waiting_stage l (exchange_has_closed l items) = same_stage _ r.x s.x r.is_open s.y_is ∙ s.stage in
@@ -421,7 +422,7 @@ ready_in_order (x ∷ xs) past h = by_test (is_released x.stage) (ready_in_order
     by_test false rest = rest
 
 pub ready_in_order_of_arrival : ReleasedAreInOrderOfArrival
-ready_in_order_of_arrival table limit first trace g = ready_in_order (open_exchanges table limit trace) trace (open_in_order_of_arrival table limit first trace g)
+ready_in_order_of_arrival table start first trace g = ready_in_order (open_exchanges table start trace) trace (open_in_order_of_arrival table start first trace g)
 
 -- no id arrives before itself
 never_before_itself : (id : ℕ) (past : List Item) → ArrivesBefore id id past → ⊥
@@ -467,15 +468,15 @@ found_ready id (x ∷ xs) z f s = by_id (λ g. found_ready id xs z g s) (eqb x.i
     by_id others false e f = passed (is_released x.stage) (others f) e
 
 pub woken_exactly_where_ready : WakeIsAcceptedExactlyWhereReady
-woken_exactly_where_ready table limit first now id trace g = (
+woken_exactly_where_ready table start first now id trace g = (
   λ m.
-      let r = ready_found id xs trace (open_in_order_of_arrival table limit first trace g) m in
+      let r = ready_found id xs trace (open_in_order_of_arrival table start first trace g) m in
       ap (λ (w : Option Exchange). fault_at_exchange w (Wake now id)) r.is_open ∙ accepted r.x.stage (moment_too_late_fault now) r.stage,
   λ h. let r = ready_by xs now id h in found_ready id xs r.x r.is_open r.stage,
 )
   where
     xs : List Exchange
-    xs = open_exchanges table limit trace
+    xs = open_exchanges table start trace
 
     accepted : (s : Stage) (a : Option CoreFault) → is_released s ≡ true → or_fault a (fault_if_not_released s) ≡ a
     accepted Forwarded a h = absurd (false≢true h)
@@ -484,23 +485,23 @@ woken_exactly_where_ready table limit first now id trace g = (
     accepted Released (Some f) h = refl
 
 pub woken_is_judged_anew : WokenRequestIsJudgedAnew
-woken_is_judged_anew table limit first now id item past g e =
+woken_is_judged_anew table start first now id item past g e =
     let r = ready_by xs now id (ap (step_fault xs) (sym e) ∙ g.0.allowed) in
     let is : item.outcome ≡ outcome_of_wake table es now r.x (decision_of (policy_of table.lines r.x.line) es r.x.asked now) =
     g.0.outcome_is ∙ (ap (λ (v : Event). outcome_of_event table es xs (next_serial first past) v) e ∙ ap (λ (w : Option Exchange). outcome_of table es xs w (next_serial first past) (Wake now id)) r.is_open) in
     record { x = r.x; is_open = r.is_open; gets = by_decision r.x (decision_of (policy_of table.lines r.x.line) es r.x.asked now) refl is }
   where
     es : List Stored
-    es = held_entries table limit past
+    es = held_entries table start past
 
     xs : List Exchange
-    xs = open_exchanges table limit past
+    xs = open_exchanges table start past
 
     by_decision : (x : Exchange) (d : Decision) → decision_of (policy_of table.lines x.line) es x.asked now ≡ d → item.outcome ≡ outcome_of_wake table es now x d →
         ((s : ℕ) × StoredResponseIsReusable (policy_of table.lines x.line) es x.asked now s × (serial_used_by_outcome item.outcome ≡ Some s))
         ⊎ ((rule : ReuseRule) × (bytes : List ℕ) × IsLeastReuseRule (policy_of table.lines x.line) es x.asked now rule × (item.outcome ≡ Forward x.line bytes))
     by_decision x (decision.Hit s) d is = inl (s, reused_is_allowed (policy_of table.lines x.line) es x.asked now s d, ap serial_used_by_outcome is)
-    by_decision x (decision.Forward rule against) d is = inr (rule, forward_text table x.asked (condition_about_serial es against), (names_the_least (policy_of table.lines x.line) es x.asked now rule against d).0, is)
+    by_decision x (decision.Forward rule against) d is = inr (rule, forward_text table x.line x.asked (condition_about_serial es against), (names_the_least (policy_of table.lines x.line) es x.asked now rule against d).0, is)
 
 -- ---- one goes forward
 
@@ -513,9 +514,9 @@ record AtTheOrigin (rule : ReuseRule) (named : Option ℕ) (asked : Asked) (y : 
   named_is : x.named ≡ named
   stage : x.stage ≡ Forwarded
 
-module _ (table : Table) (limit first now id : ℕ) (rule : ReuseRule) (named : Option ℕ) (asked : Asked) (before : List Item) (o : Outcome) where
+module _ (table : Table) (start : StoreAtStart) (first now id : ℕ) (rule : ReuseRule) (named : Option ℕ) (asked : Asked) (before : List Item) (o : Outcome) where
   abbrev began : State
-  began = initial_state table limit first
+  began = initial_state table start first
 
   abbrev first_item : Item
   first_item = record { event = Arrive now id asked; outcome = o }
@@ -583,19 +584,19 @@ module _ (table : Table) (limit first now id : ℕ) (rule : ReuseRule) (named : 
       by_rest (inr a) = origin_more i items _ (its items) (its (i ∷ items)) (move_of table (state_after_trace began (items ++ first_item ∷ before)) i id (same_table began (items ++ first_item ∷ before)) g.0) a
 
 -- it is, right behind the arrival at which it goes there
-at_the_arrival : (table : Table) (limit first now id line : ℕ) (rule : ReuseRule) (named : Option ℕ) (asked : Asked) (bytes : List ℕ) (before : List Item) (o : Outcome) → o ≡ Forward line bytes →
-    IsGood (initial_state table limit first) (record { event = Arrive now id asked; outcome = o } ∷ before) →
-    IsLeastReuseRule (policy_of table.lines line) (held_entries table limit before) asked now rule → RuleNamesTheResponse (held_entries table limit before) asked rule named →
-    AtTheOrigin rule named asked (find_exchange id (state_after_trace (initial_state table limit first) (record { event = Arrive now id asked; outcome = o } ∷ before)).exchanges)
-at_the_arrival table limit first now id line rule named asked bytes before o went g least names =
-    let s = state_after_trace (initial_state table limit first) before in
+at_the_arrival : (table : Table) (start : StoreAtStart) (first now id line : ℕ) (rule : ReuseRule) (named : Option ℕ) (asked : Asked) (bytes : List ℕ) (before : List Item) (o : Outcome) → o ≡ Forward line bytes →
+    IsGood (initial_state table start first) (record { event = Arrive now id asked; outcome = o } ∷ before) →
+    IsLeastReuseRule (policy_of table.lines line) (held_entries table start before) asked now rule → RuleNamesTheResponse (held_entries table start before) asked rule named →
+    AtTheOrigin rule named asked (find_exchange id (state_after_trace (initial_state table start first) (record { event = Arrive now id asked; outcome = o } ∷ before)).exchanges)
+at_the_arrival table start first now id line rule named asked bytes before o went g least names =
+    let s = state_after_trace (initial_state table start first) before in
     let policy = policy_of table.lines line in
-    let es = held_entries table limit before in
+    let es = held_entries table start before in
     let y = forwarded_exchange s.table s.entries now id asked line in
     let d = forwards policy es asked now rule least in
     let decided : decision_of (policy_of s.table.lines line) s.entries asked now ≡ decision.Forward rule d.0 =
-    ap (λ (t : Table). decision_of (policy_of t.lines line) s.entries asked now) (same_table (initial_state table limit first) before)
-    ∙ (ap (λ (es : List Stored). decision_of (policy_of table.lines line) es asked now) (entries_are_held table limit first before g.1) ∙ d.1) in
+    ap (λ (t : Table). decision_of (policy_of t.lines line) s.entries asked now) (same_table (initial_state table start first) before)
+    ∙ (ap (λ (es : List Stored). decision_of (policy_of table.lines line) es asked now) (entries_are_held table start first before g.1) ∙ d.1) in
     let free : find_exchange id s.exchanges ≡ None = id_was_free (find_exchange id s.exchanges) now id asked g.0.allowed in
     record {
       x = y;
@@ -620,10 +621,10 @@ asks_for_it Missing rule named x r n h = ap is_uri_miss r ∙ h
 asks_for_it (Expired serial) rule named x r n h = ap (λ m. names_serial m serial) n ∙ h
 
 pub one_goes_forward : OnlyOneGoesForwardForKey
-one_goes_forward table limit first line awaited rule named bytes now id asked later earlier between before g arrives forward awaits e gets same went serves =
+one_goes_forward table start first line awaited rule named bytes now id asked later earlier between before g arrives forward awaits e gets same went serves =
     ap (λ (v : Event). exchange_has_closed (exchange_id_of_event v) between) e.arrives
-    ∙ by_fate (origin table limit first e.now e.id rule named e.asked before earlier.outcome between p
-    (at_the_arrival table limit first e.now e.id e.line rule named e.asked e.bytes before earlier.outcome e.forward (part (initial_state table limit first) between (item ∷ before) p) e.is_least e.names))
+    ∙ by_fate (origin table start first e.now e.id rule named e.asked before earlier.outcome between p
+    (at_the_arrival table start first e.now e.id e.line rule named e.asked e.bytes before earlier.outcome e.forward (part (initial_state table start first) between (item ∷ before) p) e.is_least e.names))
   where
     item : Item
     item = record { event = Arrive e.now e.id e.asked; outcome = earlier.outcome }
@@ -631,11 +632,11 @@ one_goes_forward table limit first line awaited rule named bytes now id asked la
     item_is : earlier ≡ record { event = Arrive e.now e.id e.asked; outcome = earlier.outcome }
     item_is = ap (λ (v : Event). record { event = v; outcome = earlier.outcome }) e.arrives
 
-    g' : IsGoodHistory table limit first (between ++ record { event = Arrive e.now e.id e.asked; outcome = earlier.outcome } ∷ before)
-    g' = subst (λ (i : Item). IsGoodHistory table limit first (between ++ i ∷ before)) item_is g.1
+    g' : IsGoodHistory table start first (between ++ record { event = Arrive e.now e.id e.asked; outcome = earlier.outcome } ∷ before)
+    g' = subst (λ (i : Item). IsGoodHistory table start first (between ++ i ∷ before)) item_is g.1
 
-    p : IsGood (initial_state table limit first) (between ++ record { event = Arrive e.now e.id e.asked; outcome = earlier.outcome } ∷ before)
-    p = good_plain table limit first (between ++ record { event = Arrive e.now e.id e.asked; outcome = earlier.outcome } ∷ before) g'
+    p : IsGood (initial_state table start first) (between ++ record { event = Arrive e.now e.id e.asked; outcome = earlier.outcome } ∷ before)
+    p = good_plain table start first (between ++ record { event = Arrive e.now e.id e.asked; outcome = earlier.outcome } ∷ before) g'
 
     policy : Policy
     policy = policy_of table.lines line
@@ -643,24 +644,24 @@ one_goes_forward table limit first line awaited rule named bytes now id asked la
     past : List Item
     past = between ++ earlier ∷ before
 
-    its_leads : (x : Exchange) → x.asked ≡ e.asked → x.rule ≡ rule → x.named ≡ named → x.stage ≡ Forwarded → (policy.waits_for_stale ≡ true → may_serve asked x ≡ true) → leads_waiters policy awaited asked x ≡ true
+    its_leads : (x : Exchange) → x.asked ≡ e.asked → x.rule ≡ rule → x.named ≡ named → x.stage ≡ Forwarded → (policy.waits_for_stale ≡ true → may_serve policy asked x ≡ true) → leads_waiters policy awaited asked x ≡ true
     its_leads x a r n t may =
-        all_five (same_key x.asked.target.key asked.target.key) (is_get x.asked) (is_forwarded x.stage) (asks_for awaited x) (not policy.waits_for_stale || may_serve asked x)
+        all_five (same_key x.asked.target.key asked.target.key) (is_get x.asked) (is_forwarded x.stage) (asks_for awaited x) (not policy.waits_for_stale || may_serve policy asked x)
         (ap (λ (q : Asked). same_key q.target.key asked.target.key) a ∙ same) (ap is_get a ∙ gets) (ap is_forwarded t) (asks_for_it awaited rule named x r n went)
-        (where_the_word_stands policy.waits_for_stale (may_serve asked x) may)
+        (where_the_word_stands policy.waits_for_stale (may_serve policy asked x) may)
 
-    by_fate : (exchange_has_closed e.id between ≡ true) ⊎ AtTheOrigin rule named e.asked (its table limit first e.now e.id rule named e.asked before earlier.outcome between) → exchange_has_closed e.id between ≡ true
+    by_fate : (exchange_has_closed e.id between ≡ true) ⊎ AtTheOrigin rule named e.asked (its table start first e.now e.id rule named e.asked before earlier.outcome between) → exchange_has_closed e.id between ≡ true
     by_fate (inl c) = c
     by_fate (inr a) =
-        let at : find_exchange e.id (open_exchanges table limit past) ≡ Some a.x =
-        ap (λ (i : Item). find_exchange e.id (open_exchanges table limit (between ++ i ∷ before))) item_is
-        ∙ (sym (ap (find_exchange e.id) (exchanges_are_open table limit first (between ++ record { event = Arrive e.now e.id e.asked; outcome = earlier.outcome } ∷ before) p)) ∙ a.y_is) in
-        let may : policy.waits_for_stale ≡ true → may_serve asked a.x ≡ true =
-        (λ w. subst (λ (o : Option Exchange). IfSome o (λ (x : Exchange). may_serve asked x ≡ true)) at (serves w)) in
-        let led = some_leads policy awaited asked e.id (open_exchanges table limit past) a.x at (its_leads a.x a.asked_is a.rule_is a.named_is a.stage may) in
-        let went = forwards_nothing_else table limit first now id line asked bytes later past g arrives forward in
+        let at : find_exchange e.id (open_exchanges table start past) ≡ Some a.x =
+        ap (λ (i : Item). find_exchange e.id (open_exchanges table start (between ++ i ∷ before))) item_is
+        ∙ (sym (ap (find_exchange e.id) (exchanges_are_open table start first (between ++ record { event = Arrive e.now e.id e.asked; outcome = earlier.outcome } ∷ before) p)) ∙ a.y_is) in
+        let may : policy.waits_for_stale ≡ true → may_serve policy asked a.x ≡ true =
+        (λ w. subst (λ (o : Option Exchange). IfSome o (λ (x : Exchange). may_serve policy asked x ≡ true)) at (serves w)) in
+        let led = some_leads policy awaited asked e.id (open_exchanges table start past) a.x at (its_leads a.x a.asked_is a.rule_is a.named_is a.stage may) in
+        let went = forwards_nothing_else table start first now id line asked bytes later past g arrives forward in
         let waits : later.outcome ≡ Waits led.0 =
-        waits_for_it table limit first now id line led.0 asked awaited later past g arrives
+        waits_for_it table start first now id line led.0 asked awaited later past g arrives
         (record { line_allows = went.0; takes_others = went.2; awaits = awaits }) led.1 in
         let no : Forward line bytes ≡ Waits led.0 = sym forward ∙ waits in
         absurd (cc)
@@ -683,5 +684,5 @@ plain_lines_wait_for_misses policy held asked now awaited x plain = (awaits_a_mi
 
     it_leads : leads_waiters policy Missing asked x ≡ (same_key x.asked.target.key asked.target.key && (is_get x.asked && (is_forwarded x.stage && is_uri_miss x.rule)))
     it_leads =
-        ap (λ w. same_key x.asked.target.key asked.target.key && (is_get x.asked && (is_forwarded x.stage && (is_uri_miss x.rule && (not w || may_serve asked x))))) plain
+        ap (λ w. same_key x.asked.target.key asked.target.key && (is_get x.asked && (is_forwarded x.stage && (is_uri_miss x.rule && (not w || may_serve policy asked x))))) plain
         ∙ ap (λ b. same_key x.asked.target.key asked.target.key && (is_get x.asked && (is_forwarded x.stage && b))) (and_always (is_uri_miss x.rule))

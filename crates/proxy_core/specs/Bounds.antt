@@ -3,8 +3,8 @@
 --
 -- HeldIsWithinTheBounds: the bounds hold at each moment        StoredIsHeld: what is stored isn't pushed out by itself
 -- HeldByNumberAlone: without a bound of bytes                  StoreChangesAreThose: what was done, without weights
--- two_were_stored, one_was_freshened: worked histories
-use Rattle.std.specs.Prelude.{◌≡◌, ℕ, ◌≤◌, true, List, [], ◌∷◌, map, codes, Option, Some, None, IfSome}
+-- two_were_stored, one_was_freshened, one_was_sent: worked histories       two_at_first: a store that isn't empty
+use Rattle.std.specs.Prelude.{◌≡◌, ℕ, ◌≤◌, true, List, [], ◌∷◌, ◌++◌, map, codes, Option, Some, None, IfSome}
 use Rattle.hx_allow.specs.TableLines.{Table}
 use Rattle.hx_store.specs.Stored.{Stored}
 use Rattle.hx_store.specs.Serials.{serial_is_in}
@@ -12,41 +12,46 @@ use Rattle.hx_store.specs.Recency.{held_of}
 use Rattle.hx_store.specs.WeightedRecency.{changes_of}
 use Rattle.hx_store.specs.Weights.{IsWithin, weight_of}
 use Rattle.proxy_core.specs.State.{serial_stored_by_outcome, bounds_of}
+use Rattle.proxy_core.specs.Starts.{StoreAtStart, change_that_stores}
 use Rattle.proxy_core.specs.Traces.{Item}
 use Rattle.proxy_core.specs.Histories.{IsGoodHistory, store_change_of, store_changes, held_serials, held_entry}
 use Rattle.proxy_core.specs.Histories.{held_entries}
 use Rattle.proxy_core.specs.declared.outcome.Outcome.TheVariants.{Forward}
 use Rattle.proxy_core.specs.declared.event.Event.TheVariants.{Arrive, Answer}
-use Rattle.proxy_core.specs.Cases.{cache_control, date_101, etag_field, response_with}
+use Rattle.proxy_core.specs.Cases.{cache_control, date_101, etag_field, response_with, stored_with}
 use Rattle.proxy_core.specs.WrongTraces.{edge_table, get_a, get_b, item_of, reply_that_stores, reply_that_sends_stored}
 use Rattle.proxy_core.specs.WrongTraces.{response_304}
 
 -- at each moment of a good history
 abbrev pub HeldIsWithinTheBounds : Type 0
-HeldIsWithinTheBounds = (table : Table) (limit first : ℕ) (trace : List Item) → IsGoodHistory table limit first trace
-    → IsWithin (bounds_of table limit) weight_of (held_entries table limit trace)
+HeldIsWithinTheBounds = (table : Table) (start : StoreAtStart) (first : ℕ) (trace : List Item)
+    → IsGoodHistory table start first trace
+    → IsWithin (bounds_of table start.limit) weight_of (held_entries table start trace)
 
 -- What is stored weighs no more than the whole store may, so where one has room it is held behind the item that stores
 -- it, whatever goes for it.
 abbrev pub StoredIsHeld : Type 0
-StoredIsHeld = (table : Table) (limit first serial : ℕ) (item : Item) (past : List Item) → 1 ≤ limit
-    → IsGoodHistory table limit first (item ∷ past) → serial_stored_by_outcome item.outcome ≡ Some serial
-    → serial_is_in serial (held_serials table limit (item ∷ past)) ≡ true
+StoredIsHeld = (table : Table) (start : StoreAtStart) (first serial : ℕ) (item : Item) (past : List Item)
+    → 1 ≤ start.limit
+    → IsGoodHistory table start first (item ∷ past) → serial_stored_by_outcome item.outcome ≡ Some serial
+    → serial_is_in serial (held_serials table start (item ∷ past)) ≡ true
 
 abbrev pub StoredWeighsNoMoreThanTheStore : Type 0
-StoredWeighsNoMoreThanTheStore = (table : Table) (limit first serial : ℕ) (e : Stored) (item : Item) (past : List Item)
-    → IsGoodHistory table limit first (item ∷ past) → serial_stored_by_outcome item.outcome ≡ Some serial
-    → held_entry table limit (item ∷ past) serial ≡ Some e → IfSome table.max_store (λ most. weight_of e ≤ most)
+StoredWeighsNoMoreThanTheStore = (table : Table) (start : StoreAtStart) (first serial : ℕ) (e : Stored) (item : Item)
+    (past : List Item)
+    → IsGoodHistory table start first (item ∷ past) → serial_stored_by_outcome item.outcome ≡ Some serial
+    → held_entry table start (item ∷ past) serial ≡ Some e → IfSome table.max_store (λ most. weight_of e ≤ most)
 
 -- where the table bounds no bytes, what is held is what is held by number
 abbrev pub HeldByNumberAlone : Type 0
-HeldByNumberAlone = (table : Table) (limit : ℕ) (past : List Item) → table.max_store ≡ None
-    → held_serials table limit past ≡ held_of limit (map store_change_of past)
+HeldByNumberAlone = (table : Table) (start : StoreAtStart) (past : List Item) → table.max_store ≡ None
+    → held_serials table start past ≡ held_of start.limit
+    (map store_change_of past ++ map change_that_stores start.entries)
 
--- whatever it bounds, what was done to the store is what the outcomes tell
+-- whatever it bounds, what was done to the store is what the outcomes tell, behind what was held at first
 abbrev pub StoreChangesAreThose : Type 0
-StoreChangesAreThose = (table : Table) (limit : ℕ) (past : List Item)
-    → changes_of (store_changes table limit past) ≡ map store_change_of past
+StoreChangesAreThose = (table : Table) (start : StoreAtStart) (past : List Item)
+    → changes_of (store_changes table start past) ≡ map store_change_of past ++ map change_that_stores start.entries
 
 -- ---- worked histories
 
@@ -70,3 +75,11 @@ one_was_freshened =
 -- the table of the wrong traces, with such a bound of bytes
 abbrev pub table_with_store : Option ℕ → Table
 table_with_store bytes = record edge_table { max_store = bytes }
+
+-- two are held at first, 2 was used last
+abbrev pub two_at_first : StoreAtStart
+two_at_first = record { limit = 2; entries = stored_with 2 [] ∷ stored_with 1 [] ∷ [] }
+
+-- and then 1 is sent
+abbrev pub one_was_sent : List Item
+one_was_sent = item_of (Arrive 105 1 get_a) (reply_that_sends_stored 1 []) ∷ []

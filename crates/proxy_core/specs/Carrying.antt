@@ -25,6 +25,7 @@ use Rattle.proxy_core.specs.Outcomes.{find_exchange, exchange_id_of_event, forwa
 use Rattle.proxy_core.specs.Traces.{Item}
 use Rattle.proxy_core.specs.Histories.{held_entries, open_exchanges, IsGoodHistory}
 use Rattle.proxy_core.specs.Promises.{outcome_goes_forward, is_arrival_event, count_of_outcomes, NoRequestArrives}
+use Rattle.proxy_core.specs.Starts.{StoreAtStart}
 
 -- a request is judged when it arrives, and anew when it is woken
 abbrev pub judges_a_request : Event → Bool
@@ -47,19 +48,19 @@ IsEventThatJudges event now x = (event ≡ Arrive now x.id x.asked) ⊎ (event �
 -- the client's own request goes forward once more, behind an answer
 abbrev pub second_forward_item : Table → Exchange → ℕ → Response → Item
 second_forward_item table x now r =
-    record { event = Answer now x.id r; outcome = Forward x.line (forward_text table x.asked None) }
+    record { event = Answer now x.id r; outcome = Forward x.line (forward_text table x.line x.asked None) }
 
 -- It went forward where it was judged alone: its request time is that moment, and its conditions,
 -- which ask about the response that its rule names, are those in the bytes that went.
-pub record WentForwardOnce (table : Table) (limit : ℕ) (x : Exchange) (since before : List Item) (now : ℕ)
+pub record WentForwardOnce (table : Table) (start : StoreAtStart) (x : Exchange) (since before : List Item) (now : ℕ)
     (outcome : Outcome) : Type 0 where
   pub stage : x.stage ≡ Forwarded
   pub since_then : count_of_outcomes outcome_goes_forward x.id since ≡ 0
   pub request_time : x.request_time ≡ now
   pub against : Option ℕ
-  pub names : RuleNamesTheResponse (held_entries table limit before) x.asked x.rule against
-  pub condition : x.condition ≡ condition_about_serial (held_entries table limit before) against
-  pub outcome_is : outcome ≡ Forward x.line (forward_text table x.asked x.condition)
+  pub names : RuleNamesTheResponse (held_entries table start before) x.asked x.rule against
+  pub condition : x.condition ≡ condition_about_serial (held_entries table start before) against
+  pub outcome_is : outcome ≡ Forward x.line (forward_text table x.line x.asked x.condition)
 
 -- it went forward once more, without conditions: its request time is the moment of that
 pub record WentForwardASecondTime (table : Table) (x : Exchange) (since : List Item) : Type 0 where
@@ -74,19 +75,19 @@ pub record WentForwardASecondTime (table : Table) (x : Exchange) (since : List I
   pub condition : x.condition ≡ None
 
 -- it has waited since it arrived, for the one of this id, and may be released by that one's end
-pub record HasWaitedSinceItsArrival (table : Table) (limit : ℕ) (x : Exchange) (since before : List Item)
+pub record HasWaitedSinceItsArrival (table : Table) (start : StoreAtStart) (x : Exchange) (since before : List Item)
     (outcome : Outcome) : Type 0 where
   pub leader : ℕ
   pub outcome_is : outcome ≡ Waits leader
   pub stage : (x.stage ≡ Waiting leader) ⊎ (x.stage ≡ Released)
   pub since_then : count_of_outcomes outcome_goes_forward x.id since ≡ 0
   pub against : Option ℕ
-  pub names : RuleNamesTheResponse (held_entries table limit before) x.asked x.rule against
-  pub condition : x.condition ≡ condition_about_serial (held_entries table limit before) against
+  pub names : RuleNamesTheResponse (held_entries table start before) x.asked x.rule against
+  pub condition : x.condition ≡ condition_about_serial (held_entries table start before) against
 
 -- The request of an open exchange was judged, and none of its id since: the line allows it, and its
 -- rule is the least that stood then (RFC 9111, section 4).
-pub record ExchangeWasJudged (table : Table) (limit : ℕ) (x : Exchange) (past : List Item) : Type 0 where
+pub record ExchangeWasJudged (table : Table) (start : StoreAtStart) (x : Exchange) (past : List Item) : Type 0 where
   pub since : List Item
   pub before : List Item
   pub item : Item
@@ -96,12 +97,13 @@ pub record ExchangeWasJudged (table : Table) (limit : ℕ) (x : Exchange) (past 
   pub none_since : NoRequestIsJudged x.id since
   pub line_allows : verdict_of table.lines x.asked.method x.asked.target ≡ Allowed x.line
   pub rule_is_least : IsLeastReuseRule (policy_of table.lines x.line)
-      (held_entries table limit before) x.asked now x.rule
-  pub went : WentForwardOnce table limit x since before now item.outcome
-      ⊎ (WentForwardASecondTime table x since ⊎ HasWaitedSinceItsArrival table limit x since before item.outcome)
+      (held_entries table start before) x.asked now x.rule
+  pub went : WentForwardOnce table start x since before now item.outcome
+      ⊎ (WentForwardASecondTime table x since ⊎ HasWaitedSinceItsArrival table start x since before item.outcome)
 
 -- the rule of an open exchange is the least that stood when its request was judged
-pub record RuleWasLeastWhenJudged (table : Table) (limit : ℕ) (x : Exchange) (past : List Item) : Type 0 where
+pub record RuleWasLeastWhenJudged (table : Table) (start : StoreAtStart) (x : Exchange)
+    (past : List Item) : Type 0 where
   pub since : List Item
   pub before : List Item
   pub item : Item
@@ -109,7 +111,7 @@ pub record RuleWasLeastWhenJudged (table : Table) (limit : ℕ) (x : Exchange) (
   pub past_is : past ≡ since ++ item ∷ before
   pub judged : IsEventThatJudges item.event now x
   pub none_since : NoRequestIsJudged x.id since
-  pub least : IsLeastReuseRule (policy_of table.lines x.line) (held_entries table limit before) x.asked now x.rule
+  pub least : IsLeastReuseRule (policy_of table.lines x.line) (held_entries table start before) x.asked now x.rule
 
 -- of two ids the latest arrival of the one comes before that of the other
 pub record ArrivesBefore (id other : ℕ) (past : List Item) : Type 0 where
@@ -139,10 +141,11 @@ exchange_ids exchanges = map (λ (x : Exchange). x.id) exchanges
 
 abbrev pub OpenExchangeCarriesItsArrival : Type 0
 OpenExchangeCarriesItsArrival =
-    (table : Table) (limit first id : ℕ) (trace : List Item) (x : Exchange) → IsGoodHistory table limit first trace →
-    find_exchange id (open_exchanges table limit trace) ≡ Some x → ExchangeWasJudged table limit x trace × (x.id ≡ id)
+    (table : Table) (start : StoreAtStart) (first id : ℕ) (trace : List Item) (x : Exchange)
+    → IsGoodHistory table start first trace →
+    find_exchange id (open_exchanges table start trace) ≡ Some x → ExchangeWasJudged table start x trace × (x.id ≡ id)
 
 abbrev pub ExchangesAreOpenInOrderOfArrival : Type 0
-ExchangesAreOpenInOrderOfArrival = (table : Table) (limit first : ℕ) (trace : List Item)
-    → IsGoodHistory table limit first trace →
-    IdsAreInOrderOfArrival (exchange_ids (open_exchanges table limit trace)) trace
+ExchangesAreOpenInOrderOfArrival = (table : Table) (start : StoreAtStart) (first : ℕ) (trace : List Item)
+    → IsGoodHistory table start first trace →
+    IdsAreInOrderOfArrival (exchange_ids (open_exchanges table start trace)) trace

@@ -61,6 +61,9 @@ table = record {
 abbrev pub table_with_policy : Policy → Table
 table_with_policy policy = record table { lines = record line_with_no_cache { policy = policy } ∷ [] }
 
+abbrev pub keeps_conditions_policy : Policy
+keeps_conditions_policy = record (plain true) { forwards_conditions = false }
+
 abbrev pub explains_storing_policy : Policy
 explains_storing_policy = record (plain true) { explains_storing = true }
 

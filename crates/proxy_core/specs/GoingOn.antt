@@ -58,7 +58,7 @@ IsClientReply outcome = (reply : Reply) × (outcome ≡ Replied reply)
 abbrev pub ExchangeGoesOnBy : Table → List Stored → Option Exchange → Event → Outcome → Type 0
 ExchangeGoesOnBy table held x (Arrive now id asked) outcome = Unit {0}
 ExchangeGoesOnBy table held (Some x) (Answer now id r) outcome =
-    (NeedsSecondForward table held x now id r → outcome ≡ Forward x.line (forward_text table x.asked None))
+    (NeedsSecondForward table held x now id r → outcome ≡ Forward x.line (forward_text table x.line x.asked None))
     × ((NeedsSecondForward table held x now id r → ⊥) → IsClientReply outcome)
 ExchangeGoesOnBy table held (Some x) (Fail now id kind) outcome = IsClientReply outcome
 ExchangeGoesOnBy table held (Some x) (Wake now id) outcome =

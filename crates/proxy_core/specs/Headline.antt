@@ -24,10 +24,12 @@ use Rattle.proxy_core.specs.declared.outcome.Reply.{Reply}
 use Rattle.proxy_core.specs.declared.outcome.Outcome.TheVariants.{Reply as Replied, Forward}
 use Rattle.proxy_core.specs.declared.event.Event.TheVariants.{Arrive, Answer}
 use Rattle.proxy_core.specs.Outcomes.{find_exchange, exchange_id_of_event, forward_text}
-use Rattle.proxy_core.specs.State.{serial_stored_by_outcome, serial_used_by_outcome}
+use Rattle.proxy_core.specs.State.{serial_stored_by_outcome, serial_used_by_outcome, bounds_of}
+use Rattle.proxy_core.specs.Starts.{StoreAtStart, StartStands}
 use Rattle.proxy_core.specs.Traces.{Item, DeniedRequestsLeaveNoTrace}
 use Rattle.proxy_core.specs.Histories.{held_entries, open_exchanges, next_serial, IsGoodHistory}
-use Rattle.proxy_core.specs.Promises.{latest_request_of, NothingInvalidatedIsSent, TwiceForwardOneReply}
+use Rattle.proxy_core.specs.Promises.{latest_request_of, TwiceForwardOneReply}
+use Rattle.proxy_core.specs.Promises.{NothingInvalidatedIsSent, NothingInvalidatedSinceTheStartIsSent}
 use Rattle.proxy_core.specs.Sending.{RequestReachesCacheOrOrigin, RequestIsTurnedAway, StoredResponseMayBeSentAt}
 use Rattle.proxy_core.specs.Sending.{ReplyIsThatStoredResponse}
 use Rattle.proxy_core.specs.GoingOn.{EventMayCome, ExchangeGoesOnBy, IsConditionOfEvent}
@@ -40,78 +42,78 @@ HoldsAtEachItem P [] = Unit {0}
 HoldsAtEachItem P (item ∷ past) = P item past × HoldsAtEachItem P past
 
 -- each event comes to an exchange that is open for it, and a request to none
-abbrev pub EventComesWhereItMay : Table → ℕ → Item → List Item → Type 0
-EventComesWhereItMay table limit item past =
-    EventMayCome (find_exchange (exchange_id_of_event item.event) (open_exchanges table limit past)) item.event
+abbrev pub EventComesWhereItMay : Table → StoreAtStart → Item → List Item → Type 0
+EventComesWhereItMay table start item past =
+    EventMayCome (find_exchange (exchange_id_of_event item.event) (open_exchanges table start past)) item.event
 
 -- A request reaches the cache or the origin of its line exactly where the table's first line that
 -- matches allows it; any other is turned away by the line, or because none matches.
-abbrev pub RequestReachesExactlyWhereAllowed : Table → ℕ → Item → List Item → Type 0
-RequestReachesExactlyWhereAllowed table limit item past = (now id : ℕ) (asked : Asked) → item.event
+abbrev pub RequestReachesExactlyWhereAllowed : Table → StoreAtStart → Item → List Item → Type 0
+RequestReachesExactlyWhereAllowed table start item past = (now id : ℕ) (asked : Asked) → item.event
     ≡ Arrive now id asked →
     ((line : ℕ) → verdict_of table.lines asked.method asked.target ≡ Allowed line
-    → RequestReachesCacheOrOrigin table (held_entries table limit past)
-    (open_exchanges table limit past) now asked line item.outcome)
+    → RequestReachesCacheOrOrigin table (held_entries table start past)
+    (open_exchanges table start past) now asked line item.outcome)
     × (((line : ℕ) → verdict_of table.lines asked.method asked.target ≢ Allowed line)
     → RequestIsTurnedAway table now asked item.outcome)
 
 -- Whatever goes forward, at an arrival, a wake or a second time, goes to the origin of the line
 -- that allows its request, and is that request's text, with the proxy's conditions of that moment.
-abbrev pub RequestGoesForwardWhereAllowed : Table → ℕ → Item → List Item → Type 0
-RequestGoesForwardWhereAllowed table limit item past = (line : ℕ) (bytes : List ℕ) → item.outcome ≡ Forward line bytes →
+abbrev pub RequestGoesForwardWhereAllowed : Table → StoreAtStart → Item → List Item → Type 0
+RequestGoesForwardWhereAllowed table start item past = (line : ℕ) (bytes : List ℕ) → item.outcome ≡ Forward line bytes →
     (asked : Asked) ×
     (condition : Option Condition) × (latest_request_of (exchange_id_of_event item.event) (item ∷ past) ≡ Some asked)
     × (verdict_of table.lines asked.method asked.target ≡ Allowed line)
-    × IsConditionOfEvent (policy_of table.lines line) (held_entries table limit past) asked item.event condition
-    × (bytes ≡ forward_text table asked condition)
+    × IsConditionOfEvent (policy_of table.lines line) (held_entries table start past) asked item.event condition
+    × (bytes ≡ forward_text table line asked condition)
 
 -- and behind it the client gets its answer at the next step, but for the one second forward, unless it goes away
-abbrev pub ExchangeGoesOnToItsAnswer : Table → ℕ → Item → List Item → Type 0
-ExchangeGoesOnToItsAnswer table limit item past =
-    ExchangeGoesOnBy table (held_entries table limit past)
-    (find_exchange (exchange_id_of_event item.event) (open_exchanges table limit past)) item.event item.outcome
+abbrev pub ExchangeGoesOnToItsAnswer : Table → StoreAtStart → Item → List Item → Type 0
+ExchangeGoesOnToItsAnswer table start item past =
+    ExchangeGoesOnBy table (held_entries table start past)
+    (find_exchange (exchange_id_of_event item.event) (open_exchanges table start past)) item.event item.outcome
 
 -- A stored response is sent exactly where one is held that may be sent at this event (RFC 9111,
 -- section 4; RFC 5861, section 4).
-abbrev pub StoredResponseIsSentExactlyWhereItMayBe : Table → ℕ → Item → List Item → Type 0
-StoredResponseIsSentExactlyWhereItMayBe table limit item past = (s : ℕ) →
-    (StoredResponseMayBeSentAt table (held_entries table limit past)
-    (find_exchange (exchange_id_of_event item.event) (open_exchanges table limit past)) item.event s
+abbrev pub StoredResponseIsSentExactlyWhereItMayBe : Table → StoreAtStart → Item → List Item → Type 0
+StoredResponseIsSentExactlyWhereItMayBe table start item past = (s : ℕ) →
+    (StoredResponseMayBeSentAt table (held_entries table start past)
+    (find_exchange (exchange_id_of_event item.event) (open_exchanges table start past)) item.event s
     → serial_used_by_outcome item.outcome ≡ Some s)
-    × (serial_used_by_outcome item.outcome ≡ Some s → StoredResponseMayBeSentAt table (held_entries table limit past)
-    (find_exchange (exchange_id_of_event item.event) (open_exchanges table limit past)) item.event s)
+    × (serial_used_by_outcome item.outcome ≡ Some s → StoredResponseMayBeSentAt table (held_entries table start past)
+    (find_exchange (exchange_id_of_event item.event) (open_exchanges table start past)) item.event s)
 
 -- and what is sent is that response: its content, its head or its 304
-abbrev pub SentResponseIsTheStoredOne : Table → ℕ → Item → List Item → Type 0
-SentResponseIsTheStoredOne table limit item past = (s : ℕ) → serial_used_by_outcome item.outcome ≡ Some s →
-    ReplyIsThatStoredResponse table (held_entries table limit past)
-    (find_exchange (exchange_id_of_event item.event) (open_exchanges table limit past)) item.event item.outcome s
+abbrev pub SentResponseIsTheStoredOne : Table → StoreAtStart → Item → List Item → Type 0
+SentResponseIsTheStoredOne table start item past = (s : ℕ) → serial_used_by_outcome item.outcome ≡ Some s →
+    ReplyIsThatStoredResponse table (held_entries table start past)
+    (find_exchange (exchange_id_of_event item.event) (open_exchanges table start past)) item.event item.outcome s
 
 -- every other answer names the first rule against it: the line of the table, the least reuse rule
 -- with the least error rule, or where an answer of the origin is passed on the least rule that
 -- stood when its request was judged, at its arrival or its wake
-abbrev pub OtherAnswerNamesTheFirstRule : Table → ℕ → ℕ → Item → List Item → Type 0
-OtherAnswerNamesTheFirstRule table limit first item past =
-    AnswerNamesFirstRule table limit past (next_serial first past) (find_exchange (exchange_id_of_event item.event)
-    (open_exchanges table limit past)) item.event item.outcome
+abbrev pub OtherAnswerNamesTheFirstRule : Table → StoreAtStart → ℕ → Item → List Item → Type 0
+OtherAnswerNamesTheFirstRule table start first item past =
+    AnswerNamesFirstRule table start past (next_serial first past) (find_exchange (exchange_id_of_event item.event)
+    (open_exchanges table start past)) item.event item.outcome
 
 -- An answer is stored exactly where RFC 9111, section 3 lets it be and none that is held is sent in
 -- its place: under the next serial.
-abbrev pub AnswerIsStoredExactlyWhereItMayBe : Table → ℕ → ℕ → Item → List Item → Type 0
-AnswerIsStoredExactlyWhereItMayBe table limit first item past =
+abbrev pub AnswerIsStoredExactlyWhereItMayBe : Table → StoreAtStart → ℕ → Item → List Item → Type 0
+AnswerIsStoredExactlyWhereItMayBe table start first item past =
     ((now id : ℕ) (x : Exchange) (r : Response) → item.event ≡ Answer now id r
-    → find_exchange id (open_exchanges table limit past) ≡ Some x →
+    → find_exchange id (open_exchanges table start past) ≡ Some x →
     serial_used_by_outcome item.outcome ≡ None → AnswerMayBeStored table (next_serial first past) past x r now
     → serial_stored_by_outcome item.outcome ≡ next_serial first past)
     × ((s : ℕ) → serial_stored_by_outcome item.outcome ≡ Some s
-    → (next_serial first past ≡ Some s) × IsAnswerThatMayBeStored table limit first item past)
+    → (next_serial first past ≡ Some s) × IsAnswerThatMayBeStored table start first item past)
 
 -- What goes: what a stored answer takes the place of, what is held for a key that an unsafe request
 -- invalidates, and what a 304 freshens and may not be kept (RFC 9111, sections 4.1, 4.4, 4.3.4).
-abbrev pub StoredResponsesAreRemovedExactlyWhereTheyMustBe : Table → ℕ → Item → List Item → Type 0
-StoredResponsesAreRemovedExactlyWhereTheyMustBe table limit item past =
-    ThoseAreRemoved table (held_entries table limit past)
-    (find_exchange (exchange_id_of_event item.event) (open_exchanges table limit past)) item.event item.outcome
+abbrev pub StoredResponsesAreRemovedExactlyWhereTheyMustBe : Table → StoreAtStart → Item → List Item → Type 0
+StoredResponsesAreRemovedExactlyWhereTheyMustBe table start item past =
+    ThoseAreRemoved table (held_entries table start past)
+    (find_exchange (exchange_id_of_event item.event) (open_exchanges table start past)) item.event item.outcome
 
 -- a client's connection closes behind its reply where its request says so
 abbrev pub ConnectionClosesAsAsked : Item → List Item → Type 0
@@ -119,27 +121,29 @@ ConnectionClosesAsAsked item past = (reply : Reply) → item.outcome ≡ Replied
     → (asked : Asked) × (latest_request_of (exchange_id_of_event item.event) (item ∷ past)
     ≡ Some asked) × (reply.close ≡ asked.close)
 
-pub record Headline (table : Table) (limit first : ℕ) (trace : List Item) : Type 0 where
-  pub comes_where_it_may : HoldsAtEachItem (EventComesWhereItMay table limit) trace
-  pub reaches_where_allowed : HoldsAtEachItem (RequestReachesExactlyWhereAllowed table limit) trace
-  pub goes_where_allowed : HoldsAtEachItem (RequestGoesForwardWhereAllowed table limit) trace
-  pub goes_on_to_its_answer : HoldsAtEachItem (ExchangeGoesOnToItsAnswer table limit) trace
-  pub sends_where_one_may_be : HoldsAtEachItem (StoredResponseIsSentExactlyWhereItMayBe table limit) trace
-  pub sends_that_response : HoldsAtEachItem (SentResponseIsTheStoredOne table limit) trace
-  pub names_the_first_rule : HoldsAtEachItem (OtherAnswerNamesTheFirstRule table limit first) trace
-  pub stores_where_it_may : HoldsAtEachItem (AnswerIsStoredExactlyWhereItMayBe table limit first) trace
-  pub removes_what_goes : HoldsAtEachItem (StoredResponsesAreRemovedExactlyWhereTheyMustBe table limit) trace
+pub record Headline (table : Table) (start : StoreAtStart) (first : ℕ) (trace : List Item) : Type 0 where
+  pub begins_as_it_may : StartStands (bounds_of table start.limit) (Some first) start.entries
+  pub comes_where_it_may : HoldsAtEachItem (EventComesWhereItMay table start) trace
+  pub reaches_where_allowed : HoldsAtEachItem (RequestReachesExactlyWhereAllowed table start) trace
+  pub goes_where_allowed : HoldsAtEachItem (RequestGoesForwardWhereAllowed table start) trace
+  pub goes_on_to_its_answer : HoldsAtEachItem (ExchangeGoesOnToItsAnswer table start) trace
+  pub sends_where_one_may_be : HoldsAtEachItem (StoredResponseIsSentExactlyWhereItMayBe table start) trace
+  pub sends_that_response : HoldsAtEachItem (SentResponseIsTheStoredOne table start) trace
+  pub names_the_first_rule : HoldsAtEachItem (OtherAnswerNamesTheFirstRule table start first) trace
+  pub stores_where_it_may : HoldsAtEachItem (AnswerIsStoredExactlyWhereItMayBe table start first) trace
+  pub removes_what_goes : HoldsAtEachItem (StoredResponsesAreRemovedExactlyWhereTheyMustBe table start) trace
   pub closes_as_asked : HoldsAtEachItem ConnectionClosesAsAsked trace
   pub nothing_invalidated_is_sent : NothingInvalidatedIsSent trace
+  pub nothing_invalidated_since : NothingInvalidatedSinceTheStartIsSent start.entries trace
   pub twice_forward_one_reply : TwiceForwardOneReply trace
   pub denied_leave_no_trace : DeniedRequestsLeaveNoTrace table trace
 
 -- ---- the statements
 
 abbrev pub EveryGoodTraceHasTheHeadline : Type 0
-EveryGoodTraceHasTheHeadline = (table : Table) (limit first : ℕ) (trace : List Item)
-    → IsGoodHistory table limit first trace
-    → Headline table limit first trace
+EveryGoodTraceHasTheHeadline = (table : Table) (start : StoreAtStart) (first : ℕ) (trace : List Item)
+    → IsGoodHistory table start first trace
+    → Headline table start first trace
 
 -- each answer of an origin has a final status (RFC 9110, section 15), as each response that was read has
 abbrev pub AnswerHasFinalStatus : Item → List Item → Type 0
@@ -148,5 +152,6 @@ AnswerHasFinalStatus item past = (now id : ℕ) (r : Response) → item.event �
 
 -- No other trace has it: the record leaves no outcome open.
 abbrev pub NoOtherTraceHasTheHeadline : Type 0
-NoOtherTraceHasTheHeadline = (table : Table) (limit first : ℕ) (trace : List Item) → Headline table limit first trace
-    → HoldsAtEachItem AnswerHasFinalStatus trace → IsGoodHistory table limit first trace
+NoOtherTraceHasTheHeadline = (table : Table) (start : StoreAtStart) (first : ℕ) (trace : List Item)
+    → Headline table start first trace
+    → HoldsAtEachItem AnswerHasFinalStatus trace → IsGoodHistory table start first trace

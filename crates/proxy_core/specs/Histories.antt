@@ -9,9 +9,9 @@ use Rattle.std.specs.Prelude.{◌≡◌, ◌⊎◌, ℕ, List, [], ◌∷◌, Op
 use Rattle.std.specs.List.{filter_map}
 use Rattle.hx_allow.specs.TableLines.{Table}
 use Rattle.hx_store.specs.Stored.{Stored}
+use Rattle.hx_store.specs.Shelf.{find_entry}
 use Rattle.hx_store.specs.Recency.{StoreChange, is_that_serial}
 use Rattle.hx_store.specs.WeightedRecency.{WeighedChange, weighed_held_of}
-use Rattle.hx_store.specs.Weights.{weight_of}
 use Rattle.proxy_core.specs.declared.open.exchange.Exchange.{Exchange}
 use Rattle.proxy_core.specs.declared.outcome.Outcome.{Outcome}
 use Rattle.proxy_core.specs.declared.event.Event.{Event}
@@ -21,6 +21,7 @@ use Rattle.proxy_core.specs.Outcomes.{find_exchange, exchange_id_of_event, step_
 use Rattle.proxy_core.specs.State.{serial_stored_by_outcome, serial_used_by_outcome, serials_removed_by_outcome}
 use Rattle.proxy_core.specs.State.{stored_response_by_answer, stored_response_as_used, open_exchanges_after}
 use Rattle.proxy_core.specs.State.{next_serial_after, bounds_of}
+use Rattle.proxy_core.specs.Starts.{StoreAtStart, StartStands, changes_at_start, weight_if_any}
 use Rattle.proxy_core.specs.Traces.{Item, ItemIsAccepted}
 
 -- what an item did to the store
@@ -38,11 +39,6 @@ stored_response_after x event o entry s =
     (cond (is_that_serial (serial_used_by_outcome o) s) (option_map (stored_response_as_used x event) (entry s))
     (entry s))
 
--- what a response weighs in the store; where there is none, nothing
-abbrev pub weight_if_any : Option Stored → ℕ
-weight_if_any None = 0
-weight_if_any (Some e) = weight_of e
-
 -- the open exchanges in the order of arrival, the response of a serial, held or not, and what was done to the store,
 -- with what the responses weighed once it was done
 pub record ExchangesAndResponses : Type 0 where
@@ -50,55 +46,59 @@ pub record ExchangesAndResponses : Type 0 where
   pub entry : ℕ → Option Stored
   pub changes : List WeighedChange
 
-abbrev pub exchanges_and_responses_after : Table → ℕ → List Item → ExchangesAndResponses
-exchanges_and_responses_after table limit [] = record { exchanges = []; entry = λ s. None; changes = [] }
-exchanges_and_responses_after table limit (i ∷ past) = record {
-  exchanges = open_exchanges_after table (filter_map (exchanges_and_responses_after table limit past).entry
-      (weighed_held_of (bounds_of table limit) (exchanges_and_responses_after table limit past).changes))
-      (exchanges_and_responses_after table limit past).exchanges i.event i.outcome;
+abbrev pub exchanges_and_responses_after : Table → StoreAtStart → List Item → ExchangesAndResponses
+exchanges_and_responses_after table start [] = record {
+  exchanges = [];
+  entry = λ s. find_entry s start.entries;
+  changes = changes_at_start start.entries;
+}
+exchanges_and_responses_after table start (i ∷ past) = record {
+  exchanges = open_exchanges_after table (filter_map (exchanges_and_responses_after table start past).entry
+      (weighed_held_of (bounds_of table start.limit) (exchanges_and_responses_after table start past).changes))
+      (exchanges_and_responses_after table start past).exchanges i.event i.outcome;
   entry = stored_response_after (find_exchange (exchange_id_of_event i.event)
-      (exchanges_and_responses_after table limit past).exchanges) i.event i.outcome
-      (exchanges_and_responses_after table limit past).entry;
+      (exchanges_and_responses_after table start past).exchanges) i.event i.outcome
+      (exchanges_and_responses_after table start past).entry;
   changes = record {
     change = store_change_of i;
     weights = λ s. weight_if_any (stored_response_after (find_exchange (exchange_id_of_event i.event)
-        (exchanges_and_responses_after table limit past).exchanges) i.event i.outcome
-        (exchanges_and_responses_after table limit past).entry s);
-  } ∷ (exchanges_and_responses_after table limit past).changes;
+        (exchanges_and_responses_after table start past).exchanges) i.event i.outcome
+        (exchanges_and_responses_after table start past).entry s);
+  } ∷ (exchanges_and_responses_after table start past).changes;
 }
 
 -- what was done to the store
-abbrev pub store_changes : Table → ℕ → List Item → List WeighedChange
-store_changes table limit past = (exchanges_and_responses_after table limit past).changes
+abbrev pub store_changes : Table → StoreAtStart → List Item → List WeighedChange
+store_changes table start past = (exchanges_and_responses_after table start past).changes
 
--- With room for so many, and for the bytes of the table, the serials that are held after a trace, the latest stored or
--- used first.
-abbrev pub held_serials : Table → ℕ → List Item → List ℕ
-held_serials table limit past = weighed_held_of (bounds_of table limit) (store_changes table limit past)
+-- With room for as many as the store has it, and for the bytes of the table, the serials that are held after a trace,
+-- the latest stored or used first. What was held at first counts as stored before it.
+abbrev pub held_serials : Table → StoreAtStart → List Item → List ℕ
+held_serials table start past = weighed_held_of (bounds_of table start.limit) (store_changes table start past)
 
 -- open from the arrival on to the end
-abbrev pub open_exchanges : Table → ℕ → List Item → List Exchange
-open_exchanges table limit past = (exchanges_and_responses_after table limit past).exchanges
+abbrev pub open_exchanges : Table → StoreAtStart → List Item → List Exchange
+open_exchanges table start past = (exchanges_and_responses_after table start past).exchanges
 
-abbrev pub held_entry : Table → ℕ → List Item → ℕ → Option Stored
-held_entry table limit past s = (exchanges_and_responses_after table limit past).entry s
+abbrev pub held_entry : Table → StoreAtStart → List Item → ℕ → Option Stored
+held_entry table start past s = (exchanges_and_responses_after table start past).entry s
 
 -- the responses that are held after a trace, the latest stored or used first
-abbrev pub held_entries : Table → ℕ → List Item → List Stored
-held_entries table limit past = filter_map (held_entry table limit past) (held_serials table limit past)
+abbrev pub held_entries : Table → StoreAtStart → List Item → List Stored
+held_entries table start past = filter_map (held_entry table start past) (held_serials table start past)
 
 -- the first, and one more for each that was stored, while one is left
 abbrev pub next_serial : ℕ → List Item → Option ℕ
 next_serial first [] = Some first
 next_serial first (i ∷ past) = next_serial_after (next_serial first past) (serial_stored_by_outcome i.outcome)
 
--- each item is what its case gives, over the responses that are held, the exchanges that are open and the next serial
--- after the items before it; the store has room for so many, and serials begin at the first
-abbrev pub IsGoodHistory : Table → ℕ → ℕ → List Item → Type 0
-IsGoodHistory table limit first [] = Unit {0}
-IsGoodHistory table limit first (item ∷ past) =
-    ItemIsAccepted table (held_entries table limit past) (open_exchanges table limit past) (next_serial first past) item
-    × IsGoodHistory table limit first past
+-- What is held at first may be, and each item is what its case gives, over the responses that are held, the exchanges
+-- that are open and the next serial after the items before it; serials begin at the first.
+abbrev pub IsGoodHistory : Table → StoreAtStart → ℕ → List Item → Type 0
+IsGoodHistory table start first [] = StartStands (bounds_of table start.limit) (Some first) start.entries
+IsGoodHistory table start first (item ∷ past) =
+    ItemIsAccepted table (held_entries table start past) (open_exchanges table start past) (next_serial first past) item
+    × IsGoodHistory table start first past
 
 -- the next event is refused: by the least fault that stands at it, or where none does because memory ran out
 abbrev pub HistoryStopsAt : List Exchange → Option Event → CoreFault → Type 0

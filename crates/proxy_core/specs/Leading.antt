@@ -17,6 +17,7 @@ use Rattle.hx_directives.specs.Answers.{directive_occurs as has_directive}
 use Rattle.hx_directives.specs.declared.names.Directive.TheVariants.{NoStore}
 use Rattle.hx_target.specs.Keys.{same_key}
 use Rattle.hx_hop.specs.declared.request_view.Asked.{Asked}
+use Rattle.hx_reuse.specs.Conditions.{forwards_condition}
 use Rattle.hx_reuse.specs.declared.rule.ReuseRule.{ReuseRule}
 use Rattle.hx_reuse.specs.declared.rule.ReuseRule.TheVariants.{UriMiss}
 use Rattle.proxy_core.specs.declared.open.stage.Stage.{Stage}
@@ -59,10 +60,10 @@ abbrev pub has_no_store : Asked → Bool
 has_no_store asked = has_directive (occurrences_of asked.fields) NoStore
 
 -- A condition of the client's own is at the origin (RFC 9110, sections 13.1.2 and 13.1.3): where the
--- proxy sends one, it takes the client's out. A 304 to it is for that client, and brings nothing to store.
-abbrev pub sends_clients_condition : Exchange → Bool
-sends_clients_condition x = is_none x.condition
-    && (has_line x.asked.fields (codes "If-None-Match") || has_line x.asked.fields (codes "If-Modified-Since"))
+-- proxy sends one, or keeps the client's, it takes the client's out. A 304 to it is for that client, and brings nothing
+-- to store.
+abbrev pub sends_clients_condition : Policy → Exchange → Bool
+sends_clients_condition policy x = is_none x.condition && forwards_condition policy x.asked
 
 abbrev pub names_serial : Option ℕ → ℕ → Bool
 names_serial None serial = false
@@ -83,10 +84,10 @@ is_same_truth a b = cond a b (not b)
 -- 4.4), or where it may be a 304 to the client's own condition.
 -- own: a request waits for one with Authorization exactly where it has Authorization, since nobody
 -- knows yet whether the answer will be public (section 3.5)
-abbrev pub may_serve : Asked → Exchange → Bool
-may_serve asked x = not x.no_store
+abbrev pub may_serve : Policy → Asked → Exchange → Bool
+may_serve policy asked x = not x.no_store
     && (not x.overtaken
-    && (not (sends_clients_condition x) && is_same_truth (has_authorization x.asked) (has_authorization asked)))
+    && (not (sends_clients_condition policy x) && is_same_truth (has_authorization x.asked) (has_authorization asked)))
 
 -- A GET for the key of this request went forward for what it could be sent, and isn't answered yet. A
 -- response "that is stored or storable" may "satisfy multiple requests", so a cache may "collapse
@@ -96,7 +97,7 @@ abbrev pub leads_waiters : Policy → Awaited → Asked → Exchange → Bool
 leads_waiters policy awaited asked x =
     same_key x.asked.target.key asked.target.key
     && (is_get x.asked
-    && (is_forwarded x.stage && (asks_for awaited x && (not policy.waits_for_stale || may_serve asked x))))
+    && (is_forwarded x.stage && (asks_for awaited x && (not policy.waits_for_stale || may_serve policy asked x))))
 
 -- of those the first to arrive
 abbrev pub leader : Policy → Awaited → Asked → List Exchange → Option ℕ

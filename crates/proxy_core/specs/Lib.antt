@@ -6,6 +6,7 @@ pub mod Awaiting
 pub mod Outcomes
 pub mod State
 pub mod Arrivals
+pub mod Starts
 pub mod Traces
 pub mod Histories
 pub mod Promises
@@ -19,6 +20,7 @@ pub mod GoingOn
 pub mod StoredAnswers
 pub mod Headline
 pub mod Driving
+pub mod Restarts
 pub mod Pending
 pub mod Waking
 pub mod Validating
@@ -30,3 +32,4 @@ pub mod Cases
 pub mod WrongTraces
 pub mod ReadAnswers
 pub mod Bounds
+pub mod KeptConditions

@@ -37,6 +37,7 @@ use Rattle.proxy_core.specs.Traces.{Item}
 use Rattle.proxy_core.specs.Histories.{held_entries, open_exchanges, next_serial, IsGoodHistory}
 use Rattle.proxy_core.specs.Promises.{reply_uses_no_stored_response}
 use Rattle.proxy_core.specs.Carrying.{RuleWasLeastWhenJudged}
+use Rattle.proxy_core.specs.Starts.{StoreAtStart}
 
 -- To a request that arrives the proxy answers by itself alone: the line of the table that denies
 -- it; that none matches; or the least reuse rule that stands, where the request takes no response
@@ -69,42 +70,47 @@ AnswerAfterFailureNames table held now x kind bytes =
 -- an answer that is passed on: the least rule that stood when its request was judged, at its
 -- arrival or when it was woken, which its exchange has kept, in Cache-Status; and where its line
 -- tells it the first storing rule against it, by the next serial
-abbrev pub PassedAnswerNamesItsRule : Table → ℕ → List Item → Option ℕ → ℕ → Exchange → Response → List ℕ → Option ℕ
+abbrev pub PassedAnswerNamesItsRule : Table → StoreAtStart → List Item → Option ℕ → ℕ → Exchange → Response → List ℕ
+    → Option ℕ
     → Type 0
-PassedAnswerNamesItsRule table limit past next now x r bytes stored =
-    RuleWasLeastWhenJudged table limit x past × (bytes
+PassedAnswerNamesItsRule table start past next now x r bytes stored =
+    RuleWasLeastWhenJudged table start x past × (bytes
     ≡ passed_answer_text
     (policy_of table.lines x.line) table.name x r now (is_some stored) (storing_rule_to_explain table x r now next))
 
 -- by its event and the exchange that it is of; a 304 that nobody asked for is a failure
-abbrev pub AnswerNamesByEvent : Table → ℕ → List Item → Option ℕ → Option Exchange → Event → List ℕ → Option ℕ → Type 0
-AnswerNamesByEvent table limit past next x (Arrive now id asked) bytes stored =
-    AnswerAtArrivalNames table (held_entries table limit past) now asked bytes
-AnswerNamesByEvent table limit past next (Some x) (Answer now id r) bytes stored =
-    ((is_304_without_condition x.asked r ≡ false) × PassedAnswerNamesItsRule table limit past next now x r bytes stored)
-    ⊎ ((is_304_without_condition x.asked r ≡ true) × AnswerAfterFailureNames table
-    (held_entries table limit past) now x BadAnswer bytes)
-AnswerNamesByEvent table limit past next (Some x) (Fail now id kind) bytes stored =
-    AnswerAfterFailureNames table (held_entries table limit past) now x kind bytes
-AnswerNamesByEvent table limit past next (Some x) (Wake now id) bytes stored = ⊥
-AnswerNamesByEvent table limit past next None (Answer now id r) bytes stored = ⊥
-AnswerNamesByEvent table limit past next None (Fail now id kind) bytes stored = ⊥
-AnswerNamesByEvent table limit past next None (Wake now id) bytes stored = ⊥
-AnswerNamesByEvent table limit past next x (Abandon id) bytes stored = ⊥
+abbrev pub AnswerNamesByEvent : Table → StoreAtStart → List Item → Option ℕ → Option Exchange → Event → List ℕ
+    → Option ℕ → Type 0
+AnswerNamesByEvent table start past next x (Arrive now id asked) bytes stored =
+    AnswerAtArrivalNames table (held_entries table start past) now asked bytes
+AnswerNamesByEvent table start past next (Some x) (Answer now id r) bytes stored =
+    ((is_304_without_condition (policy_of table.lines x.line) x.asked r ≡ false)
+    × PassedAnswerNamesItsRule table start past next now x r bytes stored)
+    ⊎ ((is_304_without_condition (policy_of table.lines x.line) x.asked r ≡ true) × AnswerAfterFailureNames table
+    (held_entries table start past) now x BadAnswer bytes)
+AnswerNamesByEvent table start past next (Some x) (Fail now id kind) bytes stored =
+    AnswerAfterFailureNames table (held_entries table start past) now x kind bytes
+AnswerNamesByEvent table start past next (Some x) (Wake now id) bytes stored = ⊥
+AnswerNamesByEvent table start past next None (Answer now id r) bytes stored = ⊥
+AnswerNamesByEvent table start past next None (Fail now id kind) bytes stored = ⊥
+AnswerNamesByEvent table start past next None (Wake now id) bytes stored = ⊥
+AnswerNamesByEvent table start past next x (Abandon id) bytes stored = ⊥
 
 -- an item whose reply is no stored response, behind those before it
-abbrev pub AnswerNamesFirstRule : Table → ℕ → List Item → Option ℕ → Option Exchange → Event → Outcome → Type 0
-AnswerNamesFirstRule table limit past next x event (Reply r) =
-    reply_uses_no_stored_response (Reply r) ≡ true → AnswerNamesByEvent table limit past next x event r.bytes r.stored
-AnswerNamesFirstRule table limit past next x event (Forward line bytes) = Unit {0}
-AnswerNamesFirstRule table limit past next x event (Waits leader) = Unit {0}
-AnswerNamesFirstRule table limit past next x event Ended = Unit {0}
+abbrev pub AnswerNamesFirstRule : Table → StoreAtStart → List Item → Option ℕ → Option Exchange → Event → Outcome
+    → Type 0
+AnswerNamesFirstRule table start past next x event (Reply r) =
+    reply_uses_no_stored_response (Reply r) ≡ true → AnswerNamesByEvent table start past next x event r.bytes r.stored
+AnswerNamesFirstRule table start past next x event (Forward line bytes) = Unit {0}
+AnswerNamesFirstRule table start past next x event (Waits leader) = Unit {0}
+AnswerNamesFirstRule table start past next x event Ended = Unit {0}
 
 -- ---- the statement
 
 -- Each answer that isn't a stored response names the first rule against one, over what was held and open before it.
 abbrev pub EachOtherAnswerNamesTheFirstRule : Type 0
 EachOtherAnswerNamesTheFirstRule =
-    (table : Table) (limit first : ℕ) (item : Item) (past : List Item) → IsGoodHistory table limit first (item ∷ past) →
-    AnswerNamesFirstRule table limit past (next_serial first past)
-    (find_exchange (exchange_id_of_event item.event) (open_exchanges table limit past)) item.event item.outcome
+    (table : Table) (start : StoreAtStart) (first : ℕ) (item : Item) (past : List Item)
+    → IsGoodHistory table start first (item ∷ past) →
+    AnswerNamesFirstRule table start past (next_serial first past)
+    (find_exchange (exchange_id_of_event item.event) (open_exchanges table start past)) item.event item.outcome

@@ -21,6 +21,7 @@ use Rattle.hx_allow.specs.declared.verdicts.Verdict.{Verdict}
 use Rattle.hx_allow.specs.declared.verdicts.Verdict.TheVariants as verdict
 use Rattle.hx_store.specs.Stored.{Stored}
 use Rattle.hx_store.specs.Shelf.{find_entry, serials_of}
+use Rattle.hx_reuse.specs.Conditions.{keeps_conditions}
 use Rattle.hx_reuse.specs.Rules.{decision_of}
 use Rattle.hx_reuse.specs.ErrorRules.{error_rule_on}
 use Rattle.hx_reuse.specs.declared.rule.ReuseRule.{ReuseRule}
@@ -87,9 +88,11 @@ outcome_of_refusal now cause asked = Reply (record {
   removed = [];
 })
 
--- the bytes of a request that goes forward
-abbrev pub forward_text : Table → Asked → Option Condition → List ℕ
-forward_text table asked condition = request_text (forwarded_of asked table.name (conditions_to_send condition))
+-- the bytes of a request that goes forward over a line; its own conditions may stay with the proxy
+abbrev pub forward_text : Table → ℕ → Asked → Option Condition → List ℕ
+forward_text table line asked condition =
+    request_text (forwarded_of (keeps_conditions (policy_of table.lines line) asked) asked table.name
+    (conditions_to_send condition))
 
 -- the request takes no response but a stored one (RFC 9111, section 5.2.1.7)
 abbrev pub is_only_if_cached : Asked → Bool
@@ -98,7 +101,8 @@ is_only_if_cached asked = has_directive (occurrences_of asked.fields) OnlyIfHeld
 -- a request waits for the exchange that leads, or where none does goes forward
 abbrev pub outcome_of_waiting_or_forwarding : Table → ℕ → Asked → Option Condition → Option ℕ → Outcome
 outcome_of_waiting_or_forwarding table line asked condition (Some leader) = Waits leader
-outcome_of_waiting_or_forwarding table line asked condition None = Forward line (forward_text table asked condition)
+outcome_of_waiting_or_forwarding table line asked condition None = Forward line
+    (forward_text table line asked condition)
 
 -- a rule keeps each stored response back
 abbrev pub outcome_without_stored_response : Table → List Stored → List Exchange → ℕ → ℕ → Asked → ReuseRule
@@ -233,14 +237,15 @@ abbrev pub outcome_of_304 : Table → List Stored → ℕ → Exchange → Respo
 outcome_of_304 table es now x r (Some e) d = outcome_of_sending_freshened table x r now (freshened_by_304 x r now e)
 outcome_of_304 table es now x r None (decision.Hit serial) = outcome_of_sending_stored table es serial now
     (forwarded_status_info (policy_of table.lines x.line) x (Some r.status) (Some ReuseAfter304)) x.asked
-outcome_of_304 table es now x r None (decision.Forward rule against) = Forward x.line (forward_text table x.asked None)
+outcome_of_304 table es now x r None (decision.Forward rule against) = Forward x.line
+    (forward_text table x.line x.asked None)
 
 -- an answer of the origin: a 304 to the proxy's conditions validates; one that nobody asked for is a failure; any other
 -- answer is passed on, and stored where no rule stands, unless a stored response is sent in its place
 abbrev pub outcome_of_answer : Table → List Stored → ℕ → Exchange → Response → Option ℕ → Decision → Outcome
 outcome_of_answer table es now x r next d =
     cond (is_validation x r) (outcome_of_304 table es now x r (stored_response_validated es x r now) d)
-    (cond (is_304_without_condition x.asked r)
+    (cond (is_304_without_condition (policy_of table.lines x.line) x.asked r)
     (outcome_of_failure table es now x BadAnswer (Some r.status)
     (fallback_for (policy_of table.lines x.line) es x.asked now d))
     (outcome_of_passing_on_or_stale table es now x r next (is_error_status r.status)
@@ -260,7 +265,7 @@ abbrev pub outcome_of_wake : Table → List Stored → ℕ → Exchange → Deci
 outcome_of_wake table es now x (decision.Hit serial) =
     outcome_of_sending_stored table es serial now (collapsed_status_info (policy_of table.lines x.line) x) x.asked
 outcome_of_wake table es now x (decision.Forward rule against) =
-    Forward x.line (forward_text table x.asked (condition_about_serial es against))
+    Forward x.line (forward_text table x.line x.asked (condition_about_serial es against))
 
 -- the outcome of an event, by cases; x is the open exchange of its id
 abbrev pub outcome_of : Table → List Stored → List Exchange → Option Exchange → Option ℕ → Event → Outcome

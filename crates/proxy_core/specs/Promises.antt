@@ -3,9 +3,11 @@
 -- count_of_outcomes: how many items of an exchange's id have such an outcome
 -- latest_request_of: the request of an exchange
 -- invalidates_key: an item that invalidates what is held for a key
--- TwiceForwardOneReply, NothingInvalidatedIsSent: the promises
+-- TwiceForwardOneReply, NothingInvalidatedIsSent, NothingInvalidatedSinceTheStartIsSent: the promises
 use Rattle.std.specs.Prelude.{◌≡◌, ℕ, ◌+◌, ◌≤◌, ◌==◌, ◌&&◌, ◌||◌, Bool, true, false, List, [], ◌∷◌, ◌++◌}
 use Rattle.std.specs.Prelude.{Option, Some, None, is_none, cond}
+use Rattle.hx_store.specs.Stored.{Stored}
+use Rattle.hx_store.specs.Shelf.{find_entry}
 use Rattle.hx_framing.specs.declared.messages.Response.{Response}
 use Rattle.hx_target.specs.declared.keys.Key.{Key}
 use Rattle.hx_target.specs.Keys.{same_key}
@@ -139,3 +141,11 @@ NothingInvalidatedIsSent trace =
     latest_request_of (exchange_id_of_event storing.event) (f ∷ before) ≡ Some asked →
     NoItemInvalidates asked.target.key middle (storing ∷ (between ++ f ∷ before))
     × NoItemInvalidates asked.target.key (storing ∷ between) (f ∷ before)
+
+-- What was held at first was stored by no item. Let an item send such a response: no item before it invalidates its
+-- key.
+abbrev pub NothingInvalidatedSinceTheStartIsSent : List Stored → List Item → Type 0
+NothingInvalidatedSinceTheStartIsSent entries trace =
+    (later before : List Item) (sending : Item) (s : ℕ) (response : Stored) →
+    later ++ sending ∷ before ≡ trace → serial_used_by_outcome sending.outcome ≡ Some s →
+    find_entry s entries ≡ Some response → NoItemInvalidates response.key before []

@@ -1,8 +1,10 @@
 -- The bytes of each answer (RFC 9110, section 6; RFC 9111, section 5.1; RFC 9211).
 --
--- stored_text: a stored response, whole or as a 304     passed_answer_text: an answer of the origin
+-- stored_text: a stored response, whole or as a 304
+-- passed_answer_text: an answer of the origin, whole or as a 304
 -- refusal_reply_text: the proxy's own
-use Rattle.std.specs.Prelude.{ℕ, ℤ, ◌==◌, ◌||◌, List, [], ◌∷◌, ◌++◌, length, codes, bytes_eq, Bool, true, false, Option}
+use Rattle.std.specs.Prelude.{ℕ, ℤ, ◌==◌, ◌&&◌, ◌||◌, List, [], ◌∷◌, ◌++◌, length, codes, bytes_eq, Bool, true, false}
+use Rattle.std.specs.Prelude.{Option}
 use Rattle.std.specs.Prelude.{Some, None, cond}
 use Rattle.std.specs.Fmt.{decimal}
 use Rattle.hx_fields.specs.declared.field_line.Field.{Field}
@@ -13,8 +15,9 @@ use Rattle.hx_hop.specs.Answering.{answered_of}
 use Rattle.hx_hop.specs.declared.request_view.Asked.{Asked}
 use Rattle.hx_policy.specs.declared.words.Policy.{Policy}
 use Rattle.hx_store.specs.Stored.{Stored}
+use Rattle.hx_reuse.specs.Conditions.{keeps_conditions}
 use Rattle.hx_reuse.specs.Lifetimes.{lifetime_under}
-use Rattle.hx_validate.specs.NotModified.{gets_304, fields_of_304}
+use Rattle.hx_validate.specs.NotModified.{gets_304, fields_of_304, answer_gets_304, fields_of_304_to_answer}
 use Rattle.hx_storable.specs.declared.rule.StoreRule.{StoreRule}
 use Rattle.hx_status.specs.Member.{member_text}
 use Rattle.hx_status.specs.Refusals.{refusal_status, refusal_text}
@@ -109,15 +112,42 @@ fields_of_passed_answer policy name x status fields now stored rule =
     fields ++ line (codes "Cache-Status")
     (member_text name (cache_status_of_passed_answer policy x status fields now stored rule)) ∷ []
 
--- an answer of the origin is passed on, and says whether it was stored, and perhaps why not; the
--- policy is that of its exchange's line
-abbrev pub passed_answer_text : Policy → List ℕ → Exchange → Response → ℕ → Bool → Option StoreRule → List ℕ
-passed_answer_text policy name x r now stored rule =
+-- an answer of the origin, whole: it says whether it was stored, and perhaps why not
+abbrev pub whole_answer_text : Policy → List ℕ → Exchange → Response → ℕ → Bool → Option StoreRule → List ℕ
+whole_answer_text policy name x r now stored rule =
     response_text r.status (fields_of_passed_answer policy name x r.status (answered_of r now).fields now stored rule)
     (length_of_passed_answer (is_head x.asked) r) x.asked.close (content_unless_head (is_head x.asked) r.content)
 
+-- the client has it already: the condition that it set stayed with the proxy, and is false of the answer (RFC 9110,
+-- section 13.1)
+abbrev pub client_has_answer : Policy → Exchange → Response → ℕ → Bool
+client_has_answer policy x r now =
+    keeps_conditions policy x.asked && answer_gets_304 x.asked r.status (answered_of r now).fields
+
+-- so a 304 is sent in its place (RFC 9110, section 15.4.5), which tells the status that came (RFC 9211, section 2.3)
+abbrev pub cache_status_of_304_to_answer : Policy → Exchange → ℕ → List Field → ℕ → Bool → Option StoreRule → Status
+cache_status_of_304_to_answer policy x status fields now stored rule =
+    record (cache_status_of_passed_answer policy x status fields now stored rule) { fwd_status = Some status }
+
+abbrev pub fields_of_304_sent : Policy → List ℕ → Exchange → ℕ → List Field → ℕ → Bool → Option StoreRule → List Field
+fields_of_304_sent policy name x status fields now stored rule =
+    fields_of_304_to_answer fields ++ line (codes "Cache-Status")
+    (member_text name (cache_status_of_304_to_answer policy x status fields now stored rule)) ∷ []
+
+abbrev pub not_modified_answer_text : Policy → List ℕ → Exchange → Response → ℕ → Bool → Option StoreRule → List ℕ
+not_modified_answer_text policy name x r now stored rule =
+    response_text 304 (fields_of_304_sent policy name x r.status (answered_of r now).fields now stored rule) None
+    x.asked.close []
+
+-- an answer of the origin is passed on, whole or as a 304; the policy is that of its exchange's line
+abbrev pub passed_answer_text : Policy → List ℕ → Exchange → Response → ℕ → Bool → Option StoreRule → List ℕ
+passed_answer_text policy name x r now stored rule =
+    cond (client_has_answer policy x r now) (not_modified_answer_text policy name x r now stored rule)
+    (whole_answer_text policy name x r now stored rule)
+
 abbrev pub fields_of_refusal : List ℕ → List ℕ → List Field
-fields_of_refusal date text = line (codes "Date") date ∷ line (codes "Content-Type") (codes "text/plain") ∷ line (codes "Refusal") text ∷ []
+fields_of_refusal date text = line (codes "Date") date ∷ line (codes "Content-Type") (codes "text/plain") ∷ line
+    (codes "Refusal") text ∷ []
 
 -- the proxy answers by itself, and names the cause
 abbrev pub refusal_reply_text : List ℕ → Cause → Bool → Bool → List ℕ

@@ -43,6 +43,7 @@ use Rattle.proxy_core.specs.declared.open.awaited.Awaited.{Awaited}
 use Rattle.proxy_core.specs.Leading.{NoExchangeLeads, IsFirstLeader}
 use Rattle.proxy_core.specs.Awaiting.{RequestAwaits}
 use Rattle.proxy_core.specs.State.{serial_used_by_outcome, stored_response_as_used}
+use Rattle.proxy_core.specs.Starts.{StoreAtStart}
 use Rattle.proxy_core.specs.Traces.{Item}
 use Rattle.proxy_core.specs.Histories.{held_entries, open_exchanges, IsGoodHistory}
 
@@ -80,7 +81,8 @@ StoredResponseMayBeSentAt table held (Some x) (Answer now id r) s =
     ((is_validation x r ≡ true) × ((e : Stored) × (stored_response_validated held x r now ≡ Some e) × (e.serial ≡ s)))
     ⊎ (((is_validation x r ≡ true) × (stored_response_validated held x r now ≡ None)
     × StoredResponseIsReusable (policy_of table.lines x.line) held x.asked now s)
-    ⊎ ((is_validation x r ≡ false) × ((is_304_without_condition x.asked r || is_error_status r.status) ≡ true)
+    ⊎ ((is_validation x r ≡ false)
+    × ((is_304_without_condition (policy_of table.lines x.line) x.asked r || is_error_status r.status) ≡ true)
     × IsStoredFallback (policy_of table.lines x.line) held x.asked now s))
 StoredResponseMayBeSentAt table held (Some x) (Fail now id kind) s = IsStoredFallback
     (policy_of table.lines x.line) held x.asked now s
@@ -101,7 +103,7 @@ pub record RequestGoesForward (table : Table) (held : List Stored) (asked : Aske
   pub is_least : IsLeastReuseRule (policy_of table.lines line) held asked now rule
   pub against : Option ℕ
   pub names : RuleNamesTheResponse held asked rule against
-  pub outcome_is : outcome ≡ Forward line (forward_text table asked (condition_about_serial held against))
+  pub outcome_is : outcome ≡ Forward line (forward_text table line asked (condition_about_serial held against))
 
 -- no exchange at the origin has asked for what the request could be sent of the answer to another
 abbrev pub NoLeaderIsOpen : Policy → List Stored → List Exchange → Asked → ℕ → Type 0
@@ -205,40 +207,42 @@ pub record ReplyIsThatStoredResponse (table : Table) (held : List Stored) (x : O
 
 -- A stored response is sent exactly where one is held that may be.
 abbrev pub StoredResponseIsSentWhereItMayBe : Type 0
-StoredResponseIsSentWhereItMayBe = (table : Table) (limit first s : ℕ) (item : Item) (past : List Item)
-    → IsGoodHistory table limit first (item ∷ past) →
-    StoredResponseMayBeSentAt table (held_entries table limit past)
-    (find_exchange (exchange_id_of_event item.event) (open_exchanges table limit past)) item.event s
+StoredResponseIsSentWhereItMayBe = (table : Table) (start : StoreAtStart) (first s : ℕ) (item : Item) (past : List Item)
+    → IsGoodHistory table start first (item ∷ past) →
+    StoredResponseMayBeSentAt table (held_entries table start past)
+    (find_exchange (exchange_id_of_event item.event) (open_exchanges table start past)) item.event s
     → serial_used_by_outcome item.outcome ≡ Some s
 
 abbrev pub StoredResponseIsSentNowhereElse : Type 0
-StoredResponseIsSentNowhereElse = (table : Table) (limit first s : ℕ) (item : Item) (past : List Item)
-    → IsGoodHistory table limit first (item ∷ past) →
-    serial_used_by_outcome item.outcome ≡ Some s → StoredResponseMayBeSentAt table (held_entries table limit past)
-    (find_exchange (exchange_id_of_event item.event) (open_exchanges table limit past)) item.event s
+StoredResponseIsSentNowhereElse = (table : Table) (start : StoreAtStart) (first s : ℕ) (item : Item) (past : List Item)
+    → IsGoodHistory table start first (item ∷ past) →
+    serial_used_by_outcome item.outcome ≡ Some s → StoredResponseMayBeSentAt table (held_entries table start past)
+    (find_exchange (exchange_id_of_event item.event) (open_exchanges table start past)) item.event s
 
 -- A request that arrives goes to the origin of a line exactly where that is the table's first line
 -- that matches and it allows, a rule stands against a stored response, the request takes others
 -- too, and there is none for whose answer it waits.
 abbrev pub RequestIsForwardedWhereAllowed : Type 0
 RequestIsForwardedWhereAllowed =
-    (table : Table) (limit first now id line : ℕ) (asked : Asked) (rule : ReuseRule) (item : Item) (past : List Item) →
-    IsGoodHistory table limit first (item ∷ past) → item.event ≡ Arrive now id asked →
+    (table : Table) (start : StoreAtStart) (first now id line : ℕ) (asked : Asked) (rule : ReuseRule) (item : Item)
+    (past : List Item) →
+    IsGoodHistory table start first (item ∷ past) → item.event ≡ Arrive now id asked →
     verdict_of table.lines asked.method asked.target ≡ Allowed line
-    → IsLeastReuseRule (policy_of table.lines line) (held_entries table limit past) asked now rule
+    → IsLeastReuseRule (policy_of table.lines line) (held_entries table start past) asked now rule
     → is_only_if_cached asked ≡ false →
-    NoLeaderIsOpen (policy_of table.lines line) (held_entries table limit past) (open_exchanges table limit past)
+    NoLeaderIsOpen (policy_of table.lines line) (held_entries table start past) (open_exchanges table start past)
     asked now →
     (bytes : List ℕ) × (item.outcome ≡ Forward line bytes)
 
 abbrev pub RequestIsForwardedNowhereElse : Type 0
 RequestIsForwardedNowhereElse =
-    (table : Table) (limit first now id line : ℕ) (asked : Asked) (bytes : List ℕ) (item : Item) (past : List Item) →
-    IsGoodHistory table limit first (item ∷ past) → item.event ≡ Arrive now id asked
+    (table : Table) (start : StoreAtStart) (first now id line : ℕ) (asked : Asked) (bytes : List ℕ) (item : Item)
+    (past : List Item) →
+    IsGoodHistory table start first (item ∷ past) → item.event ≡ Arrive now id asked
     → item.outcome ≡ Forward line bytes →
     (verdict_of table.lines asked.method asked.target ≡ Allowed line)
-    × ((rule : ReuseRule) × IsLeastReuseRule (policy_of table.lines line) (held_entries table limit past) asked now rule
-    × NoLeaderIsOpen (policy_of table.lines line) (held_entries table limit past) (open_exchanges table limit past)
+    × ((rule : ReuseRule) × IsLeastReuseRule (policy_of table.lines line) (held_entries table start past) asked now rule
+    × NoLeaderIsOpen (policy_of table.lines line) (held_entries table start past) (open_exchanges table start past)
     asked now)
     × (is_only_if_cached asked ≡ false)
 
@@ -246,23 +250,25 @@ RequestIsForwardedNowhereElse =
 -- of that line; or it waits for the answer to another; or it takes no response but a stored one,
 -- and is told the rule against that.
 abbrev pub AllowedRequestReachesCacheOrOrigin : Type 0
-AllowedRequestReachesCacheOrOrigin = (table : Table) (limit first now id line : ℕ) (asked : Asked) (item : Item)
+AllowedRequestReachesCacheOrOrigin = (table : Table) (start : StoreAtStart) (first now id line : ℕ) (asked : Asked)
+    (item : Item)
     (past : List Item) →
-    IsGoodHistory table limit first (item ∷ past) → item.event ≡ Arrive now id asked →
+    IsGoodHistory table start first (item ∷ past) → item.event ≡ Arrive now id asked →
     verdict_of table.lines asked.method asked.target ≡ Allowed line
-    → RequestReachesCacheOrOrigin table (held_entries table limit past)
-    (open_exchanges table limit past) now asked line item.outcome
+    → RequestReachesCacheOrOrigin table (held_entries table start past)
+    (open_exchanges table start past) now asked line item.outcome
 
 -- Any other is refused, by the line that denies it or because none matches.
 abbrev pub OtherRequestIsRefused : Type 0
-OtherRequestIsRefused = (table : Table) (limit first now id : ℕ) (asked : Asked) (item : Item) (past : List Item) →
-    IsGoodHistory table limit first (item ∷ past) → item.event ≡ Arrive now id asked →
+OtherRequestIsRefused = (table : Table) (start : StoreAtStart) (first now id : ℕ) (asked : Asked) (item : Item)
+    (past : List Item) →
+    IsGoodHistory table start first (item ∷ past) → item.event ≡ Arrive now id asked →
     ((line : ℕ) → verdict_of table.lines asked.method asked.target ≢ Allowed line)
     → RequestIsTurnedAway table now asked item.outcome
 
 -- and what is sent is that response
 abbrev pub SendsWhatIsHeld : Type 0
-SendsWhatIsHeld = (table : Table) (limit first s : ℕ) (item : Item) (past : List Item)
-    → IsGoodHistory table limit first (item ∷ past) → serial_used_by_outcome item.outcome ≡ Some s →
-    ReplyIsThatStoredResponse table (held_entries table limit past)
-    (find_exchange (exchange_id_of_event item.event) (open_exchanges table limit past)) item.event item.outcome s
+SendsWhatIsHeld = (table : Table) (start : StoreAtStart) (first s : ℕ) (item : Item) (past : List Item)
+    → IsGoodHistory table start first (item ∷ past) → serial_used_by_outcome item.outcome ≡ Some s →
+    ReplyIsThatStoredResponse table (held_entries table start past)
+    (find_exchange (exchange_id_of_event item.event) (open_exchanges table start past)) item.event item.outcome s

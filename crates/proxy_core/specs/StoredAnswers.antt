@@ -43,6 +43,7 @@ use Rattle.proxy_core.specs.Validating.{stored_response_validated, freshened_by_
 use Rattle.proxy_core.specs.Validating.{head_of_stored}
 use Rattle.proxy_core.specs.Outcomes.{find_exchange, exchange_id_of_event}
 use Rattle.proxy_core.specs.State.{serial_stored_by_outcome, serial_used_by_outcome, serials_removed_by_outcome}
+use Rattle.proxy_core.specs.Starts.{StoreAtStart}
 use Rattle.proxy_core.specs.Traces.{Item}
 use Rattle.proxy_core.specs.Histories.{IsGoodHistory, held_entries, next_serial, open_exchanges}
 use Rattle.proxy_core.specs.Promises.{key_invalidated_by_answer, outcome_goes_forward, count_of_outcomes}
@@ -104,13 +105,14 @@ pub record AnswerMayBeStored (table : Table) (next : Option ℕ) (past : List It
   pub serial_is_left : is_some next ≡ true
 
 -- the event is the answer to an exchange that is open, and may be stored
-pub record IsAnswerThatMayBeStored (table : Table) (limit first : ℕ) (item : Item) (past : List Item) : Type 0 where
+pub record IsAnswerThatMayBeStored (table : Table) (start : StoreAtStart) (first : ℕ) (item : Item)
+    (past : List Item) : Type 0 where
   pub now : ℕ
   pub id : ℕ
   pub response : Response
   pub exchange : Exchange
   pub event_is : item.event ≡ Answer now id response
-  pub is_open : find_exchange id (open_exchanges table limit past) ≡ Some exchange
+  pub is_open : find_exchange id (open_exchanges table start past) ≡ Some exchange
   pub nothing_is_sent_instead : serial_used_by_outcome item.outcome ≡ None
   pub may_be_stored : StatusIsFinal (answered_of response now)
       → AnswerMayBeStored table (next_serial first past) past exchange response now
@@ -180,25 +182,27 @@ ThoseAreRemoved table held x (Abandon id) outcome = serials_removed_by_outcome o
 -- An answer that may be stored, and in whose place no stored response is sent, is stored, under the next serial.
 abbrev pub AnswerIsStoredWhereItMayBe : Type 0
 AnswerIsStoredWhereItMayBe =
-    (table : Table) (limit first now id : ℕ) (x : Exchange) (r : Response) (item : Item) (past : List Item) →
-    IsGoodHistory table limit first (item ∷ past) → item.event ≡ Answer now id r
-    → find_exchange id (open_exchanges table limit past) ≡ Some x →
+    (table : Table) (start : StoreAtStart) (first now id : ℕ) (x : Exchange) (r : Response) (item : Item)
+    (past : List Item) →
+    IsGoodHistory table start first (item ∷ past) → item.event ≡ Answer now id r
+    → find_exchange id (open_exchanges table start past) ≡ Some x →
     serial_used_by_outcome item.outcome ≡ None → AnswerMayBeStored table (next_serial first past) past x r now →
     serial_stored_by_outcome item.outcome ≡ next_serial first past
 
 -- Nothing else is stored. That its status is final is known of each response that was read (law
 -- `what_is_read_is_final`).
 abbrev pub NothingElseIsStored : Type 0
-NothingElseIsStored = (table : Table) (limit first s : ℕ) (item : Item) (past : List Item) →
-    IsGoodHistory table limit first (item ∷ past) → serial_stored_by_outcome item.outcome ≡ Some s
-    → IsAnswerThatMayBeStored table limit first item past
+NothingElseIsStored = (table : Table) (start : StoreAtStart) (first s : ℕ) (item : Item) (past : List Item) →
+    IsGoodHistory table start first (item ∷ past) → serial_stored_by_outcome item.outcome ≡ Some s
+    → IsAnswerThatMayBeStored table start first item past
 
 -- what an item takes away
 abbrev pub ItemRemovesExactlyThese : Type 0
 ItemRemovesExactlyThese =
-    (table : Table) (limit first : ℕ) (item : Item) (past : List Item) → IsGoodHistory table limit first (item ∷ past) →
-    ThoseAreRemoved table (held_entries table limit past)
-    (find_exchange (exchange_id_of_event item.event) (open_exchanges table limit past)) item.event item.outcome
+    (table : Table) (start : StoreAtStart) (first : ℕ) (item : Item) (past : List Item)
+    → IsGoodHistory table start first (item ∷ past) →
+    ThoseAreRemoved table (held_entries table start past)
+    (find_exchange (exchange_id_of_event item.event) (open_exchanges table start past)) item.event item.outcome
 
 -- what the storing rules and the room of a head let be kept is what may be
 abbrev pub FreshenedIsKeptWhereItMayBe : Type 0

@@ -9,7 +9,7 @@
 use Rattle.std.specs.Prelude.{ℕ, ◌+◌, ◌==◌, nat_lt, nat_le, ◌&&◌, ◌||◌, not, List, length, codes, Bool, true, false}
 use Rattle.std.specs.Prelude.{Option, Some, None, is_none, cond}
 use Rattle.http.specs.Method.{safe_methods, is_among}
-use Rattle.hx_fields.specs.FieldLines.{has_field, without_named}
+use Rattle.hx_fields.specs.FieldLines.{without_named}
 use Rattle.hx_framing.specs.declared.messages.Response.{Response}
 use Rattle.hx_target.specs.declared.keys.Key.{Key}
 use Rattle.hx_age.specs.Age.{times_of}
@@ -24,6 +24,8 @@ use Rattle.hx_allow.specs.Matching.{policy_of}
 use Rattle.hx_store.specs.Stored.{Stored}
 use Rattle.hx_store.specs.Shelf.{matching_serials}
 use Rattle.hx_store.specs.Weights.{weight_of_lines, weight_of_nominated, weight_of_key, bytes_of_an_entry}
+use Rattle.hx_policy.specs.declared.words.Policy.{Policy}
+use Rattle.hx_reuse.specs.Conditions.{forwards_condition}
 use Rattle.hx_reuse.specs.Lifetimes.{lifetime_under}
 use Rattle.hx_storable.specs.Rules.{storage_rule_of}
 use Rattle.hx_storable.specs.declared.known_facts.StoringFacts.{StoringFacts}
@@ -96,12 +98,11 @@ stored_response_made serial x r now = record {
 abbrev pub replaced_by : List Stored → Asked → List ℕ
 replaced_by es asked = matching_serials asked.target.key asked.fields es
 
--- a 304 to a client that set no condition (RFC 9110, section 15.4.5)
+-- a 304 to a request that went without a condition: the client set none, or it stayed with the proxy (RFC 9110, section
+-- 15.4.5)
 -- own: it counts as a failure of its origin ("An unasked 304 is a failure")
-abbrev pub is_304_without_condition : Asked → Response → Bool
-is_304_without_condition asked r =
-    (r.status == 304)
-    && not (has_field asked.fields (codes "If-None-Match") || has_field asked.fields (codes "If-Modified-Since"))
+abbrev pub is_304_without_condition : Policy → Asked → Response → Bool
+is_304_without_condition policy asked r = (r.status == 304) && not (forwards_condition policy asked)
 
 -- A status that isn't an error, 2xx or 3xx, came in response to an unsafe request (RFC 9111, section 4.4). What the
 -- client is then told doesn't count.

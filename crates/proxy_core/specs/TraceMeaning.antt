@@ -15,6 +15,7 @@ use Rattle.proxy_core.specs.declared.event.Event.{Event}
 use Rattle.proxy_core.specs.declared.event.Event.TheVariants.{Arrive}
 use Rattle.proxy_core.specs.Outcomes.{find_exchange, exchange_id_of_event}
 use Rattle.proxy_core.specs.State.{serial_stored_by_outcome, rule_of_decision}
+use Rattle.proxy_core.specs.Starts.{StoreAtStart}
 use Rattle.proxy_core.specs.Traces.{Item, initial_state, state_after_trace, IsGood}
 use Rattle.proxy_core.specs.Histories.{held_entries, open_exchanges, next_serial, IsGoodHistory}
 use Rattle.proxy_core.specs.Carrying.{NoRequestIsJudged}
@@ -49,93 +50,97 @@ events_of trace = map (λ (i : Item). i.event) trace
 
 -- An exchange is open from its arrival, where the request goes forward or waits, until an item of its id ends it.
 abbrev pub ExchangeIsOpenFromArrivalToEnd : Type 0
-ExchangeIsOpenFromArrivalToEnd = (table : Table) (limit first : ℕ) (items before : List Item) (arrival : Item) →
-    IsGoodHistory table limit first (items ++ arrival ∷ before) →
+ExchangeIsOpenFromArrivalToEnd = (table : Table) (start : StoreAtStart) (first : ℕ) (items before : List Item)
+    (arrival : Item) →
+    IsGoodHistory table start first (items ++ arrival ∷ before) →
     is_arrival_event arrival.event ≡ true →
     NoRequestArrives (exchange_id_of_event arrival.event) items →
     is_some (find_exchange (exchange_id_of_event arrival.event)
-    (open_exchanges table limit (items ++ arrival ∷ before)))
+    (open_exchanges table start (items ++ arrival ∷ before)))
     ≡ (opens_an_exchange arrival.outcome && not (exchange_has_ended (exchange_id_of_event arrival.event) items))
 
 -- none is open of which no request arrived
 abbrev pub ExchangeOpensByArrivalAlone : Type 0
-ExchangeOpensByArrivalAlone = (table : Table) (limit first id : ℕ) (trace : List Item) →
-    IsGoodHistory table limit first trace → NoRequestArrives id trace
-    → find_exchange id (open_exchanges table limit trace) ≡ None
+ExchangeOpensByArrivalAlone = (table : Table) (start : StoreAtStart) (first id : ℕ) (trace : List Item) →
+    IsGoodHistory table start first trace → NoRequestArrives id trace
+    → find_exchange id (open_exchanges table start trace) ≡ None
 
 -- an open exchange has the request of the latest arrival of its id
 abbrev pub OpenExchangeHasItsRequest : Type 0
-OpenExchangeHasItsRequest = (table : Table) (limit first id : ℕ) (trace : List Item) (x : Exchange) →
-    IsGoodHistory table limit first trace → find_exchange id (open_exchanges table limit trace) ≡ Some x
+OpenExchangeHasItsRequest = (table : Table) (start : StoreAtStart) (first id : ℕ) (trace : List Item) (x : Exchange) →
+    IsGoodHistory table start first trace → find_exchange id (open_exchanges table start trace) ≡ Some x
     → latest_request_of id trace ≡ Some x.asked
 
 -- and while it isn't woken the rule that stood against a stored response when that arrived, by the word of its line
 abbrev pub OpenExchangeKeepsItsRule : Type 0
-OpenExchangeKeepsItsRule = (table : Table) (limit first now id : ℕ) (asked : Asked) (items before : List Item)
+OpenExchangeKeepsItsRule = (table : Table) (start : StoreAtStart) (first now id : ℕ) (asked : Asked)
+    (items before : List Item)
     (arrival : Item)
     (x : Exchange) →
-    IsGoodHistory table limit first (items ++ arrival ∷ before) →
+    IsGoodHistory table start first (items ++ arrival ∷ before) →
     arrival.event ≡ Arrive now id asked →
     NoRequestIsJudged id items →
-    find_exchange id (open_exchanges table limit (items ++ arrival ∷ before)) ≡ Some x →
-    x.rule ≡ rule_of_decision (decision_of (policy_of table.lines x.line) (held_entries table limit before) asked now)
+    find_exchange id (open_exchanges table start (items ++ arrival ∷ before)) ≡ Some x →
+    x.rule ≡ rule_of_decision (decision_of (policy_of table.lines x.line) (held_entries table start before) asked now)
 
 -- An open exchange whose request is at the origin is overtaken exactly where an item after its
 -- latest going forward invalidates its key.
 abbrev pub ExchangeIsOvertakenWhereInvalidated : Type 0
-ExchangeIsOvertakenWhereInvalidated = (table : Table) (limit first : ℕ) (items before : List Item) (f : Item)
+ExchangeIsOvertakenWhereInvalidated = (table : Table) (start : StoreAtStart) (first : ℕ) (items before : List Item)
+    (f : Item)
     (x : Exchange) →
-    IsGoodHistory table limit first (items ++ f ∷ before) →
+    IsGoodHistory table start first (items ++ f ∷ before) →
     outcome_goes_forward f.outcome ≡ true →
     count_of_outcomes outcome_goes_forward (exchange_id_of_event f.event) items ≡ 0 →
-    find_exchange (exchange_id_of_event f.event) (open_exchanges table limit (items ++ f ∷ before)) ≡ Some x →
+    find_exchange (exchange_id_of_event f.event) (open_exchanges table start (items ++ f ∷ before)) ≡ Some x →
     x.stage ≡ Forwarded →
     x.overtaken ≡ some_item_invalidates x.asked.target.key items (f ∷ before)
 
 -- The next serial is the first plus the number stored, while there is such a serial.
 abbrev pub NextSerialIsCounted : Type 0
-NextSerialIsCounted = (table : Table) (limit first : ℕ) (trace : List Item) →
-    IsGoodHistory table limit first trace → nat_lt first (2 ^ 64) ≡ true →
+NextSerialIsCounted = (table : Table) (start : StoreAtStart) (first : ℕ) (trace : List Item) →
+    IsGoodHistory table start first trace → nat_lt first (2 ^ 64) ≡ true →
     next_serial first trace
     ≡ cond (nat_lt (first + count_of_stored trace) (2 ^ 64)) (Some (first + count_of_stored trace)) None
 
 -- what is stored has it
 abbrev pub StoredResponseHasTheNextSerial : Type 0
-StoredResponseHasTheNextSerial = (table : Table) (limit first s : ℕ) (item : Item) (past : List Item) →
-    IsGoodHistory table limit first (item ∷ past) → nat_lt first (2 ^ 64) ≡ true
+StoredResponseHasTheNextSerial = (table : Table) (start : StoreAtStart) (first s : ℕ) (item : Item) (past : List Item) →
+    IsGoodHistory table start first (item ∷ past) → nat_lt first (2 ^ 64) ≡ true
     → serial_stored_by_outcome item.outcome ≡ Some s
     → s ≡ first + count_of_stored past
 
 -- Two good traces of the same events are one.
 abbrev pub EventsDetermineTheTrace : Type 0
-EventsDetermineTheTrace = (table : Table) (limit first : ℕ) (trace other : List Item) →
-    IsGoodHistory table limit first trace → IsGoodHistory table limit first other
+EventsDetermineTheTrace = (table : Table) (start : StoreAtStart) (first : ℕ) (trace other : List Item) →
+    IsGoodHistory table start first trace → IsGoodHistory table start first other
     → events_of trace ≡ events_of other → trace ≡ other
 
 -- What is good over the list that a core keeps is good over what is held, and the other way round.
 abbrev pub IsGoodOverHeldAndOverList : Type 0
-IsGoodOverHeldAndOverList = (table : Table) (limit first : ℕ) (trace : List Item) → IsGood
-    (initial_state table limit first) trace
-    → IsGoodHistory table limit first trace
+IsGoodOverHeldAndOverList = (table : Table) (start : StoreAtStart) (first : ℕ) (trace : List Item) → IsGood
+    (initial_state table start first) trace
+    → IsGoodHistory table start first trace
 
 abbrev pub IsGoodOverTheCoresList : Type 0
-IsGoodOverTheCoresList = (table : Table) (limit first : ℕ) (trace : List Item) → IsGoodHistory table limit first trace
-    → IsGood (initial_state table limit first) trace
+IsGoodOverTheCoresList = (table : Table) (start : StoreAtStart) (first : ℕ) (trace : List Item)
+    → IsGoodHistory table start first trace
+    → IsGood (initial_state table start first) trace
 
 -- the list has what is held, the latest stored or used first
 abbrev pub CoreKeepsTheHeldResponses : Type 0
-CoreKeepsTheHeldResponses = (table : Table) (limit first : ℕ) (trace : List Item) →
-    IsGood (initial_state table limit first) trace
-    → (state_after_trace (initial_state table limit first) trace).entries ≡ held_entries table limit trace
+CoreKeepsTheHeldResponses = (table : Table) (start : StoreAtStart) (first : ℕ) (trace : List Item) →
+    IsGood (initial_state table start first) trace
+    → (state_after_trace (initial_state table start first) trace).entries ≡ held_entries table start trace
 
 -- and the core has the exchanges that are open
 abbrev pub CoreKeepsTheOpenExchanges : Type 0
-CoreKeepsTheOpenExchanges = (table : Table) (limit first : ℕ) (trace : List Item) →
-    IsGood (initial_state table limit first) trace
-    → (state_after_trace (initial_state table limit first) trace).exchanges ≡ open_exchanges table limit trace
+CoreKeepsTheOpenExchanges = (table : Table) (start : StoreAtStart) (first : ℕ) (trace : List Item) →
+    IsGood (initial_state table start first) trace
+    → (state_after_trace (initial_state table start first) trace).exchanges ≡ open_exchanges table start trace
 
 -- and the next serial
 abbrev pub CoreKeepsTheNextSerial : Type 0
-CoreKeepsTheNextSerial = (table : Table) (limit first : ℕ) (trace : List Item) →
-    IsGood (initial_state table limit first) trace → (state_after_trace (initial_state table limit first) trace).next
+CoreKeepsTheNextSerial = (table : Table) (start : StoreAtStart) (first : ℕ) (trace : List Item) →
+    IsGood (initial_state table start first) trace → (state_after_trace (initial_state table start first) trace).next
     ≡ next_serial first trace

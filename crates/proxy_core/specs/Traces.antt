@@ -16,7 +16,8 @@ use Rattle.proxy_core.specs.declared.core_fault.CoreFault.{CoreFault}
 use Rattle.proxy_core.specs.declared.open.exchange.Exchange.{Exchange}
 use Rattle.hx_store.specs.Stored.{Stored}
 use Rattle.proxy_core.specs.Outcomes.{outcome_of_event, step_fault}
-use Rattle.proxy_core.specs.State.{State, StepIsRefusedWith, state_after}
+use Rattle.proxy_core.specs.State.{State, StepIsRefusedWith, bounds_of, state_after}
+use Rattle.proxy_core.specs.Starts.{StoreAtStart, StartStands}
 
 pub record Item : Type 0 where
   pub event : Event
@@ -32,12 +33,12 @@ trace_in_front_of past (o ∷ outcomes) (e ∷ events) = trace_in_front_of (reco
 abbrev pub trace_of : List Event → List Outcome → List Item
 trace_of events outcomes = trace_in_front_of [] outcomes events
 
--- a core to which nothing has happened
-abbrev pub initial_state : Table → ℕ → ℕ → State
-initial_state table limit first = record {
+-- a core to which nothing has happened, with what its store holds at first
+abbrev pub initial_state : Table → StoreAtStart → ℕ → State
+initial_state table start first = record {
   table = table;
-  limit = limit;
-  entries = [];
+  limit = start.limit;
+  entries = start.entries;
   exchanges = [];
   next
       = Some first;
@@ -55,10 +56,10 @@ pub record ItemIsAccepted (table : Table) (held : List Stored) (exchanges : List
   pub allowed : step_fault exchanges item.event ≡ None
   pub outcome_is : item.outcome ≡ outcome_of_event table held exchanges next item.event
 
--- each item is what its case gives, over what the items before it leave of a core; `Histories.antt`
--- says the same with no list of the program in it
+-- What is held at first may be, and each item is what its case gives, over what the items before it leave of a core;
+-- `Histories.antt` says the same with no list of the program in it.
 abbrev pub IsGood : State → List Item → Type 0
-IsGood start [] = Unit {0}
+IsGood start [] = StartStands (bounds_of start.table start.limit) start.next start.entries
 IsGood start (item ∷ past) =
     ItemIsAccepted start.table (state_after_trace start past).entries (state_after_trace start past).exchanges
     (state_after_trace start past).next item

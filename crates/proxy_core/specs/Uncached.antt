@@ -18,6 +18,7 @@ use Rattle.proxy_core.specs.declared.event.Event.TheVariants.{Arrive, Answer, Fa
 use Rattle.proxy_core.specs.Outcomes.{find_exchange, exchange_id_of_event, outcome_of_refusal, forward_text}
 use Rattle.proxy_core.specs.Outcomes.{is_only_if_cached}
 use Rattle.proxy_core.specs.State.{serial_stored_by_outcome, serial_used_by_outcome}
+use Rattle.proxy_core.specs.Starts.{StoreAtStart}
 use Rattle.proxy_core.specs.Traces.{Item}
 use Rattle.proxy_core.specs.Histories.{open_exchanges, IsGoodHistory}
 
@@ -37,34 +38,37 @@ EventGoesOverLine table None (Abandon id) line = ⊥
 -- told the operator's rule
 abbrev pub RequestIsAnsweredByTheOperator : Table → ℕ → Asked → ℕ → Outcome → Type 0
 RequestIsAnsweredByTheOperator table now asked line outcome =
-    ((is_only_if_cached asked ≡ false) × (outcome ≡ Forward line (forward_text table asked None)))
+    ((is_only_if_cached asked ≡ false) × (outcome ≡ Forward line (forward_text table line asked None)))
     ⊎ ((is_only_if_cached asked ≡ true) × (outcome ≡ outcome_of_refusal now (OnlyIfCached Operator) asked))
 
 -- ---- the statements
 
 -- an item over a line without cache stores nothing
 abbrev pub NothingIsStoredOverUncachedLine : Type 0
-NothingIsStoredOverUncachedLine = (table : Table) (limit first line : ℕ) (item : Item) (past : List Item)
-    → IsGoodHistory table limit first (item ∷ past) →
+NothingIsStoredOverUncachedLine = (table : Table) (start : StoreAtStart) (first line : ℕ) (item : Item)
+    (past : List Item)
+    → IsGoodHistory table start first (item ∷ past) →
     EventGoesOverLine table (find_exchange (exchange_id_of_event item.event)
-    (open_exchanges table limit past)) item.event line
+    (open_exchanges table start past)) item.event line
     → (policy_of table.lines line).caches ≡ false →
     serial_stored_by_outcome item.outcome ≡ None
 
 -- and sends nothing that is held
 abbrev pub NothingStoredIsSentOverUncachedLine : Type 0
-NothingStoredIsSentOverUncachedLine = (table : Table) (limit first line : ℕ) (item : Item) (past : List Item)
-    → IsGoodHistory table limit first (item ∷ past) →
+NothingStoredIsSentOverUncachedLine = (table : Table) (start : StoreAtStart) (first line : ℕ) (item : Item)
+    (past : List Item)
+    → IsGoodHistory table start first (item ∷ past) →
     EventGoesOverLine table (find_exchange (exchange_id_of_event item.event)
-    (open_exchanges table limit past)) item.event line
+    (open_exchanges table start past)) item.event line
     → (policy_of table.lines line).caches ≡ false →
     serial_used_by_outcome item.outcome ≡ None
 
 -- each request that arrives over it goes forward, whatever is held
 abbrev pub RequestGoesForwardOverUncachedLine : Type 0
-RequestGoesForwardOverUncachedLine = (table : Table) (limit first now id line : ℕ) (asked : Asked) (item : Item)
+RequestGoesForwardOverUncachedLine = (table : Table) (start : StoreAtStart) (first now id line : ℕ) (asked : Asked)
+    (item : Item)
     (past : List Item)
-    → IsGoodHistory table limit first (item ∷ past) →
+    → IsGoodHistory table start first (item ∷ past) →
     item.event ≡ Arrive now id asked → verdict_of table.lines asked.method asked.target ≡ Allowed line
     → (policy_of table.lines line).caches ≡ false →
     RequestIsAnsweredByTheOperator table now asked line item.outcome

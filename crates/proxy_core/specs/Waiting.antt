@@ -35,6 +35,7 @@ use Rattle.proxy_core.specs.Leading.{leads_waiters, ready_ids, IsFirstLeader}
 use Rattle.proxy_core.specs.Awaiting.{RequestAwaits}
 use Rattle.proxy_core.specs.Outcomes.{find_exchange, exchange_id_of_event, step_fault, is_only_if_cached}
 use Rattle.proxy_core.specs.State.{serial_used_by_outcome}
+use Rattle.proxy_core.specs.Starts.{StoreAtStart}
 use Rattle.proxy_core.specs.Traces.{Item}
 use Rattle.proxy_core.specs.Histories.{held_entries, open_exchanges, IsGoodHistory}
 use Rattle.proxy_core.specs.Promises.{outcome_ends_exchange, is_arrival_event, NoRequestArrives}
@@ -45,36 +46,38 @@ use Rattle.proxy_core.specs.Sending.{StoredResponseIsReusable}
 
 -- A GET that the table allows, that takes an answer of the origin, and that could be sent the answer
 -- to another.
-pub record RequestCouldWait (table : Table) (limit : ℕ) (past : List Item) (now line : ℕ) (asked : Asked)
+pub record RequestCouldWait (table : Table) (start : StoreAtStart) (past : List Item) (now line : ℕ) (asked : Asked)
     (awaited : Awaited) : Type 0 where
   pub line_allows : verdict_of table.lines asked.method asked.target ≡ Allowed line
   pub takes_others : is_only_if_cached asked ≡ false
-  pub awaits : RequestAwaits (policy_of table.lines line) (held_entries table limit past) asked now awaited
+  pub awaits : RequestAwaits (policy_of table.lines line) (held_entries table start past) asked now awaited
 
 -- whoever could wait does, where one leads
 abbrev pub RequestWaitsWhereOneLeads : Type 0
-RequestWaitsWhereOneLeads = (table : Table) (limit first now id line leader : ℕ) (asked : Asked) (awaited : Awaited)
+RequestWaitsWhereOneLeads = (table : Table) (start : StoreAtStart) (first now id line leader : ℕ) (asked : Asked)
+    (awaited : Awaited)
     (item : Item) (past : List Item) →
-    IsGoodHistory table limit first (item ∷ past) → item.event ≡ Arrive now id asked
-    → RequestCouldWait table limit past now line asked awaited →
-    IsFirstLeader (policy_of table.lines line) awaited asked (open_exchanges table limit past) leader
+    IsGoodHistory table start first (item ∷ past) → item.event ≡ Arrive now id asked
+    → RequestCouldWait table start past now line asked awaited →
+    IsFirstLeader (policy_of table.lines line) awaited asked (open_exchanges table start past) leader
     → item.outcome ≡ Waits leader
 
 -- Whoever waits has just arrived, could wait, and waits for the first that leads.
-pub record RequestIsToWait (table : Table) (limit leader : ℕ) (item : Item) (past : List Item) : Type 0 where
+pub record RequestIsToWait (table : Table) (start : StoreAtStart) (leader : ℕ) (item : Item)
+    (past : List Item) : Type 0 where
   pub now : ℕ
   pub id : ℕ
   pub asked : Asked
   pub line : ℕ
   pub arrives : item.event ≡ Arrive now id asked
   pub awaited : Awaited
-  pub could : RequestCouldWait table limit past now line asked awaited
-  pub first_leads : IsFirstLeader (policy_of table.lines line) awaited asked (open_exchanges table limit past) leader
+  pub could : RequestCouldWait table start past now line asked awaited
+  pub first_leads : IsFirstLeader (policy_of table.lines line) awaited asked (open_exchanges table start past) leader
 
 abbrev pub RequestWaitsNowhereElse : Type 0
-RequestWaitsNowhereElse = (table : Table) (limit first leader : ℕ) (item : Item) (past : List Item)
-    → IsGoodHistory table limit first (item ∷ past) →
-    item.outcome ≡ Waits leader → RequestIsToWait table limit leader item past
+RequestWaitsNowhereElse = (table : Table) (start : StoreAtStart) (first leader : ℕ) (item : Item) (past : List Item)
+    → IsGoodHistory table start first (item ∷ past) →
+    item.outcome ≡ Waits leader → RequestIsToWait table start leader item past
 
 -- an open exchange of this id ends: by a reply that isn't given at an arrival, or since the client went away
 abbrev pub exchange_has_closed : ℕ → List Item → Bool
@@ -84,7 +87,7 @@ exchange_has_closed id (i ∷ items) =
     || exchange_has_closed id items
 
 -- a request arrives and goes forward by this rule, which names this held response or none
-pub record RequestGoesOutBy (table : Table) (limit : ℕ) (rule : ReuseRule) (named : Option ℕ) (item : Item)
+pub record RequestGoesOutBy (table : Table) (start : StoreAtStart) (rule : ReuseRule) (named : Option ℕ) (item : Item)
     (past : List Item) : Type 0 where
   pub now : ℕ
   pub id : ℕ
@@ -93,8 +96,8 @@ pub record RequestGoesOutBy (table : Table) (limit : ℕ) (rule : ReuseRule) (na
   pub bytes : List ℕ
   pub arrives : item.event ≡ Arrive now id asked
   pub forward : item.outcome ≡ Forward line bytes
-  pub is_least : IsLeastReuseRule (policy_of table.lines line) (held_entries table limit past) asked now rule
-  pub names : RuleNamesTheResponse (held_entries table limit past) asked rule named
+  pub is_least : IsLeastReuseRule (policy_of table.lines line) (held_entries table start past) asked now rule
+  pub names : RuleNamesTheResponse (held_entries table start past) asked rule named
 
 -- What it went forward for is what a request could be sent: nothing was held for its key, or the rule
 -- names that held response.
@@ -106,24 +109,25 @@ went_for (Expired serial) rule named = names_serial named serial
 -- that is known of it, should it be open still, says otherwise.
 abbrev pub AnswerMayServe : Policy → Asked → Option Exchange → Type 0
 AnswerMayServe policy asked x =
-    policy.waits_for_stale ≡ true → IfSome x (λ (x : Exchange). may_serve asked x ≡ true)
+    policy.waits_for_stale ≡ true → IfSome x (λ (x : Exchange). may_serve policy asked x ≡ true)
 
 -- Of the GETs that arrive for a key while one of them is at the origin none goes there too for what
 -- that one's answer could bring it: before a later one does the earlier has ended. Over a line with
 -- the word this is so while that answer may be for the later one.
 abbrev pub OnlyOneGoesForwardForKey : Type 0
-OnlyOneGoesForwardForKey = (table : Table) (limit first line : ℕ) (awaited : Awaited) (rule : ReuseRule)
+OnlyOneGoesForwardForKey = (table : Table) (start : StoreAtStart) (first line : ℕ) (awaited : Awaited)
+    (rule : ReuseRule)
     (named : Option ℕ) (bytes : List ℕ) (now id : ℕ) (asked : Asked) (later earlier : Item)
     (between before : List Item) →
-    IsGoodHistory table limit first (later ∷ (between ++ earlier ∷ before))
+    IsGoodHistory table start first (later ∷ (between ++ earlier ∷ before))
     → later.event ≡ Arrive now id asked → later.outcome ≡ Forward line bytes
-    → RequestAwaits (policy_of table.lines line) (held_entries table limit (between ++ earlier ∷ before)) asked now
+    → RequestAwaits (policy_of table.lines line) (held_entries table start (between ++ earlier ∷ before)) asked now
     awaited
-    → (went : RequestGoesOutBy table limit rule named earlier before)
+    → (went : RequestGoesOutBy table start rule named earlier before)
     → is_get went.asked ≡ true → same_key went.asked.target.key asked.target.key ≡ true
     → went_for awaited rule named ≡ true
     → AnswerMayServe (policy_of table.lines line) asked
-    (find_exchange went.id (open_exchanges table limit (between ++ earlier ∷ before))) →
+    (find_exchange went.id (open_exchanges table start (between ++ earlier ∷ before))) →
     exchange_has_closed (exchange_id_of_event earlier.event) between ≡ true
 
 -- A line without the word lets a GET wait where nothing is held for its key, and nowhere else; and
@@ -169,50 +173,53 @@ pub record ExchangeMayBeWoken (id : ℕ) (xs : List Exchange) : Type 0 where
 -- Who waits does so until its leader has ended, by a reply or since the client went away, and may
 -- be woken from then on.
 abbrev pub RequestWaitsUntilItsLeaderEnds : Type 0
-RequestWaitsUntilItsLeaderEnds = (table : Table) (limit first leader : ℕ) (items before : List Item) (arrival : Item) →
-    IsGoodHistory table limit first (items ++ arrival ∷ before) → arrival.outcome ≡ Waits leader
+RequestWaitsUntilItsLeaderEnds = (table : Table) (start : StoreAtStart) (first leader : ℕ) (items before : List Item)
+    (arrival : Item) →
+    IsGoodHistory table start first (items ++ arrival ∷ before) → arrival.outcome ≡ Waits leader
     → NothingHappenedToExchange (exchange_id_of_event arrival.event) items →
     stage_of_exchange (find_exchange (exchange_id_of_event arrival.event)
-    (open_exchanges table limit (items ++ arrival ∷ before)))
+    (open_exchanges table start (items ++ arrival ∷ before)))
     ≡ Some (cond (exchange_has_closed leader items) Released (Waiting leader))
 
 -- It is woken behind the end of its leader, and once.
 abbrev pub RequestIsWokenOnceBehindItsLeader : Type 0
 RequestIsWokenOnceBehindItsLeader =
-    (table : Table) (limit first now leader : ℕ) (items before : List Item) (wake arrival : Item) →
-    IsGoodHistory table limit first (wake ∷ (items ++ arrival ∷ before)) → arrival.outcome ≡ Waits leader →
+    (table : Table) (start : StoreAtStart) (first now leader : ℕ) (items before : List Item) (wake arrival : Item) →
+    IsGoodHistory table start first (wake ∷ (items ++ arrival ∷ before)) → arrival.outcome ≡ Waits leader →
     wake.event ≡ Wake now (exchange_id_of_event arrival.event) → NoRequestArrives
     (exchange_id_of_event arrival.event) items →
     (exchange_has_closed leader items ≡ true) × (was_woken (exchange_id_of_event arrival.event) items ≡ false)
 
 -- those that may be woken stand in the order of arrival, so the first of them arrived first
 abbrev pub ReleasedAreInOrderOfArrival : Type 0
-ReleasedAreInOrderOfArrival = (table : Table) (limit first : ℕ) (trace : List Item)
-    → IsGoodHistory table limit first trace →
-    IdsAreInOrderOfArrival (ready_ids (open_exchanges table limit trace)) trace
+ReleasedAreInOrderOfArrival = (table : Table) (start : StoreAtStart) (first : ℕ) (trace : List Item)
+    → IsGoodHistory table start first trace →
+    IdsAreInOrderOfArrival (ready_ids (open_exchanges table start trace)) trace
 
 -- a wake is accepted exactly of those, at a moment that can be told
 abbrev pub WakeIsAcceptedExactlyWhereReady : Type 0
 WakeIsAcceptedExactlyWhereReady =
-    (table : Table) (limit first now id : ℕ) (trace : List Item) → IsGoodHistory table limit first trace →
-    ((serial_is_in id (ready_ids (open_exchanges table limit trace)) ≡ true)
-    → step_fault (open_exchanges table limit trace) (Wake now id) ≡ moment_too_late_fault now)
-    × (step_fault (open_exchanges table limit trace) (Wake now id) ≡ None
-    → serial_is_in id (ready_ids (open_exchanges table limit trace)) ≡ true)
+    (table : Table) (start : StoreAtStart) (first now id : ℕ) (trace : List Item)
+    → IsGoodHistory table start first trace →
+    ((serial_is_in id (ready_ids (open_exchanges table start trace)) ≡ true)
+    → step_fault (open_exchanges table start trace) (Wake now id) ≡ moment_too_late_fault now)
+    × (step_fault (open_exchanges table start trace) (Wake now id) ≡ None
+    → serial_is_in id (ready_ids (open_exchanges table start trace)) ≡ true)
 
 -- What it gets is decided anew over what is held then: a stored response that may be reused, or it
 -- goes forward by the least rule against that. It doesn't wait again.
-pub record WokenRequestIsJudged (table : Table) (limit now id : ℕ) (item : Item) (past : List Item) : Type 0 where
+pub record WokenRequestIsJudged (table : Table) (start : StoreAtStart) (now id : ℕ) (item : Item)
+    (past : List Item) : Type 0 where
   pub x : Exchange
-  pub is_open : find_exchange id (open_exchanges table limit past) ≡ Some x
+  pub is_open : find_exchange id (open_exchanges table start past) ≡ Some x
   pub gets :
-      ((s : ℕ) × StoredResponseIsReusable (policy_of table.lines x.line) (held_entries table limit past) x.asked now s
+      ((s : ℕ) × StoredResponseIsReusable (policy_of table.lines x.line) (held_entries table start past) x.asked now s
       × (serial_used_by_outcome item.outcome ≡ Some s))
       ⊎ ((rule : ReuseRule) × (bytes : List ℕ)
-      × IsLeastReuseRule (policy_of table.lines x.line) (held_entries table limit past)
+      × IsLeastReuseRule (policy_of table.lines x.line) (held_entries table start past)
       x.asked now rule × (item.outcome ≡ Forward x.line bytes))
 
 abbrev pub WokenRequestIsJudgedAnew : Type 0
-WokenRequestIsJudgedAnew = (table : Table) (limit first now id : ℕ) (item : Item) (past : List Item)
-    → IsGoodHistory table limit first (item ∷ past) →
-    item.event ≡ Wake now id → WokenRequestIsJudged table limit now id item past
+WokenRequestIsJudgedAnew = (table : Table) (start : StoreAtStart) (first now id : ℕ) (item : Item) (past : List Item)
+    → IsGoodHistory table start first (item ∷ past) →
+    item.event ≡ Wake now id → WokenRequestIsJudged table start now id item past

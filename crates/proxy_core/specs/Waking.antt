@@ -18,6 +18,6 @@ IsPreparedForWake table es now x (decision.Hit serial) (Ends p) =
     (outcome_of_pending_reply p ≡ outcome_of_wake table es now x (decision.Hit serial)) × ChangeStoresNothing p.change
 IsPreparedForWake table es now x (decision.Forward rule against) (GoesOut q named condition bytes) =
     (q ≡ rule) × (named ≡ against) × (condition ≡ condition_about_serial es against)
-    × (bytes ≡ forward_text table x.asked (condition_about_serial es against))
+    × (bytes ≡ forward_text table x.line x.asked (condition_about_serial es against))
 IsPreparedForWake table es now x (decision.Hit serial) (GoesOut q named condition bytes) = ⊥
 IsPreparedForWake table es now x (decision.Forward rule against) (Ends p) = ⊥

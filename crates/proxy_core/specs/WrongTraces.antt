@@ -16,6 +16,7 @@ use Rattle.proxy_core.specs.declared.outcome.Outcome.TheVariants.{Reply, Forward
 use Rattle.proxy_core.specs.declared.event.Event.{Event}
 use Rattle.proxy_core.specs.declared.event.Event.TheVariants.{Arrive, Answer}
 use Rattle.proxy_core.specs.Outcomes.{outcome_of_event}
+use Rattle.proxy_core.specs.Starts.{empty_store}
 use Rattle.proxy_core.specs.Traces.{Item}
 use Rattle.proxy_core.specs.Histories.{held_entries, open_exchanges, next_serial}
 use Rattle.proxy_core.specs.Headline.{RequestGoesForwardWhereAllowed, Headline}
@@ -38,8 +39,8 @@ abbrev pub trace_of_good_events : List Event → List Item
 trace_of_good_events [] = []
 trace_of_good_events (event ∷ before) = record {
   event = event;
-  outcome = outcome_of_event edge_table (held_entries edge_table 2 (trace_of_good_events before))
-      (open_exchanges edge_table 2 (trace_of_good_events before))
+  outcome = outcome_of_event edge_table (held_entries edge_table (empty_store 2) (trace_of_good_events before))
+      (open_exchanges edge_table (empty_store 2) (trace_of_good_events before))
       (next_serial 1 (trace_of_good_events before)) event;
 } ∷ trace_of_good_events before
 
@@ -47,7 +48,7 @@ abbrev pub trace_with_wrong_item : List Event → Event → Outcome → List Ite
 trace_with_wrong_item before event outcome = record { event = event; outcome = outcome } ∷ trace_of_good_events before
 
 abbrev pub HeadlineRefuses : List Item → Type 0
-HeadlineRefuses trace = Headline edge_table 2 1 trace → ⊥
+HeadlineRefuses trace = Headline edge_table (empty_store 2) 1 trace → ⊥
 
 -- ---- what is asked and answered
 
@@ -154,7 +155,8 @@ condition_about_v = Some (record { serial = 1; sent = record { etag = Some (code
 
 -- this doesn't go where it is allowed
 abbrev pub GoingForwardIsWrong : List Item → Event → Outcome → Type 0
-GoingForwardIsWrong past event outcome = RequestGoesForwardWhereAllowed edge_table 2 (item_of event outcome) past → ⊥
+GoingForwardIsWrong past event outcome = RequestGoesForwardWhereAllowed edge_table (empty_store 2)
+    (item_of event outcome) past → ⊥
 
 abbrev pub forward_over_line_3 : Outcome
 forward_over_line_3 = Forward 3 []
@@ -194,3 +196,10 @@ trace_sends_behind response =
     ∷ item_of (Answer 111 2 response) (reply_without_store []) ∷ item_of (Arrive 110 2 delete_a) forward_over_line_3
     ∷ item_of (Answer 101 1 fresh_for_a_minute) (reply_that_stores [] (Some 1) []) ∷ item_of
     (Arrive 100 1 get_a) forward_over_line_3 ∷ []
+
+-- /a is held at first as 1, POST /a invalidated it, and it is sent
+abbrev pub trace_sends_of_the_start : List Item
+trace_sends_of_the_start =
+    item_of (Arrive 120 3 get_a) (reply_that_sends_stored 1 [])
+    ∷ item_of (Answer 111 2 (response_with 200 [])) (reply_without_store []) ∷ item_of
+    (Arrive 110 2 post_a) forward_over_line_3 ∷ []

@@ -1,5 +1,6 @@
 //! The core: the operator's table, a shelf, the open exchanges and the next serial.
-ghost use Rattle.std.specs.Prelude.{◌≡◌, ◌≤◌, [], None, Some, IfOk, IfErr, OnErr, OnOk, option_copied, slice_get};
+ghost use Rattle.std.specs.Prelude.{◌≡◌, ◌≤◌, [], length, None, Some, IfOk, IfErr, OnErr, OnOk};
+ghost use Rattle.std.specs.Prelude.{option_copied, slice_get};
 ghost use Rattle.std.specs.Prelude.{IfSome};
 ghost use Rattle.hx_framing.specs.declared.messages.Response.{Response};
 ghost use Rattle.hx_status.specs.declared.cause.FailKind.{FailKind};
@@ -9,7 +10,9 @@ ghost use Rattle.proxy_core.specs.Leading.{ready_ids};
 ghost use Rattle.proxy_core.specs.Outcomes.{find_exchange, step_fault, fault_if_not_forwarded, fault_if_not_released};
 ghost use Rattle.proxy_core.specs.Outcomes.{fault_at_moment};
 ghost use Rattle.proxy_core.specs.declared.event.Event.TheVariants.{Abandon, Answer, Fail, Wake};
-ghost use Rattle.proxy_core.specs.State.{State, StepIsAccepted, StepIsRefusedWith};
+ghost use Rattle.proxy_core.specs.State.{State, StepIsAccepted, StepIsRefusedWith, bounds_of};
+ghost use Rattle.proxy_core.specs.Starts.{StartStands};
+ghost use Rattle.proxy_core.specs.Traces.{initial_state};
 
 use crate::core_fault::CoreFault;
 use crate::event::Event;
@@ -85,10 +88,21 @@ impl<S: Shelf> Model for Core<S> {
 
 impl<S: Shelf> Core<S> {
     /// A core with an empty shelf of the configured capacity. Serials begin at `first_serial`, 1 or more.
+    #[tactic(auto, using(crate::proofs::Beginning::nothing_stands))]
     pub fn new(alloc: Global, config: Config, shelf: S, first_serial: u64) -> Self
         requires { S.entries shelf ≡ [] }
         ensures { result
             ≡ record { table = config; limit = S.limit shelf; entries = []; exchanges = []; next = Some first_serial } }
+    {
+        Core::with_store(alloc, config, shelf, first_serial)
+    }
+
+    /// A core over a shelf of the configured capacity that holds what a store held before: no serial twice, each below
+    /// `first_serial`, from which the serials go on, and within the bounds of the shelf and of the table's `max_store`.
+    pub fn with_store(alloc: Global, config: Config, shelf: S, first_serial: u64) -> Self
+        requires { StartStands (bounds_of config (S.limit shelf)) (Some first_serial) (S.entries shelf) }
+        ensures { result
+            ≡ initial_state config (record { limit = S.limit shelf; entries = S.entries shelf }) first_serial }
     {
         Core {
             config,
@@ -98,11 +112,34 @@ impl<S: Shelf> Core<S> {
         }
     }
 
+    /// The shelf with what it holds, and the next serial if one is left: what another core may begin with, where no
+    /// exchange is open.
+    pub fn into_store(self) -> (S, Option<u64>)
+        ensures entries { S.entries result.0 ≡ self.entries }
+        ensures limit { S.limit result.0 ≡ self.limit }
+        ensures next { result.1 ≡ self.next }
+    {
+        let Core {
+            config: _,
+            shelf,
+            exchanges: _,
+            next,
+        } = self;
+        (shelf, next)
+    }
+
     /// The operator's table, as `new` was given it.
     pub fn config(&self) -> &Config
         ensures { result.now ≡ self.now.table }
     {
         &self.config
+    }
+
+    /// How many exchanges are open.
+    pub fn open_count(&self) -> usize
+        ensures { result ≡ length self.now.exchanges }
+    {
+        self.exchanges.count()
     }
 
     /// The open exchange of an id, if there is one.

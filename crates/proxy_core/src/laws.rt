@@ -12,7 +12,11 @@ ghost use Rattle.proxy_core.specs.Bounds.{StoredIsHeld, StoredWeighsNoMoreThanTh
 ghost use Rattle.proxy_core.specs.Carrying.{OpenExchangeCarriesItsArrival, ExchangesAreOpenInOrderOfArrival};
 ghost use Rattle.proxy_core.specs.Driving.{PromisesOfADrivenCore};
 ghost use Rattle.proxy_core.specs.Headline.{EveryGoodTraceHasTheHeadline, NoOtherTraceHasTheHeadline};
+ghost use Rattle.proxy_core.specs.KeptConditions.{FalseConditionIsAnswered304, OtherConditionIsAnsweredWhole};
+ghost use Rattle.proxy_core.specs.KeptConditions.{NoClientsConditionGoesForward, LeadsAsOneWithoutConditions};
+ghost use Rattle.proxy_core.specs.KeptConditions.{EachUnasked304IsAFailure};
 ghost use Rattle.proxy_core.specs.Naming.{EachOtherAnswerNamesTheFirstRule};
+ghost use Rattle.proxy_core.specs.Restarts.{OneTraceIsThose, ThatIsWhatIsLeft, ThoseAreOneTrace};
 ghost use Rattle.proxy_core.specs.Sending.{StoredResponseIsSentWhereItMayBe, StoredResponseIsSentNowhereElse};
 ghost use Rattle.proxy_core.specs.Sending.{SendsWhatIsHeld};
 ghost use Rattle.proxy_core.specs.Sending.{RequestIsForwardedWhereAllowed, RequestIsForwardedNowhereElse};
@@ -190,6 +194,25 @@ pub fn no_other_trace_has_the_headline()
 /// Every good trace has the headline.
 pub fn every_good_trace_has_the_headline()
     ensures { EveryGoodTraceHasTheHeadline }
+{}
+
+/// A restart is no event: what went before it and left nothing open, and what came after it over what was held then,
+/// are together one trace with the headline. The other way round a trace is two where nothing is open.
+pub fn a_restart_is_no_event()
+    ensures one { ThoseAreOneTrace }
+    ensures two { OneTraceIsThose }
+    ensures left { ThatIsWhatIsLeft }
+{}
+
+/// A client's own condition that stays with the proxy doesn't go forward, and in a good trace who set it is sent a 304
+/// in place of the answer exactly where the condition is false of it. Such a request leads others as one without
+/// conditions, and a 304 that comes to it unasked is a failure of its origin.
+pub fn a_kept_condition_is_judged_on_the_answer()
+    ensures is_false { FalseConditionIsAnswered304 }
+    ensures other { OtherConditionIsAnsweredWhole }
+    ensures forward { NoClientsConditionGoesForward }
+    ensures leads { LeadsAsOneWithoutConditions }
+    ensures unasked { EachUnasked304IsAFailure }
 {}
 
 /// Whoever drives a core by its public calls has gone through a good trace, with all that each good trace keeps.

@@ -27,7 +27,7 @@ pub use crate::core_fault::CoreFault;
 pub use crate::core_state::Core;
 pub use crate::event::Event;
 pub use crate::laws::bound_cases::{
-    what_an_answer_weighs, what_is_held_by_weight, what_is_too_heavy_alone,
+    what_an_answer_weighs, what_is_held_at_first, what_is_held_by_weight, what_is_too_heavy_alone,
 };
 pub use crate::laws::event_cases::{
     worked_counts_of_traces, worked_kinds_of_events, worked_kinds_of_outcomes,
@@ -52,9 +52,9 @@ pub use crate::laws::worked_cases::{
 };
 pub use crate::laws::{
     a_core_keeps_what_is_held, a_driven_core_keeps_the_promises, a_good_trace_leaves_no_choice,
-    a_line_without_cache_touches_no_stored_response, a_plain_line_waits_for_what_is_missing_alone,
-    a_request_goes_forward_where_it_is_allowed,
-    a_request_reaches_cache_or_origin_where_it_is_allowed,
+    a_kept_condition_is_judged_on_the_answer, a_line_without_cache_touches_no_stored_response,
+    a_plain_line_waits_for_what_is_missing_alone, a_request_goes_forward_where_it_is_allowed,
+    a_request_reaches_cache_or_origin_where_it_is_allowed, a_restart_is_no_event,
     a_stored_response_is_sent_where_one_may_be, a_waiting_request_is_woken_once_behind_its_leader,
     an_answer_is_stored_where_it_may_be, an_open_exchange_carries_its_arrival,
     each_answer_names_its_first_rule, every_good_trace_has_the_headline,

@@ -1,5 +1,5 @@
 -- Whatever is held has a head of so many lines and bytes, however often it was freshened.
-use Rattle.std.proofs.Common.{◌≡◌, ◌⊎◌, inl, inr, ◌+◌, ℕ, Bool, true, false, not, ◌&&◌, ◌||◌, ◌==◌, cond, List, [], ◌∷◌, length, refl, sym, ap, ◌∙◌, subst, arith, nat_le}
+use Rattle.std.proofs.Common.{◌≡◌, inl, inr, ◌+◌, ℕ, Bool, true, false, not, ◌&&◌, ◌||◌, ◌==◌, cond, List, [], ◌∷◌, length, refl, sym, ap, ◌∙◌, subst, arith, nat_le}
 use Rattle.std.specs.Prelude.{Option, Some, None, option_map, is_none}
 use Rattle.std.specs.List.{AllByRecursion}
 use Rattle.std.specs.Option.{option_and_then}
@@ -31,6 +31,7 @@ use Rattle.proxy_core.specs.Moments.{moment_too_late_fault}
 use Rattle.proxy_core.specs.Outcomes.{outcome_of_failure, fallback_for, fault_at_exchange, find_exchange, exchange_id_of_event, is_error_status, fault_if_not_forwarded, outcome_of, outcome_of_passing_on_or_stale, outcome_of_304}
 use Rattle.proxy_core.specs.ReadAnswers.{EventIsReadFromAStream}
 use Rattle.proxy_core.specs.State.{serials_removed_by_outcome, stored_response_by_answer, serial_stored_by_outcome, stored_response_as_used, serial_used_by_outcome}
+use Rattle.proxy_core.specs.Starts.{StoreAtStart, EachHeldAtFirst}
 use Rattle.proxy_core.specs.Storing.{is_304_without_condition}
 use Rattle.proxy_core.specs.Traces.{Item, initial_state, state_after_trace}
 use Rattle.proxy_core.specs.Validating.{as_get_request, head_of_stored, stored_response_if_answered, stored_response_is_answered, condition_is_answered, freshened_may_be_kept, is_validation, storing_facts_of_freshened, freshened_by_304, serial_asked_about, stored_response_validated}
@@ -38,7 +39,7 @@ use Rattle.proxy_core.proofs.HeldEntries.{EachIs-find, held_found}
 use Rattle.proxy_core.proofs.HeldLaw.{held_before_cut, entries_are_held, good_plain, stands_for}
 use Rattle.proxy_core.proofs.Leaving.{serial_stays, unanswered, validated_is}
 use Rattle.proxy_core.proofs.SentResponses.{sends_what_is_held}
-use Rattle.proxy_core_laws.specs.HeldHeads.{FreshenedHeadLeavesRoom, HeldHeadIsBounded, HeldHeadLeavesRoom, ResponseIsAsStored, HeadIsBounded, FreshenedHeadIsBounded}
+use Rattle.proxy_core_laws.specs.HeldHeads.{FreshenedHeadLeavesRoom, HeldHeadIsBounded, HeldHeadLeavesRoom, LeavesRoomOrIsAsStored, HeadIsBounded, FreshenedHeadIsBounded}
 use Rattle.proxy_core_laws.proofs.HeldReplies.{first_none, in_time}
 use Rattle.proxy_core_laws.proofs.ReadHeads.{stores_bounded}
 
@@ -56,39 +57,35 @@ keeps_bounded table x r e kept =
     let parts = and_parts (is_none (storage_rule_of (as_get_request x.asked) (head_of_stored e) (storing_facts_of_freshened table x r e))) (head_leaves_room e.fields) kept in
     (parts.1, roomy e parts.1)
 
--- it leaves room, or is as it was stored
-abbrev IsEither : ℕ → Stored → Type 0
-IsEither s e = (head_leaves_room e.fields ≡ true) ⊎ ResponseIsAsStored s e
-
 -- ---- what is held under a serial
 
 some_same : {B : Type 0} {x y : B} → Some x ≡ Some y → x ≡ y
 some_same h = cc
 
-module _ (table : Table) (limit first : ℕ) (past : List Item) (good : IsGoodHistory table limit first past) where
+module _ (table : Table) (start : StoreAtStart) (first : ℕ) (past : List Item) (good : IsGoodHistory table start first past) where
   abbrev es : List Stored
-  es = (state_after_trace (initial_state table limit first) past).entries
+  es = (state_after_trace (initial_state table start first) past).entries
 
-  same_list : es ≡ held_entries table limit past
-  same_list = entries_are_held table limit first past (good_plain table limit first past good)
+  same_list : es ≡ held_entries table start past
+  same_list = entries_are_held table start first past (good_plain table start first past good)
 
-  pub entry_of : (s : ℕ) (e : Stored) → find_entry s (held_entries table limit past) ≡ Some e → held_entry table limit past s ≡ Some e
+  pub entry_of : (s : ℕ) (e : Stored) → find_entry s (held_entries table start past) ≡ Some e → held_entry table start past s ≡ Some e
   entry_of s e found =
-      EachIs-find (held_entry table limit past) s es e (subst (λ zs. find_entry s zs ≡ Some e) (sym same_list) found)
-      (stands_for table limit first past (good_plain table limit first past good)).entries_are
+      EachIs-find (held_entry table start past) s es e (subst (λ zs. find_entry s zs ≡ Some e) (sym same_list) found)
+      (stands_for table start first past (good_plain table start first past good)).entries_are
 
-  same_serials : serials (held_entries table limit past) ≡ held_serials table limit past
-  same_serials = ap serials (sym same_list) ∙ (stands_for table limit first past (good_plain table limit first past good)).serials_are
+  same_serials : serials (held_entries table start past) ≡ held_serials table start past
+  same_serials = ap serials (sym same_list) ∙ (stands_for table start first past (good_plain table start first past good)).serials_are
 
-  pub held_in : (s : ℕ) (e : Stored) → find_entry s (held_entries table limit past) ≡ Some e → serial_is_in s (held_serials table limit past) ≡ true
+  pub held_in : (s : ℕ) (e : Stored) → find_entry s (held_entries table start past) ≡ Some e → serial_is_in s (held_serials table start past) ≡ true
   held_in s e found =
-      ap (serial_is_in s) (sym same_serials) ∙ ap (λ n. holds_serial n (held_entries table limit past)) (sym (find-serial s (held_entries table limit past) e found)) ∙ find_holds s (held_entries table limit past) e found
+      ap (serial_is_in s) (sym same_serials) ∙ ap (λ n. holds_serial n (held_entries table start past)) (sym (find-serial s (held_entries table start past) e found)) ∙ find_holds s (held_entries table start past) e found
 
-  pub found_again : (s : ℕ) (e : Stored) → serial_is_in s (held_serials table limit past) ≡ true → held_entry table limit past s ≡ Some e → find_entry s (held_entries table limit past) ≡ Some e
+  pub found_again : (s : ℕ) (e : Stored) → serial_is_in s (held_serials table start past) ≡ true → held_entry table start past s ≡ Some e → find_entry s (held_entries table start past) ≡ Some e
   found_again s e inside look =
-      let some = held_found s (held_entries table limit past) (ap (serial_is_in s) same_serials ∙ inside) in
+      let some = held_found s (held_entries table start past) (ap (serial_is_in s) same_serials ∙ inside) in
       let same : some.0 ≡ e = some_same (sym (entry_of s some.0 some.1) ∙ look) in
-      subst (λ (f : Stored). find_entry s (held_entries table limit past) ≡ Some f) same some.1
+      subst (λ (f : Stored). find_entry s (held_entries table start past) ≡ Some f) same some.1
 
 -- ---- what a 304 answers
 
@@ -121,18 +118,18 @@ module _ (table : Table) (es : List Stored) (xs : List Exchange) (next : Option 
   kept_so x now id r s e h found out =
       let serial = find-serial s es e found in
       let d : Decision = decision_of (policy_of table.lines x.line) es x.asked now in
-      let other : Outcome = cond (is_304_without_condition x.asked r) (outcome_of_failure table es now x BadAnswer (Some r.status) (fallback_for (policy_of table.lines x.line) es x.asked now d)) (outcome_of_passing_on_or_stale table es now x r next (is_error_status r.status) (fallback_for (policy_of table.lines x.line) es x.asked now d)) in
+      let other : Outcome = cond (is_304_without_condition (policy_of table.lines x.line) x.asked r) (outcome_of_failure table es now x BadAnswer (Some r.status) (fallback_for (policy_of table.lines x.line) es x.asked now d)) (outcome_of_passing_on_or_stale table es now x r next (is_error_status r.status) (fallback_for (policy_of table.lines x.line) es x.asked now d)) in
       let outcome : outcome_of table es xs (Some x) next (Answer now id r) ≡ outcome_of_304 table es now x r (Some e) d =
       ap (λ b. cond b (outcome_of_304 table es now x r (stored_response_validated es x r now) d) other) (validation_so x r now e h)
       ∙ ap (λ o. outcome_of_304 table es now x r o d) (validated_so x r now e h (ap (λ n. find_entry n es) serial ∙ found))
       in
       stays (freshened_may_be_kept table x r (freshened_by_304 x r now e)) s (freshened_by_304 x r now e).serial (serial_stays x r now e ∙ serial) (ap (λ o. serial_is_in s (serials_removed_by_outcome o)) (sym outcome) ∙ out)
 
-  used_so : (x : Option Exchange) (event : Event) (s : ℕ) (e : Stored) → find_entry s es ≡ Some e → IsEither s e
-      → serial_is_in s (serials_removed_by_outcome (outcome_of table es xs x next event)) ≡ false → IsEither s (stored_response_as_used x event e)
+  used_so : (x : Option Exchange) (event : Event) (s : ℕ) (e : Stored) → find_entry s es ≡ Some e → LeavesRoomOrIsAsStored s e
+      → serial_is_in s (serials_removed_by_outcome (outcome_of table es xs x next event)) ≡ false → LeavesRoomOrIsAsStored s (stored_response_as_used x event e)
   used_so (Some x) (Answer now id r) s e found is out = by_test (stored_response_is_answered x r now e) refl
     where
-      by_test : (t : Bool) → stored_response_is_answered x r now e ≡ t → IsEither s (cond t (freshened_by_304 x r now e) e)
+      by_test : (t : Bool) → stored_response_is_answered x r now e ≡ t → LeavesRoomOrIsAsStored s (cond t (freshened_by_304 x r now e) e)
       by_test true h = inl (keeps_bounded table x r (freshened_by_304 x r now e) (kept_so x now id r s e h found out)).0
       by_test false h = is
   used_so (Some x) (Arrive now id asked) s e found is out = is
@@ -143,7 +140,7 @@ module _ (table : Table) (es : List Stored) (xs : List Exchange) (next : Option 
 
 -- ---- what an answer makes
 
-made_so : (x : Option Exchange) (event : Event) (s : ℕ) (e : Stored) → fault_at_exchange x event ≡ None → EventIsReadFromAStream event → stored_response_by_answer x event s ≡ Some e → IsEither s e
+made_so : (x : Option Exchange) (event : Event) (s : ℕ) (e : Stored) → fault_at_exchange x event ≡ None → EventIsReadFromAStream event → stored_response_by_answer x event s ≡ Some e → LeavesRoomOrIsAsStored s e
 made_so (Some x) (Answer now id r) s e allowed is h =
     inr (record {
       exchange = x;
@@ -177,56 +174,56 @@ the_serial None s h = absurd cc
 the_serial (Some x) s h = ap (λ (n : ℕ). Some n) (eqb-true x s h)
 
 -- among what is held after an item: it isn't removed there, and was held before where the item doesn't touch it
-module _ (table : Table) (limit : ℕ) (item : Item) (past : List Item) (s : ℕ) (inside : serial_is_in s (held_serials table limit (item ∷ past)) ≡ true) where
-  left_in : ((stores_or_uses (store_change_of item) s || serial_is_in s (held_serials table limit past)) && not (serial_is_in s (serials_removed_by_outcome item.outcome))) ≡ true
+module _ (table : Table) (start : StoreAtStart) (item : Item) (past : List Item) (s : ℕ) (inside : serial_is_in s (held_serials table start (item ∷ past)) ≡ true) where
+  left_in : ((stores_or_uses (store_change_of item) s || serial_is_in s (held_serials table start past)) && not (serial_is_in s (serials_removed_by_outcome item.outcome))) ≡ true
   left_in =
-      sym (is_in-after s (store_change_of item) (held_serials table limit past))
-      ∙ held_before_cut table limit item past s inside
+      sym (is_in-after s (store_change_of item) (held_serials table start past))
+      ∙ held_before_cut table start item past s inside
 
-  stays_in : (serial_is_in s (serials_removed_by_outcome item.outcome) ≡ false) × (stores_or_uses (store_change_of item) s ≡ false → serial_is_in s (held_serials table limit past) ≡ true)
-  stays_in = after_parts (stores_or_uses (store_change_of item) s) (serial_is_in s (held_serials table limit past)) (serial_is_in s (serials_removed_by_outcome item.outcome)) left_in
+  stays_in : (serial_is_in s (serials_removed_by_outcome item.outcome) ≡ false) × (stores_or_uses (store_change_of item) s ≡ false → serial_is_in s (held_serials table start past) ≡ true)
+  stays_in = after_parts (stores_or_uses (store_change_of item) s) (serial_is_in s (held_serials table start past)) (serial_is_in s (serials_removed_by_outcome item.outcome)) left_in
 
   not_removed : serial_is_in s (serials_removed_by_outcome item.outcome) ≡ false
   not_removed = stays_in.0
 
-module _ (table : Table) (limit first : ℕ) where
+module _ (table : Table) (start : StoreAtStart) (first : ℕ) where
   abbrev Earlier : ℕ → List Item → Type 0
-  Earlier s past = (f : Stored) → serial_is_in s (held_serials table limit past) ≡ true → held_entry table limit past s ≡ Some f → IsEither s f
+  Earlier s past = (f : Stored) → serial_is_in s (held_serials table start past) ≡ true → held_entry table start past s ≡ Some f → LeavesRoomOrIsAsStored s f
 
-  held_either : (trace : List Item) → IsGoodHistory table limit first trace → AllByRecursion (λ item. EventIsReadFromAStream item.event) trace → (s : ℕ) (e : Stored)
-      → serial_is_in s (held_serials table limit trace) ≡ true → held_entry table limit trace s ≡ Some e → IsEither s e
-  held_either [] good read s e inside h = absurd cc
-  held_either (item ∷ past) good read s e inside h =
-      by_tests (λ f k look. held_either past good.1 read.1 s f k look) (is_that_serial (serial_stored_by_outcome item.outcome) s) refl (is_that_serial (serial_used_by_outcome item.outcome) s) refl h
+  held_either : EachHeldAtFirst LeavesRoomOrIsAsStored start → (trace : List Item) → IsGoodHistory table start first trace → AllByRecursion (λ item. EventIsReadFromAStream item.event) trace → (s : ℕ) (e : Stored)
+      → serial_is_in s (held_serials table start trace) ≡ true → held_entry table start trace s ≡ Some e → LeavesRoomOrIsAsStored s e
+  held_either begins [] good read s e inside h = begins s e h
+  held_either begins (item ∷ past) good read s e inside h =
+      by_tests (λ f k look. held_either begins past good.1 read.1 s f k look) (is_that_serial (serial_stored_by_outcome item.outcome) s) refl (is_that_serial (serial_used_by_outcome item.outcome) s) refl h
     where
       x : Option Exchange
-      x = find_exchange (exchange_id_of_event item.event) (open_exchanges table limit past)
+      x = find_exchange (exchange_id_of_event item.event) (open_exchanges table start past)
 
       before : List Stored
-      before = held_entries table limit past
+      before = held_entries table start past
 
-      by_used : Earlier s past → serial_used_by_outcome item.outcome ≡ Some s → option_map (stored_response_as_used x item.event) (held_entry table limit past s) ≡ Some e → IsEither s e
+      by_used : Earlier s past → serial_used_by_outcome item.outcome ≡ Some s → option_map (stored_response_as_used x item.event) (held_entry table start past s) ≡ Some e → LeavesRoomOrIsAsStored s e
       by_used earlier used k =
-          let is = sends_what_is_held table limit first s item past good used in
-          let look : held_entry table limit past s ≡ Some is.response = entry_of table limit first past good.1 s is.response is.is_held in
-          let either = earlier is.response (held_in table limit first past good.1 s is.response is.is_held) look in
+          let is = sends_what_is_held table start first s item past good used in
+          let look : held_entry table start past s ≡ Some is.response = entry_of table start first past good.1 s is.response is.is_held in
+          let either = earlier is.response (held_in table start first past good.1 s is.response is.is_held) look in
           let same : stored_response_as_used x item.event is.response ≡ e = some_same (sym (ap (option_map (stored_response_as_used x item.event)) look) ∙ k) in
-          subst (IsEither s) same (used_so table before (open_exchanges table limit past) (next_serial first past) x item.event s is.response is.is_held either
-          (ap (λ o. serial_is_in s (serials_removed_by_outcome o)) (sym good.0.outcome_is) ∙ not_removed table limit item past s inside))
+          subst (LeavesRoomOrIsAsStored s) same (used_so table before (open_exchanges table start past) (next_serial first past) x item.event s is.response is.is_held either
+          (ap (λ o. serial_is_in s (serials_removed_by_outcome o)) (sym good.0.outcome_is) ∙ not_removed table start item past s inside))
 
       by_tests : Earlier s past → (t : Bool) → is_that_serial (serial_stored_by_outcome item.outcome) s ≡ t → (u : Bool) → is_that_serial (serial_used_by_outcome item.outcome) s ≡ u
-          → cond t (stored_response_by_answer x item.event s) (cond u (option_map (stored_response_as_used x item.event) (held_entry table limit past s)) (held_entry table limit past s)) ≡ Some e → IsEither s e
+          → cond t (stored_response_by_answer x item.event s) (cond u (option_map (stored_response_as_used x item.event) (held_entry table start past s)) (held_entry table start past s)) ≡ Some e → LeavesRoomOrIsAsStored s e
       by_tests earlier true is u using k = made_so x item.event s e good.0.allowed read.0 k
       by_tests earlier false is true using k = by_used earlier (the_serial (serial_used_by_outcome item.outcome) s using) k
-      by_tests earlier false is false using k = earlier e ((stays_in table limit item past s inside).1 (both_false (is_that_serial (serial_stored_by_outcome item.outcome) s) (is_that_serial (serial_used_by_outcome item.outcome) s) is using)) k
+      by_tests earlier false is false using k = earlier e ((stays_in table start item past s inside).1 (both_false (is_that_serial (serial_stored_by_outcome item.outcome) s) (is_that_serial (serial_used_by_outcome item.outcome) s) is using)) k
 
 pub holds_with_room : HeldHeadLeavesRoom
-holds_with_room table limit first trace good read s e inside h = held_either table limit first trace good read s e inside h
+holds_with_room table start first trace good begins read s e inside h = held_either table start first begins trace good read s e inside h
 
 pub holds_bounded : HeldHeadIsBounded
-holds_bounded table limit first trace good read s e inside h = by_case (held_either table limit first trace good read s e inside h)
+holds_bounded table start first trace good begins read s e inside h = by_case (held_either table start first begins trace good read s e inside h)
   where
-    by_case : IsEither s e → HeadIsBounded e
+    by_case : LeavesRoomOrIsAsStored s e → HeadIsBounded e
     by_case (inl room) = roomy e room
     by_case (inr as_stored) =
         let read = as_stored.was_read in
@@ -235,14 +232,14 @@ holds_bounded table limit first trace good read s e inside h = by_case (held_eit
 -- ---- what was freshened
 
 pub freshens_with_room : FreshenedHeadLeavesRoom
-freshens_with_room table limit first now id x r e item past good event_is open_is valid inside =
-    let es : List Stored = held_entries table limit past in
+freshens_with_room table start first now id x r e item past good event_is open_is valid inside =
+    let es : List Stored = held_entries table start past in
     let is = validated_is es x r now e valid in
-    let from : outcome_of table es (open_exchanges table limit past) (Some x) (next_serial first past) (Answer now id r) ≡ item.outcome =
-    ap (λ o. outcome_of table es (open_exchanges table limit past) o (next_serial first past) (Answer now id r)) (sym open_is)
-    ∙ ap (λ (v : Event). outcome_of table es (open_exchanges table limit past) (find_exchange (exchange_id_of_event v) (open_exchanges table limit past)) (next_serial first past) v) (sym event_is)
+    let from : outcome_of table es (open_exchanges table start past) (Some x) (next_serial first past) (Answer now id r) ≡ item.outcome =
+    ap (λ o. outcome_of table es (open_exchanges table start past) o (next_serial first past) (Answer now id r)) (sym open_is)
+    ∙ ap (λ (v : Event). outcome_of table es (open_exchanges table start past) (find_exchange (exchange_id_of_event v) (open_exchanges table start past)) (next_serial first past) v) (sym event_is)
     ∙ sym good.0.outcome_is
     in
-    let out = not_removed table limit item past e.serial inside in
-    let kept = kept_so table es (open_exchanges table limit past) (next_serial first past) x now id r e.serial e is.answered is.found (ap (λ o. serial_is_in e.serial (serials_removed_by_outcome o)) from ∙ out) in
+    let out = not_removed table start item past e.serial inside in
+    let kept = kept_so table es (open_exchanges table start past) (next_serial first past) x now id r e.serial e is.answered is.found (ap (λ o. serial_is_in e.serial (serials_removed_by_outcome o)) from ∙ out) in
     (keeps_bounded table x r (freshened_by_304 x r now e) kept).0

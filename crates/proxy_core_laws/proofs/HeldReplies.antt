@@ -74,7 +74,7 @@ after_so x event false true s o e allowed is before h = used_so x event o e allo
 after_so x event false false s o e allowed is before h = before e h
 
 pub holds_sendable : HeldIsSendable
-holds_sendable table limit first [] good read s e h = absurd cc
-holds_sendable table limit first (item ∷ past) good read s e h =
-    after_so (find_exchange (exchange_id_of_event item.event) (open_exchanges table limit past)) item.event (is_that_serial (serial_stored_by_outcome item.outcome) s) (is_that_serial (serial_used_by_outcome item.outcome) s)
-    s (held_entry table limit past s) e good.0.allowed read.0 (holds_sendable table limit first past good.1 read.1 s) h
+holds_sendable table start first [] good begins read s e h = begins s e h
+holds_sendable table start first (item ∷ past) good begins read s e h =
+    after_so (find_exchange (exchange_id_of_event item.event) (open_exchanges table start past)) item.event (is_that_serial (serial_stored_by_outcome item.outcome) s) (is_that_serial (serial_used_by_outcome item.outcome) s)
+    s (held_entry table start past s) e good.0.allowed read.0 (holds_sendable table start first past good.1 begins read.1 s) h

@@ -1,5 +1,5 @@
 -- What is held of answers that were read: its validators are field values, and its content is within the table's limit.
-use Rattle.std.proofs.Common.{◌≡◌, ℕ, ◌≤◌, ◌==◌, Bool, true, false, cond, List, [], ◌∷◌, length, refl, sym, ap, ◌∙◌, subst}
+use Rattle.std.proofs.Common.{◌≡◌, ℕ, ◌≤◌, ◌<◌, ◌^◌, ◌==◌, Bool, true, false, cond, List, [], ◌∷◌, length, refl, sym, ap, ◌∙◌, subst, arith}
 use Rattle.std.specs.Prelude.{All, IfSome, Option, None, Some, codes, option_map, filter}
 use Rattle.std.specs.List.{AllByRecursion, cons_option, filter_map}
 use Rattle.std.proofs.lemmas.Bool.{eqb-true}
@@ -23,11 +23,14 @@ use Rattle.proxy_core.specs.Histories.{IsGoodHistory, held_entry, open_exchanges
 use Rattle.proxy_core.specs.Outcomes.{find_exchange, exchange_id_of_event}
 use Rattle.proxy_core.specs.ReadAnswers.{EventIsReadFromAStream}
 use Rattle.proxy_core.specs.State.{stored_response_by_answer, serial_stored_by_outcome, stored_response_as_used, serial_used_by_outcome}
+use Rattle.proxy_core.specs.Starts.{StoreAtStart, EachHeldAtFirst}
 use Rattle.proxy_core.specs.Storing.{stored_response_made}
 use Rattle.proxy_core.specs.Traces.{Item}
 use Rattle.proxy_core.specs.Validating.{stored_response_is_answered, freshened_by_304}
-use Rattle.proxy_core_laws.specs.SentMessages.{ConditionsOfHistoryAreFieldValues, HeldContentFits}
+use Rattle.hx_allow.specs.Tables.{TableWasRead}
+use Rattle.proxy_core_laws.specs.SentMessages.{CanBeSent, ConditionsOfHistoryAreFieldValues, HeldContentFits}
 use Rattle.proxy_core_laws.proofs.HeldReplies.{holds_sendable}
+use Rattle.proxy_core_laws.proofs.ReadTables.{stores_none_too_long}
 use Rattle.proxy_core.proofs.StoredAnswers.{stores_nowhere_else}
 
 -- ---- validators
@@ -57,7 +60,7 @@ conditions_fit fields all = record {
 }
 
 pub asks_by_field_values : ConditionsOfHistoryAreFieldValues
-asks_by_field_values table limit first trace good read serial e h = conditions_fit e.fields (holds_sendable table limit first trace good read serial e h).fields
+asks_by_field_values table start first trace good begins read serial e h = conditions_fit e.fields (holds_sendable table start first trace good begins read serial e h).fields
 
 -- ---- a content
 
@@ -80,41 +83,52 @@ the_serial : (o : Option ℕ) (s : ℕ) → is_that_serial o s ≡ true → o �
 the_serial None s h = absurd cc
 the_serial (Some x) s h = ap (λ (n : ℕ). Some n) (eqb-true x s h)
 
-module _ (table : Table) (limit first : ℕ) where
-  made_fits : (item : Item) (past : List Item) (s : ℕ) (e : Stored) → IsGoodHistory table limit first (item ∷ past) → EventIsReadFromAStream item.event → serial_stored_by_outcome item.outcome ≡ Some s
-      → stored_response_by_answer (find_exchange (exchange_id_of_event item.event) (open_exchanges table limit past)) item.event s ≡ Some e → length e.content ≤ table.max_stored
+module _ (table : Table) (start : StoreAtStart) (first : ℕ) where
+  made_fits : (item : Item) (past : List Item) (s : ℕ) (e : Stored) → IsGoodHistory table start first (item ∷ past) → EventIsReadFromAStream item.event → serial_stored_by_outcome item.outcome ≡ Some s
+      → stored_response_by_answer (find_exchange (exchange_id_of_event item.event) (open_exchanges table start past)) item.event s ≡ Some e → length e.content ≤ table.max_stored
   made_fits item past s e good read stored h =
-      let is = stores_nowhere_else table limit first s item past good stored in
+      let is = stores_nowhere_else table start first s item past good stored in
       let answer : EventIsReadFromAStream (Answer is.now is.id is.response) = subst EventIsReadFromAStream is.event_is read in
       let final = final_status answer.max_body answer.to_head answer.ended answer.bytes is.response answer.rest answer.reads in
       let fits : length is.response.content ≤ table.max_stored = (is.may_be_stored final.0).fits in
-      let open_is : find_exchange (exchange_id_of_event item.event) (open_exchanges table limit past) ≡ Some is.exchange = ap (λ (v : Event). find_exchange (exchange_id_of_event v) (open_exchanges table limit past)) is.event_is ∙ is.is_open in
-      let form : stored_response_by_answer (find_exchange (exchange_id_of_event item.event) (open_exchanges table limit past)) item.event s ≡ Some (stored_response_made s is.exchange is.response is.now) =
+      let open_is : find_exchange (exchange_id_of_event item.event) (open_exchanges table start past) ≡ Some is.exchange = ap (λ (v : Event). find_exchange (exchange_id_of_event v) (open_exchanges table start past)) is.event_is ∙ is.is_open in
+      let form : stored_response_by_answer (find_exchange (exchange_id_of_event item.event) (open_exchanges table start past)) item.event s ≡ Some (stored_response_made s is.exchange is.response is.now) =
       ap (λ (o : Option Exchange). stored_response_by_answer o item.event s) open_is ∙ ap (λ (v : Event). stored_response_by_answer (Some is.exchange) v s) is.event_is in
       subst (λ (f : Stored). length f.content ≤ table.max_stored) (some_same (sym form ∙ h)) fits
 
-  used_fits : (x : Option Exchange) (event : Event) (o : Option Stored) (e : Stored) → ((f : Stored) → o ≡ Some f → length f.content ≤ table.max_stored)
-      → option_map (stored_response_as_used x event) o ≡ Some e → length e.content ≤ table.max_stored
-  used_fits x event None e before h = absurd cc
-  used_fits x event (Some f) e before h = subst (λ (c : List ℕ). length c ≤ table.max_stored) (sym (used_content x event f) ∙ ap (λ (g : Stored). g.content) (some_same h)) (before f refl)
+  used_fits : (most : ℕ) (x : Option Exchange) (event : Event) (o : Option Stored) (e : Stored) → ((f : Stored) → o ≡ Some f → length f.content ≤ most)
+      → option_map (stored_response_as_used x event) o ≡ Some e → length e.content ≤ most
+  used_fits most x event None e before h = absurd cc
+  used_fits most x event (Some f) e before h = subst (λ (c : List ℕ). length c ≤ most) (sym (used_content x event f) ∙ ap (λ (g : Stored). g.content) (some_same h)) (before f refl)
 
-  pub fits_after : (trace : List Item) → IsGoodHistory table limit first trace → AllByRecursion (λ item. EventIsReadFromAStream item.event) trace → (s : ℕ) (e : Stored)
-      → held_entry table limit trace s ≡ Some e → length e.content ≤ table.max_stored
-  fits_after [] good read s e h = absurd cc
-  fits_after (item ∷ past) good read s e h =
-      by_tests (is_that_serial (serial_stored_by_outcome item.outcome) s) refl (is_that_serial (serial_used_by_outcome item.outcome) s) (λ f k. fits_after past good.1 read.1 s f k) h
+  -- within any bound that is no smaller than the table's, and that each keeps to that was held at first
+  pub fits_after : (most : ℕ) → table.max_stored ≤ most → EachHeldAtFirst (λ s e. length e.content ≤ most) start
+      → (trace : List Item) → IsGoodHistory table start first trace → AllByRecursion (λ item. EventIsReadFromAStream item.event) trace → (s : ℕ) (e : Stored)
+      → held_entry table start trace s ≡ Some e → length e.content ≤ most
+  fits_after most larger begins [] good read s e h = begins s e h
+  fits_after most larger begins (item ∷ past) good read s e h =
+      by_tests (is_that_serial (serial_stored_by_outcome item.outcome) s) refl (is_that_serial (serial_used_by_outcome item.outcome) s) (λ f k. fits_after most larger begins past good.1 read.1 s f k) h
     where
       x : Option Exchange
-      x = find_exchange (exchange_id_of_event item.event) (open_exchanges table limit past)
+      x = find_exchange (exchange_id_of_event item.event) (open_exchanges table start past)
 
-      by_tests : (t : Bool) → is_that_serial (serial_stored_by_outcome item.outcome) s ≡ t → (u : Bool) → ((f : Stored) → held_entry table limit past s ≡ Some f → length f.content ≤ table.max_stored)
-          → cond t (stored_response_by_answer x item.event s) (cond u (option_map (stored_response_as_used x item.event) (held_entry table limit past s)) (held_entry table limit past s)) ≡ Some e → length e.content ≤ table.max_stored
-      by_tests true is u before k = made_fits item past s e good read.0 (the_serial (serial_stored_by_outcome item.outcome) s is) k
-      by_tests false is true before k = used_fits x item.event (held_entry table limit past s) e before k
+      by_tests : (t : Bool) → is_that_serial (serial_stored_by_outcome item.outcome) s ≡ t → (u : Bool) → ((f : Stored) → held_entry table start past s ≡ Some f → length f.content ≤ most)
+          → cond t (stored_response_by_answer x item.event s) (cond u (option_map (stored_response_as_used x item.event) (held_entry table start past s)) (held_entry table start past s)) ≡ Some e → length e.content ≤ most
+      by_tests true is u before k = omega (arith, larger, made_fits item past s e good read.0 (the_serial (serial_stored_by_outcome item.outcome) s is) k)
+      by_tests false is true before k = used_fits most x item.event (held_entry table start past s) e before k
       by_tests false is false before k = before e k
 
 pub holds_what_fits : HeldContentFits
-holds_what_fits table limit first trace good read serial e h = fits_after table limit first trace good read serial e h
+holds_what_fits table start first trace good begins read serial e h = fits_after table start first table.max_stored (omega arith) begins trace good read serial e h
+
+-- and so it is in memory, where the table was read
+pub fits_in_memory : (table : Table) (start : StoreAtStart) (first : ℕ) (trace : List Item) → TableWasRead table → EachHeldAtFirst CanBeSent start → IsGoodHistory table start first trace
+    → AllByRecursion (λ item. EventIsReadFromAStream item.event) trace → (s : ℕ) (e : Stored) → held_entry table start trace s ≡ Some e → length e.content < 2 ^ 64
+fits_in_memory table start first trace table_read begins good read s e h =
+    let small = stores_none_too_long table table_read in
+    let larger : table.max_stored ≤ 18446744073709551615 = omega (arith, small) in
+    let fits = fits_after table start first 18446744073709551615 larger (λ t f k. let short = (begins t f k).fits in omega (arith, short)) trace good read s e h in
+    omega (arith, fits)
 
 -- ---- what is found among what is held
 

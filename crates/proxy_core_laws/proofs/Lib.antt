@@ -12,3 +12,4 @@ pub mod ReadHeads
 pub mod HeldHeads
 pub mod SentHeads
 pub mod SentRoom
+pub mod LeftStores

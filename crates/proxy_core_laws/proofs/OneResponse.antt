@@ -1,13 +1,15 @@
 -- What is passed on and what the proxy answers by itself is one response.
 use Rattle.std.proofs.Common.{◌≡◌, ℕ, ◌<◌, ◌≤◌, ◌^◌, ◌||◌, ◌==◌, Bool, true, false, not, cond, List, [], ◌∷◌, ◌++◌, length, refl, arith}
-use Rattle.std.specs.Prelude.{IfSome, None, Some, codes}
+use Rattle.std.specs.Prelude.{IfSome, None, Option, Some, codes, filter}
 use Rattle.std.specs.List.{list_all}
 use Rattle.std.proofs.lemmas.List.Elements.{All-nil, All-cons, All-append, All-filter}
-use Rattle.httparse.specs.Grammar.{is_token_byte}
+use Rattle.std.proofs.lemmas.List.Folds.{list_any-append}
+use Rattle.httparse.specs.Grammar.{is_token_byte, IsToken}
 use Rattle.hx_framing.specs.declared.frame_fault.FrameFault.{FrameFault}
 use Rattle.hx_framing.specs.declared.frame_fault.FrameFault.TheVariants as frame
 use Rattle.hx_fields.specs.declared.limits.TheConstants.{END_OF_TIME}
 use Rattle.hx_fields.specs.declared.field_line.Field.{Field}
+use Rattle.hx_fields.specs.FieldLines.{has_field, is_named}
 use Rattle.hx_framing.specs.declared.messages.Response.{Response}
 use Rattle.hx_framing.specs.Lengths.{is_interim, response_has_no_content}
 use Rattle.hx_framing.specs.Reading.{Spelled}
@@ -30,9 +32,14 @@ use Rattle.hx_hop_laws.specs.OneMessage.{IsFieldValue}
 use Rattle.hx_hop_laws.proofs.DateValues.{date_value}
 use Rattle.hx_hop_laws.proofs.SentRequests.{line_of}
 use Rattle.hx_hop_laws.specs.OneResponse.{LinesMayBeAdded, ResponseFitsAReader, response_passed_on}
-use Rattle.hx_hop_laws.proofs.SentResponses.{clean, dated_fit, sent_without}
-use Rattle.proxy_core.specs.Replies.{content_unless_head, is_head, line, cache_status_of_passed_answer}
-use Rattle.proxy_core_laws.specs.OneResponse.{PassedAnswerIsOneResponse, ProxysAnswerIsOneResponse, proxys_answer_sent}
+use Rattle.hx_hop_laws.proofs.SentResponses.{clean, dated_fit, dated_without, sent_without, stripped_without}
+use Rattle.hx_hop.proofs.Lines.{list_any_fewer}
+use Rattle.hx_policy.specs.declared.words.Policy.{Policy}
+use Rattle.hx_storable.specs.declared.rule.StoreRule.{StoreRule}
+use Rattle.hx_validate.specs.NotModified.{is_carried_to_asker}
+use Rattle.proxy_core.specs.declared.open.exchange.Exchange.{Exchange}
+use Rattle.proxy_core.specs.Replies.{content_unless_head, is_head, line, cache_status_of_passed_answer, cache_status_of_304_to_answer, client_has_answer, not_modified_answer_text, whole_answer_text}
+use Rattle.proxy_core_laws.specs.OneResponse.{PassedAnswerIsOneResponse, ProxysAnswerIsOneResponse, not_modified_answer_sent, proxys_answer_sent, whole_answer_sent}
 use Rattle.proxy_core_laws.proofs.StoredReplies.{widened}
 use Rattle.proxy_core_laws.proofs.ReplyValues.{member_value, plain_value, text_value}
 
@@ -99,15 +106,68 @@ module _ (h g ended close : Bool) (max_body most now : ℕ) (bytes rest : List �
           by_tests false false true h = absurd cc
           by_tests false false false h = refl
 
+-- the answer whole
+module _ (max_body most now : ℕ) (to_head ended stored : Bool) (bytes rest name : List ℕ) (policy : Policy) (rule : Option StoreRule) (x : Exchange) (r : Response) where
+  whole_response : Reads max_body to_head ended bytes (Spelled r rest) → now < END_OF_TIME → IsToken name → most < 2 ^ 64 → ResponseFitsAReader most (whole_answer_sent policy name x r now stored rule)
+      → (over : Bool) (behind : List ℕ) → Reads most (is_head x.asked) over (whole_answer_text policy name x r now stored rule ++ behind)
+      (Spelled (response_as_read_back (is_head x.asked) (whole_answer_sent policy name x r now stored rule)) behind)
+  whole_response reads early token small limits over behind =
+      let shown : List ℕ = member_text name (cache_status_of_passed_answer policy x r.status (answered_of r now).fields now stored rule) in
+      let value : IsFieldValue shown = member_value name (cache_status_of_passed_answer policy x r.status (answered_of r now).fields now stored rule) token in
+      goes_on to_head (is_head x.asked) ended x.asked.close max_body most now bytes rest r (line (codes "Cache-Status") shown ∷ []) (record {
+        fields = All-cons FieldIsWritable (line (codes "Cache-Status") shown) [] (line_of (codes "Cache-Status") shown shown_name (omega arith) value) (All-nil FieldIsWritable);
+        lengths = refl;
+        codings = refl;
+      }) reads early small limits over behind
+
+  -- a 304 in its place
+  not_modified_response : Reads max_body to_head ended bytes (Spelled r rest) → now < END_OF_TIME → IsToken name → ResponseFitsAReader most (not_modified_answer_sent policy name x r now stored rule)
+      → (over : Bool) (behind : List ℕ) → Reads most (is_head x.asked) over (not_modified_answer_text policy name x r now stored rule ++ behind)
+      (Spelled (response_as_read_back (is_head x.asked) (not_modified_answer_sent policy name x r now stored rule)) behind)
+  not_modified_response reads early token limits over behind =
+      let is = clean max_body to_head ended bytes r rest reads in
+      let shown : List ℕ = member_text name (cache_status_of_304_to_answer policy x r.status (answered_of r now).fields now stored rule) in
+      let value : IsFieldValue shown = member_value name (cache_status_of_304_to_answer policy x r.status (answered_of r now).fields now stored rule) token in
+      let stripped_fit = All-filter (λ f. not (is_hop_line r.fields f)) FieldIsWritable r.fields is.fields in
+      response_is_read_back (is_head x.asked) (not_modified_answer_sent policy name x r now stored rule) most over behind (record {
+        status = (omega arith, omega arith);
+        fields = All-append FieldIsWritable (filter carried lines) (line (codes "Cache-Status") shown ∷ [])
+            (All-filter carried FieldIsWritable lines (dated_fit (stripped r.fields) now early stripped_fit))
+            (All-cons FieldIsWritable (line (codes "Cache-Status") shown) [] (line_of (codes "Cache-Status") shown shown_name (omega arith) value) (All-nil FieldIsWritable));
+        lengths = without (codes "content-length") shown is.lengths refl refl;
+        codings = without (codes "transfer-encoding") shown is.codings refl refl;
+        small = tt;
+        without = λ none. refl;
+        behind = λ some. absurd (never (is_head x.asked) some);
+        few = limits.few;
+        short = limits.short;
+      }) limits.content
+    where
+      lines : List Field
+      lines = dated_of (stripped r.fields) now
+
+      carried : Field → Bool
+      carried = is_carried_to_asker (has_field lines (codes "ETag"))
+
+      without : (field shown : List ℕ) → has_field r.fields field ≡ false → is_named field (line (codes "Date") (date_text_of now)) ≡ false → is_named field (line (codes "Cache-Status") shown) ≡ false
+          → has_field (filter carried lines ++ line (codes "Cache-Status") shown ∷ []) field ≡ false
+      without field shown none date status =
+          let left : has_field (filter carried lines) field ≡ false = list_any_fewer carried (is_named field) lines (dated_without (stripped r.fields) now field (stripped_without r.fields field none) date) in
+          rw (list_any-append (is_named field) (filter carried lines) (line (codes "Cache-Status") shown ∷ []), left, status) refl
+
+      never : (h : Bool) → response_has_no_content h 304 ≡ false → ⊥
+      never true some = cc
+      never false some = cc
+
 pub passes_one_response : PassedAnswerIsOneResponse
 passes_one_response max_body most now to_head ended stored bytes rest name policy rule x r reads early token small limits over behind =
-    let shown : List ℕ = member_text name (cache_status_of_passed_answer policy x r.status (answered_of r now).fields now stored rule) in
-    let value : IsFieldValue shown = member_value name (cache_status_of_passed_answer policy x r.status (answered_of r now).fields now stored rule) token in
-    goes_on to_head (is_head x.asked) ended x.asked.close max_body most now bytes rest r (line (codes "Cache-Status") shown ∷ []) (record {
-      fields = All-cons FieldIsWritable (line (codes "Cache-Status") shown) [] (line_of (codes "Cache-Status") shown shown_name (omega arith) value) (All-nil FieldIsWritable);
-      lengths = refl;
-      codings = refl;
-    }) reads early small limits over behind
+    by_test (client_has_answer policy x r now) limits
+  where
+    by_test : (has : Bool) → ResponseFitsAReader most (cond has (not_modified_answer_sent policy name x r now stored rule) (whole_answer_sent policy name x r now stored rule))
+        → Reads most (is_head x.asked) over (cond has (not_modified_answer_text policy name x r now stored rule) (whole_answer_text policy name x r now stored rule) ++ behind)
+        (Spelled (response_as_read_back (is_head x.asked) (cond has (not_modified_answer_sent policy name x r now stored rule) (whole_answer_sent policy name x r now stored rule))) behind)
+    by_test true limits = not_modified_response max_body most now to_head ended stored bytes rest name policy rule x r reads early token limits over behind
+    by_test false limits = whole_response max_body most now to_head ended stored bytes rest name policy rule x r reads early token small limits over behind
 
 -- ---- the proxy's own
 

@@ -18,6 +18,7 @@ use Rattle.proxy_core.specs.declared.outcome.Outcome.TheVariants.{Reply, Forward
 use Rattle.proxy_core.specs.Histories.{held_entries, open_exchanges}
 use Rattle.proxy_core.specs.Outcomes.{find_exchange}
 use Rattle.proxy_core.specs.State.{exchanges_after_close, exchanges_after_end, exchange_forwarded_again, open_exchanges_after, forwarded_exchange, overtaken_exchange, waiting_exchange, released_exchange, exchange_gone_forward, exchange_sent_forward, exchanges_after_wake, key_invalidated_by_response}
+use Rattle.proxy_core.specs.Starts.{StoreAtStart}
 use Rattle.proxy_core.specs.Traces.{Item}
 use Rattle.proxy_core_laws.specs.SentMessages.{EventsWereRead, EventWasRead, RequestWasRead, OpenRequestsWereRead}
 
@@ -72,10 +73,10 @@ after_so table es xs (Wake now id) (Waits leader) is all = closed_so id xs all
 after_so table es xs (Wake now id) Ended is all = closed_so id xs all
 after_so table es xs (Abandon id) outcome is all = closed_so id xs all
 
-open_so : (table : Table) (limit : ℕ) (trace : List Item) → EventsWereRead trace → All HasReadRequest (open_exchanges table limit trace)
-open_so table limit [] is = All-nil HasReadRequest
-open_so table limit (item ∷ past) is =
-    after_so table (held_entries table limit past) (open_exchanges table limit past) item.event item.outcome is.0 (open_so table limit past is.1)
+open_so : (table : Table) (start : StoreAtStart) (trace : List Item) → EventsWereRead trace → All HasReadRequest (open_exchanges table start trace)
+open_so table start [] is = All-nil HasReadRequest
+open_so table start (item ∷ past) is =
+    after_so table (held_entries table start past) (open_exchanges table start past) item.event item.outcome is.0 (open_so table start past is.1)
 
 found_so : (id : ℕ) (xs : List Exchange) (x : Exchange) → All HasReadRequest xs → find_exchange id xs ≡ Some x → RequestWasRead x.asked
 found_so id [] x all h = absurd cc
@@ -89,4 +90,4 @@ found_so id (y ∷ ys) x all h = by_id (y.id == id) (λ k. found_so id ys x (All
     by_id false later k = later k
 
 pub keeps_what_was_read : OpenRequestsWereRead
-keeps_what_was_read table limit first id trace x good is h = found_so id (open_exchanges table limit trace) x (open_so table limit trace is) h
+keeps_what_was_read table start first id trace x good is h = found_so id (open_exchanges table start trace) x (open_so table start trace is) h

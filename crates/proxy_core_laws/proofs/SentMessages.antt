@@ -11,7 +11,7 @@ use Rattle.hx_framing.specs.Reading.{Spelled}
 use Rattle.hx_framing.specs.RequestReading.{Reads as ReadsRequest}
 use Rattle.hx_framing.specs.Text.{request_text}
 use Rattle.hx_framing.specs.Written.{request_as_read_back}
-use Rattle.hx_framing.specs.WrittenResponse.{response_as_read_back, sent_response_head_text}
+use Rattle.hx_framing.specs.WrittenResponse.{response_as_read_back, sent_response_head_text, sent_response_text}
 use Rattle.hx_framing.proofs.RequestOnce.{read_once_lem as request_read_once}
 use Rattle.hx_framing.proofs.ResponseOnce.{read_once_lem as response_read_once}
 use Rattle.hx_allow.specs.TableLines.{Table}
@@ -24,6 +24,7 @@ use Rattle.hx_hop.specs.Forwarding.{forwarded_of}
 use Rattle.hx_hop.specs.Moments.{date_text_of}
 use Rattle.hx_store.specs.Stored.{Stored}
 use Rattle.hx_store.specs.Shelf.{find_entry}
+use Rattle.hx_reuse.specs.Conditions.{keeps_conditions}
 use Rattle.hx_reuse.specs.Rules.{decision_of}
 use Rattle.hx_reuse.specs.declared.rule.ReuseRule.{ReuseRule}
 use Rattle.hx_reuse.specs.declared.decision.Decision.{Decision}
@@ -52,36 +53,37 @@ use Rattle.proxy_core.specs.Awaiting.{leader_of_request}
 use Rattle.proxy_core.specs.Outcomes.{outcome_of_allowed_request, outcome_of_answer, outcome_of_arrival, outcome_of_failure, fallback_for, fault_at_exchange, find_exchange, forward_text, exchange_id_of_event, is_error_status, is_only_if_cached, fault_if_not_forwarded, fault_if_not_released, outcome_of, outcome_of_passing_on, outcome_of_passing_on_or_stale, outcome_of_refusal, outcome_of_304, outcome_of_waiting_or_forwarding, serial_of_stored_answer, outcome_without_stored_response, outcome_of_wake}
 use Rattle.proxy_core.specs.Moments.{moment_too_late_fault}
 use Rattle.proxy_core.specs.ReadAnswers.{WasReadFromAStream, EventIsReadFromAStream}
-use Rattle.proxy_core.specs.Replies.{is_head, not_modified_text, passed_answer_text, refusal_reply_text, cache_status_of_sent, stored_text, whole_stored_text}
+use Rattle.proxy_core.specs.Replies.{client_has_answer, is_head, not_modified_answer_text, not_modified_text, passed_answer_text, whole_answer_text, refusal_reply_text, cache_status_of_sent, stored_text, whole_stored_text}
 use Rattle.proxy_core.specs.Sending.{IsAbout, ReplyIsThatStoredResponse}
 use Rattle.proxy_core.specs.State.{stored_response_as_used, serial_used_by_outcome}
 use Rattle.proxy_core.specs.Storing.{is_304_without_condition}
 use Rattle.proxy_core.specs.Traces.{Item}
 use Rattle.proxy_core.specs.Validating.{condition_about_serial, condition_about_stored, is_validation, freshened_by_304, conditions_to_send, stored_response_validated}
 use Rattle.proxy_core.proofs.SentResponses.{sends_what_is_held}
-use Rattle.proxy_core_laws.specs.OneResponse.{passed_answer_sent, proxys_answer_sent}
+use Rattle.proxy_core_laws.specs.OneResponse.{not_modified_answer_sent, passed_answer_sent, proxys_answer_sent, whole_answer_sent}
 use Rattle.proxy_core_laws.specs.StoredReplies.{StoredIsSendable, stored_sent_as_304, stored_sent_whole}
 use Rattle.proxy_core_laws.specs.SentMessages.{EventsWereRead, EventWasRead, OutcomeIsOneMessage, BytesAreOneRequest, BytesAreOneResponse, RequestWasRead, OneRequestIsNoMore, OneResponseIsNoMore, EachStepSendsOneMessage, event_is_to_head}
 use Rattle.proxy_core_laws.proofs.OneResponse.{passes_one_response, refuses_as_one_response}
 use Rattle.proxy_core_laws.proofs.StoredReplies.{sends_a_304_as_one, sends_whole_as_one}
 use Rattle.proxy_core_laws.proofs.HeldReplies.{first_none, holds_sendable, in_time, left_so}
-use Rattle.proxy_core_laws.proofs.HeldValues.{conditions_fit, fits_after, found_held, used_content}
+use Rattle.proxy_core_laws.proofs.HeldValues.{conditions_fit, fits_in_memory, found_held, used_content}
 use Rattle.proxy_core_laws.proofs.OpenRequests.{keeps_what_was_read}
-use Rattle.proxy_core_laws.proofs.ReadTables.{names_a_token, stores_none_too_long}
+use Rattle.proxy_core_laws.proofs.ReadTables.{names_a_token}
 
 -- ---- one request
 
-pub one_request : (name : List ℕ) (asked : Asked) (conditions : Option Conditions) → IsToken name → RequestWasRead asked → IfSome conditions ConditionsAreFieldValues
-    → BytesAreOneRequest name (request_text (forwarded_of asked name conditions))
-one_request name asked conditions token is are = record {
+pub one_request : (name : List ℕ) (asked : Asked) (keeps : Bool) (conditions : Option Conditions) → IsToken name → RequestWasRead asked → IfSome conditions ConditionsAreFieldValues
+    → BytesAreOneRequest name (request_text (forwarded_of keeps asked name conditions))
+one_request name asked keeps conditions token is are = record {
   asked = asked;
+  keeps = keeps;
   conditions = conditions;
   was_read = is;
   text_is = refl;
-  alone = subst (λ (a : Asked). (most : ℕ) → most < 2 ^ 64 → RequestIsWithinLimits most (forwarded_of a name conditions) → (over continued : Bool) (behind : List ℕ)
-      → ReadsRequest most over continued (request_text (forwarded_of a name conditions) ++ behind) (Spelled (request_as_read_back (forwarded_of a name conditions)) behind)) (sym is.asked_is)
+  alone = subst (λ (a : Asked). (most : ℕ) → most < 2 ^ 64 → RequestIsWithinLimits most (forwarded_of keeps a name conditions) → (over continued : Bool) (behind : List ℕ)
+      → ReadsRequest most over continued (request_text (forwarded_of keeps a name conditions) ++ behind) (Spelled (request_as_read_back (forwarded_of keeps a name conditions)) behind)) (sym is.asked_is)
       (λ most small limits over continued behind.
-      forwards_one_request is.max_body most is.ended is.continue_sent is.bytes is.rest is.request is.target name conditions is.reads is.judged token are small limits over continued behind);
+      forwards_one_request is.max_body most is.ended is.continue_sent is.bytes is.rest is.request is.target name keeps conditions is.reads is.judged token are small limits over continued behind);
 }
 
 -- ---- one response
@@ -100,9 +102,14 @@ one_refusal now cause close head early = record {
 one_passed : (policy : Policy) (rule : Option StoreRule) (name : List ℕ) (x : Exchange) (r : Response) (now : ℕ) (stored : Bool) → now < END_OF_TIME → IsToken name → WasReadFromAStream r → BytesAreOneResponse (is_head x.asked) (passed_answer_text policy name x r now stored rule)
 one_passed policy rule name x r now stored early token is = record {
   sent = passed_answer_sent policy name x r now stored rule;
-  text_is = refl;
+  text_is = by_test (client_has_answer policy x r now);
   alone = λ most small limits over behind. passes_one_response is.max_body most now is.to_head is.ended stored is.bytes is.rest name policy rule x r is.reads early token small limits over behind;
 }
+  where
+    by_test : (has : Bool) → cond has (not_modified_answer_text policy name x r now stored rule) (whole_answer_text policy name x r now stored rule)
+        ≡ sent_response_text (cond has (not_modified_answer_sent policy name x r now stored rule) (whole_answer_sent policy name x r now stored rule))
+    by_test true = refl
+    by_test false = refl
 
 -- ---- what isn't a stored response, by the cases of a step
 
@@ -111,8 +118,8 @@ never s h = cc
 
 module _ (table : Table) (es : List Stored) (token : IsToken table.name) (fit : (against : Option ℕ) → IfSome (conditions_to_send (condition_about_serial es against)) ConditionsAreFieldValues) where
   module _ (now : ℕ) (early : now < END_OF_TIME) (asked : Asked) (is : RequestWasRead asked) where
-    forward_one : (line : ℕ) (condition : Option Condition) → IfSome (conditions_to_send condition) ConditionsAreFieldValues → OutcomeIsOneMessage table.name (is_head asked) (Forward line (forward_text table asked condition))
-    forward_one line condition are = one_request table.name asked (conditions_to_send condition) token is are
+    forward_one : (line : ℕ) (condition : Option Condition) → IfSome (conditions_to_send condition) ConditionsAreFieldValues → OutcomeIsOneMessage table.name (is_head asked) (Forward line (forward_text table line asked condition))
+    forward_one line condition are = one_request table.name asked (keeps_conditions (policy_of table.lines line) asked) (conditions_to_send condition) token is are
 
     refused_one : (cause : Cause) → OutcomeIsOneMessage table.name (is_head asked) (outcome_of_refusal now cause asked)
     refused_one cause = one_refusal now cause asked.close (is_head asked) early
@@ -173,10 +180,10 @@ module _ (table : Table) (es : List Stored) (token : IsToken table.name) (fit : 
           by_unasked true none = failed_one BadAnswer (Some r.status) (fallback_for (policy_of table.lines x.line) es x.asked now d) none
           by_unasked false none = passed_unless_one next (is_error_status r.status) (fallback_for (policy_of table.lines x.line) es x.asked now d) none
 
-          by_304 : (b : Bool) → serial_used_by_outcome (cond b again (cond (is_304_without_condition x.asked r) failing passing)) ≡ None
-              → OutcomeIsOneMessage table.name (is_head x.asked) (cond b again (cond (is_304_without_condition x.asked r) failing passing))
+          by_304 : (b : Bool) → serial_used_by_outcome (cond b again (cond (is_304_without_condition (policy_of table.lines x.line) x.asked r) failing passing)) ≡ None
+              → OutcomeIsOneMessage table.name (is_head x.asked) (cond b again (cond (is_304_without_condition (policy_of table.lines x.line) x.asked r) failing passing))
           by_304 true none = revalidated_one (stored_response_validated es x r now) d none
-          by_304 false none = by_unasked (is_304_without_condition x.asked r) none
+          by_304 false none = by_unasked (is_304_without_condition (policy_of table.lines x.line) x.asked r) none
 
   unsent_one : (xs : List Exchange) (x : Option Exchange) (next : Option ℕ) (event : Event) → fault_at_exchange x event ≡ None → EventWasRead event → ((z : Exchange) → x ≡ Some z → RequestWasRead z.asked)
       → serial_used_by_outcome (outcome_of table es xs x next event) ≡ None → OutcomeIsOneMessage table.name (event_is_to_head x event) (outcome_of table es xs x next event)
@@ -260,17 +267,17 @@ conditions_held es sendable (Some s) = by_found (find_entry s es) refl
     by_found (Some e) found = by_validator e (has_validator e.fields) (sendable s e found)
 
 pub sends_one_message_each_time : EachStepSendsOneMessage
-sends_one_message_each_time table limit first item past table_read good read =
+sends_one_message_each_time table start first item past table_read good begins read =
     by_used (serial_used_by_outcome item.outcome) refl
   where
     token : IsToken table.name
     token = names_a_token table table_read
 
     es : List Stored
-    es = held_entries table limit past
+    es = held_entries table start past
 
     xs : List Exchange
-    xs = open_exchanges table limit past
+    xs = open_exchanges table start past
 
     x : Option Exchange
     x = find_exchange (exchange_id_of_event item.event) xs
@@ -280,21 +287,21 @@ sends_one_message_each_time table limit first item past table_read good read =
 
     held_so : (s : ℕ) (e : Stored) → find_entry s es ≡ Some e → StoredIsSendable e × (length e.content < 2 ^ 64)
     held_so s e found =
-        let at = found_held (held_entry table limit past) (held_serials table limit past) s e found in
-        let fits = fits_after table limit first past good.1 answers.1 at.0 e at.1 in
-        let small = stores_none_too_long table table_read in
-        (holds_sendable table limit first past good.1 answers.1 at.0 e at.1, omega (arith, fits, small))
+        let at = found_held (held_entry table start past) (held_serials table start past) s e found in (
+          holds_sendable table start first past good.1 (λ t f k. (begins t f k).sendable) answers.1 at.0 e at.1,
+          fits_in_memory table start first past table_read begins good.1 answers.1 at.0 e at.1,
+        )
 
     by_used : (o : Option ℕ) → serial_used_by_outcome item.outcome ≡ o → OutcomeIsOneMessage table.name (event_is_to_head x item.event) item.outcome
     by_used (Some s) used =
-        let is = sends_what_is_held table limit first s item past good used in
+        let is = sends_what_is_held table start first s item past good used in
         let held = held_so s is.response is.is_held in
         sent_one table es x item.event item.outcome s is token (left_so x item.event is.response good.0.allowed answers.0 held.0)
         (subst (λ (c : List ℕ). length c < 2 ^ 64) (sym (used_content x item.event is.response)) held.1)
     by_used None unused =
         subst (λ (o : Outcome). OutcomeIsOneMessage table.name (event_is_to_head x item.event) o) (sym good.0.outcome_is)
         (unsent_one table es token (conditions_held es (λ s e found. (held_so s e found).0)) xs x (next_serial first past) item.event good.0.allowed read.0
-        (λ z open_is. keeps_what_was_read table limit first (exchange_id_of_event item.event) past z good.1 read.1 open_is) (sym (ap serial_used_by_outcome good.0.outcome_is) ∙ unused))
+        (λ z open_is. keeps_what_was_read table start first (exchange_id_of_event item.event) past z good.1 read.1 open_is) (sym (ap serial_used_by_outcome good.0.outcome_is) ∙ unused))
 
 -- ---- two messages are no one message
 
@@ -303,7 +310,7 @@ same_spelled m n rest behind h = (cc, cc)
 
 pub one_request_is_all : OneRequestIsNoMore
 one_request_is_all name bytes behind one most over continued request rest small limits reads =
-    let sent = request_as_read_back (forwarded_of one.asked name one.conditions) in
+    let sent = request_as_read_back (forwarded_of one.keeps one.asked name one.conditions) in
     same_spelled request sent rest behind
     (request_read_once most over continued (bytes ++ behind) (Spelled request rest) (Spelled sent behind) reads (one.alone most small limits over continued behind))
 

@@ -39,8 +39,8 @@ use Rattle.proxy_core_laws.specs.HeldHeads.{SecondsAreInRange, IsOneSentResponse
 use Rattle.proxy_core_laws.specs.SentMessages.{EventWasRead, event_is_to_head}
 use Rattle.proxy_core_laws.specs.StoredReplies.{StoredIsSendable, stored_sent_as_304, stored_sent_whole}
 use Rattle.proxy_core_laws.proofs.HeldReplies.{holds_sendable, left_so}
-use Rattle.proxy_core_laws.proofs.HeldValues.{fits_after, found_held, used_content}
-use Rattle.proxy_core_laws.proofs.ReadTables.{names_a_token, names_are_short, stores_none_too_long}
+use Rattle.proxy_core_laws.proofs.HeldValues.{fits_in_memory, found_held, used_content}
+use Rattle.proxy_core_laws.proofs.ReadTables.{names_a_token, names_are_short}
 use Rattle.proxy_core_laws.proofs.SentHeads.{fits_as_304_where_room_is_left, fits_where_room_is_left}
 use Rattle.proxy_core_laws.proofs.SentMessages.{about_head, answers_of}
 use Rattle.proxy_core_laws.proofs.StoredReplies.{sends_a_304_as_one, sends_whole_as_one}
@@ -146,17 +146,15 @@ some_same : {B : Type 0} {x y : B} → Some x ≡ Some y → x ≡ y
 some_same h = cc
 
 pub sends_what_leaves_room : ResponseWithRoomIsSentAsOne
-sends_what_leaves_room table limit first serial e item past reply table_read good read used replied found room =
-    let x : Option Exchange = find_exchange (exchange_id_of_event item.event) (open_exchanges table limit past) in
-    let is = sends_what_is_held table limit first serial item past good used in
+sends_what_leaves_room table start first serial e item past reply table_read good begins read used replied found room =
+    let x : Option Exchange = find_exchange (exchange_id_of_event item.event) (open_exchanges table start past) in
+    let is = sends_what_is_held table start first serial item past good used in
     let answers : AllByRecursion (λ i. EventIsReadFromAStream i.event) (item ∷ past) = answers_of (item ∷ past) read in
     let same : e ≡ is.response = some_same (sym found ∙ is.is_held) in
-    let at = found_held (held_entry table limit past) (held_serials table limit past) serial is.response is.is_held in
-    let fits = fits_after table limit first past good.1 answers.1 at.0 is.response at.1 in
-    let most = stores_none_too_long table table_read in
-    let sendable = left_so x item.event is.response good.0.allowed answers.0 (holds_sendable table limit first past good.1 answers.1 at.0 is.response at.1) in
-    let small : length is.response.content < 2 ^ 64 = omega (arith, fits, most) in
-    let text = one_anyway table (held_entries table limit past) x item.event item.outcome serial is read.0 (names_a_token table table_read) (names_are_short table table_read) sendable
+    let at = found_held (held_entry table start past) (held_serials table start past) serial is.response is.is_held in
+    let sendable = left_so x item.event is.response good.0.allowed answers.0 (holds_sendable table start first past good.1 (λ t f k. (begins t f k).sendable) answers.1 at.0 is.response at.1) in
+    let small : length is.response.content < 2 ^ 64 = fits_in_memory table start first past table_read begins good.1 answers.1 at.0 is.response at.1 in
+    let text = one_anyway table (held_entries table start past) x item.event item.outcome serial is read.0 (names_a_token table table_read) (names_are_short table table_read) sendable
     (subst (λ (c : List ℕ). length c < 2 ^ 64) (sym (used_content x item.event is.response)) small)
     (subst (λ (f : Stored). head_leaves_room (stored_response_as_used x item.event f).fields ≡ true) same room)
     in

@@ -31,10 +31,11 @@ use Rattle.proxy_core.specs.Histories.{IsGoodHistory, held_entries, held_entry, 
 use Rattle.proxy_core.specs.Outcomes.{find_exchange, exchange_id_of_event}
 use Rattle.proxy_core.specs.ReadAnswers.{WasReadFromAStream, EventIsReadFromAStream}
 use Rattle.proxy_core.specs.State.{stored_response_as_used, serial_used_by_outcome}
+use Rattle.proxy_core.specs.Starts.{StoreAtStart, EachHeldAtFirst}
 use Rattle.proxy_core.specs.Storing.{stored_response_made}
 use Rattle.proxy_core.specs.Traces.{Item}
 use Rattle.proxy_core.specs.Validating.{freshened_may_be_kept, freshened_by_304, stored_response_validated}
-use Rattle.proxy_core_laws.specs.SentMessages.{EventsWereRead, event_is_to_head}
+use Rattle.proxy_core_laws.specs.SentMessages.{CanBeSent, EventsWereRead, event_is_to_head}
 use Rattle.hx_allow.specs.Tables.{TableWasRead}
 use Rattle.proxy_core_laws.specs.StoredReplies.{stored_sent_as_304, stored_sent_whole}
 
@@ -78,11 +79,12 @@ FreshenedHeadIsBounded =
 -- what a 304 answered and is held behind it
 abbrev pub FreshenedHeadLeavesRoom : Type 0
 FreshenedHeadLeavesRoom =
-    (table : Table) (limit first now id : ℕ) (x : Exchange) (r : Response) (e : Stored) (item : Item) (past : List Item)
-    → IsGoodHistory table limit first (item ∷ past) → item.event ≡ Answer now id r
-    → find_exchange id (open_exchanges table limit past) ≡ Some x
-    → stored_response_validated (held_entries table limit past) x r now ≡ Some e → serial_is_in e.serial
-    (held_serials table limit (item ∷ past))
+    (table : Table) (start : StoreAtStart) (first now id : ℕ) (x : Exchange) (r : Response) (e : Stored) (item : Item)
+    (past : List Item)
+    → IsGoodHistory table start first (item ∷ past) → item.event ≡ Answer now id r
+    → find_exchange id (open_exchanges table start past) ≡ Some x
+    → stored_response_validated (held_entries table start past) x r now ≡ Some e → serial_is_in e.serial
+    (held_serials table start (item ∷ past))
     ≡ true
     → head_leaves_room (freshened_by_304 x r now e).fields ≡ true
 
@@ -95,18 +97,27 @@ pub record ResponseIsAsStored (serial : ℕ) (e : Stored) : Type 0 where
   pub early : now < END_OF_TIME
   pub is : e ≡ stored_response_made serial exchange response now
 
--- so whatever is held at any moment of a good history whose answers were read leaves room, or is as it was stored
+-- it leaves room, or is as it was stored
+abbrev pub LeavesRoomOrIsAsStored : ℕ → Stored → Type 0
+LeavesRoomOrIsAsStored serial e = (head_leaves_room e.fields ≡ true) ⊎ ResponseIsAsStored serial e
+
+-- so whatever is held at any moment of a good history whose answers were read leaves room, or is as it was stored,
+-- where that is so of each that was held at first
 abbrev pub HeldHeadLeavesRoom : Type 0
-HeldHeadLeavesRoom = (table : Table) (limit first : ℕ) (trace : List Item) → IsGoodHistory table limit first trace
+HeldHeadLeavesRoom = (table : Table) (start : StoreAtStart) (first : ℕ) (trace : List Item)
+    → IsGoodHistory table start first trace
+    → EachHeldAtFirst LeavesRoomOrIsAsStored start
     → AllByRecursion (λ item. EventIsReadFromAStream item.event) trace → (serial : ℕ) (e : Stored)
-    → serial_is_in serial (held_serials table limit trace) ≡ true → held_entry table limit trace serial ≡ Some e
-    → (head_leaves_room e.fields ≡ true) ⊎ ResponseIsAsStored serial e
+    → serial_is_in serial (held_serials table start trace) ≡ true → held_entry table start trace serial ≡ Some e
+    → LeavesRoomOrIsAsStored serial e
 
 -- and has such a head
 abbrev pub HeldHeadIsBounded : Type 0
-HeldHeadIsBounded = (table : Table) (limit first : ℕ) (trace : List Item) → IsGoodHistory table limit first trace
+HeldHeadIsBounded = (table : Table) (start : StoreAtStart) (first : ℕ) (trace : List Item)
+    → IsGoodHistory table start first trace
+    → EachHeldAtFirst LeavesRoomOrIsAsStored start
     → AllByRecursion (λ item. EventIsReadFromAStream item.event) trace → (serial : ℕ) (e : Stored)
-    → serial_is_in serial (held_serials table limit trace) ≡ true → held_entry table limit trace serial ≡ Some e
+    → serial_is_in serial (held_serials table start trace) ≡ true → held_entry table start trace serial ≡ Some e
     → HeadIsBounded e
 
 -- What leaves room is within the limits of a reader as it is sent, with whatever the proxy adds. The name of a table
@@ -138,13 +149,15 @@ pub record IsOneSentResponse (to_head : Bool) (bytes : List ℕ) : Type 0 where
 -- yet `head_leaves_room` is the only premise.
 abbrev pub ResponseWithRoomIsSentAsOne : Type 0
 ResponseWithRoomIsSentAsOne =
-    (table : Table) (limit first serial : ℕ) (e : Stored) (item : Item) (past : List Item) (reply : Reply)
+    (table : Table) (start : StoreAtStart) (first serial : ℕ) (e : Stored) (item : Item) (past : List Item)
+    (reply : Reply)
     → TableWasRead table
-    → IsGoodHistory table limit first (item ∷ past) → EventsWereRead (item ∷ past) → serial_used_by_outcome item.outcome
+    → IsGoodHistory table start first (item ∷ past) → EachHeldAtFirst CanBeSent start
+    → EventsWereRead (item ∷ past) → serial_used_by_outcome item.outcome
     ≡ Some serial → item.outcome ≡ Replied reply
-    → find_entry serial (held_entries table limit past) ≡ Some e
+    → find_entry serial (held_entries table start past) ≡ Some e
     → head_leaves_room (stored_response_as_used (find_exchange (exchange_id_of_event item.event)
-    (open_exchanges table limit past)) item.event e).fields
+    (open_exchanges table start past)) item.event e).fields
     ≡ true
     → IsOneSentResponse (event_is_to_head (find_exchange (exchange_id_of_event item.event)
-    (open_exchanges table limit past)) item.event) reply.bytes
+    (open_exchanges table start past)) item.event) reply.bytes

@@ -3,3 +3,4 @@ pub mod OneResponse
 pub mod StoredReplies
 pub mod SentMessages
 pub mod HeldHeads
+pub mod LeftStores

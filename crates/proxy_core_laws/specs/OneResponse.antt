@@ -1,6 +1,6 @@
 -- What a client gets is one response (RFC 9112, sections 6.3 and 11.1): an answer of the origin that is passed on, and
 -- an answer of the proxy's own.
-use Rattle.std.specs.Prelude.{ℕ, ◌<◌, ◌^◌, ◌++◌, Bool, List, [], ◌∷◌, length, codes, Option, Some}
+use Rattle.std.specs.Prelude.{ℕ, ◌<◌, ◌^◌, ◌++◌, Bool, List, [], ◌∷◌, length, codes, Option, None, Some, cond}
 use Rattle.httparse.specs.Grammar.{IsToken}
 use Rattle.hx_fields.specs.declared.limits.TheConstants.{END_OF_TIME}
 use Rattle.hx_framing.specs.declared.messages.Response.{Response}
@@ -18,14 +18,29 @@ use Rattle.hx_hop_laws.specs.OneResponse.{ResponseFitsAReader, response_passed_o
 use Rattle.proxy_core.specs.declared.open.exchange.Exchange.{Exchange}
 use Rattle.proxy_core.specs.Replies.{content_unless_head, is_head, line, fields_of_refusal, passed_answer_text}
 use Rattle.proxy_core.specs.Replies.{refusal_reply_text}
-use Rattle.proxy_core.specs.Replies.{cache_status_of_passed_answer}
+use Rattle.proxy_core.specs.Replies.{cache_status_of_passed_answer, client_has_answer, fields_of_304_sent}
 
--- an answer with the line of Cache-Status behind its own
-abbrev pub passed_answer_sent : Policy → List ℕ → Exchange → Response → ℕ → Bool → Option StoreRule → SentResponse
-passed_answer_sent policy name x r now stored rule =
+-- an answer whole, with the line of Cache-Status behind its own
+abbrev pub whole_answer_sent : Policy → List ℕ → Exchange → Response → ℕ → Bool → Option StoreRule → SentResponse
+whole_answer_sent policy name x r now stored rule =
     response_passed_on (is_head x.asked) r now
     (line (codes "Cache-Status") (member_text name
     (cache_status_of_passed_answer policy x r.status (answered_of r now).fields now stored rule)) ∷ []) x.asked.close
+
+-- a 304 in its place
+abbrev pub not_modified_answer_sent : Policy → List ℕ → Exchange → Response → ℕ → Bool → Option StoreRule → SentResponse
+not_modified_answer_sent policy name x r now stored rule = record {
+  status = 304;
+  fields = fields_of_304_sent policy name x r.status (answered_of r now).fields now stored rule;
+  shown = None;
+  close = x.asked.close;
+  content = [];
+}
+
+abbrev pub passed_answer_sent : Policy → List ℕ → Exchange → Response → ℕ → Bool → Option StoreRule → SentResponse
+passed_answer_sent policy name x r now stored rule =
+    cond (client_has_answer policy x r now) (not_modified_answer_sent policy name x r now stored rule)
+    (whole_answer_sent policy name x r now stored rule)
 
 -- the proxy's own answer
 abbrev pub proxys_answer_sent : ℕ → Cause → Bool → Bool → SentResponse

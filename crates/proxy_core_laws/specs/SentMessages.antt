@@ -40,6 +40,8 @@ use Rattle.proxy_core.specs.Outcomes.{find_exchange, exchange_id_of_event}
 use Rattle.proxy_core.specs.ReadAnswers.{WasReadFromAStream, EventIsReadFromAStream}
 use Rattle.proxy_core.specs.Replies.{is_head}
 use Rattle.proxy_core.specs.Traces.{Item}
+use Rattle.proxy_core_laws.specs.StoredReplies.{StoredIsSendable}
+use Rattle.proxy_core.specs.Starts.{StoreAtStart, EachHeldAtFirst}
 
 -- ---- what was read
 
@@ -75,13 +77,14 @@ EventsWereRead trace = AllByRecursion (λ item. EventWasRead item.event) trace
 -- behind it is left.
 pub record BytesAreOneRequest (name bytes : List ℕ) : Type 0 where
   pub asked : Asked
+  pub keeps : Bool
   pub conditions : Option Conditions
   pub was_read : RequestWasRead asked
-  pub text_is : bytes ≡ request_text (forwarded_of asked name conditions)
-  pub alone : (most : ℕ) → most < 2 ^ 64 → RequestIsWithinLimits most (forwarded_of asked name conditions)
+  pub text_is : bytes ≡ request_text (forwarded_of keeps asked name conditions)
+  pub alone : (most : ℕ) → most < 2 ^ 64 → RequestIsWithinLimits most (forwarded_of keeps asked name conditions)
       → (over continued : Bool) (behind : List ℕ)
       → ReadsRequest most over continued (bytes ++ behind)
-      (Spelled (request_as_read_back (forwarded_of asked name conditions)) behind)
+      (Spelled (request_as_read_back (forwarded_of keeps asked name conditions)) behind)
 
 -- The bytes are the text of a response. Where that is within the limits of a reader it is read back as it was sent, by
 -- a client that knows whether it asked by HEAD, and what stands behind it is left.
@@ -119,9 +122,9 @@ OneRequestIsNoMore =
     (name bytes behind : List ℕ) (one : BytesAreOneRequest name bytes) (most : ℕ) (over continued : Bool)
     (request : Request)
     (rest : List ℕ)
-    → most < 2 ^ 64 → RequestIsWithinLimits most (forwarded_of one.asked name one.conditions)
+    → most < 2 ^ 64 → RequestIsWithinLimits most (forwarded_of one.keeps one.asked name one.conditions)
     → ReadsRequest most over continued (bytes ++ behind) (Spelled request rest)
-    → (request ≡ request_as_read_back (forwarded_of one.asked name one.conditions)) × (rest ≡ behind)
+    → (request ≡ request_as_read_back (forwarded_of one.keeps one.asked name one.conditions)) × (rest ≡ behind)
 
 abbrev pub OneResponseIsNoMore : Type 0
 OneResponseIsNoMore =
@@ -142,30 +145,39 @@ StoredContentFits64Bits = (table : Table) → TableWasRead table → table.max_s
 -- is a field value: its ETag and its Last-Modified (RFC 9110, sections 13.1.2 and 13.1.3). So no byte of them ends a
 -- line of the next request.
 abbrev pub ConditionsOfHistoryAreFieldValues : Type 0
-ConditionsOfHistoryAreFieldValues = (table : Table) (limit first : ℕ) (trace : List Item)
-    → IsGoodHistory table limit first trace
+ConditionsOfHistoryAreFieldValues = (table : Table) (start : StoreAtStart) (first : ℕ) (trace : List Item)
+    → IsGoodHistory table start first trace → EachHeldAtFirst (λ serial e. StoredIsSendable e) start
     → AllByRecursion (λ item. EventIsReadFromAStream item.event) trace → (serial : ℕ) (e : Stored)
-    → held_entry table limit trace serial ≡ Some e
+    → held_entry table start trace serial ≡ Some e
     → ConditionsAreFieldValues (conditions_of e.fields)
 
 -- and its content is no longer than the table says
 abbrev pub HeldContentFits : Type 0
-HeldContentFits = (table : Table) (limit first : ℕ) (trace : List Item) → IsGoodHistory table limit first trace
+HeldContentFits = (table : Table) (start : StoreAtStart) (first : ℕ) (trace : List Item)
+    → IsGoodHistory table start first trace
+    → EachHeldAtFirst (λ serial e. length e.content ≤ table.max_stored) start
     → AllByRecursion (λ item. EventIsReadFromAStream item.event) trace → (serial : ℕ) (e : Stored)
-    → held_entry table limit trace serial ≡ Some e
+    → held_entry table start trace serial ≡ Some e
     → length e.content ≤ table.max_stored
 
 -- the request of each open exchange was read, where each that arrived was
 abbrev pub OpenRequestsWereRead : Type 0
 OpenRequestsWereRead =
-    (table : Table) (limit first id : ℕ) (trace : List Item) (x : Exchange) → IsGoodHistory table limit first trace
-    → EventsWereRead trace → find_exchange id (open_exchanges table limit trace) ≡ Some x → RequestWasRead x.asked
+    (table : Table) (start : StoreAtStart) (first id : ℕ) (trace : List Item) (x : Exchange)
+    → IsGoodHistory table start first trace
+    → EventsWereRead trace → find_exchange id (open_exchanges table start trace) ≡ Some x → RequestWasRead x.asked
+
+-- what is asked of a response that is held at first: it can be sent as one, and its content is in memory
+pub record CanBeSent (serial : ℕ) (e : Stored) : Type 0 where
+  pub sendable : StoredIsSendable e
+  pub fits : length e.content < 2 ^ 64
 
 -- In a good history over a table that was read, of requests and answers that were read, each step sends one message or
 -- none: a request that goes forward, at its arrival, when it is woken and a second time, and whatever a client gets, an
 -- answer of the origin, a stored response and the proxy's own.
 abbrev pub EachStepSendsOneMessage : Type 0
-EachStepSendsOneMessage = (table : Table) (limit first : ℕ) (item : Item) (past : List Item) → TableWasRead table
-    → IsGoodHistory table limit first (item ∷ past) → EventsWereRead (item ∷ past)
+EachStepSendsOneMessage = (table : Table) (start : StoreAtStart) (first : ℕ) (item : Item) (past : List Item)
+    → TableWasRead table
+    → IsGoodHistory table start first (item ∷ past) → EachHeldAtFirst CanBeSent start → EventsWereRead (item ∷ past)
     → OutcomeIsOneMessage table.name (event_is_to_head
-    (find_exchange (exchange_id_of_event item.event) (open_exchanges table limit past)) item.event) item.outcome
+    (find_exchange (exchange_id_of_event item.event) (open_exchanges table start past)) item.event) item.outcome

@@ -33,6 +33,7 @@ use Rattle.proxy_core.specs.ReadAnswers.{EventIsReadFromAStream}
 use Rattle.proxy_core.specs.Replies.{content_unless_head, is_head, length_unless_forbidden, line}
 use Rattle.proxy_core.specs.Storing.{stored_response_made}
 use Rattle.proxy_core.specs.Traces.{Item}
+use Rattle.proxy_core.specs.Starts.{StoreAtStart, EachHeldAtFirst}
 
 -- its status is final, its lines stand in a text as they are and don't speak of its content, and where the status has
 -- none it has none
@@ -85,11 +86,13 @@ FreshenedIsSendable =
     → StoredIsSendable (freshened_of e (answered_of r now) asked times)
 
 -- at each moment of a good history whose answers were read (law `answers_are_final` of proxy_engine says that they
--- are), so is the response of each serial, held or not
+-- are), so is the response of each serial, held or not, where each that was held at first is
 abbrev pub HeldIsSendable : Type 0
-HeldIsSendable = (table : Table) (limit first : ℕ) (trace : List Item) → IsGoodHistory table limit first trace
+HeldIsSendable = (table : Table) (start : StoreAtStart) (first : ℕ) (trace : List Item)
+    → IsGoodHistory table start first trace
+    → EachHeldAtFirst (λ serial e. StoredIsSendable e) start
     → AllByRecursion (λ item. EventIsReadFromAStream item.event) trace → (serial : ℕ) (e : Stored)
-    → held_entry table limit trace serial ≡ Some e → StoredIsSendable e
+    → held_entry table start trace serial ≡ Some e → StoredIsSendable e
 
 abbrev pub WholeIsSentAsOneResponse : Type 0
 WholeIsSentAsOneResponse = (most now : ℕ) (name : List ℕ) (e : Stored) (shown : Status) (asked : Asked)

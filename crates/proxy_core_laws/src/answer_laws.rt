@@ -5,6 +5,7 @@ ghost use Rattle.proxy_core_laws.specs.HeldHeads.{FreshenedHeadLeavesRoom};
 ghost use Rattle.proxy_core_laws.specs.HeldHeads.{HeldHeadIsBounded, HeldHeadLeavesRoom, FreshenedHeadIsBounded};
 ghost use Rattle.proxy_core_laws.specs.HeldHeads.{ResponseWithRoomIsSentAsOne};
 ghost use Rattle.proxy_core_laws.specs.HeldHeads.{StoredHeadIsBounded, StoredHeadLeavesRoom};
+ghost use Rattle.proxy_core_laws.specs.LeftStores.{WhatIsLeftIsSound};
 ghost use Rattle.proxy_core_laws.specs.OneResponse.{PassedAnswerIsOneResponse, ProxysAnswerIsOneResponse};
 ghost use Rattle.proxy_core_laws.specs.StoredReplies.{FreshenedIsSendable, HeldIsSendable, A304IsSentAsOneResponse};
 ghost use Rattle.proxy_core_laws.specs.StoredReplies.{WholeIsSentAsOneResponse};
@@ -51,4 +52,10 @@ pub fn what_leaves_room_is_sent_as_one()
     ensures whole { FitsAReaderWithRoom }
     ensures not_modified { FitsAReaderAs304WithRoom }
     ensures sent { ResponseWithRoomIsSentAsOne }
+{}
+
+/// What is held behind messages that were read is as each response has to be that is held at first. So what is said
+/// here of stored responses holds over any number of restarts.
+pub fn what_is_left_can_be_sent_again()
+    ensures { WhatIsLeftIsSound }
 {}

@@ -7,6 +7,7 @@ mod message_laws;
 
 pub use crate::answer_laws::{
     a_client_gets_its_304_where_it_may, a_client_gets_one_response, a_held_head_has_a_bound,
-    a_stored_response_is_sent_as_one, what_leaves_room_is_sent_as_one,
+    a_stored_response_is_sent_as_one, what_is_left_can_be_sent_again,
+    what_leaves_room_is_sent_as_one,
 };
 pub use crate::message_laws::{a_core_sends_one_message_each_time, what_was_read_can_be_sent};

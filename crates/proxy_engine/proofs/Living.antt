@@ -1,5 +1,5 @@
 -- The core's steps are a good run, whatever an engine lives through.
-use Rattle.std.proofs.Common.{◌≡◌, ◌⊎◌, inl, inr, ℕ, List, [], ◌∷◌, ◌++◌, refl, sym, ap, ◌∙◌, subst, Bool, Result, Ok, Err}
+use Rattle.std.proofs.Common.{◌≡◌, ◌⊎◌, inl, inr, ℕ, Some, List, [], ◌∷◌, ◌++◌, refl, sym, ap, ◌∙◌, subst, Bool, Result, Ok, Err}
 use Rattle.hx_allow.specs.TableLines.{Table}
 use Rattle.hx_framing.specs.declared.messages.Request.{Request}
 use Rattle.hx_framing.specs.declared.frame_fault.FrameFault.TheVariants as frame
@@ -8,7 +8,8 @@ use Rattle.hx_framing.specs.declared.messages.Next.TheVariants as next
 use Rattle.hx_hop.specs.declared.request_view.Asked.{Asked}
 use Rattle.hx_status.specs.declared.cause.Cause.{Cause}
 use Rattle.proxy_core.specs.Driving.{CoreWentThrough}
-use Rattle.proxy_core.specs.State.{State as CoreState, StepIsAccepted}
+use Rattle.proxy_core.specs.State.{State as CoreState, StepIsAccepted, bounds_of}
+use Rattle.proxy_core.specs.Starts.{StoreAtStart, StartStands}
 use Rattle.proxy_core.specs.declared.event.Event.{Event}
 use Rattle.proxy_core.specs.Traces.{Item, initial_state as core_begun}
 use Rattle.proxy_core.proofs.Driven.{promises_of_a_driven_core}
@@ -91,11 +92,11 @@ heard_core s (Leaves n) = refl
 heard_core s (Shuts l) = refl
 heard_core s (Fails l kind) = refl
 
-module _ (table : Table) (limit first : ℕ) (begin : EngineModel) where
+module _ (table : Table) (start : StoreAtStart) (first : ℕ) (begin : EngineModel) where
   -- the core's steps so far, as they were told
   pub record Runs (steps : List ExecutionStep) (t : EngineModel) : Type 0 where
     pub trace : List Item
-    pub has_run : CoreWentThrough table limit first trace t.core
+    pub has_run : CoreWentThrough table start first trace t.core
     pub config : t.core.table ≡ table
     pub has_trace : StepsHaveTrace table begin steps t trace
 
@@ -108,7 +109,7 @@ module _ (table : Table) (limit first : ℕ) (begin : EngineModel) where
   }
   worked steps now act emitted s t leads run (inr h) = record {
     trace = run.trace;
-    has_run = subst (λ (u : CoreState). CoreWentThrough table limit first run.trace u) (sym h.0) run.has_run;
+    has_run = subst (λ (u : CoreState). CoreWentThrough table start first run.trace u) (sym h.0) run.has_run;
     config = ap (λ (u : CoreState). u.table) h.0 ∙ run.config;
     has_trace = (s, run.trace, run.has_trace, leads, inr (refl, h.1, h.2));
   }
@@ -118,19 +119,19 @@ module _ (table : Table) (limit first : ℕ) (begin : EngineModel) where
       let same : t.core ≡ s.core = ap (λ (u : EngineModel). u.core) l.1 ∙ heard_core s h in
       record {
         trace = run.trace;
-        has_run = subst (λ (u : CoreState). CoreWentThrough table limit first run.trace u) (sym same) run.has_run;
+        has_run = subst (λ (u : CoreState). CoreWentThrough table start first run.trace u) (sym same) run.has_run;
         config = ap (λ (u : CoreState). u.table) same ∙ run.config;
         has_trace = (s, run.trace, run.has_trace, l, refl);
       }
   step_on steps (Worked now act emitted) s t l run = worked steps now act emitted s t l run (acts table now act s emitted t run.config l.1)
 
-  pub executes : begin.core ≡ core_begun table limit first → (steps : List ExecutionStep) (t : EngineModel) → StepsLead begin steps t → Runs steps t
-  executes e [] t h =
-      let core : t.core ≡ core_begun table limit first = ap (λ (u : EngineModel). u.core) h ∙ e in
-      record { trace = []; has_run = core; config = ap (λ (u : CoreState). u.table) core; has_trace = (h, refl) }
-  executes e (step ∷ steps) t h = step_on steps step h.0 t h.2 (executes e steps h.0 h.1)
+  pub executes : StartStands (bounds_of table start.limit) (Some first) start.entries → begin.core ≡ core_begun table start first → (steps : List ExecutionStep) (t : EngineModel) → StepsLead begin steps t → Runs steps t
+  executes stands e [] t h =
+      let core : t.core ≡ core_begun table start first = ap (λ (u : EngineModel). u.core) h ∙ e in
+      record { trace = []; has_run = (core, stands); config = ap (λ (u : CoreState). u.table) core; has_trace = (h, refl) }
+  executes stands e (step ∷ steps) t h = step_on steps step h.0 t h.2 (executes stands e steps h.0 h.1)
 
 pub executions_are_runs : ExecutionsAreRuns
-executions_are_runs table limit first link steps t h =
-    let run = executes table limit first (new_engine_model (core_begun table limit first) link) refl steps t h in
-    record { trace = run.trace; keeps = promises_of_a_driven_core table limit first run.trace t.core run.has_run; has_trace = run.has_trace }
+executions_are_runs table start first link steps t stands h =
+    let run = executes table start first (new_engine_model (core_begun table start first) link) stands refl steps t h in
+    record { trace = run.trace; keeps = promises_of_a_driven_core table start first run.trace t.core run.has_run; has_trace = run.has_trace }

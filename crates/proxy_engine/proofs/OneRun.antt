@@ -15,7 +15,7 @@ some_act : {a b : Act} → Some a ≡ Some b → a ≡ b
 some_act h = cc
 
 pub no_other_effects : StepsHaveOneTrace → ActIsDoneInOneWay → RunHasNoOtherEffects
-no_other_effects once one_way table limit first now begin last other past act emitted more run differ second =
+no_other_effects once one_way table start first now begin last other past act emitted more run differ second =
     let a = run.has_trace in
     let b = second.has_trace in
     let same : a.0 ≡ b.0 = (once table begin past a.0 b.0 a.1 b.1 a.2 b.2).0 in
@@ -23,7 +23,7 @@ no_other_effects once one_way table limit first now begin last other past act em
     differ (one_way b.0 now act emitted more last other does b.3.1).0
 
 pub no_other_act : StepsHaveOneTrace → RunHasNoOtherAct
-no_other_act once table limit first now then begin last other past act instead emitted more run differ second =
+no_other_act once table start first now then begin last other past act instead emitted more run differ second =
     let a = run.has_trace in
     let b = second.has_trace in
     let same : a.0 ≡ b.0 = (once table begin past a.0 b.0 a.1 b.1 a.2 b.2).0 in
@@ -45,7 +45,7 @@ pub no_other_moment : RunHasNoOtherMoment
 no_other_moment table s after now then act item emitted h at differ = differ (at_its_moment s now then act item.event h.event_is at)
 
 pub nothing_untaken : StepsHaveOneTrace → RunHasNoUntakenHappening
-nothing_untaken once table limit first begin before last past trace happening led fault run =
+nothing_untaken once table start first begin before last past trace happening led fault run =
     let a = run.has_trace in
     let same : a.0 ≡ before = (once table begin past a.0 before a.1 trace a.2 led).0 in
     fault (subst (λ (s : EngineModel). happening_fault s happening ≡ None) same a.3.0)

@@ -15,7 +15,8 @@ use Rattle.hx_hop.specs.Moments.{date_text_of}
 use Rattle.hx_status.specs.declared.cause.Cause.{Cause}
 use Rattle.proxy_core.specs.Driving.{KeepsThePromises}
 use Rattle.proxy_core.specs.Replies.{refusal_reply_text}
-use Rattle.proxy_core.specs.State.{StepIsAccepted}
+use Rattle.proxy_core.specs.State.{StepIsAccepted, bounds_of}
+use Rattle.proxy_core.specs.Starts.{StoreAtStart, StartStands}
 use Rattle.proxy_core.specs.declared.event.Event.{Event}
 use Rattle.proxy_core.specs.declared.event.Event.TheVariants as events
 use Rattle.proxy_core.specs.Traces.{Item, initial_state as core_begun}
@@ -129,10 +130,11 @@ StepsHaveTrace table s (step ∷ steps) t trace =
 
 -- From a model whose core has begun, the steps of the core are a good run, with all that a good run keeps: its events
 -- are those that the acts ask about, one after another, and what they gave was told.
-pub record StepsAreAGoodRun (table : Table) (limit first : ℕ) (begin : EngineModel) (steps : List ExecutionStep)
+pub record StepsAreAGoodRun (table : Table) (start : StoreAtStart) (first : ℕ) (begin : EngineModel)
+    (steps : List ExecutionStep)
     (last : EngineModel) : Type 0 where
   pub trace : List Item
-  pub keeps : KeepsThePromises table limit first trace last.core
+  pub keeps : KeepsThePromises table start first trace last.core
   pub has_trace : StepsHaveTrace table begin steps last trace
 
 -- an act has one model behind it, and its effects
@@ -148,9 +150,10 @@ StepsHaveOneTrace =
     (table : Table) (s : EngineModel) (steps : List ExecutionStep) (t u : EngineModel) (trace other : List Item)
     → StepsHaveTrace table s steps t trace → StepsHaveTrace table s steps u other → (t ≡ u) × (trace ≡ other)
 
--- whatever an engine lives through, the steps of its core are a good run
+-- whatever an engine lives through, with what its store may hold at first, the steps of its core are a good run
 abbrev pub ExecutionsAreRuns : Type 0
 ExecutionsAreRuns =
-    (table : Table) (limit first link : ℕ) (steps : List ExecutionStep) (t : EngineModel)
-    → StepsLead (new_engine_model (core_begun table limit first) link) steps t
-    → StepsAreAGoodRun table limit first (new_engine_model (core_begun table limit first) link) steps t
+    (table : Table) (start : StoreAtStart) (first link : ℕ) (steps : List ExecutionStep) (t : EngineModel)
+    → StartStands (bounds_of table start.limit) (Some first) start.entries
+    → StepsLead (new_engine_model (core_begun table start first) link) steps t
+    → StepsAreAGoodRun table start first (new_engine_model (core_begun table start first) link) steps t

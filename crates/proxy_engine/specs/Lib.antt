@@ -22,6 +22,7 @@ pub mod OpenEnds
 pub mod EndChanges
 pub mod Orderly
 pub mod Drops
+pub mod Beginnings
 pub mod Executions
 pub mod FinalAnswers
 pub mod OneRun

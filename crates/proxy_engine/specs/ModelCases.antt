@@ -2,6 +2,7 @@
 use Rattle.std.specs.Prelude.{false, [], ◌∷◌, codes, None, Some}
 use Rattle.hx_framing.specs.declared.messages.Request.{Request}
 use Rattle.hx_framing.specs.declared.messages.Response.{Response}
+use Rattle.proxy_core.specs.Starts.{empty_store}
 use Rattle.proxy_core.specs.Traces.{initial_state as core_begun}
 use Rattle.hx_allow.specs.TableLines.{Table}
 use Rattle.proxy_core.specs.Cases.{line_with_no_cache, table}
@@ -17,7 +18,7 @@ table_of_two_origins =
 
 -- nothing has happened; links begin at 5
 abbrev pub empty_model : EngineModel
-empty_model = new_engine_model (core_begun table 2 1) 5
+empty_model = new_engine_model (core_begun table (empty_store 2) 1) 5
 
 -- one connection is open
 abbrev pub model_with_connection : EngineModel

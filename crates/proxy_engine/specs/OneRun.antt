@@ -8,6 +8,7 @@ use Rattle.hx_allow.specs.TableLines.{Table}
 use Rattle.proxy_core.specs.declared.event.Event.{Event}
 use Rattle.proxy_core.specs.declared.event.Event.TheVariants as events
 use Rattle.proxy_core.specs.Traces.{Item}
+use Rattle.proxy_core.specs.Starts.{StoreAtStart}
 use Rattle.proxy_script.specs.declared.effect_list.Effect.{Effect}
 use Rattle.proxy_engine.specs.Happenings.{PlainHappening}
 use Rattle.proxy_engine.specs.EngineModel.{EngineModel, happening_fault}
@@ -29,19 +30,21 @@ count_of_acts (Worked now act emitted ∷ past) = count_of_acts past + 1
 -- effects that the act didn't tell: one more, one less, another end, other bytes, another order
 abbrev pub RunHasNoOtherEffects : Type 0
 RunHasNoOtherEffects =
-    (table : Table) (limit first now : ℕ) (begin last other : EngineModel) (past : List ExecutionStep) (act : Act)
+    (table : Table) (start : StoreAtStart) (first now : ℕ) (begin last other : EngineModel) (past : List ExecutionStep)
+    (act : Act)
     (emitted more : List Effect) →
-    StepsAreAGoodRun table limit first begin (Worked now act emitted ∷ past) last → emitted ≢ more
-    → StepsAreAGoodRun table limit first begin (Worked now act more ∷ past) other → ⊥
+    StepsAreAGoodRun table start first begin (Worked now act emitted ∷ past) last → emitted ≢ more
+    → StepsAreAGoodRun table start first begin (Worked now act more ∷ past) other → ⊥
 
 -- an act that wasn't the first due, at whatever moment it is said to be done
 abbrev pub RunHasNoOtherAct : Type 0
 RunHasNoOtherAct =
-    (table : Table) (limit first now then : ℕ) (begin last other : EngineModel) (past : List ExecutionStep)
+    (table : Table) (start : StoreAtStart) (first now then : ℕ) (begin last other : EngineModel)
+    (past : List ExecutionStep)
     (act instead : Act)
     (emitted more : List Effect) →
-    StepsAreAGoodRun table limit first begin (Worked now act emitted ∷ past) last → act ≢ instead
-    → StepsAreAGoodRun table limit first begin (Worked then instead more ∷ past) other → ⊥
+    StepsAreAGoodRun table start first begin (Worked now act emitted ∷ past) last → act ≢ instead
+    → StepsAreAGoodRun table start first begin (Worked then instead more ∷ past) other → ⊥
 
 -- a step of the core at another moment than that of its act
 abbrev pub RunHasNoOtherMoment : Type 0
@@ -52,10 +55,11 @@ RunHasNoOtherMoment =
 -- a happening that has a fault where the steps before it lead: of an end that isn't there then, or is over
 abbrev pub RunHasNoUntakenHappening : Type 0
 RunHasNoUntakenHappening =
-    (table : Table) (limit first : ℕ) (begin before last : EngineModel) (past : List ExecutionStep) (trace : List Item)
+    (table : Table) (start : StoreAtStart) (first : ℕ) (begin before last : EngineModel) (past : List ExecutionStep)
+    (trace : List Item)
     (happening : PlainHappening) →
     StepsHaveTrace table begin past before trace → happening_fault before happening ≢ None
-    → StepsAreAGoodRun table limit first begin (Took happening ∷ past) last → ⊥
+    → StepsAreAGoodRun table start first begin (Took happening ∷ past) last → ⊥
 
 -- items that no act did: there are no more than acts
 abbrev pub RunHasNoMoreItems : Type 0

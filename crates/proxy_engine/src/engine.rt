@@ -1,5 +1,9 @@
 //! The engine: connections of clients, links to origins, and the core between them.
-ghost use Rattle.std.specs.Prelude.{◌≡◌, ◌≢◌, ◌<◌, ◌≤◌, ◌-◌, nat_lt, [], IfOk, IfErr, OnOk, OnErr, Some, Err, true};
+ghost use Rattle.std.specs.Prelude.{◌≡◌, ◌≢◌, ◌<◌, ◌≤◌, ◌-◌, nat_lt, [], length, IfOk, IfErr, OnOk, OnErr, Some};
+ghost use Rattle.std.specs.Prelude.{Err, true};
+ghost use Rattle.proxy_core.specs.Starts.{StartStands};
+ghost use Rattle.proxy_core.specs.State.{bounds_of};
+ghost use Rattle.proxy_core.specs.Traces.{initial_state};
 ghost use Rattle.proxy_engine.specs.EngineModel.{EngineModel, connection_at, happening_is_kept};
 ghost use Rattle.proxy_engine.specs.Happenings.{plain_happening, happening_takes_memory};
 ghost use Rattle.proxy_engine.specs.Reading.{readable_ends_of, failed_links, open_connection_count};
@@ -78,6 +82,48 @@ impl<S: Shelf> Engine<S> {
             },
             core: Core::new(alloc, config, shelf, first_serial),
         }
+    }
+
+    /// The same over a shelf that holds what a store held before: no serial twice, each below `first_serial`, from
+    /// which the serials go on, and within the bounds of the shelf and of the table's `max_store`.
+    pub fn with_store(
+        alloc: Global,
+        config: Config,
+        shelf: S,
+        first_serial: u64,
+        first_link: u64,
+    ) -> Self
+        requires { StartStands (bounds_of config (S.limit shelf)) (Some first_serial) (S.entries shelf) }
+        ensures { EngineRepresents result (new_engine_model
+            (initial_state config (record { limit = S.limit shelf; entries = S.entries shelf }) first_serial)
+            first_link) }
+    {
+        Engine {
+            ends: Ends {
+                connections: Connections::new(alloc),
+                links: Links::new(alloc),
+                first_link,
+            },
+            core: Core::with_store(alloc, config, shelf, first_serial),
+        }
+    }
+
+    /// How many exchanges are open.
+    pub fn open_exchanges(&self) -> usize
+        ensures { result ≡ length self.now.core.exchanges }
+    {
+        self.core.open_count()
+    }
+
+    /// The shelf with what it holds, and the next serial if one is left: what another engine may begin with, where no
+    /// exchange is open.
+    pub fn into_store(self) -> (S, Option<u64>)
+        ensures entries { S.entries result.0 ≡ self.core.entries }
+        ensures limit { S.limit result.0 ≡ self.core.limit }
+        ensures next { result.1 ≡ self.core.next }
+    {
+        let Engine { ends: _, core } = self;
+        core.into_store()
     }
 
     /// Takes what happened. An `Err` changes nothing, and says out of memory only where no other refusal stands.

@@ -27,6 +27,7 @@ use Rattle.proxy_core.specs.Driving.{KeepsThePromises}
 use Rattle.proxy_core.specs.Histories.{open_exchanges}
 use Rattle.proxy_core.specs.Outcomes.{find_exchange, exchange_id_of_event}
 use Rattle.proxy_core.specs.Replies.{is_head, refusal_reply_text}
+use Rattle.proxy_core.specs.Starts.{StoreAtStart}
 use Rattle.proxy_core.specs.Traces.{Item, initial_state as core_begun}
 use Rattle.proxy_core.proofs.Driven.{promises_of_a_driven_core}
 use Rattle.proxy_script.specs.declared.effect_list.Effect.{Effect}
@@ -41,7 +42,7 @@ use Rattle.proxy_engine.specs.Acts.{RequestArrives, RequestIsRefused as IsRefuse
 use Rattle.proxy_engine.specs.State.{new_engine_model}
 use Rattle.proxy_engine.specs.Executions.{ExecutionStep, Took, Worked, IsCoreEventOfAct, IsItemOfAct, StepLeads, StepsLead, drop_effects_of_act, connection_place_of_act, effects_of_steps}
 use Rattle.proxy_engine.proofs.Living.{Runs, executes, step_emitted}
-use Rattle.proxy_engine_laws.specs.OneMessageEach.{EachReplyIsOneResponse, ActsAreInTime, EachForwardIsOneRequest, ClientsGetOneResponseEach, ReplyIsOneResponse, ForwardIsOneRequest, act_answers_head}
+use Rattle.proxy_engine_laws.specs.OneMessageEach.{StartCanBeServed, EachReplyIsOneResponse, ActsAreInTime, EachForwardIsOneRequest, ClientsGetOneResponseEach, ReplyIsOneResponse, ForwardIsOneRequest, act_answers_head}
 use Rattle.proxy_engine_laws.proofs.HandedOver.{event_read, hands_what_was_read}
 
 -- ---- whether a HEAD is answered
@@ -138,20 +139,20 @@ module _ (table : Table) (now : ℕ) (h : Bool) where
 
 -- ---- acts
 
-module _ (table : Table) (read : TableWasRead table) (limit first link : ℕ) (past : List ExecutionStep) (s : EngineModel) (executed : StepsLead (new_engine_model (core_begun table limit first) link) past s) where
-  run : Runs table limit first (new_engine_model (core_begun table limit first) link) past s
-  run = executes table limit first (new_engine_model (core_begun table limit first) link) refl past s executed
+module _ (table : Table) (read : TableWasRead table) (start : StoreAtStart) (first link : ℕ) (sound : StartCanBeServed table start first) (past : List ExecutionStep) (s : EngineModel) (executed : StepsLead (new_engine_model (core_begun table start first) link) past s) where
+  run : Runs table start first (new_engine_model (core_begun table start first) link) past s
+  run = executes table start first (new_engine_model (core_begun table start first) link) sound.stands refl past s executed
 
-  keeps : KeepsThePromises table limit first run.trace s.core
-  keeps = promises_of_a_driven_core table limit first run.trace s.core run.has_run
+  keeps : KeepsThePromises table start first run.trace s.core
+  keeps = promises_of_a_driven_core table start first run.trace s.core run.has_run
 
   module _ (now : ℕ) (emitted : List Effect) (t : EngineModel) where
     by_item : (act : Act) → IsDueFirst s (Some act) → (item : Item) × IsItemOfAct table s now act item emitted t → All (IsSent table.name now (act_answers_head s act)) emitted
     by_item act due (item, is) =
-        let promises = promises_of_a_driven_core table limit first (item ∷ run.trace) t.core (s.core, run.has_run, is.steps) in
-        let handed : EventsWereRead (item ∷ run.trace) = (event_read s now act item.event due is.event_is, hands_what_was_read table (new_engine_model (core_begun table limit first) link) s past run.trace run.has_trace) in
-        let one = sends_one_message_each_time table limit first item run.trace read promises.good handed in
-        let head : event_is_to_head (find_exchange (exchange_id_of_event item.event) (open_exchanges table limit run.trace)) item.event ≡ act_answers_head s act =
+        let promises = promises_of_a_driven_core table start first (item ∷ run.trace) t.core (s.core, run.has_run, is.steps) in
+        let handed : EventsWereRead (item ∷ run.trace) = (event_read s now act item.event due is.event_is, hands_what_was_read table (new_engine_model (core_begun table start first) link) s past run.trace run.has_trace) in
+        let one = sends_one_message_each_time table start first item run.trace read promises.good sound.can_be_sent handed in
+        let head : event_is_to_head (find_exchange (exchange_id_of_event item.event) (open_exchanges table start run.trace)) item.event ≡ act_answers_head s act =
         ap (λ (xs : List Exchange). event_is_to_head (find_exchange (exchange_id_of_event item.event) xs) item.event) (sym keeps.exchanges_are) ∙ about_act s now act item.event is.event_is in
         subst (All (IsSent table.name now (act_answers_head s act))) (sym is.emitted_is)
         (All-append (IsSent table.name now (act_answers_head s act)) (drop_effects_of_act s act) (effects_of_outcome (connection_place_of_act s act) (next_link_number s) (outcome_by_table table item.outcome))
@@ -194,13 +195,13 @@ module _ (table : Table) (read : TableWasRead table) (limit first link : ℕ) (p
 contained : {X : Type 0} (P : X → Type 0) (xs : List X) (x : X) → All P xs → Contains xs x → P x
 contained P xs x all has = subst P has.2 (all has.0 x has.1)
 
-module _ (table : Table) (read : TableWasRead table) (limit first link : ℕ) where
-  all_forwarded : (steps : List ExecutionStep) (t : EngineModel) → StepsLead (new_engine_model (core_begun table limit first) link) steps t → All (ForwardIsOneRequest table.name) (effects_of_steps steps)
+module _ (table : Table) (read : TableWasRead table) (start : StoreAtStart) (first link : ℕ) (sound : StartCanBeServed table start first) where
+  all_forwarded : (steps : List ExecutionStep) (t : EngineModel) → StepsLead (new_engine_model (core_begun table start first) link) steps t → All (ForwardIsOneRequest table.name) (effects_of_steps steps)
   all_forwarded [] t h = All-nil (ForwardIsOneRequest table.name)
   all_forwarded (Took happening ∷ past) t (s, executed, leads) = all_forwarded past s executed
   all_forwarded (Worked now act emitted ∷ past) t (s, executed, leads) =
       All-append (ForwardIsOneRequest table.name) (effects_of_steps past) emitted (all_forwarded past s executed)
-      (All-weaker (IsSent table.name now (act_answers_head s act)) (ForwardIsOneRequest table.name) (λ e is. is.forwarded) emitted (sent_by table read limit first link past s executed now emitted t act leads))
+      (All-weaker (IsSent table.name now (act_answers_head s act)) (ForwardIsOneRequest table.name) (λ e is. is.forwarded) emitted (sent_by table read start first link sound past s executed now emitted t act leads))
 
   -- a continue, or one response to a HEAD or not
   abbrev Gets : Effect → Type 0
@@ -216,22 +217,22 @@ module _ (table : Table) (read : TableWasRead table) (limit first link : ℕ) wh
   gets h (effects.Close n) is = tt
   gets h (effects.Drop l) is = tt
 
-  all_got : (steps : List ExecutionStep) (t : EngineModel) → StepsLead (new_engine_model (core_begun table limit first) link) steps t → ActsAreInTime steps → All Gets (effects_of_steps steps)
+  all_got : (steps : List ExecutionStep) (t : EngineModel) → StepsLead (new_engine_model (core_begun table start first) link) steps t → ActsAreInTime steps → All Gets (effects_of_steps steps)
   all_got [] t h early = All-nil Gets
   all_got (Took happening ∷ past) t (s, executed, leads) early = all_got past s executed early
   all_got (Worked now act emitted ∷ past) t (s, executed, leads) early =
       All-append Gets (effects_of_steps past) emitted (all_got past s executed early.1)
-      (All-weaker (IsSent table.name now (act_answers_head s act)) Gets (λ e is. gets (act_answers_head s act) e (is.answered early.0)) emitted (sent_by table read limit first link past s executed now emitted t act leads))
+      (All-weaker (IsSent table.name now (act_answers_head s act)) Gets (λ e is. gets (act_answers_head s act) e (is.answered early.0)) emitted (sent_by table read start first link sound past s executed now emitted t act leads))
 
 pub forwards_one_request_each : EachForwardIsOneRequest
-forwards_one_request_each table limit first link steps t read executed l address bytes has =
-    contained (ForwardIsOneRequest table.name) (effects_of_steps steps) (effects.Forward l address bytes) (all_forwarded table read limit first link steps t executed) has
+forwards_one_request_each table start first link steps t read sound executed l address bytes has =
+    contained (ForwardIsOneRequest table.name) (effects_of_steps steps) (effects.Forward l address bytes) (all_forwarded table read start first link sound steps t executed) has
 
 pub answers_one_response_each : EachReplyIsOneResponse
-answers_one_response_each table limit first link now past s t act emitted read executed early leads =
+answers_one_response_each table start first link now past s t act emitted read sound executed early leads =
     All-weaker (IsSent table.name now (act_answers_head s act)) (ReplyIsOneResponse (act_answers_head s act)) (λ e is. is.answered early) emitted
-    (sent_by table read limit first link past s executed now emitted t act leads)
+    (sent_by table read start first link sound past s executed now emitted t act leads)
 
 pub gets_one_response_each : ClientsGetOneResponseEach
-gets_one_response_each table limit first link steps t read executed early n bytes has =
-    contained (Gets table read limit first link) (effects_of_steps steps) (effects.Client n bytes) (all_got table read limit first link steps t executed early) has
+gets_one_response_each table start first link steps t read sound executed early n bytes has =
+    contained (Gets table read start first link sound) (effects_of_steps steps) (effects.Client n bytes) (all_got table read start first link sound steps t executed early) has

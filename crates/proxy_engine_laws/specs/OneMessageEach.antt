@@ -6,15 +6,17 @@
 -- ForwardIsOneRequest, ReplyIsOneResponse: an effect that is one message
 -- CoreIsHandedWhatWasRead: what its core is handed
 -- EachForwardIsOneRequest, EachReplyIsOneResponse, ClientsGetOneResponseEach: the statements
-use Rattle.std.specs.Prelude.{◌≡◌, ◌⊎◌, ℕ, ◌+◌, ◌<◌, Bool, false, bytes_eq, List, [], ◌∷◌, codes, All, Contains}
+use Rattle.std.specs.Prelude.{◌≡◌, ◌⊎◌, ℕ, ◌+◌, ◌<◌, Bool, false, bytes_eq, List, [], ◌∷◌, codes, All, Contains, Some}
 use Rattle.std.specs.declared.net.socket_addr.SocketAddrV4.{SocketAddrV4}
 use Rattle.hx_fields.specs.declared.limits.TheConstants.{END_OF_TIME}
 use Rattle.hx_allow.specs.TableLines.{Table}
 use Rattle.hx_framing.specs.declared.messages.Next.TheVariants as next
 use Rattle.hx_framing.specs.Text.{continue_text}
 use Rattle.proxy_core.specs.Outcomes.{find_exchange}
+use Rattle.proxy_core.specs.State.{bounds_of}
 use Rattle.proxy_core.specs.Traces.{Item, initial_state as core_begun}
-use Rattle.proxy_core_laws.specs.SentMessages.{EventsWereRead, BytesAreOneRequest, BytesAreOneResponse}
+use Rattle.proxy_core.specs.Starts.{StoreAtStart, StartStands, EachHeldAtFirst}
+use Rattle.proxy_core_laws.specs.SentMessages.{CanBeSent, EventsWereRead, BytesAreOneRequest, BytesAreOneResponse}
 use Rattle.hx_allow.specs.Tables.{TableWasRead}
 use Rattle.proxy_script.specs.declared.effect_list.Effect.{Effect}
 use Rattle.proxy_script.specs.declared.effect_list.Effect.TheVariants as effects
@@ -58,6 +60,11 @@ ReplyIsOneResponse to_head (effects.Forward l address bytes) = Unit {0}
 ReplyIsOneResponse to_head (effects.Close n) = Unit {0}
 ReplyIsOneResponse to_head (effects.Drop l) = Unit {0}
 
+-- what its store may hold at first, and can be sent
+pub record StartCanBeServed (table : Table) (start : StoreAtStart) (first : ℕ) : Type 0 where
+  pub stands : StartStands (bounds_of table start.limit) (Some first) start.entries
+  pub can_be_sent : EachHeldAtFirst CanBeSent start
+
 -- ---- the statements
 
 -- whatever an engine lives through, its core is handed requests and answers that were read
@@ -70,8 +77,9 @@ CoreIsHandedWhatWasRead =
 -- of a reader it is read back as it was sent, and what stands behind it is left.
 abbrev pub EachForwardIsOneRequest : Type 0
 EachForwardIsOneRequest =
-    (table : Table) (limit first link : ℕ) (steps : List ExecutionStep) (t : EngineModel) → TableWasRead table
-    → StepsLead (new_engine_model (core_begun table limit first) link) steps t
+    (table : Table) (start : StoreAtStart) (first link : ℕ) (steps : List ExecutionStep) (t : EngineModel)
+    → TableWasRead table
+    → StartCanBeServed table start first → StepsLead (new_engine_model (core_begun table start first) link) steps t
     → (l : ℕ) (address : SocketAddrV4) (bytes : List ℕ)
     → Contains (effects_of_steps steps) (effects.Forward l address bytes)
     → BytesAreOneRequest table.name bytes
@@ -80,16 +88,20 @@ EachForwardIsOneRequest =
 -- whether it asked by HEAD.
 abbrev pub EachReplyIsOneResponse : Type 0
 EachReplyIsOneResponse =
-    (table : Table) (limit first link now : ℕ) (past : List ExecutionStep) (s t : EngineModel) (act : Act)
+    (table : Table) (start : StoreAtStart) (first link now : ℕ) (past : List ExecutionStep) (s t : EngineModel)
+    (act : Act)
     (emitted : List Effect)
-    → TableWasRead table → StepsLead (new_engine_model (core_begun table limit first) link) past s → now < END_OF_TIME
+    → TableWasRead table → StartCanBeServed table start first
+    → StepsLead (new_engine_model (core_begun table start first) link) past s → now < END_OF_TIME
     → StepLeads s (Worked now act emitted) t
     → All (ReplyIsOneResponse (act_answers_head s act)) emitted
 
 -- so it is of all that clients ever got
 abbrev pub ClientsGetOneResponseEach : Type 0
 ClientsGetOneResponseEach =
-    (table : Table) (limit first link : ℕ) (steps : List ExecutionStep) (t : EngineModel) → TableWasRead table
-    → StepsLead (new_engine_model (core_begun table limit first) link) steps t → ActsAreInTime steps
+    (table : Table) (start : StoreAtStart) (first link : ℕ) (steps : List ExecutionStep) (t : EngineModel)
+    → TableWasRead table
+    → StartCanBeServed table start first → StepsLead (new_engine_model (core_begun table start first) link) steps t
+    → ActsAreInTime steps
     → (n : ℕ) (bytes : List ℕ) → Contains (effects_of_steps steps) (effects.Client n bytes)
     → (bytes ≡ continue_text) ⊎ ((to_head : Bool) × BytesAreOneResponse to_head bytes)

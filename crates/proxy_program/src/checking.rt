@@ -39,6 +39,7 @@ fn print_policy<R: Print>(rt: &R, policy: Policy) -> io::Result<()> {
         default_or_word(policy.heeds_requests, "request-directives = \"ignored\""),
         default_or_word(!policy.waits_for_stale, "wait = \"missing-or-stale\""),
         default_or_word(!policy.explains_storing, "explain = \"storing\""),
+        default_or_word(policy.forwards_conditions, "conditions = \"answered\""),
     ] {
         if !word.is_empty() {
             println!(rt; "    {word}")?;

@@ -5,12 +5,13 @@ use Rattle.std.specs.List.{All}
 use Rattle.hx_fields.specs.declared.limits.TheConstants.{END_OF_TIME}
 use Rattle.hx_allow.specs.TableLines.{Table}
 use Rattle.proxy_core.specs.State.{State as CoreState}
-use Rattle.proxy_core.specs.Traces.{initial_state as core_begun}
+use Rattle.proxy_core.specs.Starts.{EachHeldAtFirst}
+use Rattle.proxy_core_laws.specs.SentMessages.{CanBeSent}
 use Rattle.hx_allow.specs.Tables.{TableWasRead}
 use Rattle.proxy_engine.specs.Happenings.{PlainHappening, Accepts, Sends, Hears, Ends, Leaves, Shuts, Fails}
 use Rattle.proxy_engine.specs.EngineModel.{EngineModel, model_after_happening}
 use Rattle.proxy_engine.specs.Executions.{ExecutionStep, Took, StepsLead}
-use Rattle.proxy_engine.specs.State.{new_engine_model}
+use Rattle.proxy_engine.specs.Beginnings.{MayBeHeldAtFirst, begun_model, store_with}
 use Rattle.proxy_turn.specs.Calls.{Call}
 use Rattle.proxy_turn.specs.Over.{calls_of_turn_over}
 use Rattle.proxy_turn.specs.Served.{EngineExecuted, EngineServesTurn, EngineGoesOnByTurn, EngineKeepsItsTable, steps_of_taking, initial_model_of}
@@ -46,27 +47,33 @@ taken_behind (h ∷ hs) begin s t past other before leads =
     taken_behind hs begin s t (Took h ∷ past) (Took h ∷ other) (λ m (took : StepsLead s (Took h ∷ past) m). (took.0, before took.0 took.1, took.2)) leads
 
 pub writes_messages : EachWriteOfATurnIsOneMessage → EachWriteOfAServerIsOneMessage
-writes_messages messages a b first link steps s reported read executed early served =
+writes_messages messages a b held first link steps s reported read begins executed early served =
     let losses = served.handed_in.losses in
     let turns = served.turn.turns in
     let mid = served.mid.engine in
     let lost = steps_of_taking losses.lost steps in
     let same : a.engine.core.table ≡ mid.core.table =
     ap (λ (k : CoreState). k.table) (executed.represents.core ∙ (sym (core_stays losses.lost [] s losses.after (λ m here. ap (λ (x : EngineModel). x.core) here) losses.takes) ∙ sym losses.represents.core)) in
-    let leads = taken_behind losses.lost (initial_model_of a.engine first link) s losses.after [] steps (λ m here. subst (StepsLead (initial_model_of a.engine first link) steps) (sym here) executed.executes) losses.takes in
-    let lived : EngineExecuted mid first link lost losses.after = record {
-      executes = subst (λ (table : Table). StepsLead (new_engine_model (core_begun table table.capacity first) link) lost losses.after) same leads;
+    let leads = taken_behind losses.lost (initial_model_of a.engine held first link) s losses.after [] steps (λ m here. subst (StepsLead (initial_model_of a.engine held first link) steps) (sym here) executed.executes) losses.takes in
+    let lived : EngineExecuted mid held first link lost losses.after = record {
+      begins = subst (λ (table : Table). MayBeHeldAtFirst table held first) same executed.begins;
+      executes = subst (λ (table : Table). StepsLead (begun_model table held first link) lost losses.after) same leads;
       represents = losses.represents;
     } in
-    let all = messages mid first link lost a.moment server_bounds losses.after served.given turns.accepts turns.reads turns.rest turns.rounds turns.last (subst TableWasRead same read) lived early turns.turn in
+    let all = messages mid held first link lost a.moment server_bounds losses.after served.given turns.accepts turns.reads turns.rest turns.rounds turns.last (subst TableWasRead same read)
+    (subst (λ (table : Table). EachHeldAtFirst CanBeSent (store_with table held)) same begins) lived early turns.turn in
     subst (λ (table : Table). All (CallWritesOneMessage table.name) (calls_of_turn_over losses.after turns.accepts turns.reads turns.rounds)) (sym same) all
 
 pub replies_follow : RepliesFollowRequests → ALifeIsExecuted → RepliesOfAServerFollowRequests
 replies_follow follow executed bytes table begin l turns i begins leads =
     let e = l.server.engine in
-    follow e.core.table e.core.table.capacity 1 1 l.steps l.model i (executed bytes table begin l turns begins leads).executes
+    follow e.core.table (store_with e.core.table []) 1 1 l.steps l.model i (executed bytes table begin l turns begins leads).executes
 
 -- ---- of a life
+
+-- nothing is held at first
+none_held : (table : Table) → EachHeldAtFirst CanBeSent (store_with table [])
+none_held table s e found = absurd cc
 
 -- its table stays
 life_keeps_table : EngineGoesOnByTurn → EngineKeepsItsTable → ALifeIsExecuted → (bytes : List ℕ) (table : Table) (begin l : ServerLife) (turns : List (Result Report TurnFault)) → ServerBegins bytes table begin → LifeLeadsTo begin turns l → l.server.engine.core.table ≡ table
@@ -79,7 +86,7 @@ life_keeps_table by_turn keeps executed bytes table begin l (reported ∷ past) 
     λ s represents orderly. turn_of_engine s begun on.last reported (on.serves s represents orderly) in
     let goes_on = by_turn before.server.engine on.last.engine begun.moment server_bounds reported serves in
     let lived = executed bytes table begin before past begins leads.1 in
-    let stays = (keeps before.server.engine on.last.engine goes_on (record { first = 1; link = 1; steps = before.steps; last = before.model; executed = lived })).0 in
+    let stays = (keeps before.server.engine on.last.engine goes_on (record { held = []; first = 1; link = 1; steps = before.steps; last = before.model; executed = lived })).0 in
     ap (λ (a : ServerState). a.engine.core.table) on.server ∙ (stays ∙ life_keeps_table by_turn keeps executed bytes table begin before past begins leads.1)
 
 pub life_writes_messages : EachWriteOfATurnIsOneMessage → EngineGoesOnByTurn → EngineKeepsItsTable → ALifeIsExecuted → EachWriteOfALifeIsOneMessage
@@ -88,5 +95,5 @@ life_writes_messages messages by_turn keeps executed bytes table begin l m turns
     let same : table ≡ begun.engine.core.table = sym (life_keeps_table by_turn keeps executed bytes table begin l turns begins leads) in
     let made = calls_of_turn_over on.served.handed_in.losses.after on.served.turn.turns.accepts on.served.turn.turns.reads on.served.turn.turns.rounds in
     let lived = executed bytes table begin l turns begins leads in
-    let all = writes_messages messages begun on.last 1 1 l.steps l.model reported (subst TableWasRead same (bytes, begins.reads)) lived on.early on.served in
+    let all = writes_messages messages begun on.last [] 1 1 l.steps l.model reported (subst TableWasRead same (bytes, begins.reads)) (none_held begun.engine.core.table) lived on.early on.served in
     subst (λ (t : Table). All (CallWritesOneMessage t.name) made) (sym same) all

@@ -21,6 +21,8 @@ use Rattle.proxy_engine.specs.State.{EngineRepresents}
 use Rattle.proxy_replay.specs.Played.{Scene, initial_scene, ItemsArePlayed}
 use Rattle.proxy_replay.specs.Replay.{IsReplayed}
 use Rattle.proxy_turn.specs.OverSteps.{TurnOverStepsEmitTheirEffects}
+use Rattle.proxy_core.specs.State.{bounds_of}
+use Rattle.proxy_core.proofs.Beginning.{nothing_stands}
 use Rattle.proxy_turn.specs.Served.{initial_model_of, EngineExecuted, TurnIsServedBehindLosses, TurnExecutesItsSteps, ExecutedEngineIsServing}
 use Rattle.proxy_turn.specs.declared.report.Report.{Report}
 use Rattle.proxy_turn.specs.declared.report.TurnFault.{TurnFault}
@@ -61,11 +63,12 @@ new_server_begins bytes table a begun reads table_is represents recorder begins 
     let server = server_begins bytes table a reads table_is represents in
     (server.0, server.1, record { server = server.2; begun = begun; recorder = recorder; begins = begins; unended = unended })
 
-begins_with_no_step : (bytes : List ℕ) (table : Table) (l : ServerLife) → ServerBegins bytes table l → EngineExecuted l.server.engine 1 1 l.steps l.model
+begins_with_no_step : (bytes : List ℕ) (table : Table) (l : ServerLife) → ServerBegins bytes table l → EngineExecuted l.server.engine [] 1 1 l.steps l.model
 begins_with_no_step bytes table l begins =
-    let begin = initial_model_of l.server.engine 1 1 in
+    let begin = initial_model_of l.server.engine [] 1 1 in
     let same : (initial_scene table).model ≡ begin = ap (λ (t : Table). (initial_scene t).model) (sym begins.table_is) in
     record {
+      begins = nothing_stands (bounds_of l.server.engine.core.table l.server.engine.core.table.capacity) 1;
       executes = subst (λ (ss : List ExecutionStep). StepsLead begin ss l.model) (sym begins.steps) (begins.model ∙ same);
       represents = subst (EngineRepresents l.server.engine) (sym begins.model) begins.represents;
     }
@@ -85,22 +88,22 @@ turn_of_engine s a b reported turn = record {
 }
 
 pub life_is_executed : TurnExecutesItsSteps → ALifeIsExecuted
-life_is_executed by_steps bytes table begin l [] begins same = subst (λ (k : ServerLife). EngineExecuted k.server.engine 1 1 k.steps k.model) (sym same) (begins_with_no_step bytes table begin begins)
+life_is_executed by_steps bytes table begin l [] begins same = subst (λ (k : ServerLife). EngineExecuted k.server.engine [] 1 1 k.steps k.model) (sym same) (begins_with_no_step bytes table begin begins)
 life_is_executed by_steps bytes table begin l (reported ∷ past) begins leads =
     let before = leads.0 in
     let on = leads.2 in
     let begun = turn_begun on.now before.server in
     let executed = life_is_executed by_steps bytes table begin before past begins leads.1 in
-    let lived : EngineExecuted on.last.engine 1 1 (steps_of_server_turn on.served before.steps) on.served.turn.turns.last =
-    by_steps before.server.engine on.last.engine 1 1 before.steps before.model begun.moment server_bounds reported executed (turn_of_engine before.model begun on.last reported on.served) in
-    subst (λ (a : ServerState). EngineExecuted a.engine 1 1 l.steps l.model) (sym on.server)
-    (subst (λ (s : EngineModel). EngineExecuted on.last.engine 1 1 l.steps s) (sym on.model)
-    (subst (λ (ss : List ExecutionStep). EngineExecuted on.last.engine 1 1 ss on.served.turn.turns.last) (sym on.steps) lived))
+    let lived : EngineExecuted on.last.engine [] 1 1 (steps_of_server_turn on.served before.steps) on.served.turn.turns.last =
+    by_steps before.server.engine on.last.engine [] 1 1 before.steps before.model begun.moment server_bounds reported executed (turn_of_engine before.model begun on.last reported on.served) in
+    subst (λ (a : ServerState). EngineExecuted a.engine [] 1 1 l.steps l.model) (sym on.server)
+    (subst (λ (s : EngineModel). EngineExecuted on.last.engine [] 1 1 l.steps s) (sym on.model)
+    (subst (λ (ss : List ExecutionStep). EngineExecuted on.last.engine [] 1 1 ss on.served.turn.turns.last) (sym on.steps) lived))
 
-settled_turn_is_lived : ExecutedEngineIsServing → (l : ServerLife) (b : ServerState) (reported : Result Report TurnFault) → EngineExecuted l.server.engine 1 1 l.steps l.model → TurnIsServedAndSettled l.server b reported → (m : ServerLife) × (m.server ≡ b) × LifeGoesOn l reported m
+settled_turn_is_lived : ExecutedEngineIsServing → (l : ServerLife) (b : ServerState) (reported : Result Report TurnFault) → EngineExecuted l.server.engine [] 1 1 l.steps l.model → TurnIsServedAndSettled l.server b reported → (m : ServerLife) × (m.server ≡ b) × LifeGoesOn l reported m
 settled_turn_is_lived runs l b reported executed settled =
     let begun = turn_begun settled.served.now l.server in
-    let orderly = (runs l.server.engine 1 1 l.steps l.model executed).0 in
+    let orderly = (runs l.server.engine [] 1 1 l.steps l.model executed).0 in
     let turn : ServerTurn l.model begun settled.last reported = settled.served.serves l.model executed.represents orderly in (
       record {
         server = b;

@@ -13,14 +13,14 @@ use Rattle.std.specs.List.{AllByRecursion}
 use Rattle.hx_fields.specs.declared.limits.TheConstants.{END_OF_TIME}
 use Rattle.hx_allow.specs.TableLines.{Table}
 use Rattle.hx_allow.specs.Tables.{BytesReadAs}
-use Rattle.proxy_core.specs.Traces.{initial_state as core_begun}
 use Rattle.proxy_script.specs.Effects.{effects_text}
 use Rattle.proxy_script.specs.Happenings.{PlainHappening as Happening}
 use Rattle.proxy_script.specs.declared.effect_list.Effect.{Effect}
 use Rattle.proxy_engine.specs.EngineModel.{EngineModel}
 use Rattle.proxy_engine.specs.Due.{IsDueFirst}
 use Rattle.proxy_engine.specs.Executions.{ExecutionStep, effects_of_steps}
-use Rattle.proxy_engine.specs.State.{EngineRepresents, new_engine_model}
+use Rattle.proxy_engine.specs.Beginnings.{begun_model}
+use Rattle.proxy_engine.specs.State.{EngineRepresents}
 use Rattle.proxy_replay.specs.Played.{initial_scene}
 use Rattle.proxy_replay.specs.Replay.{IsReplayed}
 use Rattle.proxy_turn.specs.Turn.{calls_of_rounds}
@@ -106,14 +106,14 @@ LifeLeadsTo begin (reported ∷ past) l =
 abbrev pub AServerBegins : Type 0
 AServerBegins =
     (bytes : List ℕ) (table : Table) (a : ServerState) → BytesReadAs bytes (Ok table) → a.engine.core.table ≡ table
-    → EngineRepresents a.engine (new_engine_model (core_begun table table.capacity 1) 1)
+    → EngineRepresents a.engine (begun_model table [] 1 1)
     → (l : ServerLife) × (l.server ≡ a) × ServerBegins bytes table l
 
 -- also one whose record begins with that table.
 abbrev pub ANewServerBegins : Type 0
 ANewServerBegins =
     (bytes : List ℕ) (table : Table) (a : ServerState) (begun : Record) → BytesReadAs bytes (Ok table)
-    → a.engine.core.table ≡ table → EngineRepresents a.engine (new_engine_model (core_begun table table.capacity 1) 1)
+    → a.engine.core.table ≡ table → EngineRepresents a.engine (begun_model table [] 1 1)
     → a.recorder ≡ Some begun → RecordBegins (Some []) bytes begun → begun.over ≡ false
     → (l : ServerLife) × (l.server ≡ a) × LifeBegins bytes table l
 
@@ -121,19 +121,19 @@ ANewServerBegins =
 abbrev pub ALifeIsExecuted : Type 0
 ALifeIsExecuted =
     (bytes : List ℕ) (table : Table) (begin l : ServerLife) (turns : List (Result Report TurnFault))
-    → ServerBegins bytes table begin → LifeLeadsTo begin turns l → EngineExecuted l.server.engine 1 1 l.steps l.model
+    → ServerBegins bytes table begin → LifeLeadsTo begin turns l → EngineExecuted l.server.engine [] 1 1 l.steps l.model
 
 -- Then what a call of `serve_turn` did is one more turn, whole or as far as it came,
 abbrev pub ATurnIsLived : Type 0
 ATurnIsLived =
-    (l : ServerLife) (b : ServerState) (turned : Turned) → EngineExecuted l.server.engine 1 1 l.steps l.model
+    (l : ServerLife) (b : ServerState) (turned : Turned) → EngineExecuted l.server.engine [] 1 1 l.steps l.model
     → ServeTurnAnswers l.server b (Ok turned)
     → (m : ServerLife) × (m.server ≡ b) × LifeGoesOn l turned.reported m
 
 -- also where the last number of a link is used.
 abbrev pub ASpentTurnIsLived : Type 0
 ASpentTurnIsLived =
-    (l : ServerLife) (b : ServerState) → EngineExecuted l.server.engine 1 1 l.steps l.model
+    (l : ServerLife) (b : ServerState) → EngineExecuted l.server.engine [] 1 1 l.steps l.model
     → ServeTurnAnswers l.server b (Err Spent)
     → (m : ServerLife) × (m.server ≡ b) × LifeGoesOn l (Err faults.Spent) m
 

@@ -7,7 +7,11 @@ use Rattle.std.specs.Prelude.{ℕ, ◌<◌, List, Result}
 use Rattle.std.specs.List.{All}
 use Rattle.hx_fields.specs.declared.limits.TheConstants.{END_OF_TIME}
 use Rattle.hx_allow.specs.TableLines.{Table}
+use Rattle.hx_store.specs.Stored.{Stored}
 use Rattle.proxy_core.specs.Outcomes.{find_exchange}
+use Rattle.proxy_core.specs.Starts.{EachHeldAtFirst}
+use Rattle.proxy_core_laws.specs.SentMessages.{CanBeSent}
+use Rattle.proxy_engine.specs.Beginnings.{store_with}
 use Rattle.hx_allow.specs.Tables.{TableWasRead}
 use Rattle.proxy_engine.specs.EngineModel.{EngineModel}
 use Rattle.proxy_engine.specs.Executions.{ExecutionStep}
@@ -26,9 +30,10 @@ use Rattle.proxy_record_laws.specs.LivesOfAServer.{ServerLife, ServerBegins, Lif
 -- sockets in its next turn is one message (RFC 9112, sections 11.1 and 11.2): whatever was lost in front of the turn.
 abbrev pub EachWriteOfAServerIsOneMessage : Type 0
 EachWriteOfAServerIsOneMessage =
-    (a b : ServerState) (first link : ℕ) (steps : List ExecutionStep) (s : EngineModel)
+    (a b : ServerState) (held : List Stored) (first link : ℕ) (steps : List ExecutionStep) (s : EngineModel)
     (reported : Result Report TurnFault)
-    → TableWasRead a.engine.core.table → EngineExecuted a.engine first link steps s → a.moment < END_OF_TIME
+    → TableWasRead a.engine.core.table → EachHeldAtFirst CanBeSent (store_with a.engine.core.table held)
+    → EngineExecuted a.engine held first link steps s → a.moment < END_OF_TIME
     → (served : ServerTurn s a b reported)
     → All (CallWritesOneMessage a.engine.core.table.name)
     (calls_of_turn_over served.handed_in.losses.after served.turn.turns.accepts served.turn.turns.reads

@@ -2,6 +2,9 @@
 use Rattle.std.proofs.Common.{◌≡◌, ℕ, List, [], ◌∷◌, ◌++◌, refl, sym, ap, ◌∙◌, subst, Option, None, Some}
 use Rattle.std.proofs.lemmas.List.{append_assoc, append-nil}
 use Rattle.hx_allow.specs.TableLines.{Table}
+use Rattle.proxy_core.proofs.Beginning.{nothing_stands}
+use Rattle.proxy_core.specs.Starts.{empty_store}
+use Rattle.proxy_core.specs.State.{bounds_of}
 use Rattle.proxy_script.specs.Script.{PlainItem as Item}
 use Rattle.proxy_script.specs.declared.effect_list.Effect.{Effect}
 use Rattle.proxy_engine.specs.Happenings.{PlainHappening as Happening}
@@ -88,5 +91,5 @@ plays_run table items effects last h =
       follows = whole.follows;
       executes = whole.executed.executes;
       emitted = whole.executed.emitted_is;
-      run = executions_are_runs table table.capacity 1 1 whole.steps last.model whole.executed.executes;
+      run = executions_are_runs table (empty_store table.capacity) 1 1 whole.steps last.model (nothing_stands (bounds_of table table.capacity) 1) whole.executed.executes;
     }

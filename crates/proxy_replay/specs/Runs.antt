@@ -6,6 +6,7 @@
 -- ScriptHasOnePlay: items are played in one way      the statements of the laws
 use Rattle.std.specs.Prelude.{◌≡◌, ℕ, List, [], ◌∷◌, Option, None, Some}
 use Rattle.hx_allow.specs.TableLines.{Table}
+use Rattle.proxy_core.specs.Starts.{empty_store}
 use Rattle.proxy_script.specs.Script.{PlainItem as Item}
 use Rattle.proxy_script.specs.declared.effect_list.Effect.{Effect}
 use Rattle.proxy_engine.specs.Happenings.{PlainHappening as Happening}
@@ -43,7 +44,7 @@ pub record PlayIsAGoodRun (table : Table) (items : List Item) (effects : List Ef
   pub follows : StepsFollowItems 0 items [] steps
   pub executes : StepsLead (initial_scene table).model steps last.model
   pub emitted : effects_of_steps steps ≡ effects
-  pub run : IsCoreRun table table.capacity 1 (initial_scene table).model steps last.model
+  pub run : IsCoreRun table (empty_store table.capacity) 1 (initial_scene table).model steps last.model
 
 -- items are played in one way: they have one list of effects, and lead to one model
 abbrev pub ScriptHasOnePlay : Type 0

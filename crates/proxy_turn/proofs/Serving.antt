@@ -8,6 +8,7 @@ use Rattle.hx_framing.specs.declared.messages.Next.TheVariants as next
 use Rattle.hx_framing.specs.declared.messages.Request.{Request}
 use Rattle.hx_hop.specs.declared.request_view.Asked.{Asked}
 use Rattle.hx_status.specs.declared.cause.Cause.{Cause}
+use Rattle.hx_store.specs.Stored.{Stored}
 use Rattle.proxy_core.specs.State.{State as CoreState}
 use Rattle.proxy_core.specs.Traces.{initial_state as core_begun}
 use Rattle.proxy_core.specs.declared.event.Event.{Event}
@@ -19,7 +20,8 @@ use Rattle.proxy_engine.specs.Due.{Act, Abandons, Finishes, Wakes, Serves, Gives
 use Rattle.proxy_engine.specs.Acts.{ActIsDone, CoreIsStepped, RequestIsRefused, ConnectionIsClosed, ConnectionIsServed, RequestArrives, OutcomeOnConnection, Replies, Forwards, Queues, Nothing, outcome_by_table, model_after_outcome}
 use Rattle.proxy_engine.specs.Orderly.{ModelIsOrderly, NewModelIsOrderly, HappeningKeepsOrder, ActKeepsOrder}
 use Rattle.proxy_engine.specs.Executions.{ExecutionStep, Took, Worked, StepsLead, ExecutionsAreRuns}
-use Rattle.proxy_engine.specs.State.{State, EngineRepresents, new_engine_model}
+use Rattle.proxy_engine.specs.State.{State, EngineRepresents}
+use Rattle.proxy_engine.specs.Beginnings.{MayBeHeldAtFirst, begun_model, store_with}
 use Rattle.proxy_turn.specs.OverSteps.{TurnOverStepsAreExecuted}
 use Rattle.proxy_turn.specs.declared.bounds.TurnBounds.{TurnBounds}
 use Rattle.proxy_turn.specs.declared.report.Report.{Report}
@@ -94,9 +96,9 @@ executes_keep s (Took h ∷ past) t executes =
 executes_keep s (Worked now act emitted ∷ past) t executes = does_keep executes.0 now act emitted t executes.2.1 ∙ executes_keep s past executes.0 executes.1
 
 -- an engine that stands for what was lived from a beginning by this table has that table
-same_table : (e new : State) (first link : ℕ) (steps : List ExecutionStep) (last : EngineModel) → StepsLead (initial_model_of e first link) steps last → EngineRepresents new last → e.core.table ≡ new.core.table
-same_table e new first link steps last executes represents =
-    sym (ap (λ (k : Table × ℕ). k.0) (ap kept_core represents.core ∙ executes_keep (initial_model_of e first link) steps last executes))
+same_table : (e new : State) (held : List Stored) (first link : ℕ) (steps : List ExecutionStep) (last : EngineModel) → StepsLead (initial_model_of e held first link) steps last → EngineRepresents new last → e.core.table ≡ new.core.table
+same_table e new held first link steps last executes represents =
+    sym (ap (λ (k : Table × ℕ). k.0) (ap kept_core represents.core ∙ executes_keep (initial_model_of e held first link) steps last executes))
 
 -- ---- what is lost is taken
 
@@ -180,14 +182,19 @@ table_now : (e : State) (s : EngineModel) → EngineRepresents e s → kept_core
 table_now e s represents = ap kept_core represents.core
 
 pub begins_reachable : NewEngineIsReachable
-begins_reachable e table first link represents =
+begins_reachable e table held first link may represents =
     let same : table ≡ e.core.table = sym (ap (λ (k : CoreState). k.table) represents.core) in
     record {
+      held = held;
       first = first;
       link = link;
       steps = [];
-      last = new_engine_model (core_begun table table.capacity first) link;
-      executed = record { executes = ap (λ (table : Table). new_engine_model (core_begun table table.capacity first) link) same; represents = represents };
+      last = begun_model table held first link;
+      executed = record {
+        begins = subst (λ (t : Table). MayBeHeldAtFirst t held first) same may;
+        executes = ap (λ (t : Table). begun_model t held first link) same;
+        represents = represents;
+      };
     }
 
 pub stays_on : EngineGoesOnByNothing
@@ -211,9 +218,14 @@ module _ (executed : TurnOverStepsAreExecuted) where
       record { steps = steps_of_served_turn served []; last = served.turn.last; executes = served_executes s [] e new s now bounds emitted refl served; represents = served.turn.represents }
 
   pub turns_live_on : TurnExecutesItsSteps
-  turns_live_on e new first link steps s now bounds emitted before served =
-      let whole = served_executes (initial_model_of e first link) steps e new s now bounds emitted before.executes served in
-      record { executes = subst (λ (table : Table). StepsLead (new_engine_model (core_begun table table.capacity first) link) (steps_of_served_turn served steps) served.turn.last) (same_table e new first link (steps_of_served_turn served steps) served.turn.last whole served.turn.represents) whole; represents = served.turn.represents }
+  turns_live_on e new held first link steps s now bounds emitted before served =
+      let whole = served_executes (initial_model_of e held first link) steps e new s now bounds emitted before.executes served in
+      let same = same_table e new held first link (steps_of_served_turn served steps) served.turn.last whole served.turn.represents in
+      record {
+        begins = subst (λ (t : Table). MayBeHeldAtFirst t held first) same before.begins;
+        executes = subst (λ (t : Table). StepsLead (begun_model t held first link) (steps_of_served_turn served steps) served.turn.last) same whole;
+        represents = served.turn.represents;
+      }
 
 module _ (takes : HappeningKeepsOrder) (acts : ActKeepsOrder) where
   pub goes_on_and_on : EngineGoesOnTransitively
@@ -228,42 +240,49 @@ module _ (takes : HappeningKeepsOrder) (acts : ActKeepsOrder) where
       }
 
   module _ (begins : NewModelIsOrderly) where
-    executed_orderly : (e : State) (first link : ℕ) (steps : List ExecutionStep) (last : EngineModel) → EngineExecuted e first link steps last → ModelIsOrderly last
-    executed_orderly e first link steps last executed =
-        executes_orderly takes acts (initial_model_of e first link) steps last (begins (core_begun e.core.table e.core.table.capacity first) link refl) executed.executes
+    executed_orderly : (e : State) (held : List Stored) (first link : ℕ) (steps : List ExecutionStep) (last : EngineModel) → EngineExecuted e held first link steps last → ModelIsOrderly last
+    executed_orderly e held first link steps last executed =
+        executes_orderly takes acts (initial_model_of e held first link) steps last (begins (core_begun e.core.table (store_with e.core.table held) first) link refl) executed.executes
 
     pub executions_are_serving : ExecutionsAreRuns → ExecutedEngineIsServing
-    executions_are_serving runs e first link steps last executed =
-        (executed_orderly e first link steps last executed, runs e.core.table e.core.table.capacity first link steps last executed.executes)
+    executions_are_serving runs e held first link steps last executed =
+        (executed_orderly e held first link steps last executed, runs e.core.table (store_with e.core.table held) first link steps last executed.begins executed.executes)
 
     pub reachable_goes_on : ReachableEngineStaysReachable
     reachable_goes_on e new goes had =
         let executed = had.executed in
-        let more = goes had.last executed.represents (executed_orderly e had.first had.link had.steps had.last executed) in
+        let more = goes had.last executed.represents (executed_orderly e had.held had.first had.link had.steps had.last executed) in
         let steps = more.steps ++ had.steps in
-        let whole = executes_on more.steps (initial_model_of e had.first had.link) had.steps had.last more.last executed.executes more.executes in
+        let whole = executes_on more.steps (initial_model_of e had.held had.first had.link) had.steps had.last more.last executed.executes more.executes in
+        let same = same_table e new had.held had.first had.link steps more.last whole more.represents in
         record {
+          held = had.held;
           first = had.first;
           link = had.link;
           steps = steps;
           last = more.last;
-          executed = record { executes = subst (λ (table : Table). StepsLead (new_engine_model (core_begun table table.capacity had.first) had.link) steps more.last) (same_table e new had.first had.link steps more.last whole more.represents) whole; represents = more.represents };
+          executed = record {
+            begins = subst (λ (t : Table). MayBeHeldAtFirst t had.held had.first) same executed.begins;
+            executes = subst (λ (t : Table). StepsLead (begun_model t had.held had.first had.link) steps more.last) same whole;
+            represents = more.represents;
+          };
         }
 
     pub keeps_its_table : EngineKeepsItsTable
     keeps_its_table e new goes had =
-        let more = goes had.last had.executed.represents (executed_orderly e had.first had.link had.steps had.last had.executed) in
+        let more = goes had.last had.executed.represents (executed_orderly e had.held had.first had.link had.steps had.last had.executed) in
         let same : kept_core new.core ≡ kept_core e.core =
         table_now new more.last more.represents ∙ (executes_keep had.last more.steps more.last more.executes ∙ sym (table_now e had.last had.executed.represents)) in
         (ap (λ (k : Table × ℕ). k.0) same, ap (λ (k : Table × ℕ). k.1) same)
 
 pub reachable_are_serving : ExecutionsAreRuns → ReachableEngineIsServing
 reachable_are_serving runs e had = record {
+  held = had.held;
   first = had.first;
   link = had.link;
   steps = had.steps;
   last = had.last;
-  run = runs e.core.table e.core.table.capacity had.first had.link had.steps had.last had.executed.executes;
+  run = runs e.core.table (store_with e.core.table had.held) had.first had.link had.steps had.last had.executed.begins had.executed.executes;
   represents = had.executed.represents;
-  limit = ap (λ (k : Table × ℕ). k.1) (table_now e had.last had.executed.represents ∙ executes_keep (initial_model_of e had.first had.link) had.steps had.last had.executed.executes);
+  limit = ap (λ (k : Table × ℕ). k.1) (table_now e had.last had.executed.represents ∙ executes_keep (initial_model_of e had.held had.first had.link) had.steps had.last had.executed.executes);
 }

@@ -9,12 +9,13 @@
 use Rattle.std.specs.Prelude.{◌≡◌, ℕ, List, [], ◌∷◌, ◌++◌, Result}
 use Rattle.std.specs.List.{AllByRecursion}
 use Rattle.hx_allow.specs.TableLines.{Table}
-use Rattle.proxy_core.specs.Traces.{initial_state as core_begun}
+use Rattle.hx_store.specs.Stored.{Stored}
+use Rattle.proxy_engine.specs.Beginnings.{MayBeHeldAtFirst, begun_model, store_with}
 use Rattle.proxy_engine.specs.Happenings.{PlainHappening, Accepts, Sends, Hears, Ends, Leaves, Shuts, Fails}
 use Rattle.proxy_engine.specs.EngineModel.{EngineModel}
 use Rattle.proxy_engine.specs.Orderly.{ModelIsOrderly}
 use Rattle.proxy_engine.specs.Executions.{ExecutionStep, Took, StepsLead, StepsAreAGoodRun}
-use Rattle.proxy_engine.specs.State.{State, EngineRepresents, EngineTakesHappening, new_engine_model}
+use Rattle.proxy_engine.specs.State.{State, EngineRepresents, EngineTakesHappening}
 use Rattle.proxy_engine.specs.declared.work.End.{End}
 use Rattle.proxy_turn.specs.Counts.{Calls}
 use Rattle.proxy_turn.specs.Over.{EngineTurnsOver}
@@ -26,34 +27,39 @@ use Rattle.proxy_turn.specs.declared.report.TurnFault.{TurnFault}
 -- ---- what it has lived through
 
 -- an engine to which nothing has happened, by the table of this one, with room for as many responses as that table has
--- it
-abbrev pub initial_model_of : State → ℕ → ℕ → EngineModel
-initial_model_of e first link = new_engine_model (core_begun e.core.table e.core.table.capacity first) link
+-- it, over what its store held at first
+abbrev pub initial_model_of : State → List Stored → ℕ → ℕ → EngineModel
+initial_model_of e held first link = begun_model e.core.table held first link
 
--- by its table and capacity, these steps led from an engine to which nothing had happened to this model, for which it
--- stands
-pub record EngineExecuted (e : State) (first link : ℕ) (steps : List ExecutionStep) (last : EngineModel) : Type 0 where
-  pub executes : StepsLead (initial_model_of e first link) steps last
+-- by its table and capacity, these steps led from an engine to which nothing had happened, and which held what may be
+-- held at first, to this model, for which it stands
+pub record EngineExecuted (e : State) (held : List Stored) (first link : ℕ) (steps : List ExecutionStep)
+    (last : EngineModel) : Type 0 where
+  pub begins : MayBeHeldAtFirst e.core.table held first
+  pub executes : StepsLead (initial_model_of e held first link) steps last
   pub represents : EngineRepresents e last
 
 -- some steps did
 pub record EngineIsReachable (e : State) : Type 0 where
+  pub held : List Stored
   pub first : ℕ
   pub link : ℕ
   pub steps : List ExecutionStep
   pub last : EngineModel
-  pub executed : EngineExecuted e first link steps last
+  pub executed : EngineExecuted e held first link steps last
 
 -- The steps of its core are a good run by its table, over a store of its capacity, with the headline: of the requests
 -- that its clients' bytes spell, the responses that its origins' bytes spell, the failures and the moments, in the
 -- order in which they were taken; and the effects of its acts are what they gave. Which bytes were taken and which
 -- effects were carried out is in the steps: those of a turn are `steps_of_served_turn`.
 pub record EngineIsServing (e : State) : Type 0 where
+  pub held : List Stored
   pub first : ℕ
   pub link : ℕ
   pub steps : List ExecutionStep
   pub last : EngineModel
-  pub run : StepsAreAGoodRun e.core.table e.core.table.capacity first (initial_model_of e first link) steps last
+  pub run : StepsAreAGoodRun e.core.table (store_with e.core.table held) first (initial_model_of e held first link)
+      steps last
   pub represents : EngineRepresents e last
   pub limit : e.core.limit ≡ e.core.table.capacity
 
@@ -129,12 +135,12 @@ EngineServesTurn now bounds e new reported = (s : EngineModel) → EngineReprese
 
 -- ---- the laws
 
--- an engine to which nothing has happened, with room for as many responses as its table has it
+-- an engine to which nothing has happened, with room for as many responses as its table has it, over what may be held
+-- at first
 abbrev pub NewEngineIsReachable : Type 0
 NewEngineIsReachable =
-    (e : State) (table : Table) (first link : ℕ) → EngineRepresents e
-    (new_engine_model (core_begun table table.capacity first) link)
-    → EngineIsReachable e
+    (e : State) (table : Table) (held : List Stored) (first link : ℕ) → MayBeHeldAtFirst table held first
+    → EngineRepresents e (begun_model table held first link) → EngineIsReachable e
 
 -- nothing is done
 abbrev pub EngineGoesOnByNothing : Type 0
@@ -200,18 +206,18 @@ TurnIsServedByLossesAndTurn =
 -- Where an engine has lived by these steps, it has lived behind a turn by those of the turn behind them, and no others.
 abbrev pub TurnExecutesItsSteps : Type 0
 TurnExecutesItsSteps =
-    (e new : State) (first link : ℕ) (steps : List ExecutionStep) (s : EngineModel) (now : ℕ) (bounds : TurnBounds)
-    (reported : Result Report TurnFault)
-    → EngineExecuted e first link steps s → (served : TurnIsServedBehindLosses now bounds s new reported)
-    → EngineExecuted new first link (steps_of_served_turn served steps) served.turn.last
+    (e new : State) (held : List Stored) (first link : ℕ) (steps : List ExecutionStep) (s : EngineModel) (now : ℕ)
+    (bounds : TurnBounds) (reported : Result Report TurnFault)
+    → EngineExecuted e held first link steps s → (served : TurnIsServedBehindLosses now bounds s new reported)
+    → EngineExecuted new held first link (steps_of_served_turn served steps) served.turn.last
 
 -- What an engine has lived through is in order, and the steps of its core are a good run: whichever its steps are.
 abbrev pub ExecutedEngineIsServing : Type 0
 ExecutedEngineIsServing =
-    (e : State) (first link : ℕ) (steps : List ExecutionStep) (last : EngineModel)
-    → EngineExecuted e first link steps last
-    → ModelIsOrderly last × StepsAreAGoodRun e.core.table e.core.table.capacity first
-    (initial_model_of e first link) steps last
+    (e : State) (held : List Stored) (first link : ℕ) (steps : List ExecutionStep) (last : EngineModel)
+    → EngineExecuted e held first link steps last
+    → ModelIsOrderly last × StepsAreAGoodRun e.core.table (store_with e.core.table held) first
+    (initial_model_of e held first link) steps last
 
 -- as it goes on, it keeps the operator's table, and the room of its store
 abbrev pub EngineKeepsItsTable : Type 0

@@ -10,7 +10,7 @@ use Rattle.proxy_engine.specs.EngineModel.{EngineModel, LinkModel}
 use Rattle.proxy_engine.specs.Acts.{next_link_number}
 use Rattle.proxy_engine.specs.Executions.{ExecutionStep, Took, Worked, StepsLead}
 use Rattle.proxy_engine.specs.Orderly.{ModelIsOrderly, EffectsNameOpenEnds, EndedStaysEnded, NewModelIsOrderly, HappeningKeepsOrder, ActKeepsOrder, ActKeepsEnded}
-use Rattle.proxy_engine.specs.State.{new_engine_model}
+use Rattle.proxy_engine.specs.Beginnings.{begun_model, store_with}
 use Rattle.proxy_engine.specs.Reading.{failed_links, link_has_failed, link_end_at, places_with_flag}
 use Rattle.proxy_engine.specs.declared.work.End.{End}
 use Rattle.proxy_engine.specs.declared.work.End.TheVariants as ends
@@ -154,8 +154,8 @@ module _ (first_in_order : NewModelIsOrderly) (takes : HappeningKeepsOrder) (act
   orderly_by begin order (Worked now act emitted ∷ past) t (s, executed, leads) = (acts s now act emitted t (orderly_by begin order past s executed) leads.0 leads.1).0
 
   pub turns_write_their_effects : TurnOverStepsAreExecuted → ATurnWritesItsEffects
-  turns_write_their_effects live e first link steps now bounds s given accepts reads rest rounds t executed fine turn =
-      let begin = new_engine_model (core_begun e.core.table e.core.table.capacity first) link in
+  turns_write_their_effects live e held first link steps now bounds s given accepts reads rest rounds t executed fine turn =
+      let begin = begun_model e.core.table held first link in
       let before : TurnOverAsFarAsItCame now bounds s given accepts reads rest [] turn.read = record {
         begun = turn.begun;
         read = turn.read;
@@ -170,6 +170,6 @@ module _ (first_in_order : NewModelIsOrderly) (takes : HappeningKeepsOrder) (act
         behind_reads = inr refl;
       } in
       let lived : StepsLead begin (steps_of_turn_over now s accepts reads [] steps) turn.read = live begin steps now bounds s given accepts reads rest [] turn.read executed.executes before in
-      let order : ModelIsOrderly turn.read = orderly_by begin (first_in_order (core_begun e.core.table e.core.table.capacity first) link refl) (steps_of_turn_over now s accepts reads [] steps) turn.read lived in
+      let order : ModelIsOrderly turn.read = orderly_by begin (first_in_order (core_begun e.core.table (store_with e.core.table held) first) link refl) (steps_of_turn_over now s accepts reads [] steps) turn.read lived in
       rounds_whole rounds now turn.read t (failed_links turn.read) turn.gone order
       (failed_below turn.read.first 0 (next_link_number turn.read) turn.read.links (omega arith)) fine turn.works

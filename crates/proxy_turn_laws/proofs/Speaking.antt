@@ -40,6 +40,7 @@ use Rattle.proxy_core.specs.Outcomes.{find_exchange, exchange_id_of_event, fault
 use Rattle.proxy_core.specs.Promises.{is_arrival_event, outcome_ends_exchange, outcome_goes_forward}
 use Rattle.proxy_core.specs.Replies.{is_head}
 use Rattle.proxy_core.specs.State.{State as CoreState, state_after, released_exchange, overtaken_exchange, forwarded_exchange, waiting_exchange}
+use Rattle.proxy_core.specs.Starts.{StoreAtStart}
 use Rattle.proxy_core.specs.Traces.{initial_state as core_begun}
 use Rattle.proxy_core.proofs.ExchangeLists.{changed_by}
 use Rattle.proxy_core.proofs.Moves.{Move, apart, opens, queues, passes, again, wakes, closes, move_of, out_again, woken_form, forward_goes_on, is_either, answer_either}
@@ -557,7 +558,7 @@ module _ (i : ℕ) where
     orderly : ModelIsOrderly s
     here : Here (IsGone s) said (open_at s)
 
-  module _ (first_in_order : NewModelIsOrderly) (takes : HappeningKeepsOrder) (acts : ActKeepsOrder) (heard : HappeningKeepsEnded) (ended : ActKeepsEnded) (table : Table) (limit first link : ℕ) where
+  module _ (first_in_order : NewModelIsOrderly) (takes : HappeningKeepsOrder) (acts : ActKeepsOrder) (heard : HappeningKeepsEnded) (ended : ActKeepsEnded) (table : Table) (start : StoreAtStart) (first link : ℕ) where
     stepped : (step : ExecutionStep) (s t : EngineModel) (past : List ExecutionStep) → StepLeads s step t → InStep s (said_by_steps i past) → InStep t (said_by_steps i (step ∷ past))
     stepped (Took h) s t past leads st =
         let after = model_after_happening s h in
@@ -573,16 +574,16 @@ module _ (i : ℕ) where
           (by_act s t now emitted (said_by_steps i past) st.orderly st.here act leads.0 leads.1);
     }
 
-    lives : (steps : List ExecutionStep) (t : EngineModel) → StepsLead (new_engine_model (core_begun table limit first) link) steps t → InStep t (said_by_steps i steps)
+    lives : (steps : List ExecutionStep) (t : EngineModel) → StepsLead (new_engine_model (core_begun table start first) link) steps t → InStep t (said_by_steps i steps)
     lives [] t is =
-        let begin = new_engine_model (core_begun table limit first) link in
-        let new : InStep begin [] = record { orderly = first_in_order (core_begun table limit first) link refl; here = record { standing = Answered; stands = refl; last = refl; gone = λ e. absurd (cc) } } in
+        let begin = new_engine_model (core_begun table start first) link in
+        let new : InStep begin [] = record { orderly = first_in_order (core_begun table start first) link refl; here = record { standing = Answered; stands = refl; last = refl; gone = λ e. absurd (cc) } } in
         subst (λ (u : EngineModel). InStep u []) (sym is) new
     lives (step ∷ past) t (s, executed, leads) = stepped step s t past leads (lives past s executed)
 
 pub replies_follow_requests : NewModelIsOrderly → HappeningKeepsOrder → ActKeepsOrder → HappeningKeepsEnded → ActKeepsEnded → RepliesFollowRequests
-replies_follow_requests first_in_order takes acts heard ended table limit first link steps t i executed =
-    let st = lives i first_in_order takes acts heard ended table limit first link steps t executed in
+replies_follow_requests first_in_order takes acts heard ended table start first link steps t i executed =
+    let st = lives i first_in_order takes acts heard ended table start first link steps t executed in
     (st.here.standing, st.here.stands, st.here.last)
 
 -- ---- what it comes to
@@ -626,9 +627,9 @@ nothing_behind_a_leave standing what bytes past =
     (λ h. let no : Answered ≡ Left = h.1.0 in absurd (cc), λ h. let no : Awaited ≡ Left = h.1.0 in absurd (cc))
 
 pub no_act_answers_twice : RepliesFollowRequests → NoActAnswersTwice
-no_act_answers_twice follows table limit first link now i past one other t executed =
+no_act_answers_twice follows table start first link now i past one other t executed =
     let emitted = effects.Client (i + 1) one ∷ effects.Client (i + 1) other ∷ [] in
-    let h = follows table limit first link (Worked now (Wakes i) emitted ∷ past) t i executed in
+    let h = follows table start first link (Worked now (Wakes i) emitted ∷ past) t i executed in
     let two : StandsAt h.0 (ReplyWent other ∷ ReplyWent one ∷ said_by_steps i past) =
     subst (λ (b : Bool). StandsAt h.0 (((([] ++ cond b (ReplyWent other ∷ []) []) ++ cond b (ReplyWent one ∷ []) [])) ++ said_by_steps i past)) (eq-eqb (i + 1) (i + 1) refl) h.1 in
     none_is_answered_twice h.0 other one (said_by_steps i past) two

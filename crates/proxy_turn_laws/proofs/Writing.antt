@@ -14,6 +14,7 @@ use Rattle.hx_hop.specs.Forwarding.{forwarded_of}
 use Rattle.hx_status.specs.declared.cause.FailKind.{FailKind}
 use Rattle.hx_status.specs.declared.cause.FailKind.TheVariants as kinds
 use Rattle.std.specs.declared.net.socket_addr.SocketAddrV4.{SocketAddrV4}
+use Rattle.proxy_core.specs.Starts.{StoreAtStart}
 use Rattle.proxy_core.specs.Traces.{initial_state as core_begun}
 use Rattle.proxy_core_laws.specs.SentMessages.{BytesAreOneRequest, BytesAreOneResponse, OneRequestIsNoMore}
 use Rattle.hx_allow.specs.Tables.{TableWasRead}
@@ -22,10 +23,11 @@ use Rattle.proxy_script.specs.declared.effect_list.Effect.TheVariants as effects
 use Rattle.proxy_engine.specs.Happenings.{PlainHappening}
 use Rattle.proxy_engine.specs.EngineModel.{EngineModel}
 use Rattle.proxy_engine.specs.Reading.{failed_links}
+use Rattle.proxy_engine.specs.Beginnings.{begun_model, store_with}
 use Rattle.proxy_engine.specs.State.{new_engine_model}
 use Rattle.proxy_engine.specs.Executions.{ExecutionStep, Worked, StepsLead, effects_of_steps}
 use Rattle.proxy_engine.specs.declared.work.End.{End}
-use Rattle.proxy_engine_laws.specs.OneMessageEach.{EachForwardIsOneRequest, EachReplyIsOneResponse, ForwardIsOneRequest, ReplyIsOneResponse, act_answers_head}
+use Rattle.proxy_engine_laws.specs.OneMessageEach.{StartCanBeServed, EachForwardIsOneRequest, EachReplyIsOneResponse, ForwardIsOneRequest, ReplyIsOneResponse, act_answers_head}
 use Rattle.proxy_turn.specs.Calls.{Call, AcceptOutcome}
 use Rattle.proxy_turn.specs.Turn.{AcceptCall, NotAsked, Failed, NoneCame, Came, EndRead, EffectFate, Carried, Passed, Lost, ActRound, HappeningIfAnyIsTaken, happening_of_loss, end_of_effect, EffectsAreCarriedOut, ActsAreCarriedOut, TurnAsFarAsItCame, calls_of_accept, calls_of_reads, calls_of_failed_forward, calls_of_effect, calls_of_effects, calls_of_rounds, calls_of_turn}
 use Rattle.proxy_turn.specs.TurnSteps.{step_of_happening_if_any, steps_of_losses, steps_of_turn, TurnStepsAreExecuted}
@@ -124,15 +126,15 @@ module _ (name : List ℕ) where
 
 -- ---- the rounds of a turn
 
-module _ (forwards : EachForwardIsOneRequest) (replies : EachReplyIsOneResponse) (table : Table) (limit first link now : ℕ) (read : TableWasRead table) (early : now < END_OF_TIME) where
+module _ (forwards : EachForwardIsOneRequest) (replies : EachReplyIsOneResponse) (table : Table) (start : StoreAtStart) (first link now : ℕ) (read : TableWasRead table) (sound : StartCanBeServed table start first) (early : now < END_OF_TIME) where
   abbrev begin_of : EngineModel
-  begin_of = new_engine_model (core_begun table limit first) link
+  begin_of = new_engine_model (core_begun table start first) link
 
   forwarded_each : (past : List ExecutionStep) (emitted : List Effect) (step : ExecutionStep) (t : EngineModel) → StepsLead begin_of (step ∷ past) t → effects_of_steps (step ∷ past) ≡ effects_of_steps past ++ emitted → AllByRecursion (ForwardIsOneRequest table.name) emitted
   forwarded_each past emitted step t executed all_are =
       let all = effects_of_steps (step ∷ past) in
       let each : AllByRecursion (ForwardIsOneRequest table.name) all = weaker_all (Contains all) (ForwardIsOneRequest table.name) all
-      (λ e has. forward_of table.name e (λ l address bytes is. forwards table limit first link (step ∷ past) t read executed l address bytes (subst (Contains all) is has)))
+      (λ e has. forward_of table.name e (λ l address bytes is. forwards table start first link (step ∷ past) t read sound executed l address bytes (subst (Contains all) is has)))
       (recursion_from_All (Contains all) all (All-contains_itself all)) in
       behind_all (ForwardIsOneRequest table.name) (effects_of_steps past) emitted (subst (AllByRecursion (ForwardIsOneRequest table.name)) all_are each)
 
@@ -143,7 +145,7 @@ module _ (forwards : EachForwardIsOneRequest) (replies : EachReplyIsOneResponse)
       let worked : StepsLead begin_of (step ∷ past) w.0 = (s, executed, (w.3, w.4)) in
       both_all (CallWritesOneMessage table.name) (calls_of_effects r.emitted r.fates) (calls_of_rounds rs)
       (effects_written table.name (act_answers_head s r.act) r.emitted r.fates (forwarded_each past r.emitted step w.0 worked refl)
-      (recursion_from_All (ReplyIsOneResponse (act_answers_head s r.act)) r.emitted (replies table limit first link now past s w.0 r.act r.emitted read executed early (w.3, w.4))))
+      (recursion_from_All (ReplyIsOneResponse (act_answers_head s r.act)) r.emitted (replies table start first link now past s w.0 r.act r.emitted read sound executed early (w.3, w.4))))
       (rounds_written rs (steps_of_losses r.emitted r.fates (step ∷ past)) w.1 w.2 t more (losses_executed begin_of r.emitted r.fates (step ∷ past) w.0 gone w.1 w.2 worked w.5) w.6)
 
 pub without_rounds : {A : Type 0} (reads : List EndRead) (rounds : List ActRound) → A ⊎ ((reads ≡ []) × (rounds ≡ [])) → A ⊎ ((reads ≡ []) × (◌≡◌ {A = List ActRound} [] []))
@@ -151,9 +153,9 @@ without_rounds reads rounds (inl is) = inl is
 without_rounds reads rounds (inr are) = inr (are.0, refl)
 
 pub writes_one_message_each : EachForwardIsOneRequest → EachReplyIsOneResponse → TurnOverStepsAreExecuted → EachWriteOfATurnIsOneMessage
-writes_one_message_each forwards replies lives e first link steps now bounds s given accepts reads rest rounds t read executed early turn =
+writes_one_message_each forwards replies lives e held first link steps now bounds s given accepts reads rest rounds t read begins executed early turn =
     let name = e.core.table.name in
-    let begin = new_engine_model (core_begun e.core.table e.core.table.capacity first) link in
+    let begin = begun_model e.core.table held first link in
     let before : TurnOverAsFarAsItCame now bounds s given accepts reads rest [] turn.read = record {
       begun = turn.begun;
       read = turn.read;
@@ -171,12 +173,12 @@ writes_one_message_each forwards replies lives e first link steps now bounds s g
     All-from_recursion (CallWritesOneMessage name) (calls_of_turn_over s accepts reads rounds)
     (both_all (CallWritesOneMessage name) (calls_of_accepts (length s.connections + 1) accepts) (calls_of_reads reads ++ calls_of_rounds rounds) (accepts_written name (length s.connections + 1) accepts)
     (both_all (CallWritesOneMessage name) (calls_of_reads reads) (calls_of_rounds rounds) (reads_written name reads)
-    (rounds_written forwards replies e.core.table e.core.table.capacity first link now read early rounds (steps_of_turn_over now s accepts reads [] steps) turn.read (failed_links turn.read) t turn.gone lived turn.works)))
+    (rounds_written forwards replies e.core.table (store_with e.core.table held) first link now read (record { stands = executed.begins; can_be_sent = begins }) early rounds (steps_of_turn_over now s accepts reads [] steps) turn.read (failed_links turn.read) t turn.gone lived turn.works)))
 
 pub whole_turns_write_one_message_each : EachForwardIsOneRequest → EachReplyIsOneResponse → TurnStepsAreExecuted → EachWriteOfAWholeTurnIsOneMessage
-whole_turns_write_one_message_each forwards replies lives e first link steps now s asked reads rest rounds t read executed early turn =
+whole_turns_write_one_message_each forwards replies lives e held first link steps now s asked reads rest rounds t read begins executed early turn =
     let name = e.core.table.name in
-    let begin = new_engine_model (core_begun e.core.table e.core.table.capacity first) link in
+    let begin = begun_model e.core.table held first link in
     let before : TurnAsFarAsItCame now s asked reads rest [] turn.read = record {
       begun = turn.begun;
       read = turn.read;
@@ -193,7 +195,7 @@ whole_turns_write_one_message_each forwards replies lives e first link steps now
     All-from_recursion (CallWritesOneMessage name) (calls_of_turn s asked reads rounds)
     (both_all (CallWritesOneMessage name) (calls_of_accept s asked) (calls_of_reads reads ++ calls_of_rounds rounds) (accept_written name s asked)
     (both_all (CallWritesOneMessage name) (calls_of_reads reads) (calls_of_rounds rounds) (reads_written name reads)
-    (rounds_written forwards replies e.core.table e.core.table.capacity first link now read early rounds (steps_of_turn now s asked reads [] steps) turn.read (failed_links turn.read) t turn.gone lived turn.works)))
+    (rounds_written forwards replies e.core.table (store_with e.core.table held) first link now read (record { stands = executed.begins; can_be_sent = begins }) early rounds (steps_of_turn now s asked reads [] steps) turn.read (failed_links turn.read) t turn.gone lived turn.works)))
 
 -- ---- what a turn doesn't write
 
@@ -201,8 +203,8 @@ contained : {X : Type 0} (P : X → Type 0) (xs : List X) (x : X) → All P xs �
 contained P xs x all has = subst P has.2 (all has.0 x has.1)
 
 pub nothing_else_is_written : EachWriteOfATurnIsOneMessage → ATurnWritesNothingElse
-nothing_else_is_written each e first link steps now bounds s given accepts reads rest rounds t other read executed early none has turn =
-    none (contained (CallWritesOneMessage e.core.table.name) (calls_of_turn_over s accepts reads rounds) other (each e first link steps now bounds s given accepts reads rest rounds t read executed early turn) has)
+nothing_else_is_written each e held first link steps now bounds s given accepts reads rest rounds t other read begins executed early none has turn =
+    none (contained (CallWritesOneMessage e.core.table.name) (calls_of_turn_over s accepts reads rounds) other (each e held first link steps now bounds s given accepts reads rest rounds t read begins executed early turn) has)
 
 left_empty : (xs ys : List ℕ) → [] ≡ xs ++ ys → [] ≡ xs
 left_empty [] ys h = refl
@@ -222,13 +224,13 @@ text_not_empty r h =
     no_line 13 (10 ∷ []) (right_empty front crlf (left_empty (front ++ crlf) (content_bytes r.content) h))
 
 pub no_request_is_empty : NoRequestIsEmpty
-no_request_is_empty name l done one = text_not_empty (forwarded_of one.asked name one.conditions) one.text_is
+no_request_is_empty name l done one = text_not_empty (forwarded_of one.keeps one.asked name one.conditions) one.text_is
 
 pub two_are_not_one : OneRequestIsNoMore → TwoRequestsAreNotOne
 two_are_not_one no_more name one other l most done first second small within both within_both =
-    let reading = subst (λ (bytes : List ℕ). ReadsRequest most false false bytes (Spelled (request_as_read_back (forwarded_of both.asked name both.conditions)) [])) (append-nil (one ++ other)) (both.alone most small within_both false false []) in
-    let found = no_more name one other first most false false (request_as_read_back (forwarded_of both.asked name both.conditions)) [] small within reading in
-    text_not_empty (forwarded_of second.asked name second.conditions) (found.1 ∙ second.text_is)
+    let reading = subst (λ (bytes : List ℕ). ReadsRequest most false false bytes (Spelled (request_as_read_back (forwarded_of both.keeps both.asked name both.conditions)) [])) (append-nil (one ++ other)) (both.alone most small within_both false false []) in
+    let found = no_more name one other first most false false (request_as_read_back (forwarded_of both.keeps both.asked name both.conditions)) [] small within reading in
+    text_not_empty (forwarded_of second.keeps second.asked name second.conditions) (found.1 ∙ second.text_is)
 
 pub none_to_the_listener : NothingIsWrittenToTheListener
 none_to_the_listener name bytes done h = h

@@ -6,6 +6,7 @@
 -- RoundsAreActsInOrder, ATurnDoesActsInOrder, ATurnWritesItsEffects: the statements
 use Rattle.std.specs.Prelude.{◌≡◌, ℕ, true, List, [], ◌∷◌, ◌++◌}
 use Rattle.std.specs.List.{AllByRecursion}
+use Rattle.hx_store.specs.Stored.{Stored}
 use Rattle.proxy_script.specs.declared.effect_list.Effect.{Effect}
 use Rattle.proxy_script.specs.declared.effect_list.Effect.TheVariants as effects
 use Rattle.proxy_engine.specs.EngineModel.{EngineModel}
@@ -86,9 +87,10 @@ ATurnDoesActsInOrder =
 -- once, in order.
 abbrev pub ATurnWritesItsEffects : Type 0
 ATurnWritesItsEffects =
-    (e : State) (first link : ℕ) (steps : List ExecutionStep) (now : ℕ) (bounds : TurnBounds) (s : EngineModel)
+    (e : State) (held : List Stored) (first link : ℕ) (steps : List ExecutionStep) (now : ℕ) (bounds : TurnBounds)
+    (s : EngineModel)
     (given : List End)
     (accepts : List AcceptOutcome) (reads : List EndRead) (rest : List End) (rounds : List ActRound)
-    (t : EngineModel) → EngineExecuted e first link steps s → NothingIsLostAmid rounds
+    (t : EngineModel) → EngineExecuted e held first link steps s → NothingIsLostAmid rounds
     → TurnOverAsFarAsItCame now bounds s given accepts reads rest rounds t
     → without_link_shuts (calls_of_rounds rounds) ≡ writes_of_effects (effects_of_rounds rounds)

@@ -15,6 +15,7 @@ use Rattle.hx_framing.specs.declared.messages.Next.{Next}
 use Rattle.hx_framing.specs.declared.messages.Next.TheVariants as next
 use Rattle.hx_framing.specs.Text.{continue_text}
 use Rattle.proxy_core.specs.Outcomes.{find_exchange}
+use Rattle.proxy_core.specs.Starts.{StoreAtStart}
 use Rattle.proxy_core.specs.Traces.{initial_state as core_begun}
 use Rattle.proxy_core.specs.declared.open.exchange.Exchange.{Exchange}
 use Rattle.proxy_script.specs.declared.effect_list.Effect.{Effect}
@@ -125,8 +126,8 @@ replies_in (ClientLeft ∷ past) = replies_in past
 -- nth request, no request is answered twice, and none is passed over by a later one.
 abbrev pub RepliesFollowRequests : Type 0
 RepliesFollowRequests =
-    (table : Table) (limit first link : ℕ) (steps : List ExecutionStep) (t : EngineModel) (i : ℕ)
-    → StepsLead (new_engine_model (core_begun table limit first) link) steps t
+    (table : Table) (start : StoreAtStart) (first link : ℕ) (steps : List ExecutionStep) (t : EngineModel) (i : ℕ)
+    → StepsLead (new_engine_model (core_begun table start first) link) steps t
     → (standing : Standing) × StandsAt standing (said_by_steps i steps)
     × LastRequestIsOpen standing (said_by_steps i steps) (find_exchange (connection_number i) t.core.exchanges)
 
@@ -160,8 +161,9 @@ NothingIsSaidBehindALeave =
 -- A refused life: one act that writes two replies to its client. No engine lives by such a step.
 abbrev pub NoActAnswersTwice : Type 0
 NoActAnswersTwice =
-    (table : Table) (limit first link now i : ℕ) (past : List ExecutionStep) (one other : List ℕ) (t : EngineModel)
-    → StepsLead (new_engine_model (core_begun table limit first) link)
+    (table : Table) (start : StoreAtStart) (first link now i : ℕ) (past : List ExecutionStep) (one other : List ℕ)
+    (t : EngineModel)
+    → StepsLead (new_engine_model (core_begun table start first) link)
     (Worked now (Wakes i) (effects.Client (connection_number i) one ∷ effects.Client (connection_number i) other ∷ [])
     ∷ past) t
     → ⊥

@@ -10,7 +10,10 @@ use Rattle.hx_fields.specs.declared.limits.TheConstants.{END_OF_TIME}
 use Rattle.hx_framing.specs.Text.{continue_text}
 use Rattle.hx_hop.specs.Forwarding.{forwarded_of}
 use Rattle.hx_hop_laws.specs.OneMessage.{RequestIsWithinLimits}
-use Rattle.proxy_core_laws.specs.SentMessages.{BytesAreOneRequest, BytesAreOneResponse}
+use Rattle.hx_store.specs.Stored.{Stored}
+use Rattle.proxy_core.specs.Starts.{EachHeldAtFirst}
+use Rattle.proxy_core_laws.specs.SentMessages.{CanBeSent, BytesAreOneRequest, BytesAreOneResponse}
+use Rattle.proxy_engine.specs.Beginnings.{store_with}
 use Rattle.hx_allow.specs.Tables.{TableWasRead}
 use Rattle.proxy_engine.specs.EngineModel.{EngineModel}
 use Rattle.proxy_engine.specs.Executions.{ExecutionStep}
@@ -46,19 +49,23 @@ CallWritesOneMessage name (call.Shut end done) = Unit {0}
 -- a client's or of an origin's that comes into it ends it early or stands behind it.
 abbrev pub EachWriteOfATurnIsOneMessage : Type 0
 EachWriteOfATurnIsOneMessage =
-    (e : State) (first link : ℕ) (steps : List ExecutionStep) (now : ℕ) (bounds : TurnBounds) (s : EngineModel)
+    (e : State) (held : List Stored) (first link : ℕ) (steps : List ExecutionStep) (now : ℕ) (bounds : TurnBounds)
+    (s : EngineModel)
     (given : List End) (accepts : List AcceptOutcome) (reads : List EndRead) (rest : List End)
     (rounds : List ActRound) (t : EngineModel)
-    → TableWasRead e.core.table → EngineExecuted e first link steps s → now < END_OF_TIME
+    → TableWasRead e.core.table → EachHeldAtFirst CanBeSent (store_with e.core.table held)
+    → EngineExecuted e held first link steps s → now < END_OF_TIME
     → TurnOverAsFarAsItCame now bounds s given accepts reads rest rounds t
     → All (CallWritesOneMessage e.core.table.name) (calls_of_turn_over s accepts reads rounds)
 
 -- So is each write of a turn over all ends that may send.
 abbrev pub EachWriteOfAWholeTurnIsOneMessage : Type 0
 EachWriteOfAWholeTurnIsOneMessage =
-    (e : State) (first link : ℕ) (steps : List ExecutionStep) (now : ℕ) (s : EngineModel) (asked : AcceptCall)
+    (e : State) (held : List Stored) (first link : ℕ) (steps : List ExecutionStep) (now : ℕ) (s : EngineModel)
+    (asked : AcceptCall)
     (reads : List EndRead) (rest : List End) (rounds : List ActRound) (t : EngineModel)
-    → TableWasRead e.core.table → EngineExecuted e first link steps s → now < END_OF_TIME
+    → TableWasRead e.core.table → EachHeldAtFirst CanBeSent (store_with e.core.table held)
+    → EngineExecuted e held first link steps s → now < END_OF_TIME
     → TurnAsFarAsItCame now s asked reads rest rounds t
     → All (CallWritesOneMessage e.core.table.name) (calls_of_turn s asked reads rounds)
 
@@ -67,10 +74,12 @@ EachWriteOfAWholeTurnIsOneMessage =
 -- So it is no turn among whose calls stands one that writes no message, or more than one.
 abbrev pub ATurnWritesNothingElse : Type 0
 ATurnWritesNothingElse =
-    (e : State) (first link : ℕ) (steps : List ExecutionStep) (now : ℕ) (bounds : TurnBounds) (s : EngineModel)
+    (e : State) (held : List Stored) (first link : ℕ) (steps : List ExecutionStep) (now : ℕ) (bounds : TurnBounds)
+    (s : EngineModel)
     (given : List End) (accepts : List AcceptOutcome) (reads : List EndRead) (rest : List End)
     (rounds : List ActRound) (t : EngineModel) (other : Call)
-    → TableWasRead e.core.table → EngineExecuted e first link steps s → now < END_OF_TIME
+    → TableWasRead e.core.table → EachHeldAtFirst CanBeSent (store_with e.core.table held)
+    → EngineExecuted e held first link steps s → now < END_OF_TIME
     → (CallWritesOneMessage e.core.table.name other → ⊥)
     → Contains (calls_of_turn_over s accepts reads rounds) other
     → TurnOverAsFarAsItCame now bounds s given accepts reads rest rounds t → ⊥
@@ -86,9 +95,9 @@ abbrev pub TwoRequestsAreNotOne : Type 0
 TwoRequestsAreNotOne =
     (name one other : List ℕ) (l most : ℕ) (done : Bool) (first : BytesAreOneRequest name one)
     → BytesAreOneRequest name other → most < 2 ^ 64
-    → RequestIsWithinLimits most (forwarded_of first.asked name first.conditions)
+    → RequestIsWithinLimits most (forwarded_of first.keeps first.asked name first.conditions)
     → (both : CallWritesOneMessage name (call.Write (ends.Link l) (one ++ other) done))
-    → RequestIsWithinLimits most (forwarded_of both.asked name both.conditions) → ⊥
+    → RequestIsWithinLimits most (forwarded_of both.keeps both.asked name both.conditions) → ⊥
 
 abbrev pub NothingIsWrittenToTheListener : Type 0
 NothingIsWrittenToTheListener =

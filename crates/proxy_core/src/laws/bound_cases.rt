@@ -3,10 +3,12 @@
 
 ghost use Rattle.std.specs.Prelude.{◌≡◌, ◌∷◌, [], Some, None, true, false, codes};
 ghost use Rattle.hx_fields.specs.Examples.{line};
-ghost use Rattle.proxy_core.specs.Bounds.{one_was_freshened, table_with_store, two_were_stored};
+ghost use Rattle.proxy_core.specs.Bounds.{one_was_freshened, one_was_sent, table_with_store, two_at_first};
+ghost use Rattle.proxy_core.specs.Bounds.{two_were_stored};
 ghost use Rattle.proxy_core.specs.Cases.{accept_language, cache_control, date_101, forwarded_on_miss, get_a_with};
 ghost use Rattle.proxy_core.specs.Cases.{response_with, stored_with, vary_field};
-ghost use Rattle.proxy_core.specs.Histories.{held_serials};
+ghost use Rattle.proxy_core.specs.Histories.{held_entries, held_serials};
+ghost use Rattle.proxy_core.specs.Starts.{empty_store};
 ghost use Rattle.proxy_core.specs.Storing.{answer_is_too_large, weight_of_answer};
 ghost use Rattle.proxy_core.specs.Validating.{stored_is_too_large};
 
@@ -49,10 +51,20 @@ pub fn what_is_too_heavy_alone()
 /// second goes, unless there is room for that byte.
 #[tactic(auto, unfolding(hx_validate::specs::Answering::freshened_of, httpdate::proofs::OnLiterals::httpdate_on_literals, hx_allow::specs::Matching::policy_of, hx_reuse::specs::Rules::reuse_rule_of, hx_reuse::specs::Rules::decision_of, hx_age::specs::Lifetime::lifetime_of))]
 pub fn what_is_held_by_weight()
-    ensures just { held_serials (table_with_store (Some 2554)) 5 two_were_stored ≡ 2 ∷ 1 ∷ [] }
-    ensures a_byte_less { held_serials (table_with_store (Some 2553)) 5 two_were_stored ≡ 2 ∷ [] }
-    ensures unbounded { held_serials (table_with_store None) 5 two_were_stored ≡ 2 ∷ 1 ∷ [] }
-    ensures by_number { held_serials (table_with_store (Some 2554)) 1 two_were_stored ≡ 2 ∷ [] }
-    ensures freshened { held_serials (table_with_store (Some 2554)) 5 one_was_freshened ≡ 1 ∷ [] }
-    ensures freshened_with_room { held_serials (table_with_store (Some 2555)) 5 one_was_freshened ≡ 1 ∷ 2 ∷ [] }
+    ensures just { held_serials (table_with_store (Some 2554)) (empty_store 5) two_were_stored ≡ 2 ∷ 1 ∷ [] }
+    ensures a_byte_less { held_serials (table_with_store (Some 2553)) (empty_store 5) two_were_stored ≡ 2 ∷ [] }
+    ensures unbounded { held_serials (table_with_store None) (empty_store 5) two_were_stored ≡ 2 ∷ 1 ∷ [] }
+    ensures by_number { held_serials (table_with_store (Some 2554)) (empty_store 1) two_were_stored ≡ 2 ∷ [] }
+    ensures freshened { held_serials (table_with_store (Some 2554)) (empty_store 5) one_was_freshened ≡ 1 ∷ [] }
+    ensures freshened_with_room { held_serials (table_with_store (Some 2555)) (empty_store 5) one_was_freshened
+        ≡ 1 ∷ 2 ∷ [] }
+{}
+
+/// What is held at first is held in its order of use, and what is used comes first.
+#[tactic(auto, unfolding(hx_validate::specs::Answering::freshened_of, httpdate::proofs::OnLiterals::httpdate_on_literals, hx_allow::specs::Matching::policy_of, hx_reuse::specs::Rules::reuse_rule_of, hx_reuse::specs::Rules::decision_of, hx_age::specs::Lifetime::lifetime_of))]
+pub fn what_is_held_at_first()
+    ensures at_first { held_serials (table_with_store None) two_at_first [] ≡ 2 ∷ 1 ∷ [] }
+    ensures entries { held_entries (table_with_store None) two_at_first [] ≡ stored_with 2 [] ∷ stored_with 1 [] ∷ [] }
+    ensures used { held_serials (table_with_store None) two_at_first one_was_sent ≡ 1 ∷ 2 ∷ [] }
+    ensures none { held_serials (table_with_store None) (empty_store 2) [] ≡ [] }
 {}

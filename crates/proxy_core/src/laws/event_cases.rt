@@ -85,6 +85,7 @@ pub fn worked_counts_of_traces()
     ensures another_key { some_item_invalidates (key_of_path (codes "/b")) trace_sends_invalidated [] ≡ false }
     ensures by_a_304 { some_item_invalidates (key_of_path (codes "/a")) (trace_sends_behind (response_with 304 [])) []
         ≡ true }
-    ensures by_no_error { some_item_invalidates (key_of_path (codes "/a")) (trace_sends_behind (response_with 404 [])) []
+    ensures by_no_error { some_item_invalidates (key_of_path (codes "/a"))
+        (trace_sends_behind (response_with 404 [])) []
         ≡ false }
 {}

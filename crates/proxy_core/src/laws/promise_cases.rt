@@ -10,12 +10,14 @@ ghost use Rattle.proxy_core.specs.Outcomes.{forward_text};
 ghost use Rattle.proxy_core.specs.Traces.{DeniedRequestsLeaveNoTrace};
 ghost use Rattle.proxy_core.specs.Histories.{HistoryStopsAt};
 ghost use Rattle.proxy_core.specs.Promises.{NothingInvalidatedIsSent, TwiceForwardOneReply};
+ghost use Rattle.proxy_core.specs.Promises.{NothingInvalidatedSinceTheStartIsSent};
 ghost use Rattle.proxy_core.specs.Headline.{RequestGoesForwardWhereAllowed};
-ghost use Rattle.proxy_core.specs.Cases.{response_with};
+ghost use Rattle.proxy_core.specs.Cases.{response_with, stored_with};
 ghost use Rattle.proxy_core.specs.WrongTraces.{edge_table, fresh_for_a_minute, get_a, get_admin, events_that_store_a};
 ghost use Rattle.proxy_core.specs.WrongTraces.{item_of, condition_about_v, post_a};
 ghost use Rattle.proxy_core.specs.WrongTraces.{reply_that_stores, reply_that_sends_stored, trace_of_good_events};
 ghost use Rattle.proxy_core.specs.WrongTraces.{trace_sends_invalidated, trace_sends_behind, response_304};
+ghost use Rattle.proxy_core.specs.WrongTraces.{trace_sends_of_the_start};
 ghost use Rattle.proxy_core.specs.WrongTraces.{trace_stores_invalidated, trace_with_three_forwards};
 ghost use Rattle.proxy_core.specs.WrongTraces.{trace_with_two_replies, GoingForwardIsWrong};
 
@@ -24,23 +26,23 @@ ghost use Rattle.proxy_core.specs.WrongTraces.{trace_with_two_replies, GoingForw
 /// sends.
 pub fn what_goes_forward_is_the_request()
     ensures another_target { GoingForwardIsWrong [] (Arrive 100 1 get_a)
-        (Forward 3 (forward_text edge_table get_admin None)) }
+        (Forward 3 (forward_text edge_table 3 get_admin None)) }
     ensures another_line { GoingForwardIsWrong [] (Arrive 100 1 get_a)
-        (Forward 2 (forward_text edge_table get_a None)) }
+        (Forward 2 (forward_text edge_table 2 get_a None)) }
     ensures denied { GoingForwardIsWrong [] (Arrive 100 1 get_admin)
-        (Forward 1 (forward_text edge_table get_admin None)) }
+        (Forward 1 (forward_text edge_table 1 get_admin None)) }
     ensures conditions_of_nothing { GoingForwardIsWrong [] (Arrive 100 1 get_a)
-        (Forward 3 (forward_text edge_table get_a condition_about_v)) }
+        (Forward 3 (forward_text edge_table 3 get_a condition_about_v)) }
     ensures without_conditions { GoingForwardIsWrong (trace_of_good_events events_that_store_a) (Arrive 200 2 get_a)
-        (Forward 3 (forward_text edge_table get_a None)) }
+        (Forward 3 (forward_text edge_table 3 get_a None)) }
     ensures by_a_failure { GoingForwardIsWrong
-        (item_of (Arrive 100 1 get_a) (Forward 3 (forward_text edge_table get_a None)) ∷ [])
-        (Fail 101 1 kinds.Refused) (Forward 3 (forward_text edge_table get_a None)) }
+        (item_of (Arrive 100 1 get_a) (Forward 3 (forward_text edge_table 3 get_a None)) ∷ [])
+        (Fail 101 1 kinds.Refused) (Forward 3 (forward_text edge_table 3 get_a None)) }
     ensures conditions_a_second_time { GoingForwardIsWrong
         (trace_of_good_events (Arrive 200 2 get_a ∷ events_that_store_a)) (Answer 201 2 (response_with 304 []))
-        (Forward 3 (forward_text edge_table get_a condition_about_v)) }
+        (Forward 3 (forward_text edge_table 3 get_a condition_about_v)) }
     ensures of_nobody { GoingForwardIsWrong [] (Answer 101 1 fresh_for_a_minute)
-        (Forward 3 (forward_text edge_table get_a None)) }
+        (Forward 3 (forward_text edge_table 3 get_a None)) }
 {}
 
 /// A denied request neither goes forward nor waits nor is left, and its reply stores, sends and takes away nothing.
@@ -72,6 +74,8 @@ pub fn sending_what_is_invalidated_is_refused()
     ensures on_its_way { NothingInvalidatedIsSent trace_stores_invalidated → ⊥ }
     ensures behind_a_304 { NothingInvalidatedIsSent (trace_sends_behind (response_304 [])) → ⊥ }
     ensures behind_a_redirect { NothingInvalidatedIsSent (trace_sends_behind (response_with 303 [])) → ⊥ }
+    ensures since_the_start { NothingInvalidatedSinceTheStartIsSent (stored_with 1 [] ∷ []) trace_sends_of_the_start
+        → ⊥ }
 {}
 
 /// No run stops behind its last event, nor at one that no fault stands against, but where memory runs out.

@@ -41,6 +41,7 @@ ghost use Rattle.proxy_core.specs.State.{serial_used_by_outcome};
 ghost use Rattle.proxy_core.specs.State.{entries_after_use};
 ghost use Rattle.proxy_core.specs.Cases.{response_with, revalidates_e, request_for, get_a_with_authorization};
 ghost use Rattle.proxy_core.specs.Cases.{reply_bytes, connection_field, cache_control};
+ghost use Rattle.proxy_core.specs.Cases.{keeps_conditions_policy};
 ghost use Rattle.proxy_core.specs.Cases.{set_cookie_field, date_101, explains_storing_policy, first_answer_fields};
 ghost use Rattle.proxy_core.specs.Cases.{first_stored, get_a_with, lifetime_60_policy, head_of_a};
 ghost use Rattle.proxy_core.specs.Cases.{key_of_path, wait_for_stale_policy, lines_of_304, no_cookies_policy};
@@ -68,7 +69,8 @@ pub fn worked_stored_replies()
 {}
 
 /// The answer of the first run at 101, stored and not; to HEAD with the length that the origin
-/// announced (RFC 9110, section 8.6). And the proxy's own, with its content but to HEAD.
+/// announced (RFC 9110, section 8.6). To a client whose condition stayed here a 304 in its place, where that is false.
+/// And the proxy's own, with its content but to HEAD.
 pub fn worked_passed_answers()
     ensures stored { passed_answer_text (plain true) (codes "edge") (forwarded_on_miss (get_a_with []))
         (response_with 200 first_answer_fields) 101 true None
@@ -81,6 +83,26 @@ pub fn worked_passed_answers()
     ensures to_head_of_unknown_length { passed_answer_text (plain true) (codes "edge") (forwarded_on_miss head_of_a)
         (record (response_with 200 (date_101 ∷ [])) { content = [] }) 101 false None
         ≡ codes "HTTP/1.1 200 \r\nDate: Thu, 01 Jan 1970 00:01:41 GMT\r\nCache-Status: edge;fwd=uri-miss\r\n\r\n" }
+    ensures kept { passed_answer_text keeps_conditions_policy (codes "edge")
+        (forwarded_on_miss (get_a_with (line (codes "If-None-Match") (codes "\"v1\"")
+        ∷ []))) (response_with 200 first_answer_fields) 101 true None
+        ≡ codes "HTTP/1.1 304 \r\nDate: Thu, 01 Jan 1970 00:01:41 GMT\r\nCache-Control: max-age=60\r\nETag: \"v1\"\r\nCache-Status: edge;fwd=uri-miss;fwd-status=200;ttl=59;stored\r\n\r\n" }
+    ensures kept_and_changed { passed_answer_text keeps_conditions_policy (codes "edge")
+        (forwarded_on_miss (get_a_with (line (codes "If-None-Match") (codes "\"v0\"")
+        ∷ []))) (response_with 200 first_answer_fields) 101 true None
+        ≡ codes "HTTP/1.1 200 \r\nDate: Thu, 01 Jan 1970 00:01:41 GMT\r\nCache-Control: max-age=60\r\nETag: \"v1\"\r\nCache-Status: edge;fwd=uri-miss;ttl=59;stored\r\nContent-Length: 2\r\n\r\nhi" }
+    ensures kept_and_not_stored { passed_answer_text keeps_conditions_policy (codes "edge")
+        (forwarded_on_miss (get_a_with (line (codes "If-None-Match") (codes "*") ∷ []))) (response_with 200 (date_101
+        ∷ [])) 101 false None
+        ≡ codes "HTTP/1.1 304 \r\nDate: Thu, 01 Jan 1970 00:01:41 GMT\r\nCache-Status: edge;fwd=uri-miss;fwd-status=200\r\n\r\n" }
+    ensures kept_and_missing { passed_answer_text keeps_conditions_policy (codes "edge")
+        (forwarded_on_miss (get_a_with (line (codes "If-None-Match") (codes "*") ∷ []))) (response_with 404 (date_101
+        ∷ [])) 101 false None
+        ≡ codes "HTTP/1.1 404 \r\nDate: Thu, 01 Jan 1970 00:01:41 GMT\r\nCache-Status: edge;fwd=uri-miss\r\nContent-Length: 2\r\n\r\nhi" }
+    ensures forwarded { passed_answer_text (plain true) (codes "edge")
+        (forwarded_on_miss (get_a_with (line (codes "If-None-Match") (codes "\"v1\"")
+        ∷ []))) (response_with 200 first_answer_fields) 101 true None
+        ≡ codes "HTTP/1.1 200 \r\nDate: Thu, 01 Jan 1970 00:01:41 GMT\r\nCache-Control: max-age=60\r\nETag: \"v1\"\r\nCache-Status: edge;fwd=uri-miss;ttl=59;stored\r\nContent-Length: 2\r\n\r\nhi" }
     ensures own { refusal_reply_text (codes "Thu, 01 Jan 1970 00:01:10 GMT")
         (Origin Refused MustRevalidate (Some on_error.MustRevalidate)) true false ≡ codes "HTTP/1.1 502 \r\nDate: Thu, 01 Jan 1970 00:01:10 GMT\r\nContent-Type: text/plain\r\nRefusal: origin refused;fwd=stale;detail=must-revalidate;stale-if-error=must-revalidate\r\nContent-Length: 78\r\nConnection: close\r\n\r\norigin refused;fwd=stale;detail=must-revalidate;stale-if-error=must-revalidate" }
     ensures own_to_head { refusal_reply_text (codes "Thu, 01 Jan 1970 00:01:10 GMT") NoLine false true ≡ codes "HTTP/1.1 403 \r\nDate: Thu, 01 Jan 1970 00:01:10 GMT\r\nContent-Type: text/plain\r\nRefusal: no line allows it\r\nContent-Length: 17\r\n\r\n" }
@@ -101,12 +123,18 @@ pub fn statuses_of_errors()
 /// A 304 that the client asked for and one that nobody did (RFC 9110, section 15.4.5); a 304
 /// validates where the proxy had asked.
 pub fn which_304_was_asked_for()
-    ensures nobody { is_304_without_condition (get_a_with []) (response_with 304 []) ≡ true }
-    ensures by_tag { is_304_without_condition (get_a_with (line (codes "If-None-Match") (codes "\"e\"") ∷ []))
+    ensures nobody { is_304_without_condition (plain true) (get_a_with []) (response_with 304 []) ≡ true }
+    ensures by_tag { is_304_without_condition (plain true) (get_a_with (line (codes "If-None-Match") (codes "\"e\"") ∷ []))
         (response_with 304 []) ≡ false }
-    ensures by_date { is_304_without_condition (get_a_with (line (codes "If-Modified-Since") (codes "x") ∷ []))
+    ensures by_date { is_304_without_condition (plain true) (get_a_with (line (codes "If-Modified-Since") (codes "x") ∷ []))
         (response_with 304 []) ≡ false }
-    ensures other_status { is_304_without_condition (get_a_with []) (response_with 200 []) ≡ false }
+    ensures kept { is_304_without_condition keeps_conditions_policy (get_a_with (line (codes "If-None-Match") (codes "\"e\"") ∷ []))
+        (response_with 304 []) ≡ true }
+    ensures kept_date { is_304_without_condition keeps_conditions_policy (get_a_with (line (codes "If-Modified-Since") (codes "x") ∷ []))
+        (response_with 304 []) ≡ true }
+    ensures of_a_range { is_304_without_condition keeps_conditions_policy (get_a_with (line (codes "Range") (codes "bytes=0-1")
+        ∷ line (codes "If-None-Match") (codes "\"e\"") ∷ [])) (response_with 304 []) ≡ false }
+    ensures other_status { is_304_without_condition (plain true) (get_a_with []) (response_with 200 []) ≡ false }
     ensures by_the_proxy { is_validation (revalidates_e (get_a_with [])) (response_with 304 []) ≡ true }
     ensures not_by_the_proxy { is_validation (forwarded_on_miss (get_a_with [])) (response_with 304 []) ≡ false }
     ensures no_304 { is_validation (revalidates_e (get_a_with [])) (response_with 200 []) ≡ false }
@@ -387,6 +415,9 @@ pub fn who_would_wait_in_vain()
         (forwarded_on_stale_by get_a_with_no_store ∷ []) (get_a_with []) NoMaxStale ≡ None }
     ensures behind_a_condition { leader_of_request wait_for_stale_policy []
         (forwarded_on_miss get_a_if_changed ∷ []) (get_a_with []) UriMiss ≡ None }
+    ensures behind_a_kept_condition { leader_of_request
+        (record wait_for_stale_policy { forwards_conditions = false }) []
+        (forwarded_on_miss get_a_if_changed ∷ []) (get_a_with []) UriMiss ≡ Some 1 }
     ensures behind_a_condition_about_stale { leader_of_request wait_for_stale_policy stale_held
         (forwarded_on_stale_by get_a_if_changed ∷ []) (get_a_with []) NoMaxStale ≡ None }
     ensures behind_a_condition_of_the_proxy { leader_of_request wait_for_stale_policy stale_held
@@ -452,6 +483,11 @@ pub fn what_an_arrival_gives()
         ≡ Forward 2 (codes "GET /a HTTP/1.1\r\nHost: h\r\nVia: 1.1 edge\r\nConnection: close\r\n\r\n") }
     ensures validates { outcome_of_arrival table (stored_without_lifetime ∷ []) [] 130 (get_a_with [])
         (verdict.Allowed 1) ≡ Forward 1 (codes "GET /a HTTP/1.1\r\nHost: h\r\nIf-None-Match: \"e\"\r\nVia: 1.1 edge\r\nConnection: close\r\n\r\n") }
+    ensures conditional { outcome_of_arrival table [] [] 130 (get_a_with (line (codes "If-None-Match") (codes "\"v0\"") ∷ []))
+        (verdict.Allowed 1) ≡ Forward 1 (codes "GET /a HTTP/1.1\r\nHost: h\r\nIf-None-Match: \"v0\"\r\nVia: 1.1 edge\r\nConnection: close\r\n\r\n") }
+    ensures conditional_kept { outcome_of_arrival (table_with_policy keeps_conditions_policy) [] [] 130
+        (get_a_with (line (codes "If-None-Match") (codes "\"v0\"") ∷ [])) (verdict.Allowed 1)
+        ≡ Forward 1 (codes "GET /a HTTP/1.1\r\nHost: h\r\nVia: 1.1 edge\r\nConnection: close\r\n\r\n") }
     ensures waits { outcome_of_arrival table [] (forwarded_on_miss (get_a_with []) ∷ []) 130 (get_a_with [])
         (verdict.Allowed 1) ≡ Waits 1 }
     ensures only_if_cached { outcome_of_arrival table [] [] 130

@@ -6,7 +6,7 @@
 //! is one, and nothing where there is none (see `released`). `leader` looks through the GETs of its
 //! key that are at the origin, up to the one that leads, and an invalidation goes through all
 //! exchanges of its key. `ready` goes through all of them.
-ghost use Rattle.std.specs.Prelude.{◌≡◌, ◌<◌, ◌++◌, ◌∷◌, [], map, filter, not, ◌==◌, None, IfOk, OnOk, OnErr};
+ghost use Rattle.std.specs.Prelude.{◌≡◌, ◌<◌, ◌++◌, ◌∷◌, [], map, filter, not, ◌==◌, None, IfOk, OnOk, OnErr, length};
 ghost use Rattle.std.specs.Prelude.{option_copied, slice_get, IfSome};
 ghost use Rattle.proxy_core.specs.Waiting.{ExchangeMayBeWoken};
 ghost use Rattle.std.specs.List.{All};
@@ -96,6 +96,13 @@ impl Exchanges {
             released: Released::new(),
             by_key: ArrivalsByKey::new(alloc),
         }
+    }
+
+    /// How many are open.
+    pub(crate) fn count(&self) -> usize
+        ensures { result ≡ length self.now }
+    {
+        self.by_arrival.len()
     }
 
     /// The open exchange of an id.

@@ -13,7 +13,7 @@ use http::Method;
 use hx_directives::{Directive, Directives};
 use hx_hop::Asked;
 use hx_policy::Policy;
-use hx_reuse::{ReuseRule, lifetime_under};
+use hx_reuse::{ReuseRule, forwards_condition, lifetime_under};
 use hx_store::Entry;
 use std::alloc::{AllocError, Global};
 
@@ -93,21 +93,19 @@ fn has_authorization(asked: &Asked) -> bool
 }
 
 /// Whether a condition of the client's own is at the origin, so that a 304 may be for it alone.
-fn sends_clients_condition(exchange: &Exchange) -> bool
-    ensures { result ≡ sends_clients_condition exchange.now }
+fn sends_clients_condition(exchange: &Exchange, policy: Policy) -> bool
+    ensures { result ≡ sends_clients_condition policy exchange.now }
 {
-    let fields = &exchange.asked.fields;
-    exchange.condition.is_none()
-        && (fields.has(b"If-None-Match") || fields.has(b"If-Modified-Since"))
+    exchange.condition.is_none() && forwards_condition(policy, &exchange.asked)
 }
 
 /// Whether nothing that is known of an exchange keeps its answer from this request.
-fn may_serve(exchange: &Exchange, asked: &Asked) -> bool
-    ensures { result ≡ may_serve asked.now exchange.now }
+fn may_serve(exchange: &Exchange, policy: Policy, asked: &Asked) -> bool
+    ensures { result ≡ may_serve policy asked.now exchange.now }
 {
     !exchange.no_store
         && !exchange.overtaken
-        && !sends_clients_condition(exchange)
+        && !sends_clients_condition(exchange, policy)
         && has_authorization(&exchange.asked) == has_authorization(asked)
 }
 
@@ -124,7 +122,7 @@ pub(crate) fn leads_waiters(
         && is_get(&exchange.asked)
         && is_forwarded(exchange.stage)
         && asks_for(exchange, awaited)
-        && (!policy.waits_for_stale || may_serve(exchange, asked))
+        && (!policy.waits_for_stale || may_serve(exchange, policy, asked))
 }
 
 /// Whether a request has no-store (RFC 9111, section 5.2.1.5).

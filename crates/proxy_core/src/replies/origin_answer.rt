@@ -8,6 +8,8 @@ ghost use Rattle.proxy_core.specs.Validating.{is_validation};
 use crate::open::exchange::Exchange;
 use hx_framing::Response;
 use hx_hop::{Answered, Asked, answered};
+use hx_policy::Policy;
+use hx_reuse::forwards_condition;
 use hx_target::Key;
 use std::alloc::{AllocError, Global};
 
@@ -43,13 +45,11 @@ impl OriginAnswer<'_> {
         self.response.status == 304 && self.exchange.condition.is_some()
     }
 
-    /// Whether it is a 304 to a client that set no condition.
-    pub(crate) fn is_unasked(&self) -> bool
-        ensures { result ≡ is_304_without_condition self.now.exchange.now.asked self.now.response.now }
+    /// Whether it is a 304 to a request that went without a condition, over a line of this policy.
+    pub(crate) fn is_unasked(&self, policy: Policy) -> bool
+        ensures { result ≡ is_304_without_condition policy self.now.exchange.now.asked self.now.response.now }
     {
-        let fields = &self.exchange.asked.fields;
-        self.response.status == 304
-            && !(fields.has(b"If-None-Match") || fields.has(b"If-Modified-Since"))
+        self.response.status == 304 && !forwards_condition(policy, &self.exchange.asked)
     }
 
     /// Whether it invalidates what is held for the request's key.

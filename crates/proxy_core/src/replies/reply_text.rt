@@ -3,7 +3,11 @@ ghost use Rattle.std.specs.Prelude.{◌≡◌, ◌<◌, length, IfOk, Some, None
 ghost use Rattle.hx_framing.specs.Text.{response_text};
 ghost use Rattle.hx_hop.specs.Answering.{answered_of};
 ghost use Rattle.hx_hop.specs.Moments.{date_text_of};
+ghost use Rattle.hx_status.specs.Member.{member_text};
 ghost use Rattle.proxy_core.specs.Replies.{passed_answer_text, fields_of_passed_answer, length_of_passed_answer};
+ghost use Rattle.proxy_core.specs.Replies.{whole_answer_text, client_has_answer, fields_of_304_sent};
+ghost use Rattle.proxy_core.specs.Replies.{not_modified_answer_text};
+ghost use Rattle.proxy_core.specs.Replies.{cache_status_of_passed_answer};
 ghost use Rattle.proxy_core.specs.Replies.{ttl_of_passed_answer, refusal_reply_text};
 ghost use Rattle.proxy_core.specs.Replies.{fields_of_refusal, content_unless_head, is_head, length_unless_forbidden};
 
@@ -15,9 +19,10 @@ use hx_fields::{Bytes, Fields};
 use hx_framing::{Response, write_response};
 use hx_hop::{Answered, Asked, date_text};
 use hx_policy::Policy;
-use hx_reuse::lifetime_under;
+use hx_reuse::{keeps_conditions, lifetime_under};
 use hx_status::{Cause, How, Status, member, refusal};
 use hx_storable::StoreRule;
+use hx_validate::{answer_not_modified, client_has_answer};
 use std::alloc::{AllocError, Global};
 
 /// Whether a request is a HEAD, whose answers have no content (RFC 9110, section 9.3.2).
@@ -77,7 +82,32 @@ fn ttl_of_passed_answer(
     Ok(Some(ttl(lifetime, age)))
 }
 
-/// The lines of an answer that is passed on.
+/// The member of Cache-Status of an answer that is passed on, with the status that came where another one is sent.
+fn member_of_passed_answer(
+    alloc: Global,
+    name: &str,
+    answer: &OriginAnswer<'_>,
+    head: &Answered,
+    shown: PassedAnswerInfo,
+    fwd_status: Option<u16>,
+) -> Result<Bytes, AllocError>
+    ensures { IfOk result (λ text. text ≡ member_text name.now
+        (record (cache_status_of_passed_answer shown.policy answer.now.exchange.now head.now.status head.now.fields
+        answer.now.response_time shown.stored shown.rule) { fwd_status = fwd_status })) }
+{
+    let status = Status {
+        how: How::Fwd(answer.exchange.rule),
+        fwd_status,
+        ttl: ttl_of_passed_answer(alloc, answer, head, shown)?,
+        stored: shown.stored,
+        collapsed: false,
+        detail: None,
+        not_stored: shown.rule,
+    };
+    member(alloc, name, &status)
+}
+
+/// The lines of an answer that is passed on whole.
 fn fields_of_passed_answer(
     alloc: Global,
     name: &str,
@@ -89,17 +119,27 @@ fn fields_of_passed_answer(
         head.now.status
         head.now.fields answer.now.response_time shown.stored shown.rule) }
 {
-    let status = Status {
-        how: How::Fwd(answer.exchange.rule),
-        fwd_status: None,
-        ttl: ttl_of_passed_answer(alloc, answer, head, shown)?,
-        stored: shown.stored,
-        collapsed: false,
-        detail: None,
-        not_stored: shown.rule,
-    };
-    let member = member(alloc, name, &status)?;
+    let member = member_of_passed_answer(alloc, name, answer, head, shown, None)?;
     let mut lines = head.fields.copy(alloc)?;
+    lines.push(b"Cache-Status", member.as_slice())?;
+    Ok(lines)
+}
+
+/// The lines of the 304 that is sent in its place.
+fn fields_of_304_sent(
+    alloc: Global,
+    name: &str,
+    answer: &OriginAnswer<'_>,
+    head: &Answered,
+    shown: PassedAnswerInfo,
+) -> Result<Fields, AllocError>
+    ensures { IfOk result (λ lines. lines ≡ fields_of_304_sent shown.policy name.now answer.now.exchange.now
+        head.now.status
+        head.now.fields answer.now.response_time shown.stored shown.rule) }
+{
+    let came = Some(head.status);
+    let member = member_of_passed_answer(alloc, name, answer, head, shown, came)?;
+    let mut lines = answer_not_modified(alloc, &head.fields)?;
     lines.push(b"Cache-Status", member.as_slice())?;
     Ok(lines)
 }
@@ -115,7 +155,54 @@ fn length_of_passed_answer(head: bool, response: &Response) -> Option<u64>
     }
 }
 
-/// An answer of the origin, as it is passed on: its head is handed in as rules see it.
+/// An answer of the origin, whole: its head is handed in as rules see it.
+fn whole_answer_text(
+    alloc: Global,
+    name: &str,
+    answer: &OriginAnswer<'_>,
+    head: &Answered,
+    shown: PassedAnswerInfo,
+) -> Result<Bytes, AllocError>
+    requires { head.now ≡ answered_of answer.now.response.now answer.now.response_time }
+    ensures { IfOk result (λ text. text ≡ whole_answer_text shown.policy name.now answer.now.exchange.now
+        answer.now.response.now answer.now.response_time shown.stored shown.rule) }
+{
+    let asked = &answer.exchange.asked;
+    let response = answer.response;
+    let to_head = is_head(asked);
+    let lines = fields_of_passed_answer(alloc, name, answer, head, shown)?;
+    let length = length_of_passed_answer(to_head, response);
+    let content = content_unless_head(to_head, response.content.as_slice());
+    write_response(alloc, response.status, &lines, length, asked.close, content)
+}
+
+/// The 304 that is sent in its place.
+fn not_modified_answer_text(
+    alloc: Global,
+    name: &str,
+    answer: &OriginAnswer<'_>,
+    head: &Answered,
+    shown: PassedAnswerInfo,
+) -> Result<Bytes, AllocError>
+    requires { head.now ≡ answered_of answer.now.response.now answer.now.response_time }
+    ensures { IfOk result (λ text. text ≡ not_modified_answer_text shown.policy name.now answer.now.exchange.now
+        answer.now.response.now answer.now.response_time shown.stored shown.rule) }
+{
+    let lines = fields_of_304_sent(alloc, name, answer, head, shown)?;
+    write_response(alloc, 304, &lines, None, answer.exchange.asked.close, &[])
+}
+
+/// Whether the client has the answer already: the condition that it set stayed with the proxy, and is false of it.
+fn client_has_it(answer: &OriginAnswer<'_>, head: &Answered, policy: Policy) -> bool
+    requires { head.now ≡ answered_of answer.now.response.now answer.now.response_time }
+    ensures { result ≡ client_has_answer policy answer.now.exchange.now answer.now.response.now
+        answer.now.response_time }
+{
+    let asked = &answer.exchange.asked;
+    keeps_conditions(policy, asked) && client_has_answer(asked, head.status, &head.fields)
+}
+
+/// An answer of the origin, as it is passed on, whole or as a 304: its head is handed in as rules see it.
 pub(crate) fn passed_answer_text(
     alloc: Global,
     name: &str,
@@ -127,13 +214,11 @@ pub(crate) fn passed_answer_text(
     ensures { IfOk result (λ text. text ≡ passed_answer_text shown.policy name.now answer.now.exchange.now
         answer.now.response.now answer.now.response_time shown.stored shown.rule) }
 {
-    let asked = &answer.exchange.asked;
-    let response = answer.response;
-    let to_head = is_head(asked);
-    let lines = fields_of_passed_answer(alloc, name, answer, head, shown)?;
-    let length = length_of_passed_answer(to_head, response);
-    let content = content_unless_head(to_head, response.content.as_slice());
-    write_response(alloc, response.status, &lines, length, asked.close, content)
+    if client_has_it(answer, head, shown.policy) {
+        not_modified_answer_text(alloc, name, answer, head, shown)
+    } else {
+        whole_answer_text(alloc, name, answer, head, shown)
+    }
 }
 
 fn fields_of_refusal(alloc: Global, now: u64, text: &[u8]) -> Result<Fields, AllocError>

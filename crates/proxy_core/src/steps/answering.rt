@@ -197,7 +197,7 @@ impl<S: Shelf> Core<S> {
         if answer.is_validation() {
             return self.follow_304(alloc, answer);
         }
-        if answer.is_unasked() {
+        if answer.is_unasked(self.config.policy(answer.exchange.line)) {
             let kind = FailKind::BadAnswer;
             let came = Some(answer.response.status);
             let exchange = answer.exchange;

@@ -219,13 +219,14 @@ impl<S: Shelf> Core<S> {
     fn forward(&mut self, alloc: Global, exchange: Exchange) -> Result<Outcome, AllocError>
         requires { find_exchange exchange.id self.old.exchanges ≡ None }
         ensures outcome { IfOk result (λ outcome. outcome
-            ≡ Outcome.Forward exchange.line (forward_text self.old.table exchange.asked exchange.condition)) }
+            ≡ Outcome.Forward exchange.line
+            (forward_text self.old.table exchange.line exchange.asked exchange.condition)) }
         ensures after { OnOk result (self.new ≡ record self.old { exchanges = self.old.exchanges ++ exchange ∷ [] }) }
         ensures unchanged { OnErr result (self.new ≡ self.old) }
     {
         let line = exchange.line;
         let condition = exchange.condition.as_ref();
-        let bytes = forward_text(alloc, &self.config, &exchange.asked, condition)?;
+        let bytes = forward_text(alloc, &self.config, line, &exchange.asked, condition)?;
         self.exchanges.open(exchange)?;
         Ok(Outcome::Forward(line, bytes))
     }

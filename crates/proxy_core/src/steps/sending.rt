@@ -13,6 +13,7 @@ use hx_allow::Config;
 use hx_fields::Bytes;
 use hx_framing::write_request;
 use hx_hop::{Asked, Conditions, forward_request};
+use hx_reuse::keeps_conditions;
 use hx_status::Cause;
 use hx_store::{Serials, Shelf};
 use std::alloc::{AllocError, Global};
@@ -82,16 +83,19 @@ fn conditions_to_send(condition: Option<&Condition>) -> Option<&Conditions>
     }
 }
 
-/// The bytes of a request that goes forward, with the proxy's conditions or without.
+/// The bytes of a request that goes forward over a line, with the proxy's conditions or without. The client's own may
+/// stay here.
 pub(crate) fn forward_text(
     alloc: Global,
     config: &Config,
+    line: u16,
     asked: &Asked,
     condition: Option<&Condition>,
 ) -> Result<Bytes, AllocError>
-    ensures { IfOk result (λ text. text ≡ forward_text config.now asked.now (option_copied condition.entry)) }
+    ensures { IfOk result (λ text. text ≡ forward_text config.now line asked.now (option_copied condition.entry)) }
 {
     let name = config.name().as_bytes();
-    let request = forward_request(alloc, asked, name, conditions_to_send(condition))?;
+    let keeps = keeps_conditions(config.policy(line), asked);
+    let request = forward_request(alloc, asked, name, conditions_to_send(condition), keeps)?;
     write_request(alloc, &request)
 }

@@ -291,7 +291,7 @@ impl<S: Shelf> Core<S> {
                 Ok(AfterAnswer::Ends(pending))
             }
             Decision::Forward(_, _) => {
-                let bytes = forward_text(alloc, &self.config, asked, None)?;
+                let bytes = forward_text(alloc, &self.config, exchange.line, asked, None)?;
                 Ok(AfterAnswer::GoesOn(bytes))
             }
         }

@@ -55,7 +55,13 @@ impl<S: Shelf> Core<S> {
             }
             Decision::Forward(rule, named) => {
                 let condition = condition_about_serial(alloc, &self.shelf, named)?;
-                let bytes = forward_text(alloc, &self.config, asked, condition.as_ref())?;
+                let bytes = forward_text(
+                    alloc,
+                    &self.config,
+                    exchange.line,
+                    asked,
+                    condition.as_ref(),
+                )?;
                 Ok(AfterWake::GoesOut(rule, named, condition, bytes))
             }
         }

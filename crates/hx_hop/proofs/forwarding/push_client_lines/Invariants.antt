@@ -3,4 +3,4 @@ use Rattle.hx_hop.specs.Forwarding.{client_lines}
 use Rattle.hx_hop.proofs.forwarding.push_client_lines.Given as goal
 
 abbrev pub invariant-loop-line : goal.invariant-loop-line
-invariant-loop-line l = l.fields ++ client_lines l.conditional (drop l.line-index l.lines) ≡ l.fn.fields ++ client_lines l.conditional l.lines
+invariant-loop-line l = l.fields ++ client_lines l.without_conditions (drop l.line-index l.lines) ≡ l.fn.fields ++ client_lines l.without_conditions l.lines

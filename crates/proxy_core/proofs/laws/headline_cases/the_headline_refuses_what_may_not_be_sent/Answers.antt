@@ -71,7 +71,7 @@ returns-clause-in_place_of_an_error c = refuse events_that_revalidate (Answer 20
 
 pub returns-clause-fresh_is_asked_about : goal.returns-clause-fresh_is_asked_about
 unfolding digits httpdate_on_literals matches_line verdict_of policy_of decision_of reuse_rule_of storage_rule_of forwarded_of part_holding_day freshened_of error_rule_on
-returns-clause-fresh_is_asked_about c = refuse events_that_store_a (Arrive 110 2 get_a) (Forward 3 (forward_text edge_table get_a None)) outcome_goes_forward refl refl refl
+returns-clause-fresh_is_asked_about c = refuse events_that_store_a (Arrive 110 2 get_a) (Forward 3 (forward_text edge_table 3 get_a None)) outcome_goes_forward refl refl refl
 
 pub returns-clause-error_is_passed_on : goal.returns-clause-error_is_passed_on
 unfolding digits httpdate_on_literals matches_line verdict_of policy_of decision_of reuse_rule_of storage_rule_of forwarded_of part_holding_day freshened_of error_rule_on

@@ -21,11 +21,11 @@ use Rattle.proxy_core.proofs.laws.headline_cases.the_headline_refuses_what_the_t
 
 pub returns-clause-forwarded : goal.returns-clause-forwarded
 unfolding digits httpdate_on_literals matches_line verdict_of policy_of decision_of reuse_rule_of storage_rule_of forwarded_of part_holding_day freshened_of error_rule_on
-returns-clause-forwarded c = refuse [] (Arrive 100 1 get_admin) (Forward 1 (forward_text edge_table get_admin None)) outcome_goes_forward refl refl refl
+returns-clause-forwarded c = refuse [] (Arrive 100 1 get_admin) (Forward 1 (forward_text edge_table 1 get_admin None)) outcome_goes_forward refl refl refl
 
 pub returns-clause-forwarded_by_another_line : goal.returns-clause-forwarded_by_another_line
 unfolding digits httpdate_on_literals matches_line verdict_of policy_of decision_of reuse_rule_of storage_rule_of forwarded_of part_holding_day freshened_of error_rule_on
-returns-clause-forwarded_by_another_line c = refuse [] (Arrive 100 1 get_admin) (Forward 3 (forward_text edge_table get_admin None)) outcome_goes_forward refl refl refl
+returns-clause-forwarded_by_another_line c = refuse [] (Arrive 100 1 get_admin) (Forward 3 (forward_text edge_table 3 get_admin None)) outcome_goes_forward refl refl refl
 
 pub returns-clause-sent_from_the_store : goal.returns-clause-sent_from_the_store
 unfolding digits httpdate_on_literals matches_line verdict_of policy_of decision_of reuse_rule_of storage_rule_of forwarded_of part_holding_day freshened_of error_rule_on

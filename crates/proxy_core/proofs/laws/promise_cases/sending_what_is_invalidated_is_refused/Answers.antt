@@ -10,7 +10,7 @@ use Rattle.hx_reuse.specs.Rules.{decision_of, reuse_rule_of}
 use Rattle.hx_storable.specs.Rules.{storage_rule_of}
 use Rattle.hx_validate.specs.Answering.{freshened_of}
 use Rattle.proxy_core.specs.declared.event.Event.TheVariants.{Arrive, Answer}
-use Rattle.proxy_core.specs.Cases.{response_with}
+use Rattle.proxy_core.specs.Cases.{response_with, stored_with}
 use Rattle.proxy_core.specs.WrongTraces.{fresh_for_a_minute, get_a, delete_a, response_304, forward_over_line_3, item_of, post_a, reply_that_stores, reply_without_store, reply_that_sends_stored}
 use Rattle.proxy_core.proofs.laws.promise_cases.sending_what_is_invalidated_is_refused.Goals as goal
 
@@ -37,3 +37,9 @@ unfolding digits httpdate_on_literals matches_line verdict_of policy_of decision
 returns-clause-behind_a_redirect c = λ h.
     let none = h [] (item_of (Answer 111 2 (response_with 303 [])) (reply_without_store []) ∷ item_of (Arrive 110 2 delete_a) forward_over_line_3 ∷ []) [] [] (item_of (Arrive 120 3 get_a) (reply_that_sends_stored 1 [])) (item_of (Answer 101 1 fresh_for_a_minute) (reply_that_stores [] (Some 1) [])) (item_of (Arrive 100 1 get_a) forward_over_line_3) 1 get_a refl refl refl refl refl refl refl in
     false≢true (sym none.0.0)
+
+pub returns-clause-since_the_start : goal.returns-clause-since_the_start
+unfolding digits httpdate_on_literals matches_line verdict_of policy_of decision_of reuse_rule_of storage_rule_of forwarded_of part_holding_day freshened_of error_rule_on
+returns-clause-since_the_start c = λ h.
+    let none = h [] (item_of (Answer 111 2 (response_with 200 [])) (reply_without_store []) ∷ item_of (Arrive 110 2 post_a) forward_over_line_3 ∷ []) (item_of (Arrive 120 3 get_a) (reply_that_sends_stored 1 [])) 1 (stored_with 1 []) refl refl refl in
+    false≢true (sym none.0)

@@ -26,3 +26,23 @@ returns-clause-own c = refl
 pub returns-clause-own_to_head : goal.returns-clause-own_to_head
 unfolding digits httpdate_on_literals
 returns-clause-own_to_head c = refl
+
+pub returns-clause-kept : goal.returns-clause-kept
+unfolding digits httpdate_on_literals
+returns-clause-kept c = refl
+
+pub returns-clause-kept_and_changed : goal.returns-clause-kept_and_changed
+unfolding digits httpdate_on_literals
+returns-clause-kept_and_changed c = refl
+
+pub returns-clause-kept_and_not_stored : goal.returns-clause-kept_and_not_stored
+unfolding digits httpdate_on_literals
+returns-clause-kept_and_not_stored c = refl
+
+pub returns-clause-kept_and_missing : goal.returns-clause-kept_and_missing
+unfolding digits httpdate_on_literals
+returns-clause-kept_and_missing c = refl
+
+pub returns-clause-forwarded : goal.returns-clause-forwarded
+unfolding digits httpdate_on_literals
+returns-clause-forwarded c = refl

@@ -1,0 +1,43 @@
+-- Whether a client's own conditions, If-None-Match and If-Modified-Since, stay with the proxy, which judges them on
+-- what it sends, or go to the origin (RFC 9111, section 4.3.2; RFC 9110, section 13.1).
+--
+-- keeps_conditions: they stay            forwards_condition: the request has one, and it goes to the origin
+-- Below it are the statements that the law `the_conditions_of_a_cacheable_get_stay` proves.
+use Rattle.std.specs.Prelude.{◌≡◌, Bool, true, false, not, ◌&&◌, ◌||◌, codes, bytes_eq}
+use Rattle.hx_fields.specs.FieldLines.{has_field}
+use Rattle.hx_hop.specs.declared.request_view.Asked.{Asked}
+use Rattle.hx_hop.specs.Bypass.{request_has_content, asks_for_range, has_precondition}
+use Rattle.hx_policy.specs.Policies.{plain}
+use Rattle.hx_policy.specs.declared.words.Policy.{Policy}
+use Rattle.hx_reuse.specs.Reusable.{RequestIsForTheCache}
+
+-- own: those of a GET that a stored response could answer, over a line that keeps such requests from the origin where
+-- it can ("A client's condition doesn't empty the cache")
+abbrev pub keeps_conditions : Policy → Asked → Bool
+keeps_conditions policy asked =
+    not policy.forwards_conditions
+    && (policy.caches
+    && (bytes_eq asked.method (codes "GET")
+    && not (request_has_content asked || (asks_for_range asked || has_precondition asked))))
+
+-- one that the request has goes forward, where the proxy sends none of its own in its place
+abbrev pub forwards_condition : Policy → Asked → Bool
+forwards_condition policy asked =
+    not (keeps_conditions policy asked)
+    && (has_field asked.fields (codes "If-None-Match") || has_field asked.fields (codes "If-Modified-Since"))
+
+-- ---- the statements
+
+abbrev pub ConditionsOfACacheableGetStay : Type 0
+ConditionsOfACacheableGetStay = (policy : Policy) (asked : Asked) →
+    policy.forwards_conditions ≡ false → policy.caches ≡ true → asked.method ≡ codes "GET" → RequestIsForTheCache asked
+    → keeps_conditions policy asked ≡ true
+
+abbrev pub NoOtherConditionsStay : Type 0
+NoOtherConditionsStay = (policy : Policy) (asked : Asked) → keeps_conditions policy asked ≡ true →
+    (policy.forwards_conditions ≡ false) × (policy.caches ≡ true) × (asked.method ≡ codes "GET")
+    × RequestIsForTheCache asked
+
+-- over a line without words, in a table of a version before the fourth, they go to the origin, as ever
+abbrev pub PlainLineKeepsNoConditions : Type 0
+PlainLineKeepsNoConditions = (caches : Bool) (asked : Asked) → keeps_conditions (plain caches) asked ≡ false
