@@ -28,6 +28,10 @@ errors = "not-stored"
 request-directives = "ignored"
 """
 EXPLAINED = WORDS + b'explain = "storing"\n'
+# 4,096 lines of version 4: of hosts and the hosts below them, and two for every host, of which the last has what is asked for.
+TOP, LINE = TABLE.replace(b"version = 1", b"version = 4").partition(b"[[line]]")[::2]
+OF_HOSTS = [LINE.replace(b'"*"', b'["h%d.example.com", "*.h%d.example.com"]' % (i, i), 1) for i in range(4094)]
+MANY_LINES = TOP + b"\n".join(b"[[line]]" + it for it in [*OF_HOSTS, LINE.replace(b'"/"', b'["/other", "/another"]'), LINE])
 HIT, STORED, PASSED = b"Cache-Status: edge;hit;ttl=", b"Cache-Status: edge;fwd=uri-miss;ttl=600;stored\r\n", b"Cache-Status: edge;fwd=uri-miss\r\n"
 
 
@@ -117,6 +121,7 @@ hit("hit_browser", "with twelve lines, as a browser sends them", *BROWSER)
 hit("head", "HEAD", HOST, method=b"HEAD", content=b"")
 hit("not_modified", "a 304 to the client: If-None-Match has the stored tag", HOST, b'If-None-Match: "v1"', status=304, content=b"")
 hit("hit_words", "a hit over a line with six words", HOST, table=EXPLAINED)
+hit("hit_lines", "a hit under 4,096 lines: of hosts, of the hosts below them and of every host", HOST, table=MANY_LINES)
 hit(
     "hit_lifetime",
     "the same, stored by the line's `lifetime` (and a line shorter)",

@@ -63,7 +63,8 @@ def it_is_a_table(stand):
 
 
 def what_is_denied(site):
-    site.expect(site.pages, 0, "/admin/users", (403, "denied by line 1"))
+    for target in ("/admin/users", "/.git/config", "/.env"):
+        site.expect(site.pages, 0, target, (403, "denied by line 1"))
     site.expect(site.assets, 0, "/assets/app.js", (403, "no line allows it"), words=["--data", "x=1"])
     site.expect(site.pages, 0, "/news", (403, "no line allows it"), words=["--request", "DELETE"])
 

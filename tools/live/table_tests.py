@@ -61,6 +61,58 @@ def a_table_is_tested_by_questions(stage):
     expect("of a file that isn't there", (1, "read fault\n", True), (status, err, "can't be read: No such file" in out))
 
 
+# A table of version 4 with lists, and tests of it: hosts below one (RFC 1034, 3.1) and paths of a list; a line that one in front takes.
+LISTS = """version = 4
+name = "edge"
+capacity = 64
+max_body = 1000000
+max_stored = 100000
+
+[[line]]
+host = ["shop.example", "*.shop.example"]
+methods = ["*"]
+path = ["/admin", "/debug"]
+origin = "deny"
+
+[[line]]
+host = ["*.shop.example", "*.example.net"]
+methods = ["GET", "HEAD"]
+path = "/"
+origin = "127.0.0.1:1"
+
+[[line]]
+host = "a.shop.example"
+methods = ["GET"]
+path = ["/a", "/b"]
+origin = "127.0.0.1:2"
+
+[[line]]
+host = "*"
+methods = ["GET"]
+path = ["/open", "/free"]
+origin = "127.0.0.1:3"
+"""
+OF_LISTS = [
+    "GET http://shop.example/admin/x => denied by line 1",
+    "GET http://a.b.shop.example/debug => denied by line 1",
+    "GET http://ashop.example/admin => no line",
+    "GET http://a.shop.example/a => line 2",
+    "GET http://x.example.net/ => line 2",
+    "GET http://example.net/ => no line",
+    "GET http://shop.example/free/x => line 4",
+    "GET http://shop.example/fre => no line",
+]
+
+
+@scenario
+def a_table_with_lists_is_tested_by_questions(stage):
+    """A line of version 4 has lists of hosts and paths: `check` tells which line is never reached, and each question is answered as expected."""
+    table, file = write(f"{stage.room.name}/table.toml", LISTS), write(f"{stage.room.name}/questions", "".join(f"{it}\n" for it in OF_LISTS))
+    front = f"ok 4 lines\n{told_of_store(64, 100000)}line 3 is never reached: line 2 takes all of it\n"
+    told = f"{front}{len(OF_LISTS)} questions, 0 answered otherwise\n"
+    expect("of what holds", (0, told, ""), run(stage, "check", table, "--ask-file", file))
+
+
 # Answers of an origin, by a line that stores neither errors nor cookies and tells why: what Cache-Status says of each.
 ANSWERS = [
     ("Cache-Control: max-age=60", "stored", "fwd=uri-miss;ttl=60;stored"),

@@ -191,5 +191,6 @@ def the_site_of_deploy_is_a_table(stage):
         # (20,000 responses of 1,048,576 bytes, and 500,000,000 bytes of all)
         expect("from check", (0, f"ok 7 lines\n{told_of_store(20000, 1048576, 500000000)}", ""), run(stage, "check", path))
     client = stage.proxy_of(text).client()
-    expect_refusal(client.ask("/admin"), 403, "denied by line 1")
+    for target in ("/admin", "/.git/config", "/.env"):
+        expect_refusal(client.ask(target), 403, "denied by line 1")
     expect_refusal(client.ask("/assets/a", method="POST", content=b"x"), 403, "no line allows it")

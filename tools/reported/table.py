@@ -16,8 +16,23 @@ def normal(path):
     return ESCAPE.sub(one, path)
 
 
+def texts_of(value):
+    """The texts of a key that has one or a list of them."""
+    return value if isinstance(value, list) else [value]
+
+
+def names(text, host):
+    """Whether a host of a line matches: every one, those below one, or this one."""
+    return text == "*" or (host.endswith(text[1:]) if text.startswith("*.") else text == host)
+
+
+def is_below(path, asked):
+    """Whether a path of a line matches a normal path."""
+    return path == "/" or asked == path or asked.startswith(path + "/")
+
+
 class Table:
-    """Which origin a request goes to: that of the first line whose host, a method and path match."""
+    """Which origin a request goes to: that of the first line of which one host, one method and one path match."""
 
     def __init__(self, file):
         import tomllib
@@ -26,7 +41,7 @@ class Table:
             self.all = tomllib.load(it)
         self.lines = self.all["line"]
         for it in self.lines:
-            texts = it["host"], it["path"], it["origin"], *it["methods"]
+            texts = *texts_of(it["host"]), *texts_of(it["path"]), it["origin"], *it["methods"]
             if not all(isinstance(text, str) for text in texts):
                 raise ValueError("a line of the table has a host, methods, a path and an origin")
         self.short = functools.lru_cache(maxsize=50000)(self.find)
@@ -44,7 +59,8 @@ class Table:
         host = re.sub(r":[0-9]*$", "", host)
         path = normal("/" + path.partition("?")[0])
         for it in self.lines:
-            below = it["path"] == "/" or path == normal(it["path"]) or path.startswith(normal(it["path"]) + "/")
-            if it["host"] in ("*", host) and below and ("*" in it["methods"] or method in it["methods"]):
+            below = any(is_below(normal(one), path) for one in texts_of(it["path"]))
+            named = any(names(one, host) for one in texts_of(it["host"]))
+            if named and below and ("*" in it["methods"] or method in it["methods"]):
                 return it
         return None

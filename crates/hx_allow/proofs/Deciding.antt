@@ -6,7 +6,8 @@ use Rattle.std.proofs.lemmas.Bool.Decides.{nat_tests}
 use Rattle.hx_target.specs.declared.targets.Target.{Target}
 use Rattle.hx_allow.specs.Deciding.{deciding_line, lines_for_host}
 use Rattle.hx_allow.specs.TableLines.{Line}
-use Rattle.hx_allow.specs.Matching.{matches_host, matches_method, matches_path, matches_line, verdict_of_line, verdict_from, verdict_of, line_number, line_of_number}
+use Rattle.hx_allow.specs.LineHosts.{any_host_matches}
+use Rattle.hx_allow.specs.Matching.{matches_method, any_path_matches, matches_line, verdict_of_line, verdict_from, verdict_of, line_number, line_of_number}
 use Rattle.hx_allow.specs.declared.verdicts.Verdict.TheVariants.{Allowed, DeniedBy}
 
 number_by : (t : Bool) (k : ℕ) → line_number (cond t (Allowed k) (DeniedBy k)) ≡ Some k
@@ -58,15 +59,15 @@ same_behind before after method target found = behind_from 1 before after method
 found_for_host : (lines : List Line) (method : List ℕ) (target : Target) → find (λ (line : Line). matches_line line method target) (lines_for_host target.key.host lines) ≡ find (λ (line : Line). matches_line line method target) lines
 unfolding matches_line
 found_for_host [] method target = refl
-found_for_host (line ∷ lines) method target = by_host (found_for_host lines method target) (matches_host line.host target.key.host) refl
+found_for_host (line ∷ lines) method target = by_host (found_for_host lines method target) (any_host_matches line.hosts target.key.host) refl
   where
     found_in : List Line → Option Line
     found_in ls = find (λ (l : Line). matches_line l method target) ls
 
-    by_host : found_in (lines_for_host target.key.host lines) ≡ found_in lines → (b : Bool) → matches_host line.host target.key.host ≡ b
+    by_host : found_in (lines_for_host target.key.host lines) ≡ found_in lines → (b : Bool) → any_host_matches line.hosts target.key.host ≡ b
         → found_in (cond b (line ∷ lines_for_host target.key.host lines) (lines_for_host target.key.host lines)) ≡ found_in (line ∷ lines)
     by_host later true is = ap (cond (matches_line line method target) (Some line)) later
-    by_host later false is = later ∙ sym (ap (λ h. cond (h && matches_method line.methods method && matches_path line.path target.table_path) (Some line) (found_in lines)) is)
+    by_host later false is = later ∙ sym (ap (λ h. cond (h && matches_method line.methods method && any_path_matches line.paths target.table_path) (Some line) (found_in lines)) is)
 
 pub same_for_host : (lines : List Line) (method : List ℕ) (target : Target) → deciding_line (lines_for_host target.key.host lines) method target ≡ deciding_line lines method target
 same_for_host lines method target =

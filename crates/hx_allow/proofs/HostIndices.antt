@@ -1,13 +1,13 @@
 -- The index of hosts: what it has while it is built, and that its lines decide as all lines do.
-use Rattle.std.proofs.Common.{◌≡◌, is_eq, ◌≤◌, ◌<◌, ℕ, leb, drop, get_or, ◌+◌, ◌++◌, ◌-◌, zero, suc, Bool, true, false, cond, ◌&&◌, ◌||◌, eqb, List, [], ◌∷◌, length, Option, Some, None, refl, ap, sym, ◌∙◌, subst, arith, inl, inr}
-use Rattle.std.specs.Prelude.{◌⊎◌, is_none, is_some, bytes_eq, slice_get, not, IsSome, nat_le}
+use Rattle.std.proofs.Common.{◌≡◌, is_eq, ◌≤◌, ◌<◌, ℕ, drop, take, get_or, ◌+◌, ◌++◌, ◌-◌, zero, suc, Bool, true, false, cond, ◌&&◌, ◌||◌, ◌==◌, eqb, List, [], ◌∷◌, length, Option, Some, None, refl, ap, sym, ◌∙◌, subst, arith, inl, inr}
+use Rattle.std.specs.Prelude.{◌⊎◌, is_some, bytes_eq, slice_get, not}
 use Rattle.std.specs.Option.{option_map_or, option_and_then}
 use Rattle.std.specs.List.{list_any}
 use Rattle.std.specs.Ordering.{nat_cmp}
 use Rattle.std.specs.Cmp.Lexicographic.{slice_cmp, nat_list_eq_equiv}
 use Rattle.std.specs.Map.{KeepsOthers}
 use Rattle.std.specs.BTreeMap.{BTreeMap, get_by, UpdatesBy}
-use Rattle.std.proofs.lemmas.List.{drop_more}
+use Rattle.std.proofs.lemmas.List.{drop_more, take_rest}
 use Rattle.std.proofs.lemmas.Bool.{cases_Bool}
 use Rattle.std.proofs.lemmas.Bool.Decides.{nat_tests}
 use Rattle.std.proofs.lemmas.Slice.Eq.{bytes_eq-Decides}
@@ -15,11 +15,14 @@ use Rattle.std.proofs.lemmas.Map.Text.{is_eq-slice_cmp}
 use Rattle.hx_target.specs.declared.targets.Target.{Target}
 use Rattle.hx_allow.specs.TableLines.{Line}
 use Rattle.hx_allow.specs.declared.host_index.HostIndex.{HostIndex}
-use Rattle.hx_allow.specs.Index.{names_host, is_for_every_host, can_match, line_numbers_from, line_numbers_of, Numbers, numbers_for, IsHostIndexOf, with_number, IsEntered, matches_beside_host, verdict_of_line_or_later, is_found_by, verdict_among, verdict_where}
-use Rattle.hx_allow.specs.Matching.{matches_host, is_never_allowed, is_star_or_same, matches_path, matches_line, verdict_of_line, verdict_from, verdict_of, line_of_number, line_number, origin_of, VerdictNamesAnOrigin}
-use Rattle.hx_allow.specs.Values.{is_some_and}
+use Rattle.hx_allow.specs.Index.{hosts_above, is_one, is_below, is_every, has_host, can_match, numbers_of_hosts, line_numbers_from, line_numbers_of, Numbers, numbers_for, HasNoLonger, IsHostIndexOf, with_number, IsEntered, matches_beside_host, verdict_of_line_or_later, is_found_by, verdict_among, verdict_above, verdict_where}
+use Rattle.hx_allow.specs.LineHosts.{is_below_host, any_host_matches}
+use Rattle.hx_allow.specs.Matching.{is_never_allowed, is_star_or_same, any_path_matches, matches_line, verdict_of_line, verdict_from, verdict_of, line_of_number, VerdictNamesAnOrigin}
+use Rattle.hx_allow.specs.declared.line_hosts.LineHost.{LineHost}
+use Rattle.hx_allow.specs.declared.line_hosts.LineHost.TheVariants.{Every, One, Below}
 use Rattle.hx_allow.specs.declared.verdicts.Verdict.{Verdict}
 use Rattle.hx_allow.specs.declared.verdicts.Verdict.TheVariants.{Allowed, DeniedBy, NoLine}
+use Rattle.hx_allow.proofs.LineHosts.{below_by_dots, above_dot, above_other}
 
 -- ---- the number of a line is put behind those of a host
 
@@ -79,25 +82,77 @@ append_none : (xs : List ℕ) → xs ++ [] ≡ xs
 append_none [] = refl
 append_none (x ∷ xs) = ap (λ rest. x ∷ rest) (append_none xs)
 
+-- one host more of a line is noted: what is kept, with what is left, stays what all its hosts give
+pub one_more_host : (test : LineHost → Bool) (hosts : List LineHost) (i n : ℕ) (host : LineHost) (first old new : List ℕ) → i < length hosts → host ≡ get_or hosts i host →
+    new ≡ old ++ numbers_of_hosts n test (host ∷ []) → old ++ numbers_of_hosts n test (drop i hosts) ≡ first ++ numbers_of_hosts n test hosts →
+    new ++ numbers_of_hosts n test (drop (i + 1) hosts) ≡ first ++ numbers_of_hosts n test hosts
+one_more_host test hosts i n host first old new within is_host noted so_far =
+    ap (λ (ns : List ℕ). ns ++ numbers_of_hosts n test (drop (i + 1) hosts)) noted
+    ∙ by_test (test host) (numbers_of_hosts n test (drop (i + 1) hosts))
+    ∙ sym (ap (λ (rest : List LineHost). old ++ numbers_of_hosts n test rest) (drop_more hosts i host within ∙ ap (λ (one : LineHost). one ∷ drop (i + 1) hosts) (sym is_host)))
+    ∙ so_far
+  where
+    by_test : (belongs : Bool) (rest : List ℕ) → (old ++ cond belongs (n ∷ []) []) ++ rest ≡ old ++ cond belongs (n ∷ rest) rest
+    by_test true rest = append_assoc old (n ∷ []) rest
+    by_test false rest = ap (λ (ns : List ℕ). ns ++ rest) (append_none old)
+
+pub all_hosts_noted : (test : LineHost → Bool) (hosts : List LineHost) (i n : ℕ) (first numbers : List ℕ) → drop i hosts ≡ [] → numbers ++ numbers_of_hosts n test (drop i hosts) ≡ first ++ numbers_of_hosts n test hosts → numbers ≡ first ++ numbers_of_hosts n test hosts
+all_hosts_noted test hosts i n first numbers none so_far =
+    sym (append_none numbers)
+    ∙ sym (ap (λ (rest : List LineHost). numbers ++ numbers_of_hosts n test rest) none)
+    ∙ so_far
+
 -- one line more is noted: what is kept, with what is left, stays what all lines give
-pub one_more : (test : Line → Bool) (lines : List Line) (i : ℕ) (line : Line) (old new : List ℕ) → i < length lines → line ≡ get_or lines i line →
-    new ≡ with_number (test line) old (i + 1) → old ++ line_numbers_from (i + 1) test (drop i lines) ≡ line_numbers_of test lines →
+pub one_more : (test : LineHost → Bool) (lines : List Line) (i : ℕ) (line : Line) (old new : List ℕ) → i < length lines → line ≡ get_or lines i line →
+    new ≡ old ++ numbers_of_hosts (i + 1) test line.hosts → old ++ line_numbers_from (i + 1) test (drop i lines) ≡ line_numbers_of test lines →
     new ++ line_numbers_from (i + 1 + 1) test (drop (i + 1) lines) ≡ line_numbers_of test lines
 one_more test lines i line old new within is_line noted so_far =
     ap (λ (ns : List ℕ). ns ++ line_numbers_from (i + 1 + 1) test (drop (i + 1) lines)) noted
-    ∙ by_test (test line) (line_numbers_from (i + 1 + 1) test (drop (i + 1) lines))
+    ∙ append_assoc old (numbers_of_hosts (i + 1) test line.hosts) (line_numbers_from (i + 1 + 1) test (drop (i + 1) lines))
     ∙ sym (ap (λ (rest : List Line). old ++ line_numbers_from (i + 1) test rest) (drop_more lines i line within ∙ ap (λ (one : Line). one ∷ drop (i + 1) lines) (sym is_line)))
     ∙ so_far
-  where
-    by_test : (belongs : Bool) (rest : List ℕ) → with_number belongs old (i + 1) ++ rest ≡ old ++ cond belongs ((i + 1) ∷ rest) rest
-    by_test true rest = append_assoc old ((i + 1) ∷ []) rest
-    by_test false rest = refl
 
 -- when all lines have been noted, nothing is left
-pub all_noted : (test : Line → Bool) (lines : List Line) (i : ℕ) (numbers : List ℕ) → drop i lines ≡ [] → numbers ++ line_numbers_from (i + 1) test (drop i lines) ≡ line_numbers_of test lines → numbers ≡ line_numbers_of test lines
+pub all_noted : (test : LineHost → Bool) (lines : List Line) (i : ℕ) (numbers : List ℕ) → drop i lines ≡ [] → numbers ++ line_numbers_from (i + 1) test (drop i lines) ≡ line_numbers_of test lines → numbers ≡ line_numbers_of test lines
 all_noted test lines i numbers none so_far =
     sym (append_none numbers)
     ∙ sym (ap (λ (rest : List Line). numbers ++ line_numbers_from (i + 1) test rest) none)
+    ∙ so_far
+
+-- ---- hosts that are longer than what is kept
+
+pub skipped : (lines : List Line) (kept : BTreeMap Numbers Numbers) (longest : ℕ) (host : List ℕ) (k : ℕ) (method path : List ℕ) (found : Verdict) → HasNoLonger longest kept → k ≤ length host - (longest + 1) →
+    verdict_above lines kept (hosts_above (drop k host)) method path found ≡ verdict_above lines kept (hosts_above host) method path found
+skipped lines kept longest [] zero method path found short le = refl
+skipped lines kept longest [] (suc k) method path found short le = refl
+skipped lines kept longest (b ∷ host) zero method path found short le = refl
+skipped lines kept longest (b ∷ host) (suc k) method path found short le =
+    let less : longest < length host = omega (arith, le) in
+    let further : k ≤ length host - (longest + 1) = omega (arith, le) in
+    skipped lines kept longest host k method path found short further ∙ by_dot (b == 46) (short host less)
+  where
+    by_dot : (dot : Bool) → numbers_for kept host ≡ [] → verdict_above lines kept (hosts_above host) method path found ≡ verdict_above lines kept (cond dot (host ∷ hosts_above host) (hosts_above host)) method path found
+    by_dot true none = sym (ap (λ (ns : List ℕ). verdict_above lines kept (hosts_above host) method path (verdict_among lines ns method path found)) none)
+    by_dot false none = refl
+
+-- the lines for the hosts below what stands behind the dot at a place are looked at
+pub looked_at_dot : (lines : List Line) (kept : BTreeMap Numbers Numbers) (host : List ℕ) (i : ℕ) (method path numbers : List ℕ) (found next first : Verdict) → i < length host → get_or host i 0 ≡ 46 →
+    numbers ≡ numbers_for kept (take (length host - (i + 1)) (drop (i + 1) host)) → next ≡ verdict_among lines numbers method path found →
+    verdict_above lines kept (hosts_above (drop i host)) method path found ≡ verdict_above lines kept (hosts_above host) method path first →
+    verdict_above lines kept (hosts_above (drop (i + 1) host)) method path next ≡ verdict_above lines kept (hosts_above host) method path first
+looked_at_dot lines kept host i method path numbers found next first within dot numbers_are next_is so_far =
+    ap (verdict_above lines kept (hosts_above (drop (i + 1) host)) method path) (
+    next_is ∙ ap (λ (ns : List ℕ). verdict_among lines ns method path found) (numbers_are ∙ ap (numbers_for kept) (take_rest host (i + 1)))
+    )
+    ∙ sym (ap (λ (hosts : List (List ℕ)). verdict_above lines kept hosts method path found) (above_dot host i within dot))
+    ∙ so_far
+
+pub passed_byte : (lines : List Line) (kept : BTreeMap Numbers Numbers) (host : List ℕ) (i : ℕ) (method path : List ℕ) (found next first : Verdict) → i < length host → (get_or host i 0 ≡ 46 → ⊥) → next ≡ found →
+    verdict_above lines kept (hosts_above (drop i host)) method path found ≡ verdict_above lines kept (hosts_above host) method path first →
+    verdict_above lines kept (hosts_above (drop (i + 1) host)) method path next ≡ verdict_above lines kept (hosts_above host) method path first
+passed_byte lines kept host i method path found next first within other next_is so_far =
+    ap (verdict_above lines kept (hosts_above (drop (i + 1) host)) method path) next_is
+    ∙ sym (ap (λ (hosts : List (List ℕ)). verdict_above lines kept hosts method path found) (above_other host i within other))
     ∙ so_far
 
 -- ---- the lines of a host decide
@@ -127,15 +182,41 @@ not_found_at n k line lt = by_origin (is_some line.origin)
     by_origin false = grind (arith, nat_tests)
 
 module _ (all : List Line) (method path : List ℕ) where
+  -- a number that stands twice in a row is looked at once
+  again : (n : ℕ) (ns : List ℕ) (found : Verdict) → verdict_among all (n ∷ n ∷ ns) method path found ≡ verdict_among all (n ∷ ns) method path found
+  again n ns found = by_tests (is_found_by n found) (line_of_number all n) (verdict_among all ns method path found)
+    where
+      by_match : (b : Bool) (this rest : Verdict) → cond b this (cond b this rest) ≡ cond b this rest
+      by_match true this rest = refl
+      by_match false this rest = refl
+
+      by_tests : (b : Bool) (o : Option Line) (rest : Verdict) → cond b found (verdict_of_line_or_later n o method path (cond b found (verdict_of_line_or_later n o method path rest))) ≡ cond b found (verdict_of_line_or_later n o method path rest)
+      by_tests true o rest = refl
+      by_tests false None rest = refl
+      by_tests false (Some line) rest = by_match (matches_beside_host line method path) (verdict_of_line n line) rest
+
+  -- so a line is looked at once, however many of its hosts pass a test
+  of_hosts : (test : LineHost → Bool) (n : ℕ) (hosts : List LineHost) (more : List ℕ) (found : Verdict) →
+      verdict_among all (numbers_of_hosts n test hosts ++ more) method path found ≡ cond (list_any test hosts) (verdict_among all (n ∷ more) method path found) (verdict_among all more method path found)
+  of_hosts test n [] more found = refl
+  of_hosts test n (host ∷ hosts) more found = by_test (test host) (list_any test hosts) (of_hosts test n hosts more found)
+    where
+      by_test : (b any : Bool) → verdict_among all (numbers_of_hosts n test hosts ++ more) method path found ≡ cond any (verdict_among all (n ∷ more) method path found) (verdict_among all more method path found) →
+          verdict_among all (cond b (n ∷ numbers_of_hosts n test hosts) (numbers_of_hosts n test hosts) ++ more) method path found ≡ cond (b || any) (verdict_among all (n ∷ more) method path found) (verdict_among all more method path found)
+      by_test true true rest = ap (λ (later : Verdict). cond (is_found_by n found) found (verdict_of_line_or_later n (line_of_number all n) method path later)) rest ∙ again n more found
+      by_test true false rest = ap (λ (later : Verdict). cond (is_found_by n found) found (verdict_of_line_or_later n (line_of_number all n) method path later)) rest
+      by_test false any rest = rest
+
   -- a line that was found decides over all lines behind it
-  stays : (test : Line → Bool) (k : ℕ) (found : Line) (n : ℕ) (rest : List Line) → k ≤ n → verdict_among all (line_numbers_from n test rest) method path (verdict_of_line k found) ≡ verdict_of_line k found
+  stays : (test : LineHost → Bool) (k : ℕ) (found : Line) (n : ℕ) (rest : List Line) → k ≤ n → verdict_among all (line_numbers_from n test rest) method path (verdict_of_line k found) ≡ verdict_of_line k found
   stays test k found n [] le = refl
   stays test k found n (line ∷ rest) le =
       let more : k ≤ n + 1 = omega arith in
-      by_test (stays test k found (n + 1) rest more) (test line)
+      of_hosts test n line.hosts (line_numbers_from (n + 1) test rest) (verdict_of_line k found)
+      ∙ by_test (stays test k found (n + 1) rest more) (list_any test line.hosts)
     where
       by_test : verdict_among all (line_numbers_from (n + 1) test rest) method path (verdict_of_line k found) ≡ verdict_of_line k found →
-          (b : Bool) → verdict_among all (cond b (n ∷ line_numbers_from (n + 1) test rest) (line_numbers_from (n + 1) test rest)) method path (verdict_of_line k found) ≡ verdict_of_line k found
+          (b : Bool) → cond b (verdict_among all (n ∷ line_numbers_from (n + 1) test rest) method path (verdict_of_line k found)) (verdict_among all (line_numbers_from (n + 1) test rest) method path (verdict_of_line k found)) ≡ verdict_of_line k found
       by_test later true = ap (λ b. cond b (verdict_of_line k found) (verdict_of_line_or_later n (line_of_number all n) method path (verdict_among all (line_numbers_from (n + 1) test rest) method path (verdict_of_line k found)))) (found_at n k found le)
       by_test later false = later
 
@@ -150,14 +231,15 @@ module _ (all : List Line) (method path : List ℕ) where
       by_test later true = not_found_at n m line lt
       by_test later false = later
 
-  -- the lines of one test are looked at behind those of another: the first line of either decides
-  pub of_either : (first second : Line → Bool) (i : ℕ) (rest : List Line) → ((j : ℕ) → slice_get all (i + j) ≡ slice_get rest j) →
+  -- the lines that have some hosts are looked at behind those of a test: the first line of either decides
+  pub of_either : (first : Line → Bool) (second : LineHost → Bool) (i : ℕ) (rest : List Line) → ((j : ℕ) → slice_get all (i + j) ≡ slice_get rest j) →
       verdict_among all (line_numbers_from (i + 1) second rest) method path (verdict_where (i + 1) first rest method path)
-      ≡ verdict_where (i + 1) (λ line. first line || second line) rest method path
+      ≡ verdict_where (i + 1) (λ line. first line || has_host second line) rest method path
   of_either first second i [] at = refl
   of_either first second i (line ∷ rest) at =
       let next : (j : ℕ) → slice_get all (i + 1 + j) ≡ slice_get rest j = λ j. let e : i + 1 + j ≡ i + suc j = omega arith in ap (slice_get all) e ∙ at (suc j) in
-      by_tests (of_either first second (i + 1) rest next) (first line) (second line) (matches_beside_host line method path) refl
+      of_hosts second n line.hosts numbers (verdict_where n first (line ∷ rest) method path)
+      ∙ by_tests (of_either first second (i + 1) rest next) (first line) (has_host second line) (matches_beside_host line method path) refl
     where
       n : ℕ
       n = i + 1
@@ -172,7 +254,7 @@ module _ (all : List Line) (method path : List ℕ) where
       later = verdict_where (n + 1) first rest method path
 
       both : Verdict
-      both = verdict_where (n + 1) (λ one. first one || second one) rest method path
+      both = verdict_where (n + 1) (λ one. first one || has_host second one) rest method path
 
       stands : line_of_number all n ≡ Some line
       stands = slice_get-at all rest line i at
@@ -195,7 +277,7 @@ module _ (all : List Line) (method path : List ℕ) where
           ∙ ap (cond b this) go_on
 
       by_tests : verdict_among all numbers method path later ≡ both → (a b c : Bool) → matches_beside_host line method path ≡ c →
-          verdict_among all (cond b (n ∷ numbers) numbers) method path (cond (a && c) this later) ≡ cond ((a || b) && c) this both
+          cond b (verdict_among all (n ∷ numbers) method path (cond (a && c) this later)) (verdict_among all numbers method path (cond (a && c) this later)) ≡ cond ((a || b) && c) this both
       by_tests go_on true true true is = ap (λ t. cond t this (verdict_of_line_or_later n (line_of_number all n) method path (verdict_among all numbers method path this))) (found_at n n line le)
       by_tests go_on true false true is = stays second n line (n + 1) rest also
       by_tests go_on true true false is = looked_at go_on false is
@@ -215,27 +297,84 @@ where_alike a b same n (line ∷ lines) method path =
     ap (λ t. cond (t && matches_beside_host line method path) (verdict_of_line n line) (verdict_where (n + 1) a lines method path)) (same line)
     ∙ ap (cond (b line && matches_beside_host line method path) (verdict_of_line n line)) (where_alike a b same (n + 1) lines method path)
 
-either_matches : (host : List ℕ) (line : Line) → (names_host host line || is_for_every_host line) ≡ can_match host line
-either_matches host line = by_host line.host
-  where
-    by_host : (own : Option (List ℕ)) → (is_some_and (λ o. bytes_eq o host) own || is_none own) ≡ matches_host own host
-    by_host None = refl
-    by_host (Some own) = or_false (bytes_eq own host)
+or_assoc : (a b c : Bool) → ((a || b) || c) ≡ (a || (b || c))
+or_assoc true b c = refl
+or_assoc false b c = refl
 
-pub found_by_index : (lines : List Line) (index : HostIndex) (host method path own others : List ℕ) (named result : Verdict) → IsHostIndexOf lines index →
-    own ≡ numbers_for index.named host → others ≡ index.others.items → named ≡ verdict_among lines own method path NoLine → result ≡ verdict_among lines others method path named →
+-- the lines for the hosts below each of some are looked at, too
+through : (lines : List Line) (kept : BTreeMap Numbers Numbers) (method path : List ℕ) → ((host : List ℕ) → numbers_for kept host ≡ line_numbers_of (is_below host) lines) → (first : Line → Bool) (hosts : List (List ℕ)) →
+    verdict_above lines kept hosts method path (verdict_where 1 first lines method path)
+    ≡ verdict_where 1 (λ line. first line || list_any (λ host. has_host (is_below host) line) hosts) lines method path
+through lines kept method path are first [] = where_alike first (λ line. first line || false) (λ line. sym (or_false (first line))) 1 lines method path
+through lines kept method path are first (host ∷ hosts) =
+    ap (λ (ns : List ℕ). verdict_above lines kept hosts method path (verdict_among lines ns method path (verdict_where 1 first lines method path))) (are host)
+    ∙ ap (verdict_above lines kept hosts method path) (of_either lines method path first (is_below host) 0 lines at)
+    ∙ through lines kept method path are (λ line. first line || has_host (is_below host) line) hosts
+    ∙ where_alike (λ line. (first line || has_host (is_below host) line) || list_any (λ host. has_host (is_below host) line) hosts) (λ line. first line || list_any (λ host. has_host (is_below host) line) (host ∷ hosts))
+    (λ line. or_assoc (first line) (has_host (is_below host) line) (list_any (λ host. has_host (is_below host) line) hosts)) 1 lines method path
+  where
+    at : (j : ℕ) → slice_get lines (0 + j) ≡ slice_get lines j
+    at j = let e : 0 + j ≡ j = omega arith in ap (slice_get lines) e
+
+none_of_none : (hosts : List (List ℕ)) → list_any (λ host. false) hosts ≡ false
+none_of_none [] = refl
+none_of_none (host ∷ hosts) = none_of_none hosts
+
+any_of_either : (p q : List ℕ → Bool) (hosts : List (List ℕ)) → list_any (λ host. p host || q host) hosts ≡ (list_any p hosts || list_any q hosts)
+any_of_either p q [] = refl
+any_of_either p q (host ∷ hosts) = ap (λ t. (p host || q host) || t) (any_of_either p q hosts) ∙ shuffle (p host) (q host) (list_any p hosts) (list_any q hosts)
+  where
+    shuffle : (a b c d : Bool) → ((a || b) || (c || d)) ≡ ((a || c) || (b || d))
+    shuffle true b c d = refl
+    shuffle false true true d = refl
+    shuffle false true false d = refl
+    shuffle false false c d = refl
+
+one_matches : (p a b c r : Bool) → ((a || b) || c) ≡ r → (((p || a) || b) || c) ≡ (p || r)
+one_matches true a b c r e = refl
+one_matches false a b c r e = e
+
+below_matches : (p a b c r : Bool) → ((a || b) || c) ≡ r → ((a || (p || b)) || c) ≡ (p || r)
+below_matches true true b c r e = refl
+below_matches true false b c r e = refl
+below_matches false a b c r e = e
+
+or_true : (a : Bool) → (a || true) ≡ true
+or_true true = refl
+or_true false = refl
+
+-- a host is named, or those below a host behind one of its dots, or every host
+hosts_match : (host : List ℕ) (hosts : List LineHost) →
+    ((list_any (is_one host) hosts || list_any (λ above. list_any (is_below above) hosts) (hosts_above host)) || list_any is_every hosts) ≡ any_host_matches hosts host
+hosts_match host [] = ap (λ t. t || false) (none_of_none (hosts_above host))
+hosts_match host (One own ∷ hosts) = one_matches (bytes_eq own host) (list_any (is_one host) hosts) (list_any (λ above. list_any (is_below above) hosts) (hosts_above host)) (list_any is_every hosts) (any_host_matches hosts host) (hosts_match host hosts)
+hosts_match host (Below own ∷ hosts) =
+    ap (λ t. (list_any (is_one host) hosts || t) || list_any is_every hosts) (
+    any_of_either (bytes_eq own) (λ above. list_any (is_below above) hosts) (hosts_above host)
+    ∙ ap (λ t. t || list_any (λ above. list_any (is_below above) hosts) (hosts_above host)) (sym (below_by_dots own host))
+    )
+    ∙ below_matches (is_below_host own host) (list_any (is_one host) hosts) (list_any (λ above. list_any (is_below above) hosts) (hosts_above host)) (list_any is_every hosts) (any_host_matches hosts host) (hosts_match host hosts)
+hosts_match host (Every ∷ hosts) = or_true (list_any (is_one host) hosts || list_any (λ above. list_any (is_below above) hosts) (hosts_above host))
+
+pub found_by_index : (lines : List Line) (index : HostIndex) (host method path own others : List ℕ) (named below result : Verdict) → IsHostIndexOf lines index →
+    own ≡ numbers_for index.named host → others ≡ index.every.items → named ≡ verdict_among lines own method path NoLine →
+    below ≡ verdict_above lines index.below (hosts_above host) method path named → result ≡ verdict_among lines others method path below →
     result ≡ verdict_where 1 (can_match host) lines method path
-found_by_index lines index host method path own others named result is_index own_are others_are named_is result_is =
+found_by_index lines index host method path own others named below result is_index own_are others_are named_is below_is result_is =
     result_is
-    ∙ ap (λ (ns : List ℕ). verdict_among lines ns method path named) (others_are ∙ is_index.1)
-    ∙ ap (verdict_among lines (line_numbers_of is_for_every_host lines) method path) (
+    ∙ ap (λ (ns : List ℕ). verdict_among lines ns method path below) (others_are ∙ is_index.2)
+    ∙ ap (verdict_among lines (line_numbers_of is_every lines) method path) (
+    below_is
+    ∙ ap (verdict_above lines index.below (hosts_above host) method path) (
     named_is
     ∙ ap (λ (ns : List ℕ). verdict_among lines ns method path NoLine) (own_are ∙ is_index.0 host)
-    ∙ ap (verdict_among lines (line_numbers_of (names_host host) lines) method path) (sym (none_where 1 lines method path))
-    ∙ of_either lines method path (λ line. false) (names_host host) 0 lines at
+    ∙ ap (verdict_among lines (line_numbers_of (is_one host) lines) method path) (sym (none_where 1 lines method path))
+    ∙ of_either lines method path (λ line. false) (is_one host) 0 lines at
     )
-    ∙ of_either lines method path (names_host host) is_for_every_host 0 lines at
-    ∙ where_alike (λ line. names_host host line || is_for_every_host line) (can_match host) (either_matches host) 1 lines method path
+    ∙ through lines index.below method path is_index.1 (has_host (is_one host)) (hosts_above host)
+    )
+    ∙ of_either lines method path (λ line. has_host (is_one host) line || list_any (λ above. has_host (is_below above) line) (hosts_above host)) is_every 0 lines at
+    ∙ where_alike (λ line. (has_host (is_one host) line || list_any (λ above. has_host (is_below above) line) (hosts_above host)) || has_host is_every line) (can_match host) (λ line. hosts_match host line.hosts) 1 lines method path
   where
     at : (j : ℕ) → slice_get lines (0 + j) ≡ slice_get lines j
     at j = let e : 0 + j ≡ j = omega arith in ap (slice_get lines) e
@@ -259,7 +398,7 @@ pub never_allowed : (n : ℕ) (lines : List Line) (method : List ℕ) (target : 
 unfolding matches_line
 never_allowed n [] method target never = refl
 never_allowed n (line ∷ lines) method target never =
-    ap (λ t. cond t (verdict_of_line n line) (verdict_from (n + 1) lines method target)) (matches_none (matches_host line.host target.key.host) (is_never_allowed method) (list_any (is_star_or_same method) line.methods) (matches_path line.path target.table_path) never)
+    ap (λ t. cond t (verdict_of_line n line) (verdict_from (n + 1) lines method target)) (matches_none (any_host_matches line.hosts target.key.host) (is_never_allowed method) (list_any (is_star_or_same method) line.methods) (any_path_matches line.paths target.table_path) never)
     ∙ never_allowed (n + 1) lines method target never
 
 pub none_of_never : (lines : List Line) (method : List ℕ) (target : Target) → is_never_allowed method ≡ true → verdict_of lines method target ≡ NoLine
@@ -270,8 +409,8 @@ allowed_from : (n : ℕ) (lines : List Line) (method : List ℕ) (target : Targe
 unfolding matches_line
 allowed_from n [] method target allowed = refl
 allowed_from n (line ∷ lines) method target allowed =
-    ap (λ t. cond t (verdict_of_line n line) (verdict_where (n + 1) (can_match target.key.host) lines method target.table_path)) (matches_one (matches_host line.host target.key.host) (is_never_allowed method) (list_any (is_star_or_same method) line.methods) (matches_path line.path target.table_path) allowed)
-    ∙ ap (cond (matches_host line.host target.key.host && (not (is_never_allowed method) && list_any (is_star_or_same method) line.methods) && matches_path line.path target.table_path) (verdict_of_line n line)) (allowed_from (n + 1) lines method target allowed)
+    ap (λ t. cond t (verdict_of_line n line) (verdict_where (n + 1) (can_match target.key.host) lines method target.table_path)) (matches_one (any_host_matches line.hosts target.key.host) (is_never_allowed method) (list_any (is_star_or_same method) line.methods) (any_path_matches line.paths target.table_path) allowed)
+    ∙ ap (cond (any_host_matches line.hosts target.key.host && (not (is_never_allowed method) && list_any (is_star_or_same method) line.methods) && any_path_matches line.paths target.table_path) (verdict_of_line n line)) (allowed_from (n + 1) lines method target allowed)
 
 pub allowed_decides : (lines : List Line) (method : List ℕ) (target : Target) → is_never_allowed method ≡ false → verdict_where 1 (can_match target.key.host) lines method target.table_path ≡ verdict_of lines method target
 unfolding verdict_of

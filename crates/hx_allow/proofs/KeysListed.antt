@@ -81,8 +81,16 @@ module _ {A : Type 0} (p : A → Bool) where
 pub each_key : (p : LineKey → Bool) → list_all p line_keys ≡ true → (key : LineKey) → p key ≡ true
 each_key p e = listed (λ key. p key ≡ true) (all_pass p line_keys e)
 
-pub each_good : (ms : Members) → first_bad_key ms ≡ None → (key : LineKey) → is_good ms key ≡ true
-each_good ms none = listed (λ key. is_good ms key ≡ true) (none_fails (is_good ms) line_keys none)
+pub each_good : (version : TableVersion) (ms : Members) → first_bad_key version ms ≡ None → (key : LineKey) → is_good version ms key ≡ true
+each_good version ms none = listed (λ key. is_good version ms key ≡ true) (none_fails (is_good version ms) line_keys none)
+
+find_alike : (p q : LineKey → Bool) (keys : List LineKey) → ((key : LineKey) → p key ≡ q key) → find (λ key. not (p key)) keys ≡ find (λ key. not (q key)) keys
+find_alike p q [] same = refl
+find_alike p q (key ∷ keys) same = rw (same key) (rw (find_alike p q keys same) refl)
+
+-- where each key is good in both of two versions or in none, the first that isn't is one
+pub same_bad_key : (version other : TableVersion) (ms : Members) → ((key : LineKey) → is_good version ms key ≡ is_good other ms key) → first_bad_key version ms ≡ first_bad_key other ms
+same_bad_key version other ms same = find_alike (is_good version ms) (is_good other ms) line_keys same
 
 pub any_alike : (p q : LineKey → Bool) (keys : List LineKey) → ((key : LineKey) → p key ≡ q key) → list_any p keys ≡ list_any q keys
 any_alike p q [] same = refl

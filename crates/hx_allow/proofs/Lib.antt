@@ -3,6 +3,7 @@ pub mod HostIndices
 pub mod AddressTexts
 pub mod Items
 pub mod KeysListed
+pub mod LineHosts
 pub mod LinesRead
 pub mod Readings
 pub mod TablePaths
@@ -13,5 +14,8 @@ pub mod LeastUnknown
 pub mod Deciding
 pub mod TomlTables
 pub mod NeverReached
+pub mod NamesRead
+pub mod OneByOne
+pub mod OneText
 pub mod SortedNodes
 pub mod SortedTexts

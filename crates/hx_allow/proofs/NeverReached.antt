@@ -7,8 +7,12 @@ use Rattle.std.proofs.lemmas.Bool.Decides.{nat_tests}
 use Rattle.std.proofs.lemmas.Slice.Eq.{bytes_eq-Decides}
 use Rattle.hx_target.specs.declared.targets.Target.{Target}
 use Rattle.hx_allow.specs.TableLines.{Line}
-use Rattle.hx_allow.specs.Matching.{is_star_or_same, is_below_path, is_never_allowed, line_number, matches_host, matches_line, matches_method, matches_path, line_of_number, verdict_of}
-use Rattle.hx_allow.specs.NeverReached.{first_line_taking, takes_each_host_of, takes_each_request_of, takes_each_method_of, takes_each_path_of}
+use Rattle.hx_allow.specs.LineHosts.{is_below_host, matches_host, any_host_matches}
+use Rattle.hx_allow.specs.Matching.{is_star_or_same, is_below_path, is_never_allowed, line_number, matches_line, matches_method, matches_path, any_path_matches, line_of_number, verdict_of}
+use Rattle.hx_allow.specs.NeverReached.{first_line_taking, takes_host, takes_each_host_of, takes_each_request_of, takes_each_method_of, takes_path, takes_each_path_of}
+use Rattle.hx_allow.specs.declared.line_hosts.LineHost.{LineHost}
+use Rattle.hx_allow.specs.declared.line_hosts.LineHost.TheVariants.{Every, One, Below}
+use Rattle.hx_allow.proofs.LineHosts.{below_below}
 use Rattle.hx_allow.proofs.Readings.{first_matching}
 
 same_bytes : (a b : List ℕ) → bytes_eq a b ≡ true → a ≡ b
@@ -32,12 +36,40 @@ or_right false b h = h
 
 -- ---- hosts and methods
 
-host_taken : (host later : Option (List ℕ)) (asked : List ℕ) → takes_each_host_of host later ≡ true → matches_host later asked ≡ true → matches_host host asked ≡ true
-host_taken None later asked takes matches = refl
-host_taken (Some host) None asked takes matches = absurd cc
-host_taken (Some host) (Some later) asked takes matches =
+host_taken : (host later : LineHost) (asked : List ℕ) → takes_host host later ≡ true → matches_host later asked ≡ true → matches_host host asked ≡ true
+host_taken Every later asked takes matches = refl
+host_taken (One host) Every asked takes matches = absurd cc
+host_taken (One host) (Below later) asked takes matches = absurd cc
+host_taken (One host) (One later) asked takes matches =
     let same : host ≡ later = same_bytes host later takes in
     ap (λ h. bytes_eq h asked) same ∙ matches
+host_taken (Below host) Every asked takes matches = absurd cc
+host_taken (Below host) (One later) asked takes matches =
+    let same : later ≡ asked = same_bytes later asked matches in
+    subst (λ h. is_below_host host h ≡ true) same takes
+host_taken (Below host) (Below later) asked takes matches = by_first (one_of (bytes_eq host later) (is_below_host host later) takes)
+  where
+    by_first : (bytes_eq host later ≡ true) ⊎ (is_below_host host later ≡ true) → is_below_host host asked ≡ true
+    by_first (inl is) = let same : host ≡ later = same_bytes host later is in ap (λ h. is_below_host h asked) same ∙ matches
+    by_first (inr below) = below_below host later asked below matches
+
+any_host_taken : (hosts : List LineHost) (later : LineHost) (asked : List ℕ) → list_any (λ first. takes_host first later) hosts ≡ true → matches_host later asked ≡ true → any_host_matches hosts asked ≡ true
+any_host_taken [] later asked any matches = absurd cc
+any_host_taken (host ∷ hosts) later asked any matches = by_first (λ more. any_host_taken hosts later asked more matches) (one_of (takes_host host later) (list_any (λ first. takes_host first later) hosts) any)
+  where
+    by_first : (list_any (λ first. takes_host first later) hosts ≡ true → any_host_matches hosts asked ≡ true) → (takes_host host later ≡ true) ⊎ (list_any (λ first. takes_host first later) hosts ≡ true) → matches_host host asked || any_host_matches hosts asked ≡ true
+    by_first on (inl here) = or_left (matches_host host asked) (any_host_matches hosts asked) (host_taken host later asked here matches)
+    by_first on (inr more) = or_right (matches_host host asked) (any_host_matches hosts asked) (on more)
+
+each_host_taken : (hosts later : List LineHost) (asked : List ℕ) → takes_each_host_of hosts later ≡ true → any_host_matches later asked ≡ true → any_host_matches hosts asked ≡ true
+each_host_taken hosts [] asked takes any = absurd cc
+each_host_taken hosts (host ∷ later) asked takes any =
+    let parts = and_parts (list_any (λ first. takes_host first host) hosts) (takes_each_host_of hosts later) takes in
+    by_first parts.0 (each_host_taken hosts later asked parts.1) (one_of (matches_host host asked) (any_host_matches later asked) any)
+  where
+    by_first : list_any (λ first. takes_host first host) hosts ≡ true → (any_host_matches later asked ≡ true → any_host_matches hosts asked ≡ true) → (matches_host host asked ≡ true) ⊎ (any_host_matches later asked ≡ true) → any_host_matches hosts asked ≡ true
+    by_first here on (inl is) = any_host_taken hosts host asked here is
+    by_first here on (inr more) = on more
 
 -- a text that takes another takes what that takes
 text_taken : (a b method : List ℕ) → is_star_or_same b a ≡ true → is_star_or_same method b ≡ true → is_star_or_same method a ≡ true
@@ -100,7 +132,7 @@ continued_on a b asked first second =
     let slash : slice_index asked (length a) ≡ slice_index b (length a) = sym (index_take (length a) (length b) asked short) ∙ ap (λ l. slice_index l (length a)) begins in
     rw (length_is, start, one_more.1, slash) one.1
 
-path_taken : (path later asked : List ℕ) → takes_each_path_of path later ≡ true → matches_path later asked ≡ true → matches_path path asked ≡ true
+path_taken : (path later asked : List ℕ) → takes_path path later ≡ true → matches_path later asked ≡ true → matches_path path asked ≡ true
 path_taken path later asked takes matches = by_first (one_of (bytes_eq path (codes "/") || bytes_eq path later) (not (bytes_eq later (codes "/")) && is_below_path path later) takes)
   where
     root : bytes_eq path (codes "/") ≡ true → matches_path path asked ≡ true
@@ -133,17 +165,35 @@ path_taken path later asked takes matches = by_first (one_of (bytes_eq path (cod
         let parts = and_parts (not (bytes_eq later (codes "/"))) (is_below_path path later) further in
         beyond parts.0 parts.1 (one_of (bytes_eq later (codes "/") || bytes_eq later asked) (is_below_path later asked) matches)
 
+any_path_taken : (paths : List (List ℕ)) (later asked : List ℕ) → list_any (λ first. takes_path first later) paths ≡ true → matches_path later asked ≡ true → any_path_matches paths asked ≡ true
+any_path_taken [] later asked any matches = absurd cc
+any_path_taken (path ∷ paths) later asked any matches = by_first (λ more. any_path_taken paths later asked more matches) (one_of (takes_path path later) (list_any (λ first. takes_path first later) paths) any)
+  where
+    by_first : (list_any (λ first. takes_path first later) paths ≡ true → any_path_matches paths asked ≡ true) → (takes_path path later ≡ true) ⊎ (list_any (λ first. takes_path first later) paths ≡ true) → matches_path path asked || any_path_matches paths asked ≡ true
+    by_first on (inl here) = or_left (matches_path path asked) (any_path_matches paths asked) (path_taken path later asked here matches)
+    by_first on (inr more) = or_right (matches_path path asked) (any_path_matches paths asked) (on more)
+
+each_path_taken : (paths later : List (List ℕ)) (asked : List ℕ) → takes_each_path_of paths later ≡ true → any_path_matches later asked ≡ true → any_path_matches paths asked ≡ true
+each_path_taken paths [] asked takes any = absurd cc
+each_path_taken paths (path ∷ later) asked takes any =
+    let parts = and_parts (list_any (λ first. takes_path first path) paths) (takes_each_path_of paths later) takes in
+    by_first parts.0 (each_path_taken paths later asked parts.1) (one_of (matches_path path asked) (any_path_matches later asked) any)
+  where
+    by_first : list_any (λ first. takes_path first path) paths ≡ true → (any_path_matches later asked ≡ true → any_path_matches paths asked ≡ true) → (matches_path path asked ≡ true) ⊎ (any_path_matches later asked ≡ true) → any_path_matches paths asked ≡ true
+    by_first here on (inl is) = any_path_taken paths path asked here is
+    by_first here on (inr more) = on more
+
 -- ---- lines
 
 pub line_taken : (first later : Line) (method : List ℕ) (target : Target) → takes_each_request_of first later ≡ true → matches_line later method target ≡ true → matches_line first method target ≡ true
 unfolding takes_each_request_of matches_line
 line_taken first later method target takes matches =
-    let t = and_parts (takes_each_host_of first.host later.host && takes_each_method_of first.methods later.methods) (takes_each_path_of first.path later.path) takes in
-    let u = and_parts (takes_each_host_of first.host later.host) (takes_each_method_of first.methods later.methods) t.0 in
-    let m = and_parts (matches_host later.host target.key.host && matches_method later.methods method) (matches_path later.path target.table_path) matches in
-    let n = and_parts (matches_host later.host target.key.host) (matches_method later.methods method) m.0 in
-    rw (host_taken first.host later.host target.key.host u.0 n.0, method_taken first.methods later.methods method u.1 n.1)
-    (path_taken first.path later.path target.table_path t.1 m.1)
+    let t = and_parts (takes_each_host_of first.hosts later.hosts && takes_each_method_of first.methods later.methods) (takes_each_path_of first.paths later.paths) takes in
+    let u = and_parts (takes_each_host_of first.hosts later.hosts) (takes_each_method_of first.methods later.methods) t.0 in
+    let m = and_parts (any_host_matches later.hosts target.key.host && matches_method later.methods method) (any_path_matches later.paths target.table_path) matches in
+    let n = and_parts (any_host_matches later.hosts target.key.host) (matches_method later.methods method) m.0 in
+    rw (each_host_taken first.hosts later.hosts target.key.host u.0 n.0, method_taken first.methods later.methods method u.1 n.1)
+    (each_path_taken first.paths later.paths target.table_path t.1 m.1)
 
 module _ (method : List ℕ) (target : Target) where
   abbrev decides : Line → Bool

@@ -19,7 +19,7 @@ use Rattle.hx_allow.specs.Rows.{Row, line_row, word_row, top_keys, line_keys, fa
 use Rattle.hx_allow.specs.LineTables.{is_good_at, is_good, first_bad_key, line_fault, line_read, lines_fault, first_fault_or_later, fault_of_line_item, names_small_method, names_path_with_star, spelling_fault}
 use Rattle.hx_allow.specs.Tables.{is_good_at_top, is_good_store_bound, number_at, first_bad_at_top, lines_at, version_of, table_fault, table_read, judge_table, fault_or_table_read}
 use Rattle.hx_allow.specs.Values.{is_known, is_key_of, first_unknown, within, is_some_and}
-use Rattle.hx_allow.specs.Versions.{LineHasNoWord, LineHasNoWordOfFour, LineIsSpelledForFour, LineIsOfThree}
+use Rattle.hx_allow.specs.Versions.{LineHasNoWord, LineHasNoWordOfFour, LineIsSpelledForFour, LineNamesAsInThree, LineIsOfThree}
 use Rattle.hx_allow.specs.declared.config_faults.ConfigFault.{ConfigFault}
 use Rattle.hx_allow.specs.declared.config_faults.ConfigFault.TheVariants.{UnknownKey, BadNumber, BadCache, BadWord, MethodInLowerCase, StarInPath}
 use Rattle.hx_allow.specs.declared.config_faults.LineWord.{LineWord}
@@ -37,6 +37,7 @@ use Rattle.hx_allow.specs.declared.values.TableVersion.{TableVersion}
 use Rattle.hx_allow.specs.declared.values.TableVersion.TheVariants.{One, Two, Three, Four}
 use Rattle.hx_allow.proofs.KeysListed.{each_key, found_fails, none_fails, any_alike, plain_policy}
 use Rattle.hx_allow.proofs.LinesRead.{each_line_read}
+use Rattle.hx_allow.proofs.NamesRead.{bad_before, bad_in_four, keys_are_good, names_as_before}
 
 -- ---- keys
 
@@ -167,33 +168,42 @@ same_unknown_of_four (member key value ms) none =
     λ word since. is_other (word_key word) key value (get_member (word_key word) ms) (none word since) in
     rw (known_in_four key (λ word since. (others word since).0)) (rw (same_unknown_of_four ms (λ word since. (others word since).1)) refl)
 
--- versions that know the same keys of a line and tell the same of its spelling have the same first fault
-same_by_keys : (later earlier : TableVersion) (n : ℕ) (ms : Members) → first_unknown (Line later) ms ≡ first_unknown (Line earlier) ms → spelling_fault later n ms ≡ spelling_fault earlier n ms → line_fault later n ms ≡ line_fault earlier n ms
+-- versions that know the same keys of a line, find the same of them good and tell the same of its spelling have the
+-- same first fault
+same_by_keys : (later earlier : TableVersion) (n : ℕ) (ms : Members) → first_unknown (Line later) ms ≡ first_unknown (Line earlier) ms → first_bad_key later ms ≡ first_bad_key earlier ms → spelling_fault later n ms ≡ spelling_fault earlier n ms → line_fault later n ms ≡ line_fault earlier n ms
 unfolding line_fault
-same_by_keys later earlier n ms keys spelling = by_keys (first_unknown (Line earlier) ms) refl
+same_by_keys later earlier n ms keys bad spelling = by_keys (first_unknown (Line earlier) ms) refl
   where
     by_keys : (o : Option (List ℕ)) → first_unknown (Line earlier) ms ≡ o → line_fault later n ms ≡ line_fault earlier n ms
     by_keys (Some key) e = rw keys (rw e refl)
-    by_keys None e = rw keys (rw e (ap (first_fault_or_later (option_map (fault_of_line_key n) (first_bad_key ms))) spelling))
+    by_keys None e =
+        rw keys (rw e (
+        ap (λ (o : Option LineKey). first_fault_or_later (option_map (fault_of_line_key n) o) (spelling_fault later n ms)) bad
+        ∙ ap (first_fault_or_later (option_map (fault_of_line_key n) (first_bad_key earlier ms))) spelling
+        ))
 
 pub same_fault : (version : TableVersion) (n : ℕ) (ms : Members) → has_keys_of version Four ≡ false → get_member (codes "cache") ms ≡ None → LineHasNoWord ms → line_fault version n ms ≡ line_fault One n ms
 same_fault One n ms before none no_word = refl
-same_fault Two n ms before none no_word = same_by_keys Two One n ms (same_unknown ms none) refl
-same_fault Three n ms before none no_word = same_by_keys Three One n ms (without_words ms no_word ∙ same_unknown ms none) refl
+same_fault Two n ms before none no_word = same_by_keys Two One n ms (same_unknown ms none) (bad_before Two ms refl) refl
+same_fault Three n ms before none no_word = same_by_keys Three One n ms (without_words ms no_word ∙ same_unknown ms none) (bad_before Three ms refl) refl
 same_fault Four n ms before none no_word = cc
 
 -- a line that is spelled for the fourth version has no fault of its spelling
 no_spelling_fault : (n : ℕ) (ms : Members) → LineIsSpelledForFour ms → spelling_fault Four n ms ≡ None
 no_spelling_fault n ms spelled = rw spelled.0 (rw spelled.1 refl)
 
-pub same_fault_of_three : (n : ℕ) (ms : Members) → LineHasNoWordOfFour ms → LineIsSpelledForFour ms → line_fault Four n ms ≡ line_fault Three n ms
-same_fault_of_three n ms no_word spelled = same_by_keys Four Three n ms (same_unknown_of_four ms no_word) (no_spelling_fault n ms spelled)
+pub same_fault_of_three : (n : ℕ) (ms : Members) → LineHasNoWordOfFour ms → LineIsSpelledForFour ms → LineNamesAsInThree ms → line_fault Four n ms ≡ line_fault Three n ms
+same_fault_of_three n ms no_word spelled names = same_by_keys Four Three n ms (same_unknown_of_four ms no_word) (bad_in_four ms names) (no_spelling_fault n ms spelled)
 
-pub same_fault_in_four : (n : ℕ) (ms : Members) → get_member (codes "cache") ms ≡ None → LineHasNoWord ms → LineIsSpelledForFour ms → line_fault Four n ms ≡ line_fault One n ms
-same_fault_in_four n ms none no_word spelled = same_fault_of_three n ms (λ word since. no_word word) spelled ∙ same_fault Three n ms refl none no_word
+pub same_fault_in_four : (n : ℕ) (ms : Members) → get_member (codes "cache") ms ≡ None → LineHasNoWord ms → LineIsSpelledForFour ms → LineNamesAsInThree ms → line_fault Four n ms ≡ line_fault One n ms
+same_fault_in_four n ms none no_word spelled names = same_fault_of_three n ms (λ word since. no_word word) spelled names ∙ same_fault Three n ms refl none no_word
+
+-- what the third version reads the fourth reads, but for its spelling
+pub still_read : (n : ℕ) (ms : Members) → LineHasNoWordOfFour ms → LineIsSpelledForFour ms → line_fault Three n ms ≡ None → line_fault Four n ms ≡ None
+still_read n ms no_word spelled none = same_fault_of_three n ms no_word spelled (names_as_before Three ms refl (keys_are_good Three n ms none)) ∙ none
 
 pub same_fault_of_two : (n : ℕ) (ms : Members) → LineHasNoWord ms → line_fault Three n ms ≡ line_fault Two n ms
-same_fault_of_two n ms no_word = same_by_keys Three Two n ms (without_words ms no_word) refl
+same_fault_of_two n ms no_word = same_by_keys Three Two n ms (without_words ms no_word) (bad_before Three ms refl ∙ sym (bad_before Two ms refl)) refl
 
 -- ---- faults that a version never has
 
@@ -217,14 +227,14 @@ module _ (fault : ConfigFault) (is_added : is_of_added_key fault ≡ true) where
       cc
 
   module _ (version : TableVersion)
-      (never : (n : ℕ) (ms : Members) (key : LineKey) → first_unknown (Line version) ms ≡ None → is_good ms key ≡ false → ¬ (fault_of_line_key n key ≡ fault))
+      (never : (n : ℕ) (ms : Members) (key : LineKey) → first_unknown (Line version) ms ≡ None → is_good version ms key ≡ false → ¬ (fault_of_line_key n key ≡ fault))
       (never_spelled : (n : ℕ) (ms : Members) → ¬ (spelling_fault version n ms ≡ Some fault))
       (never_at_top : (t : Members) (key : TopKey) → version_of t ≡ version → first_unknown (Top (version_of t)) t ≡ None → is_good_at_top t key ≡ false → ¬ (fault_of_top_key key ≡ fault)) where
     not_refused : (n : ℕ) (ms : Members) → ¬ (line_fault version n ms ≡ Some fault)
     unfolding line_fault
-    not_refused n ms bad = by_keys (first_unknown (Line version) ms) refl (first_bad_key ms) refl
+    not_refused n ms bad = by_keys (first_unknown (Line version) ms) refl (first_bad_key version ms) refl
       where
-        by_keys : (o : Option (List ℕ)) → first_unknown (Line version) ms ≡ o → (p : Option LineKey) → first_bad_key ms ≡ p → ⊥
+        by_keys : (o : Option (List ℕ)) → first_unknown (Line version) ms ≡ o → (p : Option LineKey) → first_bad_key version ms ≡ p → ⊥
         by_keys (Some key) e p f =
             let is : line_fault version n ms ≡ Some (UnknownKey key) = rw e refl in
             not_it (UnknownKey key) refl cc
@@ -234,7 +244,7 @@ module _ (fault : ConfigFault) (is_added : is_of_added_key fault ≡ true) where
         by_keys None e (Some key) f =
             let is : line_fault version n ms ≡ Some (fault_of_line_key n key) = rw e (rw f refl) in
             let same : fault_of_line_key n key ≡ fault = cc in
-            never n ms key e (found_fails (is_good ms) line_keys key f) same
+            never n ms key e (found_fails (is_good version ms) line_keys key f) same
 
     item_not_refused : (n : ℕ) (o : Option Members) → ¬ (fault_of_line_item version n o ≡ Some fault)
     item_not_refused n None bad = cc
@@ -302,24 +312,24 @@ no_spelling_before Two n ms before = refl
 no_spelling_before Three n ms before = refl
 no_spelling_before Four n ms before = cc
 
-never_of_cache : (line n : ℕ) (ms : Members) (key : LineKey) → first_unknown (Line One) ms ≡ None → is_good ms key ≡ false → ¬ (fault_of_line_key n key ≡ BadCache line)
+never_of_cache : (line n : ℕ) (ms : Members) (key : LineKey) → first_unknown (Line One) ms ≡ None → is_good One ms key ≡ false → ¬ (fault_of_line_key n key ≡ BadCache line)
 never_of_cache line n ms Host known bad same = cc
 never_of_cache line n ms Methods known bad same = cc
 never_of_cache line n ms Path known bad same = cc
 never_of_cache line n ms Origin known bad same = cc
 never_of_cache line n ms Cache known bad same =
-    let good : is_good ms Cache ≡ true = rw (no_cache ms known) refl in
+    let good : is_good One ms Cache ≡ true = rw (no_cache ms known) refl in
     cc
 never_of_cache line n ms (Word word) known bad same = cc
 
 -- a key that needn't stand is good where it doesn't
-missing_is_good : (place : Place) (row : Row) (ms : Members) → is_needed place ≡ false → get_member row.key ms ≡ None → is_good_at place row ms ≡ true
-missing_is_good Needed row ms other none = cc
-missing_is_good Optional row ms other none = rw none refl
-missing_is_good AllowingLine row ms other none = rw none refl
-missing_is_good CachingLine row ms other none = rw none refl
+missing_is_good : (version : TableVersion) (place : Place) (row : Row) (ms : Members) → is_needed place ≡ false → get_member row.key ms ≡ None → is_good_at version place row ms ≡ true
+missing_is_good version Needed row ms other none = cc
+missing_is_good version Optional row ms other none = rw none refl
+missing_is_good version AllowingLine row ms other none = rw none refl
+missing_is_good version CachingLine row ms other none = rw none refl
 
-never_of_words : (version : TableVersion) (line : ℕ) (word : LineWord) (n : ℕ) (ms : Members) (key : LineKey) → has_keys_of version Three ≡ false → first_unknown (Line version) ms ≡ None → is_good ms key ≡ false → ¬ (fault_of_line_key n key ≡ BadWord line word)
+never_of_words : (version : TableVersion) (line : ℕ) (word : LineWord) (n : ℕ) (ms : Members) (key : LineKey) → has_keys_of version Three ≡ false → first_unknown (Line version) ms ≡ None → is_good version ms key ≡ false → ¬ (fault_of_line_key n key ≡ BadWord line word)
 never_of_words version line word n ms Host other known bad same = cc
 never_of_words version line word n ms Methods other known bad same = cc
 never_of_words version line word n ms Path other known bad same = cc
@@ -327,7 +337,7 @@ never_of_words version line word n ms Origin other known bad same = cc
 never_of_words version line word n ms Cache other known bad same = cc
 never_of_words version line word n ms (Word bad_word) other known bad same =
     let place : is_needed (word_row bad_word).place ≡ false = not_true (is_needed (word_row bad_word).place) (each_key is_no_needed_word refl (Word bad_word)) in
-    let good : is_good ms (Word bad_word) ≡ true = missing_is_good (word_row bad_word).place (word_row bad_word) ms place (no_words version ms other known bad_word) in
+    let good : is_good version ms (Word bad_word) ≡ true = missing_is_good version (word_row bad_word).place (word_row bad_word) ms place (no_words version ms other known bad_word) in
     cc
 
 pub never_refused : (t : Members) (line : ℕ) → version_of t ≡ One → ¬ (judge_table t ≡ Err (BadCache line))
@@ -363,7 +373,7 @@ unknown_word_of_four Three Explain since before = cc
 unknown_word_of_four Three Conditions since before = refl
 unknown_word_of_four Four word since before = cc
 
-never_of_new_words : (version : TableVersion) (line : ℕ) (word : LineWord) (n : ℕ) (ms : Members) (key : LineKey) → (word_row word).since ≡ Four → has_keys_of version Four ≡ false → first_unknown (Line version) ms ≡ None → is_good ms key ≡ false → ¬ (fault_of_line_key n key ≡ BadWord line word)
+never_of_new_words : (version : TableVersion) (line : ℕ) (word : LineWord) (n : ℕ) (ms : Members) (key : LineKey) → (word_row word).since ≡ Four → has_keys_of version Four ≡ false → first_unknown (Line version) ms ≡ None → is_good version ms key ≡ false → ¬ (fault_of_line_key n key ≡ BadWord line word)
 never_of_new_words version line word n ms Host since before known bad same = cc
 never_of_new_words version line word n ms Methods since before known bad same = cc
 never_of_new_words version line word n ms Path since before known bad same = cc
@@ -374,7 +384,7 @@ never_of_new_words version line word n ms (Word bad_word) since before known bad
     let new : (word_row bad_word).since ≡ Four = subst (λ w. (word_row w).since ≡ Four) (sym alike) since in
     let none : get_member (word_key bad_word) ms ≡ None = not_among_known (Line version) (word_key bad_word) ms (unknown_word_of_four version bad_word new before) known in
     let place : is_needed (word_row bad_word).place ≡ false = not_true (is_needed (word_row bad_word).place) (each_key is_no_needed_word refl (Word bad_word)) in
-    let good : is_good ms (Word bad_word) ≡ true = missing_is_good (word_row bad_word).place (word_row bad_word) ms place none in
+    let good : is_good version ms (Word bad_word) ≡ true = missing_is_good version (word_row bad_word).place (word_row bad_word) ms place none in
     cc
 
 pub never_refused_for_new_words : (t : Members) (line : ℕ) (word : LineWord) → (word_row word).since ≡ Four → has_keys_of (version_of t) Four ≡ false → ¬ (judge_table t ≡ Err (BadWord line word))
@@ -452,14 +462,14 @@ never_refused_for_stars t line before = never_spelled_before t (StarInPath line)
 -- a line of the fourth version that is read is spelled for it
 pub spelled_for_four : (n : ℕ) (ms : Members) → line_fault Four n ms ≡ None → LineIsSpelledForFour ms
 unfolding line_fault
-spelled_for_four n ms none = by_keys (first_unknown (Line Four) ms) refl (first_bad_key ms) refl
+spelled_for_four n ms none = by_keys (first_unknown (Line Four) ms) refl (first_bad_key Four ms) refl
   where
     by_tests : (small star : Bool) → names_small_method ms ≡ small → names_path_with_star ms ≡ star → cond small (Some (MethodInLowerCase n)) (cond star (Some (StarInPath n)) None) ≡ None → LineIsSpelledForFour ms
     by_tests true star is also e = cc
     by_tests false true is also e = cc
     by_tests false false is also e = (is, also)
 
-    by_keys : (o : Option (List ℕ)) → first_unknown (Line Four) ms ≡ o → (p : Option LineKey) → first_bad_key ms ≡ p → LineIsSpelledForFour ms
+    by_keys : (o : Option (List ℕ)) → first_unknown (Line Four) ms ≡ o → (p : Option LineKey) → first_bad_key Four ms ≡ p → LineIsSpelledForFour ms
     by_keys (Some key) e p f = let bad : line_fault Four n ms ≡ Some (UnknownKey key) = rw e refl in cc
     by_keys None e (Some key) f = let bad : line_fault Four n ms ≡ Some (fault_of_line_key n key) = rw e (rw f refl) in cc
     by_keys None e None f =
@@ -469,12 +479,14 @@ spelled_for_four n ms none = by_keys (first_unknown (Line Four) ms) refl (first_
 -- a line that the third version reads is told its spelling's fault
 pub spelling_alone : (n : ℕ) (ms : Members) → LineHasNoWordOfFour ms → line_fault Three n ms ≡ None → line_fault Four n ms ≡ spelling_fault Four n ms
 unfolding line_fault
-spelling_alone n ms no_word none = by_keys (first_unknown (Line Three) ms) refl (first_bad_key ms) refl
+spelling_alone n ms no_word none =
+    let good = keys_are_good Three n ms none in
+    let bad : first_bad_key Four ms ≡ None = bad_in_four ms (names_as_before Three ms refl good) ∙ good in
+    by_keys bad (first_unknown (Line Three) ms) refl
   where
-    by_keys : (o : Option (List ℕ)) → first_unknown (Line Three) ms ≡ o → (p : Option LineKey) → first_bad_key ms ≡ p → line_fault Four n ms ≡ spelling_fault Four n ms
-    by_keys (Some key) e p f = let bad : line_fault Three n ms ≡ Some (UnknownKey key) = rw e refl in cc
-    by_keys None e (Some key) f = let bad : line_fault Three n ms ≡ Some (fault_of_line_key n key) = rw e (rw f refl) in cc
-    by_keys None e None f = rw (same_unknown_of_four ms no_word) (rw e (rw f refl))
+    by_keys : first_bad_key Four ms ≡ None → (o : Option (List ℕ)) → first_unknown (Line Three) ms ≡ o → line_fault Four n ms ≡ spelling_fault Four n ms
+    by_keys bad (Some key) e = let bad : line_fault Three n ms ≡ Some (UnknownKey key) = rw e refl in cc
+    by_keys bad None e = rw (same_unknown_of_four ms no_word) (rw e (rw bad refl))
 
 pub small_method_is_told : (n : ℕ) (ms : Members) → LineHasNoWordOfFour ms → line_fault Three n ms ≡ None → names_small_method ms ≡ true → line_fault Four n ms ≡ Some (MethodInLowerCase n)
 small_method_is_told n ms no_word none small = spelling_alone n ms no_word none ∙ rw small refl

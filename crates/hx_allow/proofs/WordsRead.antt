@@ -32,11 +32,11 @@ is_caching_word (Word word) = is_of_caching (word_row word).place
 is_caching_word key = true
 
 -- a line that takes no words has none
-absent : (place : Place) (row : Row) (ms : Members) → is_of_caching place ≡ true → line_takes_words ms ≡ false → is_good_at place row ms ≡ true → get_member row.key ms ≡ None
-absent Needed row ms caching untaken good = cc
-absent Optional row ms caching untaken good = cc
-absent AllowingLine row ms caching untaken good = cc
-absent CachingLine row ms caching untaken good = by_value (get_member row.key ms) (is_of_kind row.kind row.key ms) (line_takes_words ms) untaken good
+absent : (version : TableVersion) (place : Place) (row : Row) (ms : Members) → is_of_caching place ≡ true → line_takes_words ms ≡ false → is_good_at version place row ms ≡ true → get_member row.key ms ≡ None
+absent version Needed row ms caching untaken good = cc
+absent version Optional row ms caching untaken good = cc
+absent version AllowingLine row ms caching untaken good = cc
+absent version CachingLine row ms caching untaken good = by_value (get_member row.key ms) (is_of_kind version row.kind row.key ms) (line_takes_words ms) untaken good
   where
     by_value : (o : Option Data) (value takes : Bool) → takes ≡ false → is_none o || (value && takes) ≡ true → o ≡ None
     by_value None value takes untaken good = refl
@@ -44,9 +44,9 @@ absent CachingLine row ms caching untaken good = by_value (get_member row.key ms
     by_value (Some d) true false untaken good = cc
     by_value (Some d) false takes untaken good = cc
 
-no_words : (ms : Members) → line_takes_words ms ≡ false → first_bad_key ms ≡ None → LineHasNoWord ms
-no_words ms untaken none = λ word.
-    absent (word_row word).place (word_row word) ms (each_key is_caching_word refl (Word word)) untaken (each_good ms none (Word word))
+no_words : (version : TableVersion) (ms : Members) → line_takes_words ms ≡ false → first_bad_key version ms ≡ None → LineHasNoWord ms
+no_words version ms untaken none = λ word.
+    absent version (word_row word).place (word_row word) ms (each_key is_caching_word refl (Word word)) untaken (each_good version ms none (Word word))
 
 -- a line that takes words has an origin and its cache on
 has_origin : (text : Option (List ℕ)) → is_some_and is_line_origin text ≡ true → is_some_and (λ t. bytes_eq t (codes "deny")) text ≡ false → is_some (option_and_then address_text text) ≡ true
@@ -68,18 +68,18 @@ takes_them : (version : TableVersion) (n : ℕ) (ms : Members) → line_fault ve
 unfolding line_fault line_read
 takes_them version n ms none = by_keys (first_unknown (Line version) ms) refl
   where
-    parts : (takes : Bool) → line_takes_words ms ≡ takes → first_bad_key ms ≡ None → LineTakesItsWords (line_read version ms)
+    parts : (takes : Bool) → line_takes_words ms ≡ takes → first_bad_key version ms ≡ None → LineTakesItsWords (line_read version ms)
     parts true is good =
         let both = both_hold (key_has_text (codes "origin") (codes "deny") ms) (key_has_text (codes "cache") (codes "off") ms) is in
-        let origin : is_some_and is_line_origin (text_at (codes "origin") ms) ≡ true = each_good ms good Origin in
+        let origin : is_some_and is_line_origin (text_at (codes "origin") ms) ≡ true = each_good version ms good Origin in
         inr (has_origin (text_at (codes "origin") ms) origin both.0, ap not both.1)
-    parts false is good = inl (plain_policy version ms (no_words ms is good) (and_none (has_keys_of version Four) is))
+    parts false is good = inl (plain_policy version ms (no_words version ms is good) (and_none (has_keys_of version Four) is))
 
     by_keys : (o : Option (List ℕ)) → first_unknown (Line version) ms ≡ o → LineTakesItsWords (line_read version ms)
     by_keys (Some key) e = let bad : line_fault version n ms ≡ Some (UnknownKey key) = rw e refl in cc
     by_keys None e =
-        let is : line_fault version n ms ≡ first_fault_or_later (option_map (fault_of_line_key n) (first_bad_key ms)) (spelling_fault version n ms) = rw e refl in
-        parts (line_takes_words ms) refl (none_mapped (fault_of_line_key n) (first_bad_key ms) (or_later_none (option_map (fault_of_line_key n) (first_bad_key ms)) (spelling_fault version n ms) (sym is ∙ none)).0)
+        let is : line_fault version n ms ≡ first_fault_or_later (option_map (fault_of_line_key n) (first_bad_key version ms)) (spelling_fault version n ms) = rw e refl in
+        parts (line_takes_words ms) refl (none_mapped (fault_of_line_key n) (first_bad_key version ms) (or_later_none (option_map (fault_of_line_key n) (first_bad_key version ms)) (spelling_fault version n ms) (sym is ∙ none)).0)
 
 pub each_takes_them : (t : Members) (table : Table) → judge_table t ≡ Ok table → All LineTakesItsWords table.lines
 each_takes_them t table e = each_line_read LineTakesItsWords t table (takes_them (version_of t)) (sym e)

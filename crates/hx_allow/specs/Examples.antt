@@ -1,11 +1,13 @@
 -- Tables, lines and requests for worked cases.
-use Rattle.std.specs.Prelude.{ℕ, zero, suc, pos, true, false, List, [], ◌∷◌, ◌++◌, codes, Option, Some, None}
+use Rattle.std.specs.Prelude.{ℕ, zero, suc, pos, true, false, List, [], ◌∷◌, ◌++◌, codes, Option, Some, None, map}
 use Rattle.toml.specs.Data.{Data, string, integer, array, Items, no_items, item, Members, no_members, member}
 use Rattle.hx_target.specs.declared.targets.Target.{Target}
 use Rattle.hx_target.specs.Paths.{table_path_of}
 use Rattle.hx_policy.specs.Policies.{plain}
 use Rattle.hx_policy.specs.declared.words.Policy.{Policy}
 use Rattle.hx_allow.specs.TableLines.{Line}
+use Rattle.hx_allow.specs.declared.line_hosts.LineHost.{LineHost}
+use Rattle.hx_allow.specs.declared.line_hosts.LineHost.TheVariants.{Every, One, Below}
 
 -- a key and its value
 abbrev pub KeyAndValue : Type 0
@@ -81,10 +83,30 @@ target_for_path host path = record {
       = table_path_of path;
 }
 
+-- the one host, where there is one
+abbrev pub host_or_every : Option (List ℕ) → LineHost
+host_or_every None = Every
+host_or_every (Some host) = One host
+
 -- a line that is read, with one method
 abbrev pub line_with_method : Option (List ℕ) → List ℕ → List ℕ → Option (List ℕ) → Line
-line_with_method host name path origin =
-    record { host = host; methods = name ∷ []; path = path; origin = origin; policy = plain true }
+line_with_method host name path origin = record {
+  hosts = host_or_every host ∷ [];
+  methods = name ∷ [];
+  paths = path ∷ [];
+  origin = origin;
+  policy = plain true;
+}
+
+-- one for each method, with these hosts and paths
+abbrev pub line_with_lists : List LineHost → List (List ℕ) → Option (List ℕ) → Line
+line_with_lists hosts paths origin = record {
+  hosts = hosts;
+  methods = codes "*" ∷ [];
+  paths = paths;
+  origin = origin;
+  policy = plain true;
+}
 
 -- what a line without words says in a table of version 4: the conditions of clients stay with the proxy
 abbrev pub plain_of_four : Policy
@@ -114,6 +136,23 @@ indexed_lines =
     line_with_method (Some (codes "x")) (codes "*") (codes "/p") None ∷ line_with_method None (codes "GET")
     (codes "/") origin_8081
     ∷ line_with_method (Some (codes "x")) (codes "POST") (codes "/") origin_8081 ∷ []
+
+-- a line that denies two paths of two hosts and of those below one, one for the hosts below it, and one for every host
+abbrev pub lines_with_lists : List Line
+lines_with_lists =
+    line_with_lists (One (codes "a") ∷ One (codes "b") ∷ Below (codes "c") ∷ []) (codes "/p" ∷ codes "/q" ∷ []) None
+    ∷ line_with_lists (Below (codes "c") ∷ []) (codes "/" ∷ []) origin_8081
+    ∷ line_with_lists (Every ∷ []) (codes "/" ∷ []) (Some (codes "127.0.0.1:8082")) ∷ []
+
+-- a line with these values of `host` and `path`
+abbrev pub line_table_of : Data → Data → Members
+line_table_of host path =
+    table_of_pairs ((codes "host", host) ∷ key_with_method (codes "GET") ∷ key_with_text (codes "origin") (codes "deny")
+    ∷ (codes "path", path) ∷ [])
+
+-- a list of these texts
+abbrev pub list_of_texts : List (List ℕ) → Data
+list_of_texts texts = array (array_of_values (map (λ text. string text) texts))
 
 -- a line without cache, and one with it
 abbrev pub line_without_cache : List Line

@@ -42,9 +42,9 @@ words_of_kind a_version = codes "be 1, 2, 3 or 4, without quotes"
 words_of_kind (one_of first second) = codes "be \"" ++ (first ++ (codes "\" or \"" ++ (second ++ codes "\"")))
 words_of_kind a_name = codes "be a lower-case letter and at most 31 of a-z, 0-9 and -, in quotes"
 words_of_kind some_lines = []
-words_of_kind a_host = codes "be \"*\" or one host in lower case, without a port, an IPv6 address in brackets"
+words_of_kind a_host = codes "be \"*\" or one host in lower case, without a port, an IPv6 address in brackets; in version 4 also \"*.\" and a name for the hosts below it, or a list of 1 to 32 of these"
 words_of_kind some_methods = codes "be a list of 1 to 32, each \"*\" or a method of at most 15 bytes, but not CONNECT, TRACE or OPTIONS"
-words_of_kind a_path = codes "begin with / and not to end with it, but for / itself; no ?, #, blank, byte above 7E, segment . or .., or % without two hexadecimal digits behind it"
+words_of_kind a_path = codes "begin with / and not to end with it, but for / itself; no ?, #, blank, byte above 7E, segment . or .., or % without two hexadecimal digits behind it; in version 4 also a list of 1 to 32 of these"
 words_of_kind an_origin = codes "be \"deny\" or an IPv4 address and a port, as in \"127.0.0.1:8081\""
 
 -- where a key may stand

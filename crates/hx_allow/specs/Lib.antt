@@ -2,12 +2,14 @@ pub mod Addresses
 pub mod FaultTexts
 pub mod Index
 pub mod Keys
+pub mod LineHosts
 pub mod LineTables
 pub mod LineWords
 pub mod TableLines
 pub mod Matching
 pub mod PathTails
 pub mod NeverReached
+pub mod OneByOne
 pub mod Rows
 pub mod Tables
 pub mod Values

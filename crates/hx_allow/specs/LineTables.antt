@@ -1,24 +1,25 @@
 -- What a `[[line]]` table says, or its first fault.
 use Rattle.std.specs.Prelude.{ℕ, ◌+◌, ◌-◌, ◌==◌, nat_le, Bool, not, ◌&&◌, ◌||◌, List, [], ◌∷◌, length}
 use Rattle.std.specs.Prelude.{slice_index, codes, bytes_eq, Option, Some, None, is_none, unwrap_or, if◌then◌else◌}
-use Rattle.std.specs.Prelude.{option_map, find, is_some, false}
+use Rattle.std.specs.Prelude.{option_map, find, is_some, false, map, drop}
 use Rattle.std.specs.Option.{option_and_then}
 use Rattle.std.specs.List.{list_any, list_all}
 use Rattle.std.specs.Char.{is_ascii_uppercase, is_ascii_lowercase}
-use Rattle.http_uri.specs.ByteClasses.{slash, hash_sign, question_mark}
+use Rattle.http_uri.specs.ByteClasses.{slash, hash_sign, question_mark, left_bracket}
 use Rattle.toml.specs.Data.{Data, Items, no_items, item, table, Members, get_member, as_str, as_table}
 use Rattle.hx_fields.specs.Tokens.{is_token}
 use Rattle.hx_target.specs.Hosts.{is_host}
 use Rattle.hx_target.specs.Paths.{has_bad_escape, has_dot_segment, table_path_of}
 use Rattle.hx_allow.specs.Addresses.{is_address, address_text}
+use Rattle.hx_allow.specs.LineHosts.{begins_with_star_dot, line_host_of}
 use Rattle.hx_allow.specs.TableLines.{Line as PlainLine}
 use Rattle.hx_allow.specs.LineWords.{key_has_one_of_two, line_denies, line_takes_words, policy_of_line_table}
 use Rattle.hx_allow.specs.Matching.{is_never_allowed}
 use Rattle.hx_allow.specs.Rows.{Kind, a_number, some_seconds, one_of, a_host, some_methods, a_path, an_origin, Row}
-use Rattle.hx_allow.specs.Rows.{line_row}
+use Rattle.hx_allow.specs.Rows.{line_row, has_keys_of}
 use Rattle.hx_allow.specs.Rows.{line_keys, fault_of_line_key}
 use Rattle.hx_allow.specs.Values.{first_unknown, text_at, number_between, is_some_and, has_one_to_most, all_items}
-use Rattle.hx_allow.specs.Values.{text_unless, texts_of, items_at}
+use Rattle.hx_allow.specs.Values.{texts_of, texts_at, items_at}
 use Rattle.hx_allow.specs.declared.values.Scope.TheVariants.{Line}
 use Rattle.hx_allow.specs.declared.values.TableVersion.{TableVersion}
 use Rattle.hx_allow.specs.declared.values.TableVersion.TheVariants.{Four}
@@ -30,18 +31,27 @@ use Rattle.hx_allow.specs.declared.rows.LineKey.{LineKey}
 use Rattle.hx_allow.specs.declared.rows.Place.{Place}
 use Rattle.hx_allow.specs.declared.rows.Place.TheVariants.{Needed, Optional, AllowingLine, CachingLine}
 
--- `*`, or a host in lower case
-unfoldable pub is_line_host : List ℕ → Bool
-is_line_host text = bytes_eq text (codes "*") || (is_host text && not (list_any is_ascii_uppercase text))
+-- a host in lower case
+abbrev pub is_host_in_lower_case : List ℕ → Bool
+is_host_in_lower_case text = is_host text && not (list_any is_ascii_uppercase text)
+
+-- own: `*.` and a name in lower case that has a letter, so that no address is below it: an address has no labels
+-- (RFC 3986, section 3.2.2)
+abbrev pub names_hosts_below : List ℕ → Bool
+names_hosts_below text =
+    begins_with_star_dot text && is_host_in_lower_case (drop 2 text)
+    && not (slice_index (drop 2 text) 0 == left_bracket)
+    && list_any is_ascii_lowercase (drop 2 text)
+
+-- `*`, a host in lower case, or in the fourth version `*.` and a name
+unfoldable pub is_line_host : TableVersion → List ℕ → Bool
+is_line_host version text =
+    bytes_eq text (codes "*") || is_host_in_lower_case text || (has_keys_of version Four && names_hosts_below text)
 
 -- `*`, or a token of at most 15 bytes that a line may name
 unfoldable pub is_line_method : List ℕ → Bool
 is_line_method text =
     bytes_eq text (codes "*") || (is_token text && nat_le (length text) 15 && not (is_never_allowed text))
-
--- 1 to 32 of these
-abbrev pub are_line_methods : Items → Bool
-are_line_methods ds = has_one_to_most 32 ds && all_items (λ d. is_some_and is_line_method (as_str d)) ds
 
 abbrev pub is_path_byte : ℕ → Bool
 is_path_byte b = nat_le 0x21 b && nat_le b 0x7E && not (b == question_mark) && not (b == hash_sign)
@@ -61,32 +71,51 @@ is_line_path text =
 abbrev pub is_line_origin : List ℕ → Bool
 is_line_origin text = bytes_eq text (codes "deny") || is_address text
 
--- the value of a key is of this kind, of those that stand in a line
-abbrev pub is_of_kind : Kind → List ℕ → Members → Bool
-is_of_kind (a_number low high) key ms = is_some (number_between low high (get_member key ms))
-is_of_kind (some_seconds low high) key ms = is_some (number_between low high (get_member key ms))
-is_of_kind (one_of first second) key ms = key_has_one_of_two key first second ms
-is_of_kind a_host key ms = is_some_and is_line_host (text_at key ms)
-is_of_kind some_methods key ms = is_some_and are_line_methods (items_at key ms)
-is_of_kind a_path key ms = is_some_and is_line_path (text_at key ms)
-is_of_kind an_origin key ms = is_some_and is_line_origin (text_at key ms)
-is_of_kind _ key ms = false
+-- a text is one of these, in a table of this version
+abbrev pub is_text_of : TableVersion → Kind → List ℕ → Bool
+is_text_of version a_host text = is_line_host version text
+is_text_of version some_methods text = is_line_method text
+is_text_of version a_path text = is_line_path text
+is_text_of version an_origin text = is_line_origin text
+is_text_of version _ text = false
+
+-- 1 to 32 of these
+abbrev pub are_texts_of : TableVersion → Kind → Items → Bool
+are_texts_of version kind ds =
+    has_one_to_most 32 ds && all_items (λ d. is_some_and (is_text_of version kind) (as_str d)) ds
+
+-- one of these, or in the fourth version a list of 1 to 32
+abbrev pub is_text_or_list : TableVersion → Kind → List ℕ → Members → Bool
+is_text_or_list version kind key ms =
+    is_some_and (is_text_of version kind) (text_at key ms)
+    || (has_keys_of version Four && is_some_and (are_texts_of version kind) (items_at key ms))
+
+-- the value of a key is of this kind, of those that stand in a line of a table of this version
+abbrev pub is_of_kind : TableVersion → Kind → List ℕ → Members → Bool
+is_of_kind version (a_number low high) key ms = is_some (number_between low high (get_member key ms))
+is_of_kind version (some_seconds low high) key ms = is_some (number_between low high (get_member key ms))
+is_of_kind version (one_of first second) key ms = key_has_one_of_two key first second ms
+is_of_kind version a_host key ms = is_text_or_list version a_host key ms
+is_of_kind version some_methods key ms = is_some_and (are_texts_of version some_methods) (items_at key ms)
+is_of_kind version a_path key ms = is_text_or_list version a_path key ms
+is_of_kind version an_origin key ms = is_some_and is_line_origin (text_at key ms)
+is_of_kind version _ key ms = false
 
 -- a row's key has a good value in a line that takes it, or needn't stand and doesn't
-abbrev pub is_good_at : Place → Row → Members → Bool
-is_good_at Needed row ms = is_of_kind row.kind row.key ms
-is_good_at Optional row ms = is_none (get_member row.key ms) || is_of_kind row.kind row.key ms
-is_good_at AllowingLine row ms =
-    is_none (get_member row.key ms) || (is_of_kind row.kind row.key ms && not (line_denies ms))
-is_good_at CachingLine row ms =
-    is_none (get_member row.key ms) || (is_of_kind row.kind row.key ms && line_takes_words ms)
+abbrev pub is_good_at : TableVersion → Place → Row → Members → Bool
+is_good_at version Needed row ms = is_of_kind version row.kind row.key ms
+is_good_at version Optional row ms = is_none (get_member row.key ms) || is_of_kind version row.kind row.key ms
+is_good_at version AllowingLine row ms =
+    is_none (get_member row.key ms) || (is_of_kind version row.kind row.key ms && not (line_denies ms))
+is_good_at version CachingLine row ms =
+    is_none (get_member row.key ms) || (is_of_kind version row.kind row.key ms && line_takes_words ms)
 
-abbrev pub is_good : Members → LineKey → Bool
-is_good ms key = is_good_at (line_row key).place (line_row key) ms
+abbrev pub is_good : TableVersion → Members → LineKey → Bool
+is_good version ms key = is_good_at version (line_row key).place (line_row key) ms
 
 -- the first key that isn't good, in the order in which they are looked at
-abbrev pub first_bad_key : Members → Option LineKey
-first_bad_key ms = find (λ key. not (is_good ms key)) line_keys
+abbrev pub first_bad_key : TableVersion → Members → Option LineKey
+first_bad_key version ms = find (λ key. not (is_good version ms key)) line_keys
 
 abbrev pub first_fault_or_later : Option ConfigFault → Option ConfigFault → Option ConfigFault
 first_fault_or_later None later = later
@@ -103,8 +132,13 @@ names_small_method ms = is_some_and (λ ds. not (all_items (λ d. not (has_small
 abbrev pub has_star : List ℕ → Bool
 has_star text = list_any (λ b. b == 42) text
 
+abbrev pub is_text_with_star : Data → Bool
+is_text_with_star d = is_some_and has_star (as_str d)
+
 abbrev pub names_path_with_star : Members → Bool
-names_path_with_star ms = is_some_and has_star (text_at (codes "path") ms)
+names_path_with_star ms =
+    is_some_and has_star (text_at (codes "path") ms)
+    || is_some_and (λ ds. not (all_items (λ d. not (is_text_with_star d)) ds)) (items_at (codes "path") ms)
 
 -- own: what version 4 refuses of a line whose keys are good, since it is most often meant otherwise
 abbrev pub spelling_fault : TableVersion → ℕ → Members → Option ConfigFault
@@ -121,14 +155,14 @@ line_fault version n ms = after_keys (first_unknown (Line version) ms)
     after_keys : Option (List ℕ) → Option ConfigFault
     after_keys (Some key) = Some (UnknownKey key)
     after_keys None =
-        first_fault_or_later (option_map (fault_of_line_key n) (first_bad_key ms)) (spelling_fault version n ms)
+        first_fault_or_later (option_map (fault_of_line_key n) (first_bad_key version ms)) (spelling_fault version n ms)
 
--- the line, where it has no fault, in a table of this version
+-- the line, where it has no fault, in a table of this version; a text alone is a list of one
 unfoldable pub line_read : TableVersion → Members → PlainLine
 line_read version ms = record {
-  host = text_unless (codes "*") (text_at (codes "host") ms);
+  hosts = map line_host_of (texts_at (codes "host") ms);
   methods = texts_of (unwrap_or (items_at (codes "methods") ms) no_items);
-  path = table_path_of (unwrap_or (text_at (codes "path") ms) []);
+  paths = map table_path_of (texts_at (codes "path") ms);
   origin = option_and_then address_text (text_at (codes "origin") ms);
   policy = policy_of_line_table version ms;
 }

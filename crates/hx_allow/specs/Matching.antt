@@ -1,9 +1,9 @@
 -- Which line of the operator's table decides on a request.
 --
--- matches_line: a line's host, a method and its path match
+-- matches_line: one of a line's hosts, one of its methods and one of its paths match
 -- verdict_of: the first line that matches
 -- origin_of, origin_address_of, policy_of: what the line of a number says
-use Rattle.std.specs.Prelude.{◌≤◌, IsSome, ℕ, ◌+◌, ◌-◌, ◌==◌, nat_lt, Bool, true, false, not, ◌&&◌, ◌||◌, if◌then◌else◌}
+use Rattle.std.specs.Prelude.{◌≤◌, IsSome, ℕ, ◌+◌, ◌-◌, ◌==◌, nat_lt, Bool, false, not, ◌&&◌, ◌||◌, if◌then◌else◌}
 use Rattle.std.specs.Prelude.{List, [], ◌∷◌, length, take, slice_index, slice_get, codes, bytes_eq, Option}
 use Rattle.std.specs.Prelude.{Some, None, is_some, unwrap_or, option_map}
 use Rattle.std.specs.Option.{option_and_then}
@@ -13,14 +13,10 @@ use Rattle.hx_target.specs.declared.targets.Target.{Target}
 use Rattle.hx_policy.specs.declared.words.Policy.{Policy}
 use Rattle.hx_policy.specs.Policies.{plain}
 use Rattle.hx_allow.specs.Addresses.{address_of}
+use Rattle.hx_allow.specs.LineHosts.{any_host_matches}
 use Rattle.hx_allow.specs.TableLines.{Line}
 use Rattle.hx_allow.specs.declared.verdicts.Verdict.{Verdict}
 use Rattle.hx_allow.specs.declared.verdicts.Verdict.TheVariants.{Allowed, DeniedBy, NoLine}
-
--- ports aren't compared
-abbrev pub matches_host : Option (List ℕ) → List ℕ → Bool
-matches_host None asked = true
-matches_host (Some host) asked = bytes_eq host asked
 
 -- own: methods that no line allows: a tunnel, and two that need Max-Forwards (RFC 9110, sections 7.6.2 and 9.3.6)
 abbrev pub is_never_allowed : List ℕ → Bool
@@ -43,10 +39,14 @@ is_below_path path asked =
 abbrev pub matches_path : List ℕ → List ℕ → Bool
 matches_path path asked = bytes_eq path (codes "/") || bytes_eq path asked || is_below_path path asked
 
+-- one of some paths matches
+abbrev pub any_path_matches : List (List ℕ) → List ℕ → Bool
+any_path_matches paths asked = list_any (λ path. matches_path path asked) paths
+
 unfoldable pub matches_line : Line → List ℕ → Target → Bool
 matches_line line method target =
-    matches_host line.host target.key.host && matches_method line.methods method
-    && matches_path line.path target.table_path
+    any_host_matches line.hosts target.key.host && matches_method line.methods method
+    && any_path_matches line.paths target.table_path
 
 -- what a line of this number says where it decides
 abbrev pub verdict_of_line : ℕ → Line → Verdict

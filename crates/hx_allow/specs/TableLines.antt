@@ -1,13 +1,14 @@
 -- The operator's table as plain lists.
 use Rattle.std.specs.Prelude.{ℕ, List, Option}
 use Rattle.hx_policy.specs.declared.words.Policy.{Policy}
+use Rattle.hx_allow.specs.declared.line_hosts.LineHost.{LineHost}
 
--- A line: the only host that it matches or none for every one, its methods with `*` among them, its path, the address
--- of its origin or none where it denies, and what it says of caching.
+-- A line: the hosts that it matches, its methods with `*` among them, its paths, the address of its origin or none
+-- where it denies, and what it says of caching.
 pub record Line : Type 0 where
-  pub host : Option (List ℕ)
+  pub hosts : List LineHost
   pub methods : List (List ℕ)
-  pub path : List ℕ
+  pub paths : List (List ℕ)
   pub origin : Option (List ℕ)
   pub policy : Policy
 

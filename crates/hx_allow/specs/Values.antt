@@ -55,11 +55,6 @@ all_items test (item d ds) = test d && all_items test ds
 abbrev pub has_one_to_most : ℕ → Items → Bool
 has_one_to_most most ds = nat_le 1 (item_count ds) && nat_le (item_count ds) most
 
--- the text, but for the one that stands for none
-abbrev pub text_unless : List ℕ → Option (List ℕ) → Option (List ℕ)
-text_unless word None = None
-text_unless word (Some text) = if bytes_eq text word then None else Some text
-
 abbrev pub texts_with : Option (List ℕ) → List (List ℕ) → List (List ℕ)
 texts_with None texts = texts
 texts_with (Some text) texts = text ∷ texts
@@ -71,3 +66,12 @@ texts_of (item d ds) = texts_with (as_str d) (texts_of ds)
 
 abbrev pub items_at : List ℕ → Members → Option Items
 items_at key ms = option_and_then as_array (get_member key ms)
+
+abbrev pub texts_or_one : Option (List ℕ) → Option Items → List (List ℕ)
+texts_or_one (Some text) values = text ∷ []
+texts_or_one None (Some values) = texts_of values
+texts_or_one None None = []
+
+-- the text of a key, or those of its list
+abbrev pub texts_at : List ℕ → Members → List (List ℕ)
+texts_at key ms = texts_or_one (text_at key ms) (items_at key ms)

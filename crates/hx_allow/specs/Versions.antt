@@ -1,11 +1,14 @@
 -- Lines that say nothing new, and which lines may.
-use Rattle.std.specs.Prelude.{◌≡◌, ◌⊎◌, true, false, None, is_some}
+use Rattle.std.specs.Prelude.{◌≡◌, ◌⊎◌, true, false, None, is_some, codes, length}
+use Rattle.std.specs.List.{list_any}
 use Rattle.toml.specs.Data.{Members, get_member}
 use Rattle.hx_policy.specs.Policies.{plain}
 use Rattle.hx_allow.specs.Keys.{word_key}
+use Rattle.hx_allow.specs.LineHosts.{begins_with_star_dot, is_for_hosts_below}
 use Rattle.hx_allow.specs.LineTables.{names_small_method, names_path_with_star}
 use Rattle.hx_allow.specs.Rows.{word_row}
 use Rattle.hx_allow.specs.TableLines.{Line}
+use Rattle.hx_allow.specs.Values.{is_some_and, items_at, text_at}
 use Rattle.hx_allow.specs.declared.config_faults.LineWord.{LineWord}
 use Rattle.hx_allow.specs.declared.values.TableVersion.TheVariants.{Four}
 
@@ -20,6 +23,17 @@ LineHasNoWordOfFour ms = (word : LineWord) → (word_row word).since ≡ Four �
 -- no method has a letter in lower case, and the path has no `*`
 abbrev pub LineIsSpelledForFour : Members → Type 0
 LineIsSpelledForFour ms = (names_small_method ms ≡ false) × (names_path_with_star ms ≡ false)
+
+-- host and path are no lists, and the host isn't `*.` and another
+abbrev pub LineNamesAsInThree : Members → Type 0
+LineNamesAsInThree ms =
+    (items_at (codes "host") ms ≡ None) × (items_at (codes "path") ms ≡ None)
+    × (is_some_and begins_with_star_dot (text_at (codes "host") ms) ≡ false)
+
+-- one path, and one host or every one
+abbrev pub LineHasOneHostAndPath : Line → Type 0
+LineHasOneHostAndPath line =
+    (length line.hosts ≡ 1) × (length line.paths ≡ 1) × (list_any is_for_hosts_below line.hosts ≡ false)
 
 -- what a line of the third version says: errors have the lifetime of all others, and the conditions of clients are the
 -- origin's to judge

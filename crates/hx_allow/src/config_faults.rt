@@ -78,12 +78,13 @@ pub enum ConfigFault {
     BadName,
     /// The number of this key isn't in its range; of `max_store`, or is less than `max_stored`.
     BadNumber(NumberKey),
-    /// `host` of this line, counted from 1, is neither `"*"` nor a host in lower case.
+    /// `host` of this line, counted from 1, is neither `"*"` nor a host in lower case, nor in version 4 `"*."` and a
+    /// name or a list of 1 to 32 of these.
     BadHost(u16),
     /// `methods` of this line isn't an array of 1 to 32 texts that are `"*"` or a token of at most 15
     /// bytes other than CONNECT, TRACE and OPTIONS.
     BadMethod(u16),
-    /// `path` of this line is no path.
+    /// `path` of this line is no path, nor in version 4 a list of 1 to 32 of them.
     BadPath(u16),
     /// `origin` of this line is neither `"deny"` nor four numbers and a port.
     BadOrigin(u16),
@@ -97,7 +98,7 @@ pub enum ConfigFault {
     BadWord(u16, LineWord),
     /// A method of this line of a table of version 4 has a letter in lower case.
     MethodInLowerCase(u16),
-    /// `path` of this line of a table of version 4 has a `*`.
+    /// A path of this line of a table of version 4 has a `*`.
     StarInPath(u16),
 }
 

@@ -29,9 +29,9 @@ pub fn worked_words_of_the_top()
 
 /// What has to stand in a line.
 pub fn worked_words_of_lines()
-    ensures bad_host { (line : ℕ) → expected_words (BadHost line) ≡ codes "host has to be \"*\" or one host in lower case, without a port, an IPv6 address in brackets" }
+    ensures bad_host { (line : ℕ) → expected_words (BadHost line) ≡ codes "host has to be \"*\" or one host in lower case, without a port, an IPv6 address in brackets; in version 4 also \"*.\" and a name for the hosts below it, or a list of 1 to 32 of these" }
     ensures bad_method { (line : ℕ) → expected_words (BadMethod line) ≡ codes "methods has to be a list of 1 to 32, each \"*\" or a method of at most 15 bytes, but not CONNECT, TRACE or OPTIONS" }
-    ensures bad_path { (line : ℕ) → expected_words (BadPath line) ≡ codes "path has to begin with / and not to end with it, but for / itself; no ?, #, blank, byte above 7E, segment . or .., or % without two hexadecimal digits behind it" }
+    ensures bad_path { (line : ℕ) → expected_words (BadPath line) ≡ codes "path has to begin with / and not to end with it, but for / itself; no ?, #, blank, byte above 7E, segment . or .., or % without two hexadecimal digits behind it; in version 4 also a list of 1 to 32 of these" }
     ensures bad_origin { (line : ℕ) → expected_words (BadOrigin line) ≡ codes "origin has to be \"deny\" or an IPv4 address and a port, as in \"127.0.0.1:8081\"" }
     ensures method_in_lower_case { (line : ℕ) → expected_words (MethodInLowerCase line) ≡ codes "a method has a letter in lower case; methods compare with their case, so write GET and not get" }
     ensures star_in_path { (line : ℕ) → expected_words (StarInPath line) ≡ codes "path has a *, which is that character and no pattern; leave it out: a path matches itself and all below it" }

@@ -89,13 +89,13 @@ impl fmt::Display for Kind {
             ),
             Kind::Lines => Ok(()),
             Kind::Host => f.write_str(
-                "be \"*\" or one host in lower case, without a port, an IPv6 address in brackets",
+                "be \"*\" or one host in lower case, without a port, an IPv6 address in brackets; in version 4 also \"*.\" and a name for the hosts below it, or a list of 1 to 32 of these",
             ),
             Kind::Methods => f.write_str(
                 "be a list of 1 to 32, each \"*\" or a method of at most 15 bytes, but not CONNECT, TRACE or OPTIONS",
             ),
             Kind::Path => f.write_str(
-                "begin with / and not to end with it, but for / itself; no ?, #, blank, byte above 7E, segment . or .., or % without two hexadecimal digits behind it",
+                "begin with / and not to end with it, but for / itself; no ?, #, blank, byte above 7E, segment . or .., or % without two hexadecimal digits behind it; in version 4 also a list of 1 to 32 of these",
             ),
             Kind::Origin => f.write_str(
                 "be \"deny\" or an IPv4 address and a port, as in \"127.0.0.1:8081\"",

@@ -18,9 +18,10 @@ ghost use Rattle.hx_allow.specs.NeverReached.{first_line_taking};
 ghost use Rattle.hx_allow.specs.Rows.{has_keys_of, word_row};
 ghost use Rattle.hx_allow.specs.Tables.{version_of, judge_table, BytesReadAs};
 ghost use Rattle.hx_allow.specs.Versions.{LineHasNoWord, LineHasNoWordOfFour, LineIsOfThree, LineTakesItsWords};
-ghost use Rattle.hx_allow.specs.Versions.{LineIsSpelledForFour};
+ghost use Rattle.hx_allow.specs.Versions.{LineIsSpelledForFour, LineNamesAsInThree, LineHasOneHostAndPath};
 ghost use Rattle.hx_allow.specs.declared.config_faults.ConfigFault.{ConfigFault as Fault};
 ghost use Rattle.hx_allow.specs.declared.config_faults.LineWord.{LineWord as Word};
+ghost use Rattle.hx_allow.specs.declared.line_hosts.LineHost.TheVariants.{Every, One as OneHost};
 ghost use Rattle.hx_allow.specs.declared.config_faults.NumberKey.TheVariants.{Version, MaxStore};
 ghost use Rattle.hx_allow.specs.declared.values.TableVersion.{TableVersion};
 ghost use Rattle.hx_allow.specs.declared.values.TableVersion.TheVariants.{One, Two, Three, Four};
@@ -39,7 +40,7 @@ pub fn the_first_line_that_matches_decides()
 {}
 
 /// A verdict rests on a target's host and table path alone, for requests that are read too: whatever its port, its
-/// query and the spelling of its path. What it is compared with is a table path as well: the path of each line of a
+/// query and the spelling of its path. What it is compared with is a table path as well: each path of a line of a
 /// table that is read is its own table path.
 pub fn one_verdict_for_each_table_path()
     ensures alike { (lines : List Line) (method : List ℕ) (a b : Target) → a.key.host ≡ b.key.host
@@ -49,7 +50,7 @@ pub fn one_verdict_for_each_table_path()
         ≡ b.key.host
         → a.table_path ≡ b.table_path → verdict_of lines method a ≡ verdict_of lines method b }
     ensures lines { (bytes : List ℕ) (table : Table) → BytesReadAs bytes (Ok table)
-        → All (λ (line : Line). table_path_of line.path ≡ line.path) table.lines }
+        → All (λ (line : Line). All (λ path. table_path_of path ≡ path) line.paths) table.lines }
 {
     normalising_twice_is_once();
 }
@@ -64,7 +65,7 @@ pub fn the_first_line_at_fault_is_named()
 
 /// A table of the first version is never refused for `cache`, and each of its lines is cached,
 /// without a word of the third. A line without the keys that later versions add is read alike in
-/// all, but that the fourth refuses some spellings.
+/// all, but that the fourth refuses some spellings, and reads lists and `*.` and a host.
 pub fn version_one_reads_as_before()
     ensures never { (t : Members) (line : ℕ) → version_of t ≡ One → ¬ (judge_table t ≡ Err (Fault.BadCache line)) }
     ensures cached { (t : Members) (table : Table) → version_of t ≡ One → judge_table t ≡ Ok table
@@ -73,7 +74,8 @@ pub fn version_one_reads_as_before()
         → get_member (codes "cache") members ≡ None → LineHasNoWord members
         → line_fault version n members ≡ line_fault One n members }
     ensures alike_in_four { (n : ℕ) (members : Members) → get_member (codes "cache") members ≡ None
-        → LineHasNoWord members → LineIsSpelledForFour members → line_fault Four n members ≡ line_fault One n members }
+        → LineHasNoWord members → LineIsSpelledForFour members → LineNamesAsInThree members
+        → line_fault Four n members ≡ line_fault One n members }
 {}
 
 /// A table of the first two versions is never refused for a word of the third, and none of its
@@ -90,9 +92,10 @@ pub fn version_two_reads_as_before()
 /// A table of the first three versions is never refused for what the fourth adds: for the bound of
 /// the store's bytes, of which it has none, so that what is stored is bounded by its number alone, as
 /// before; and for a word of the fourth, of which none of its lines has one, so that errors have the
-/// lifetime of all others, and the conditions of clients go to the origin, as before. Nor is it
-/// refused for a method in lower case or a `*` in a path. A line without such a word and such a spelling is read alike
-/// in the fourth.
+/// lifetime of all others, and the conditions of clients go to the origin, as before. Nor is it refused
+/// for a method in lower case or a `*` in a path. Each of its lines has one path, and one host or every
+/// one. A line without such a word, such a spelling, a list and `*.` and a host is read alike in the
+/// fourth; what the third reads has neither of the last two.
 pub fn version_three_reads_as_before()
     ensures never { (t : Members) → has_keys_of (version_of t) Four ≡ false
         → ¬ (judge_table t ≡ Err (Fault.BadNumber MaxStore)) }
@@ -106,8 +109,12 @@ pub fn version_three_reads_as_before()
         → ¬ (judge_table t ≡ Err (Fault.MethodInLowerCase line)) }
     ensures never_for_stars { (t : Members) (line : ℕ) → has_keys_of (version_of t) Four ≡ false
         → ¬ (judge_table t ≡ Err (Fault.StarInPath line)) }
+    ensures one_host { (t : Members) (table : Table) → has_keys_of (version_of t) Four ≡ false
+        → judge_table t ≡ Ok table → All LineHasOneHostAndPath table.lines }
     ensures alike { (n : ℕ) (members : Members) → LineHasNoWordOfFour members → LineIsSpelledForFour members
-        → line_fault Four n members ≡ line_fault Three n members }
+        → LineNamesAsInThree members → line_fault Four n members ≡ line_fault Three n members }
+    ensures still_read { (n : ℕ) (members : Members) → LineHasNoWordOfFour members → LineIsSpelledForFour members
+        → line_fault Three n members ≡ None → line_fault Four n members ≡ None }
 {}
 
 /// A line of version 4 without fault has no method in lower case and no `*` in its path. One whose
@@ -159,9 +166,9 @@ pub fn a_whole_table_is_read()
       max_stored = 1000;
       max_store = None;
       lines = record {
-        host = None;
+        hosts = Every ∷ [];
         methods = codes "GET" ∷ codes "HEAD" ∷ codes "POST" ∷ [];
-        path = codes "/";
+        paths = codes "/" ∷ [];
         origin = Some (codes "127.0.0.1:8081");
         policy = plain true;
       } ∷ [];
@@ -178,15 +185,15 @@ pub fn a_table_of_two_lines_is_read()
       max_stored = 1000;
       max_store = None;
       lines = record {
-        host = None;
+        hosts = Every ∷ [];
         methods = codes "*" ∷ [];
-        path = codes "/admin";
+        paths = codes "/admin" ∷ [];
         origin = None;
         policy = plain true;
       } ∷ record {
-        host = Some (codes "x");
+        hosts = OneHost (codes "x") ∷ [];
         methods = codes "GET" ∷ [];
-        path = codes "/";
+        paths = codes "/" ∷ [];
         origin = Some (codes "127.0.0.1:8081");
         policy = plain true;
       } ∷ [];
@@ -209,21 +216,21 @@ pub fn lines_without_cache_are_read()
       max_stored = 1000;
       max_store = None;
       lines = record {
-        host = None;
+        hosts = Every ∷ [];
         methods = codes "*" ∷ [];
-        path = codes "/live";
+        paths = codes "/live" ∷ [];
         origin = Some (codes "127.0.0.1:8081");
         policy = plain false;
       } ∷ record {
-        host = None;
+        hosts = Every ∷ [];
         methods = codes "GET" ∷ [];
-        path = codes "/shop";
+        paths = codes "/shop" ∷ [];
         origin = Some (codes "127.0.0.1:8081");
         policy = plain true;
       } ∷ record {
-        host = None;
+        hosts = Every ∷ [];
         methods = codes "GET" ∷ [];
-        path = codes "/";
+        paths = codes "/" ∷ [];
         origin = Some (codes "127.0.0.1:8081");
         policy = plain true;
       } ∷ [];

@@ -13,10 +13,14 @@ mod fault_texts;
 mod host_index;
 mod laws;
 mod limits;
+mod line_hosts;
+mod line_paths;
 mod line_tables;
 mod line_word_cases;
 mod line_words;
 mod lines;
+mod list_cases;
+mod list_laws;
 mod matching;
 mod origins;
 mod path_tails;
@@ -49,6 +53,14 @@ pub use line_word_cases::{
     worked_conditions_of_versions, worked_keys_of_words, worked_lifetimes_of_versions,
     worked_places_of_words, worked_policies_of_words, worked_seconds_of_a_line,
     worked_texts_of_a_line,
+};
+pub use list_cases::{
+    faults_of_lists, hosts_of_each_version, lines_with_lists_decide, worked_lines_with_lists,
+    worked_lists_never_reached, worked_texts_of_hosts,
+};
+pub use list_laws::{
+    a_text_alone_is_a_list_of_one, hosts_below_one_end_with_it, lists_are_a_spelling,
+    worked_hosts_below_others,
 };
 pub use table_cases::{
     a_table_has_1_to_256_lines, faults_of_a_line_in_order, faults_of_a_store_bound,

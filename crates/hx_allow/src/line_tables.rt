@@ -1,5 +1,5 @@
 //! The lines of a TOML table: the first fault among them, and what they say.
-ghost use Rattle.std.specs.Prelude.{◌≡◌, ◌≤◌, ◌+◌, length, IfOk, Some, true, codes, unwrap_or, [], is_some, not};
+ghost use Rattle.std.specs.Prelude.{◌≡◌, ◌≤◌, ◌+◌, length, IfOk, Some, true, codes, unwrap_or, is_some, not, map};
 ghost use Rattle.std.specs.Option.{option_and_then, option_copied, option_map};
 ghost use Rattle.toml.specs.Data.{as_str, as_table, no_items, get_member};
 ghost use Rattle.hx_target.specs.Paths.{table_path_of};
@@ -7,30 +7,35 @@ ghost use Rattle.std.specs.List.{list_any, list_all};
 ghost use Rattle.std.specs.Char.{is_ascii_uppercase, is_ascii_lowercase};
 ghost use Rattle.toml.specs.View.{table_view, array_view, items_view, view};
 ghost use Rattle.hx_allow.specs.Addresses.{address_text};
-ghost use Rattle.hx_allow.specs.Values.{is_some_and, items_at, text_unless, texts_of, number_between, all_items};
-ghost use Rattle.hx_allow.specs.LineTables.{is_line_host, is_line_method, are_line_methods, is_path_byte};
+ghost use Rattle.hx_allow.specs.LineHosts.{line_host_of};
+ghost use Rattle.hx_allow.specs.Values.{is_some_and, items_at, texts_at, texts_of, number_between, all_items};
+ghost use Rattle.hx_allow.specs.LineTables.{is_host_in_lower_case, names_hosts_below, is_line_host, is_line_method};
+ghost use Rattle.hx_allow.specs.LineTables.{is_text_of, are_texts_of, is_text_or_list, is_path_byte};
 ghost use Rattle.hx_allow.specs.LineTables.{does_not_end_with_slash};
 ghost use Rattle.hx_allow.specs.LineTables.{is_line_path, is_line_origin, is_of_kind, is_good_at, first_bad_key};
 ghost use Rattle.hx_allow.specs.Rows.{plain_kind, plain_row};
 ghost use Rattle.hx_allow.specs.LineTables.{line_fault, line_read, lines_fault, lines_read, fault_of_line_item};
-ghost use Rattle.hx_allow.specs.LineTables.{has_small_letter, names_small_method, has_star, names_path_with_star};
+ghost use Rattle.hx_allow.specs.LineTables.{has_small_letter, names_small_method, has_star, is_text_with_star};
+ghost use Rattle.hx_allow.specs.LineTables.{names_path_with_star};
 ghost use Rattle.hx_allow.specs.LineTables.{spelling_fault};
 ghost use Rattle.hx_allow.specs.LineTables.{config_fault_found};
 
 use crate::ConfigFault;
 use crate::addresses::address_of;
 use crate::config_faults::FoundFault;
+use crate::line_hosts::LineHost;
+use crate::line_paths::LinePath;
 use crate::line_words::{key_has_one_of_two, line_denies, line_takes_words, policy_of_line_table};
 use crate::lines::{Line, is_never_allowed};
 use crate::origins::Origin;
-use crate::path_tails::PathTail;
 use crate::rows::{Kind, LINE_KEYS, LineKey, Place, Row};
+use crate::values::TableVersion::Four;
 use crate::values::{
     Scope, TableVersion, array_at, first_unknown, has_one_to_most, number_between, text_at,
     value_at,
 };
 use hx_fields::{Bytes, is_token};
-use hx_target::{has_bad_escape, is_host, names_a_dot_segment, table_path};
+use hx_target::{has_bad_escape, is_host, names_a_dot_segment};
 use std::alloc::{AllocError, Global};
 use toml::value::Array;
 use toml::{Table, Value};
@@ -41,20 +46,32 @@ fn has_uppercase(text: &[u8]) -> bool
     text.iter().any(|b| b.is_ascii_uppercase())
 }
 
-#[tactic(auto, unfolding(crate::specs::LineTables::is_line_host))]
-fn is_line_host(text: &[u8]) -> bool
-    ensures { result ≡ is_line_host text.now }
+fn is_host_in_lower_case(text: &[u8]) -> bool
+    ensures { result ≡ is_host_in_lower_case text.now }
 {
-    text == b"*".as_slice() || (is_host(text) && !has_uppercase(text))
+    is_host(text) && !has_uppercase(text)
 }
 
-fn is_good_host(text: Option<&str>) -> bool
-    ensures { result ≡ is_some_and is_line_host (option_copied text.entry) }
+/// Whether a text is `*.` and a name in lower case that has a letter.
+fn names_hosts_below(text: &[u8]) -> bool
+    ensures { result ≡ names_hosts_below text.now }
 {
-    match text {
-        Some(text) => is_line_host(text.as_bytes()),
+    match text.strip_prefix(b"*.".as_slice()) {
+        Some(host) => {
+            is_host_in_lower_case(host) && host.first() != Some(&b'[') && has_lowercase(host)
+        }
         None => false,
     }
+}
+
+/// Whether a text is a host of a line in a table of a version.
+#[tactic(auto, unfolding(crate::specs::LineTables::is_line_host))]
+fn is_line_host(version: TableVersion, text: &[u8]) -> bool
+    ensures { result ≡ is_line_host version text.now }
+{
+    text == b"*".as_slice()
+        || is_host_in_lower_case(text)
+        || (version.has_keys_of(Four) && names_hosts_below(text))
 }
 
 #[tactic(auto, unfolding(crate::specs::LineTables::is_line_method))]
@@ -62,38 +79,6 @@ fn is_line_method(text: &[u8]) -> bool
     ensures { result ≡ is_line_method text.now }
 {
     text == b"*".as_slice() || (is_token(text) && text.len() <= 15 && !is_never_allowed(text))
-}
-
-fn is_method_value(value: &Value) -> bool
-    ensures { result ≡ is_some_and is_line_method (as_str (view value.now)) }
-{
-    match value.as_str() {
-        Some(text) => is_line_method(text.as_bytes()),
-        None => false,
-    }
-}
-
-fn are_line_methods(values: &[Value]) -> bool
-    ensures { result ≡ are_line_methods (items_view values.now) }
-{
-    if !has_one_to_most(32, values) {
-        return false;
-    }
-    for value in values {
-        if !is_method_value(value) {
-            return false;
-        }
-    }
-    true
-}
-
-fn are_good_methods(values: Option<&Array>) -> bool
-    ensures { result ≡ is_some_and are_line_methods (option_map (λ a. array_view a.now) values.entry) }
-{
-    match values {
-        Some(values) => are_line_methods(values),
-        None => false,
-    }
 }
 
 fn is_path_byte(b: u8) -> bool
@@ -125,22 +110,65 @@ fn is_line_path(text: &[u8]) -> bool
     are_path_bytes(text) && !has_bad_escape(text) && !names_a_dot_segment(text)
 }
 
-fn is_good_path(text: Option<&str>) -> bool
-    ensures { result ≡ is_some_and is_line_path (option_copied text.entry) }
+fn is_line_origin(text: &[u8]) -> bool
+    ensures { result ≡ is_line_origin text.now }
+{
+    text == b"deny".as_slice() || address_of(text).is_some()
+}
+
+/// Whether a text is one of a kind, in a table of a version.
+fn is_text_of(version: TableVersion, kind: Kind, text: &[u8]) -> bool
+    ensures { result ≡ is_text_of version (plain_kind kind) text.now }
+{
+    match kind {
+        Kind::Host => is_line_host(version, text),
+        Kind::Methods => is_line_method(text),
+        Kind::Path => is_line_path(text),
+        Kind::Origin => is_line_origin(text),
+        _ => false,
+    }
+}
+
+fn is_good_text(version: TableVersion, kind: Kind, text: Option<&str>) -> bool
+    ensures { result ≡ is_some_and (is_text_of version (plain_kind kind)) (option_copied text.entry) }
 {
     match text {
-        Some(text) => is_line_path(text.as_bytes()),
+        Some(text) => is_text_of(version, kind, text.as_bytes()),
         None => false,
     }
 }
 
-fn is_good_origin(text: Option<&str>) -> bool
-    ensures { result ≡ is_some_and is_line_origin (option_copied text.entry) }
+/// Whether there are 1 to 32 texts of a kind, and nothing else.
+fn are_texts_of(version: TableVersion, kind: Kind, values: &[Value]) -> bool
+    ensures { result ≡ are_texts_of version (plain_kind kind) (items_view values.now) }
 {
-    match text {
-        Some(text) => text == "deny" || address_of(text.as_bytes()).is_some(),
+    if !has_one_to_most(32, values) {
+        return false;
+    }
+    for value in values {
+        if !is_good_text(version, kind, value.as_str()) {
+            return false;
+        }
+    }
+    true
+}
+
+fn is_good_list(version: TableVersion, kind: Kind, values: Option<&Array>) -> bool
+    ensures { result ≡ is_some_and (are_texts_of version (plain_kind kind))
+        (option_map (λ a. array_view a.now) values.entry) }
+{
+    match values {
+        Some(values) => are_texts_of(version, kind, values),
         None => false,
     }
+}
+
+/// Whether a key has a text of a kind, or in the fourth version a list of them.
+fn is_text_or_list(version: TableVersion, kind: Kind, key: &str, table: &Table) -> bool
+    ensures { result ≡ is_text_or_list version (plain_kind kind) key.now (table_view table.now) }
+{
+    is_good_text(version, kind, text_at(table, key))
+        || (version.has_keys_of(Four) && is_good_list(version, kind, array_at(table, key)))
 }
 
 fn is_number_between(table: &Table, key: &str, low: u32, high: u32) -> bool
@@ -149,46 +177,46 @@ fn is_number_between(table: &Table, key: &str, low: u32, high: u32) -> bool
     number_between(table, key, u64::from(low), u64::from(high)).is_some()
 }
 
-/// Whether the value of a key is of a kind, of those that stand in a line.
-fn is_of_kind(kind: Kind, key: &str, table: &Table) -> bool
-    ensures { result ≡ is_of_kind (plain_kind kind) key.now (table_view table.now) }
+/// Whether the value of a key is of a kind, of those that stand in a line of a table of a version.
+fn is_of_kind(version: TableVersion, kind: Kind, key: &str, table: &Table) -> bool
+    ensures { result ≡ is_of_kind version (plain_kind kind) key.now (table_view table.now) }
 {
     match kind {
         Kind::Number(low, high) => is_number_between(table, key, low, high),
         Kind::Seconds(low, high) => is_number_between(table, key, low, high),
         Kind::OneOf(first, second) => key_has_one_of_two(table, key, first, second),
-        Kind::Host => is_good_host(text_at(table, key)),
-        Kind::Methods => are_good_methods(array_at(table, key)),
-        Kind::Path => is_good_path(text_at(table, key)),
-        Kind::Origin => is_good_origin(text_at(table, key)),
+        Kind::Host => is_text_or_list(version, kind, key, table),
+        Kind::Methods => is_good_list(version, kind, array_at(table, key)),
+        Kind::Path => is_text_or_list(version, kind, key, table),
+        Kind::Origin => is_good_text(version, kind, text_at(table, key)),
         _ => false,
     }
 }
 
 /// Whether a row's key has a good value in a line that takes it, or needn't stand and doesn't.
-fn is_good(row: Row, table: &Table) -> bool
-    ensures { result ≡ is_good_at row.place (plain_row row) (table_view table.now) }
+fn is_good(version: TableVersion, row: Row, table: &Table) -> bool
+    ensures { result ≡ is_good_at version row.place (plain_row row) (table_view table.now) }
 {
     match row.place {
-        Place::Needed => is_of_kind(row.kind, row.key, table),
+        Place::Needed => is_of_kind(version, row.kind, row.key, table),
         Place::Optional => {
-            value_at(table, row.key).is_none() || is_of_kind(row.kind, row.key, table)
+            value_at(table, row.key).is_none() || is_of_kind(version, row.kind, row.key, table)
         }
         Place::AllowingLine => value_at(table, row.key).is_none()
-            || (is_of_kind(row.kind, row.key, table) && !line_denies(table)),
+            || (is_of_kind(version, row.kind, row.key, table) && !line_denies(table)),
         Place::CachingLine => value_at(table, row.key).is_none()
-            || (is_of_kind(row.kind, row.key, table) && line_takes_words(table)),
+            || (is_of_kind(version, row.kind, row.key, table) && line_takes_words(table)),
     }
 }
 
 /// The first key that isn't good, in the order in which they are looked at.
-fn first_bad_key(table: &Table) -> Option<LineKey>
-    ensures { result ≡ first_bad_key (table_view table.now) }
+fn first_bad_key(version: TableVersion, table: &Table) -> Option<LineKey>
+    ensures { result ≡ first_bad_key version (table_view table.now) }
 {
     LINE_KEYS
         .iter()
         .copied()
-        .find(|key| !is_good(key.row(), table))
+        .find(|key| !is_good(version, key.row(), table))
 }
 
 fn has_lowercase(text: &[u8]) -> bool
@@ -233,12 +261,37 @@ fn names_small_method(table: &Table) -> bool
     }
 }
 
-/// Whether the path has a `*`.
+fn is_text_with_star(value: &Value) -> bool
+    ensures { result ≡ is_text_with_star (view value.now) }
+{
+    match value.as_str() {
+        Some(text) => has_star(text.as_bytes()),
+        None => false,
+    }
+}
+
+fn have_no_star(values: &[Value]) -> bool
+    ensures { result ≡ all_items (λ d. not (is_text_with_star d)) (items_view values.now) }
+{
+    for value in values {
+        if is_text_with_star(value) {
+            return false;
+        }
+    }
+    true
+}
+
+/// Whether a path has a `*`.
 fn names_path_with_star(table: &Table) -> bool
     ensures { result ≡ names_path_with_star (table_view table.now) }
 {
-    match text_at(table, "path") {
-        Some(text) => has_star(text.as_bytes()),
+    if let Some(text) = text_at(table, "path") {
+        if has_star(text.as_bytes()) {
+            return true;
+        }
+    }
+    match array_at(table, "path") {
+        Some(values) => !have_no_star(values),
         None => false,
     }
 }
@@ -269,21 +322,11 @@ fn line_fault(version: TableVersion, number: u16, table: &Table) -> Option<Found
     if let Some(key) = first_unknown(Scope::Line(version), table) {
         return Some(FoundFault::UnknownKey(key));
     }
-    if let Some(key) = first_bad_key(table) {
+    if let Some(key) = first_bad_key(version, table) {
         return Some(FoundFault::Other(key.fault(number)));
     }
     let fault = spelling_fault(version, number, table)?;
     Some(FoundFault::Other(fault))
-}
-
-/// The text of a host, but for one that stands for every host.
-fn host_rule(alloc: Global, text: Option<&str>) -> Result<Option<Bytes>, AllocError>
-    ensures { IfOk result (λ host. host ≡ text_unless (codes "*") (option_copied text.entry)) }
-{
-    match text {
-        Some(text) if text != "*" => Ok(Some(Bytes::copy_of(alloc, text.as_bytes())?)),
-        _ => Ok(None),
-    }
 }
 
 /// The address of an origin, which the word that denies is none of.
@@ -293,16 +336,6 @@ fn origin_rule(alloc: Global, text: Option<&str>) -> Result<Option<Origin>, Allo
     match text {
         Some(text) => Origin::of(alloc, text),
         None => Ok(None),
-    }
-}
-
-/// The path of a line, normalised as the table path of a target.
-fn path_rule(alloc: Global, text: Option<&str>) -> Result<Bytes, AllocError>
-    ensures { IfOk result (λ path. path ≡ table_path_of (unwrap_or (option_copied text.entry) [])) }
-{
-    match text {
-        Some(text) => table_path(alloc, text.as_bytes()),
-        None => Ok(Bytes::new(alloc)),
     }
 }
 
@@ -328,17 +361,52 @@ fn method_texts(alloc: Global, table: &Table) -> Result<Vec<Bytes>, AllocError>
     }
 }
 
+/// The text of a key, or those of its list.
+fn texts_at(alloc: Global, table: &Table, key: &str) -> Result<Vec<Bytes>, AllocError>
+    ensures { IfOk result (λ texts. texts.items ≡ texts_at key.now (table_view table.now)) }
+{
+    if let Some(text) = text_at(table, key) {
+        let mut texts = Vec::new(alloc);
+        texts.push(Bytes::copy_of(alloc, text.as_bytes())?)?;
+        return Ok(texts);
+    }
+    match array_at(table, key) {
+        Some(values) => copy_texts(alloc, values),
+        None => Ok(Vec::new(alloc)),
+    }
+}
+
+fn hosts_of(alloc: Global, texts: &[Bytes]) -> Result<Vec<LineHost>, AllocError>
+    ensures { IfOk result (λ hosts. hosts.items ≡ map line_host_of texts.now) }
+{
+    let mut hosts = Vec::new(alloc);
+    for text in texts {
+        hosts.push(LineHost::of(alloc, text.as_slice())?)?;
+    }
+    Ok(hosts)
+}
+
+fn paths_of(alloc: Global, texts: &[Bytes]) -> Result<Vec<LinePath>, AllocError>
+    ensures { IfOk result (λ paths. paths.items ≡ map table_path_of texts.now) }
+{
+    let mut paths = Vec::new(alloc);
+    for text in texts {
+        paths.push(LinePath::of(alloc, text.as_slice())?)?;
+    }
+    Ok(paths)
+}
+
 /// What a line without fault says, in a table of a version.
 #[tactic(auto, unfolding(crate::specs::LineTables::line_read))]
 fn line_read(alloc: Global, version: TableVersion, table: &Table) -> Result<Line, AllocError>
     ensures { IfOk result (λ line. line ≡ line_read version (table_view table.now)) }
 {
-    let path = path_rule(alloc, text_at(table, "path"))?;
+    let hosts = texts_at(alloc, table, "host")?;
+    let paths = texts_at(alloc, table, "path")?;
     Ok(Line {
-        tail: PathTail::of(path.as_slice()),
-        host: host_rule(alloc, text_at(table, "host"))?,
+        hosts: hosts_of(alloc, &hosts)?,
         methods: method_texts(alloc, table)?,
-        path,
+        paths: paths_of(alloc, &paths)?,
         origin: origin_rule(alloc, text_at(table, "origin"))?,
         policy: policy_of_line_table(version, table),
     })

@@ -2,7 +2,8 @@
 ghost use Rattle.std.specs.Prelude.{◌≡◌};
 ghost use Rattle.std.specs.Option.{option_copied};
 ghost use Rattle.hx_allow.specs.Matching.{line_of_number, verdict_of_line};
-ghost use Rattle.hx_allow.specs.Index.{verdict_among, verdict_where, can_match, IsHostIndexOf};
+ghost use Rattle.hx_allow.specs.Index.{verdict_among, verdict_above, verdict_where, can_match, hosts_above};
+ghost use Rattle.hx_allow.specs.Index.{IsHostIndexOf, HasNoLonger};
 
 use crate::Verdict;
 use crate::host_index::HostIndex;
@@ -53,6 +54,28 @@ fn verdict_among(
     found
 }
 
+/// The same of the lines for the hosts below one, of each that this host is below.
+fn verdict_above(
+    lines: &[Line],
+    index: &HostIndex,
+    host: &[u8],
+    method: &[u8],
+    path: &[u8],
+    mut found: Verdict,
+) -> Verdict
+    requires { HasNoLonger index.now.longest index.now.below }
+    ensures { result ≡ verdict_above lines.now index.now.below (hosts_above host.now) method.now path.now found }
+{
+    let skipped = host.len().saturating_sub(index.longest()).saturating_sub(1);
+    for place in skipped..host.len() {
+        if host[place] == b'.' {
+            let numbers = index.for_hosts_below(&host[place + 1..]);
+            found = verdict_among(lines, numbers, method, path, found);
+        }
+    }
+    found
+}
+
 /// What the first line says that a host, a method and a path match. The method is one that a line may allow.
 pub(crate) fn verdict_for_host(
     lines: &[Line],
@@ -65,5 +88,6 @@ pub(crate) fn verdict_for_host(
     ensures { result ≡ verdict_where 1 (can_match host.now) lines.now method.now path.now }
 {
     let named = verdict_among(lines, index.naming(host), method, path, Verdict::NoLine);
-    verdict_among(lines, index.for_every_host(), method, path, named)
+    let below = verdict_above(lines, index, host, method, path, named);
+    verdict_among(lines, index.for_every_host(), method, path, below)
 }

@@ -255,11 +255,18 @@ impl Row {
     pub(crate) fn is_known_in(&self, version: TableVersion) -> bool
         ensures { result ≡ has_keys_of version self.now.since }
     {
-        self.since.number() <= version.number()
+        version.has_keys_of(self.since)
     }
 }
 
 impl TableVersion {
+    /// Whether it has what came with another one.
+    pub(crate) fn has_keys_of(self, since: TableVersion) -> bool
+        ensures { result ≡ has_keys_of self since }
+    {
+        since.number() <= self.number()
+    }
+
     fn number(self) -> u8
         ensures { result ≡ version_number self }
     {

@@ -17,6 +17,7 @@ ghost use Rattle.hx_allow.specs.declared.config_faults.ConfigFault.TheVariants.{
 ghost use Rattle.hx_allow.specs.declared.config_faults.ConfigFault.TheVariants.{StarInPath};
 ghost use Rattle.hx_allow.specs.declared.config_faults.NumberKey.TheVariants.{Version, Capacity, MaxBody, MaxStored};
 ghost use Rattle.hx_allow.specs.declared.config_faults.NumberKey.TheVariants.{MaxStore};
+ghost use Rattle.hx_allow.specs.declared.line_hosts.LineHost.TheVariants.{Every};
 ghost use Rattle.hx_allow.specs.declared.values.TableVersion.TheVariants.{One, Two, Three, Four};
 
 /// The faults of a line in their order: with each that is mended the next one is told.
@@ -108,9 +109,9 @@ pub fn worked_lines()
     ensures two_methods { line_read Three (table_of_pairs (key_with_text (codes "host") (codes "*")
         ∷ (codes "methods", array (array_of_values (string (codes "GET") ∷ string (codes "HEAD") ∷ [])))
         ∷ key_with_text (codes "origin") (codes "deny") ∷ key_with_text (codes "path") (codes "/") ∷ [])) ≡ record {
-          host = None;
+          hosts = Every ∷ [];
           methods = codes "GET" ∷ codes "HEAD" ∷ [];
-          path = codes "/";
+          paths = codes "/" ∷ [];
           origin = None;
           policy = plain true;
         } }

@@ -8,14 +8,16 @@ ghost use Rattle.hx_allow.specs.Examples.{target_for_path, repeated_byte, first_
 ghost use Rattle.hx_allow.specs.Examples.{line_without_cache, repeated_value};
 ghost use Rattle.hx_allow.specs.Examples.{key_with_number, array_of_values, table_of_pairs, origin_8081};
 ghost use Rattle.hx_allow.specs.Examples.{line_with_method, several_lines, key_with_text};
-ghost use Rattle.hx_allow.specs.Index.{names_host, is_for_every_host, line_numbers_of, verdict_among};
+ghost use Rattle.hx_allow.specs.Index.{is_one, is_every, line_numbers_of, verdict_among};
 ghost use Rattle.hx_allow.specs.Keys.{fault_number, key_text};
-ghost use Rattle.hx_allow.specs.LineTables.{are_line_methods, is_line_host, is_line_method, is_line_origin};
+ghost use Rattle.hx_allow.specs.LineHosts.{matches_host};
+ghost use Rattle.hx_allow.specs.LineTables.{are_texts_of, is_line_host, is_line_method, is_line_origin};
 ghost use Rattle.hx_allow.specs.LineTables.{is_line_path};
-ghost use Rattle.hx_allow.specs.Matching.{policy_of, matches_host, matches_method, matches_path};
+ghost use Rattle.hx_allow.specs.Matching.{policy_of, matches_method, matches_path};
 ghost use Rattle.hx_allow.specs.Matching.{origin_of, origin_address_of, verdict_of};
 ghost use Rattle.hx_allow.specs.PathTails.{path_may_match_tail, path_tail_of};
 ghost use Rattle.hx_allow.specs.NeverReached.{first_line_taking, takes_each_request_of};
+ghost use Rattle.hx_allow.specs.Rows.{some_methods};
 ghost use Rattle.hx_allow.specs.Tables.{is_name, number_at};
 ghost use Rattle.hx_allow.specs.Values.{is_known, items_at, number_between, text_at};
 ghost use Rattle.hx_allow.specs.declared.config_faults.ConfigFault.TheVariants.{NotToml, UnknownKey, BadName};
@@ -26,6 +28,7 @@ ghost use Rattle.hx_allow.specs.declared.config_faults.ConfigFault.TheVariants.{
 ghost use Rattle.hx_allow.specs.declared.config_faults.LineWord.TheVariants.{Lifetime};
 ghost use Rattle.hx_allow.specs.declared.config_faults.NumberKey.TheVariants.{Version, Capacity, MaxBody, MaxStored};
 ghost use Rattle.hx_allow.specs.declared.config_faults.NumberKey.TheVariants.{MaxStore};
+ghost use Rattle.hx_allow.specs.declared.line_hosts.LineHost.TheVariants.{Every, One as OneHost};
 ghost use Rattle.hx_allow.specs.declared.values.Scope.TheVariants.{Top, Line};
 ghost use Rattle.hx_allow.specs.declared.values.TableVersion.TheVariants.{One, Two, Three, Four};
 ghost use Rattle.hx_allow.specs.declared.verdicts.Verdict.TheVariants.{Allowed, DeniedBy, NoLine};
@@ -164,16 +167,16 @@ pub fn worked_names_of_proxies()
 /// Hosts of lines: `*`, or a host in lower case without a port.
 #[tactic(auto, unfolding(crate::specs::LineTables::is_line_host, hx_target::specs::Hosts::is_host))]
 pub fn worked_hosts_of_lines()
-    ensures any { is_line_host (codes "*") ≡ true }
-    ensures name { is_line_host (codes "a-b.c_9") ≡ true }
-    ensures address { is_line_host (codes "[::1]") ≡ true }
-    ensures upper { is_line_host (codes "sHop") ≡ false }
-    ensures upper_address { is_line_host (codes "[::A]") ≡ false }
-    ensures port { is_line_host (codes "h:80") ≡ false }
-    ensures open { is_line_host (codes "[::1") ≡ false }
-    ensures pattern { is_line_host (codes "*.h") ≡ false }
-    ensures twice { is_line_host (codes "**") ≡ false }
-    ensures empty { is_line_host [] ≡ false }
+    ensures any { is_line_host Three (codes "*") ≡ true }
+    ensures name { is_line_host Three (codes "a-b.c_9") ≡ true }
+    ensures address { is_line_host Three (codes "[::1]") ≡ true }
+    ensures upper { is_line_host Three (codes "sHop") ≡ false }
+    ensures upper_address { is_line_host Three (codes "[::A]") ≡ false }
+    ensures port { is_line_host Three (codes "h:80") ≡ false }
+    ensures open { is_line_host Three (codes "[::1") ≡ false }
+    ensures pattern { is_line_host Three (codes "*.h") ≡ false }
+    ensures twice { is_line_host Three (codes "**") ≡ false }
+    ensures empty { is_line_host Three [] ≡ false }
 {}
 
 /// Methods of lines: `*`, or a token of at most 15 bytes (RFC 9110, section 9.1) other than the
@@ -195,12 +198,14 @@ pub fn worked_methods_of_lines()
 /// A line has 1 to 32 methods, each of which is good.
 #[tactic(auto, unfolding(crate::specs::LineTables::is_line_method))]
 pub fn a_line_has_1_to_32_methods()
-    ensures none { are_line_methods no_items ≡ false }
-    ensures one { are_line_methods (repeated_value 1 (string (codes "GET"))) ≡ true }
-    ensures of_32 { are_line_methods (repeated_value 32 (string (codes "GET"))) ≡ true }
-    ensures of_33 { are_line_methods (repeated_value 33 (string (codes "GET"))) ≡ false }
-    ensures second_bad { are_line_methods (array_of_values (string (codes "GET") ∷ string (codes "TRACE") ∷ [])) ≡ false }
-    ensures first_bad { are_line_methods (array_of_values (integer (pos 1) ∷ string (codes "GET") ∷ [])) ≡ false }
+    ensures none { are_texts_of One some_methods no_items ≡ false }
+    ensures one { are_texts_of One some_methods (repeated_value 1 (string (codes "GET"))) ≡ true }
+    ensures of_32 { are_texts_of One some_methods (repeated_value 32 (string (codes "GET"))) ≡ true }
+    ensures of_33 { are_texts_of One some_methods (repeated_value 33 (string (codes "GET"))) ≡ false }
+    ensures second_bad { are_texts_of One some_methods
+        (array_of_values (string (codes "GET") ∷ string (codes "TRACE") ∷ [])) ≡ false }
+    ensures first_bad { are_texts_of One some_methods
+        (array_of_values (integer (pos 1) ∷ string (codes "GET") ∷ [])) ≡ false }
 {}
 
 /// Paths of lines (RFC 3986, sections 2.1, 3.3 and 5.2.4).
@@ -288,12 +293,12 @@ pub fn worked_origins_of_lines()
 
 /// Hosts compare by their bytes, and a line without one matches each.
 pub fn worked_hosts_that_match()
-    ensures any { matches_host None (codes "h") ≡ true }
-    ensures same { matches_host (Some (codes "x")) (codes "x") ≡ true }
-    ensures other { matches_host (Some (codes "x")) (codes "h") ≡ false }
-    ensures longer { matches_host (Some (codes "x")) (codes "xy") ≡ false }
-    ensures within { matches_host (Some (codes "x.y")) (codes "a.x.y") ≡ false }
-    ensures final_dot { matches_host (Some (codes "x")) (codes "x.") ≡ false }
+    ensures any { matches_host Every (codes "h") ≡ true }
+    ensures same { matches_host (OneHost (codes "x")) (codes "x") ≡ true }
+    ensures other { matches_host (OneHost (codes "x")) (codes "h") ≡ false }
+    ensures longer { matches_host (OneHost (codes "x")) (codes "xy") ≡ false }
+    ensures within { matches_host (OneHost (codes "x.y")) (codes "a.x.y") ≡ false }
+    ensures final_dot { matches_host (OneHost (codes "x")) (codes "x.") ≡ false }
 {}
 
 /// Methods compare with their case (RFC 9110, section 9.1); `*` is every method but three.
@@ -356,9 +361,9 @@ pub fn lines_of_a_host_decide()
     ensures for_every_host { verdict_of indexed_lines (codes "GET") (target_for_path (codes "x") (codes "/")) ≡ Allowed 2 }
     ensures behind_it { verdict_of indexed_lines (codes "POST") (target_for_path (codes "x") (codes "/")) ≡ Allowed 3 }
     ensures other_host { verdict_of indexed_lines (codes "POST") (target_for_path (codes "y") (codes "/")) ≡ NoLine }
-    ensures numbers { line_numbers_of (names_host (codes "x")) indexed_lines ≡ 1 ∷ 3 ∷ [] }
-    ensures numbers_of_others { line_numbers_of (names_host (codes "y")) indexed_lines ≡ [] }
-    ensures numbers_for_every_host { line_numbers_of is_for_every_host indexed_lines ≡ 2 ∷ [] }
+    ensures numbers { line_numbers_of (is_one (codes "x")) indexed_lines ≡ 1 ∷ 3 ∷ [] }
+    ensures numbers_of_others { line_numbers_of (is_one (codes "y")) indexed_lines ≡ [] }
+    ensures numbers_for_every_host { line_numbers_of is_every indexed_lines ≡ 2 ∷ [] }
     ensures among { verdict_among indexed_lines (1 ∷ 2 ∷ 3 ∷ []) (codes "POST") (codes "/") NoLine ≡ Allowed 3 }
     ensures among_others { verdict_among indexed_lines (2 ∷ []) (codes "POST") (codes "/") NoLine ≡ NoLine }
     ensures among_none { verdict_among indexed_lines (0 ∷ 4 ∷ []) (codes "GET") (codes "/") NoLine ≡ NoLine }

@@ -9,6 +9,7 @@ use Rattle.hx_target.specs.declared.keys.Key.{Key}
 use Rattle.hx_vary.specs.Vary.{kept_values}
 use Rattle.hx_hop.specs.declared.request_view.Asked.{Asked}
 use Rattle.hx_allow.specs.TableLines.{Line, Table}
+use Rattle.hx_allow.specs.declared.line_hosts.LineHost.TheVariants.{Every}
 use Rattle.hx_store.specs.Stored.{Stored}
 use Rattle.hx_reuse.specs.declared.rule.ReuseRule.TheVariants.{UriMiss, NoLifetime, NoMaxStale}
 use Rattle.proxy_core.specs.Leading.{has_no_store}
@@ -40,9 +41,9 @@ head_of_a = request_for (codes "HEAD") (codes "/a") []
 -- the second line of the table has no cache, and what is stored has two bytes at most
 abbrev pub line_with_no_cache : Line
 line_with_no_cache = record {
-  host = None;
+  hosts = Every ∷ [];
   methods = codes "*" ∷ [];
-  path = codes "/";
+  paths = codes "/" ∷ [];
   origin = Some (codes "127.0.0.1:8081");
   policy = plain true;
 }

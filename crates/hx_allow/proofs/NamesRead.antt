@@ -1,0 +1,241 @@
+-- Hosts and paths of a line in each version: before the fourth each is one text, and what the third reads is read alike in
+-- the fourth.
+use Rattle.std.proofs.Common.{◌≡◌, ◌⊎◌, inl, inr, ℕ, Bool, true, false, cond, List, [], ◌∷◌, drop, length, codes, Option, Some, None, refl, ap, sym, ◌∙◌, subst}
+use Rattle.std.specs.Prelude.{Ok, not, ◌&&◌, ◌||◌, ◌==◌, bytes_eq, option_map, nat_le, is_none, slice_index, map}
+use Rattle.std.specs.Option.{option_and_then}
+use Rattle.std.specs.List.{All, list_any}
+use Rattle.std.specs.Char.{is_ascii_uppercase, is_ascii_lowercase}
+use Rattle.std.proofs.lemmas.Bool.{and_parts}
+use Rattle.std.proofs.lemmas.Slice.Eq.{bytes_eq-Decides}
+use Rattle.http_uri.specs.ByteClasses.{left_bracket}
+use Rattle.toml.specs.Data.{Data, string, integer, float, boolean, datetime, array, table, Items, Members, get_member, as_str, as_array}
+use Rattle.hx_target.specs.Hosts.{is_host}
+use Rattle.hx_target.specs.Paths.{table_path_of}
+use Rattle.hx_allow.specs.LineHosts.{begins_with_star_dot, is_for_hosts_below, line_host_of}
+use Rattle.hx_allow.specs.LineWords.{line_denies, line_takes_words}
+use Rattle.hx_allow.specs.LineTables.{is_host_in_lower_case, names_hosts_below, is_line_host, is_line_path, is_text_of, are_texts_of, is_text_or_list, is_of_kind, is_good_at, is_good, first_bad_key, line_fault, line_read, first_fault_or_later, spelling_fault}
+use Rattle.hx_allow.specs.Rows.{Kind, a_number, some_seconds, a_store_bound, a_version, one_of, a_name, some_lines, a_host, some_methods, a_path, an_origin, Row, line_row, word_row, fault_of_line_key, has_keys_of}
+use Rattle.hx_allow.specs.TableLines.{Line as PlainLine, Table}
+use Rattle.hx_allow.specs.Tables.{version_of, judge_table}
+use Rattle.hx_allow.specs.Values.{first_unknown, is_some_and, text_at, items_at, texts_or_one}
+use Rattle.hx_allow.specs.Versions.{LineNamesAsInThree, LineHasOneHostAndPath}
+use Rattle.hx_allow.specs.declared.config_faults.ConfigFault.TheVariants.{UnknownKey}
+use Rattle.hx_allow.specs.declared.line_hosts.LineHost.TheVariants.{Every, One as OneHost, Below}
+use Rattle.hx_allow.specs.declared.rows.LineKey.{LineKey}
+use Rattle.hx_allow.specs.declared.rows.LineKey.TheVariants.{Host, Methods, Path, Origin, Cache, Word}
+use Rattle.hx_allow.specs.declared.rows.Place.{Place}
+use Rattle.hx_allow.specs.declared.rows.Place.TheVariants.{Needed, Optional, AllowingLine, CachingLine}
+use Rattle.hx_allow.specs.declared.values.Scope.TheVariants.{Line}
+use Rattle.hx_allow.specs.declared.values.TableVersion.{TableVersion}
+use Rattle.hx_allow.specs.declared.values.TableVersion.TheVariants.{One, Three, Four}
+use Rattle.hx_allow.proofs.KeysListed.{each_key, each_good, same_bad_key}
+use Rattle.hx_allow.proofs.LinesRead.{none_mapped, or_later_none, each_line_read}
+
+-- ---- what is good in which version
+
+not_true : (b : Bool) → not b ≡ true → b ≡ false
+not_true true e = cc
+not_true false e = refl
+
+or_false : (a : Bool) → (a || false) ≡ a
+or_false true = refl
+or_false false = refl
+
+abbrev is_of_names : Kind → Bool
+is_of_names a_host = true
+is_of_names a_path = true
+is_of_names _ = false
+
+abbrev is_no_name : LineKey → Bool
+is_no_name Host = true
+is_no_name Path = true
+is_no_name key = not (is_of_names (line_row key).kind)
+
+-- before the fourth version a host is alike in each, and no list is one
+host_before : (version : TableVersion) (text : List ℕ) → has_keys_of version Four ≡ false → is_line_host version text ≡ is_line_host One text
+unfolding is_line_host
+host_before version text before = ap (λ four. bytes_eq text (codes "*") || is_host_in_lower_case text || (four && names_hosts_below text)) before
+
+texts_before : (version : TableVersion) (kind : Kind) (key : List ℕ) (ms : Members) → has_keys_of version Four ≡ false → is_text_or_list version kind key ms ≡ is_some_and (is_text_of version kind) (text_at key ms)
+texts_before version kind key ms before =
+    ap (λ four. is_some_and (is_text_of version kind) (text_at key ms) || (four && is_some_and (are_texts_of version kind) (items_at key ms))) before
+    ∙ or_false (is_some_and (is_text_of version kind) (text_at key ms))
+
+some_alike : (p q : List ℕ → Bool) (o : Option (List ℕ)) → ((text : List ℕ) → p text ≡ q text) → is_some_and p o ≡ is_some_and q o
+some_alike p q None same = refl
+some_alike p q (Some text) same = same text
+
+kind_before : (version : TableVersion) (kind : Kind) (key : List ℕ) (ms : Members) → has_keys_of version Four ≡ false → is_of_kind version kind key ms ≡ is_of_kind One kind key ms
+kind_before version (a_number low high) key ms before = refl
+kind_before version (some_seconds low high) key ms before = refl
+kind_before version (a_store_bound low high) key ms before = refl
+kind_before version a_version key ms before = refl
+kind_before version (one_of first second) key ms before = refl
+kind_before version a_name key ms before = refl
+kind_before version some_lines key ms before = refl
+kind_before version a_host key ms before =
+    texts_before version a_host key ms before
+    ∙ some_alike (is_line_host version) (is_line_host One) (text_at key ms) (λ text. host_before version text before)
+    ∙ sym (texts_before One a_host key ms refl)
+kind_before version some_methods key ms before = refl
+kind_before version a_path key ms before = texts_before version a_path key ms before ∙ sym (texts_before One a_path key ms refl)
+kind_before version an_origin key ms before = refl
+
+-- in the fourth version other kinds are as before
+kind_in_four : (kind : Kind) (key : List ℕ) (ms : Members) → is_of_names kind ≡ false → is_of_kind Four kind key ms ≡ is_of_kind Three kind key ms
+kind_in_four (a_number low high) key ms other = refl
+kind_in_four (some_seconds low high) key ms other = refl
+kind_in_four (a_store_bound low high) key ms other = refl
+kind_in_four a_version key ms other = refl
+kind_in_four (one_of first second) key ms other = refl
+kind_in_four a_name key ms other = refl
+kind_in_four some_lines key ms other = refl
+kind_in_four a_host key ms other = cc
+kind_in_four some_methods key ms other = refl
+kind_in_four a_path key ms other = cc
+kind_in_four an_origin key ms other = refl
+
+at_alike : (version other : TableVersion) (place : Place) (row : Row) (ms : Members) → is_of_kind version row.kind row.key ms ≡ is_of_kind other row.kind row.key ms → is_good_at version place row ms ≡ is_good_at other place row ms
+at_alike version other Needed row ms same = same
+at_alike version other Optional row ms same = ap (λ t. is_none (get_member row.key ms) || t) same
+at_alike version other AllowingLine row ms same = ap (λ t. is_none (get_member row.key ms) || (t && not (line_denies ms))) same
+at_alike version other CachingLine row ms same = ap (λ t. is_none (get_member row.key ms) || (t && line_takes_words ms)) same
+
+pub bad_before : (version : TableVersion) (ms : Members) → has_keys_of version Four ≡ false → first_bad_key version ms ≡ first_bad_key One ms
+bad_before version ms before = same_bad_key version One ms (λ key. at_alike version One (line_row key).place (line_row key) ms (kind_before version (line_row key).kind (line_row key).key ms before))
+
+not_below : (text : List ℕ) → begins_with_star_dot text ≡ false → is_line_host Four text ≡ is_line_host Three text
+unfolding is_line_host
+not_below text isnt = ap (λ t. bytes_eq text (codes "*") || is_host_in_lower_case text || (t && is_host_in_lower_case (drop 2 text) && not (slice_index (drop 2 text) 0 == left_bracket) && list_any is_ascii_lowercase (drop 2 text))) isnt
+
+host_in_four : (o : Option (List ℕ)) → is_some_and begins_with_star_dot o ≡ false → is_some_and (is_line_host Four) o ≡ is_some_and (is_line_host Three) o
+host_in_four None isnt = refl
+host_in_four (Some text) isnt = not_below text isnt
+
+texts_in_four : (kind : Kind) (key : List ℕ) (ms : Members) → items_at key ms ≡ None → is_text_or_list Four kind key ms ≡ is_some_and (is_text_of Four kind) (text_at key ms)
+texts_in_four kind key ms none =
+    ap (λ (o : Option Items). is_some_and (is_text_of Four kind) (text_at key ms) || (true && is_some_and (are_texts_of Four kind) o)) none
+    ∙ or_false (is_some_and (is_text_of Four kind) (text_at key ms))
+
+good_in_four : (ms : Members) → LineNamesAsInThree ms → (key : LineKey) → is_good Four ms key ≡ is_good Three ms key
+good_in_four ms names Host =
+    texts_in_four a_host (codes "host") ms names.0
+    ∙ host_in_four (text_at (codes "host") ms) names.2
+    ∙ sym (texts_before Three a_host (codes "host") ms refl)
+good_in_four ms names Path = texts_in_four a_path (codes "path") ms names.1 ∙ sym (texts_before Three a_path (codes "path") ms refl)
+good_in_four ms names Methods = refl
+good_in_four ms names Origin = refl
+good_in_four ms names Cache = refl
+good_in_four ms names (Word word) =
+    at_alike Four Three (word_row word).place (word_row word) ms (kind_in_four (word_row word).kind (word_row word).key ms (not_true (is_of_names (word_row word).kind) (each_key is_no_name refl (Word word))))
+
+pub bad_in_four : (ms : Members) → LineNamesAsInThree ms → first_bad_key Four ms ≡ first_bad_key Three ms
+bad_in_four ms names = same_bad_key Four Three ms (good_in_four ms names)
+
+-- ---- a line that the third version reads has one host and one path
+
+-- what begins with `*.` is no host
+star_is_no_name_byte : (rest : List ℕ) → is_host (42 ∷ rest) ≡ true → ⊥
+unfolding is_host
+star_is_no_name_byte rest is = by_length (nat_le 1 (length (42 ∷ rest)) && nat_le (length (42 ∷ rest)) 253) is
+  where
+    by_length : (b : Bool) → (b && false) ≡ true → ⊥
+    by_length true e = cc
+    by_length false e = cc
+
+star_dot_begins : (text : List ℕ) → begins_with_star_dot text ≡ true → (rest : List ℕ) × (text ≡ 42 ∷ rest)
+star_dot_begins [] is = absurd cc
+star_dot_begins (b ∷ []) is = let whole : b ∷ [] ≡ codes "*." = (bytes_eq-Decides (b ∷ []) (codes "*.")).0 is in absurd cc
+star_dot_begins (b ∷ c ∷ rest) is = let front : b ∷ c ∷ [] ≡ codes "*." = (bytes_eq-Decides (b ∷ c ∷ []) (codes "*.")).0 is in let first : b ≡ 42 = cc in (c ∷ rest, ap (λ x. x ∷ c ∷ rest) first)
+
+host_of_three : (text : List ℕ) → is_line_host Three text ≡ true → begins_with_star_dot text ≡ false
+unfolding is_line_host
+host_of_three text is = by_test (begins_with_star_dot text) refl
+  where
+    no_host : is_host_in_lower_case text ≡ true → begins_with_star_dot text ≡ true → ⊥
+    no_host host begins =
+        let at = star_dot_begins text begins in
+        let name = and_parts (is_host text) (not (list_any is_ascii_uppercase text)) host in
+        star_is_no_name_byte at.0 (ap is_host (sym at.1) ∙ name.0)
+
+    either : (star host : Bool) → (star || host || (false && names_hosts_below text)) ≡ true → (star ≡ true) ⊎ (host ≡ true)
+    either true host e = inl refl
+    either false true e = inr refl
+    either false false e = absurd cc
+
+    by_test : (b : Bool) → begins_with_star_dot text ≡ b → b ≡ false
+    by_test false begins = refl
+    by_test true begins = by_kind (either (bytes_eq text (codes "*")) (is_host_in_lower_case text) is)
+      where
+        by_kind : (bytes_eq text (codes "*") ≡ true) ⊎ (is_host_in_lower_case text ≡ true) → true ≡ false
+        by_kind (inl star) =
+            let whole : text ≡ codes "*" = (bytes_eq-Decides text (codes "*")).0 star in
+            let bad : begins_with_star_dot (codes "*") ≡ true = subst (λ t. begins_with_star_dot t ≡ true) whole begins in
+            absurd cc
+        by_kind (inr host) = absurd (no_host host begins)
+
+-- a value that is a text is no list
+text_is_no_list : (value : Option Data) (test : List ℕ → Bool) → is_some_and test (option_and_then as_str value) ≡ true → option_and_then as_array value ≡ None
+text_is_no_list None test is = refl
+text_is_no_list (Some (string text)) test is = refl
+text_is_no_list (Some (array ds)) test is = absurd cc
+text_is_no_list (Some (integer n)) test is = refl
+text_is_no_list (Some (float x)) test is = refl
+text_is_no_list (Some (boolean b)) test is = refl
+text_is_no_list (Some (datetime d)) test is = refl
+text_is_no_list (Some (table ms)) test is = refl
+
+text_stands : (o : Option (List ℕ)) (test : List ℕ → Bool) → is_some_and test o ≡ true → (text : List ℕ) × ((o ≡ Some text) × (test text ≡ true))
+text_stands None test is = absurd cc
+text_stands (Some text) test is = (text, (refl, is))
+
+-- each key of a line without fault is good
+pub keys_are_good : (version : TableVersion) (n : ℕ) (ms : Members) → line_fault version n ms ≡ None → first_bad_key version ms ≡ None
+unfolding line_fault
+keys_are_good version n ms none = by_keys (first_unknown (Line version) ms) refl
+  where
+    by_keys : (o : Option (List ℕ)) → first_unknown (Line version) ms ≡ o → first_bad_key version ms ≡ None
+    by_keys (Some key) e = let bad : line_fault version n ms ≡ Some (UnknownKey key) = rw e refl in cc
+    by_keys None e =
+        let is : line_fault version n ms ≡ first_fault_or_later (option_map (fault_of_line_key n) (first_bad_key version ms)) (spelling_fault version n ms) = rw e refl in
+        none_mapped (fault_of_line_key n) (first_bad_key version ms) (or_later_none (option_map (fault_of_line_key n) (first_bad_key version ms)) (spelling_fault version n ms) (sym is ∙ none)).0
+
+host_is_text : (version : TableVersion) (ms : Members) → has_keys_of version Four ≡ false → first_bad_key version ms ≡ None → is_some_and (is_line_host Three) (text_at (codes "host") ms) ≡ true
+host_is_text version ms before good =
+    some_alike (is_line_host Three) (is_line_host One) (text_at (codes "host") ms) (λ text. host_before Three text refl)
+    ∙ sym (some_alike (is_line_host version) (is_line_host One) (text_at (codes "host") ms) (λ text. host_before version text before))
+    ∙ sym (texts_before version a_host (codes "host") ms before)
+    ∙ each_good version ms good Host
+
+path_is_text : (version : TableVersion) (ms : Members) → has_keys_of version Four ≡ false → first_bad_key version ms ≡ None → is_some_and is_line_path (text_at (codes "path") ms) ≡ true
+path_is_text version ms before good = sym (texts_before version a_path (codes "path") ms before) ∙ each_good version ms good Path
+
+pub names_as_before : (version : TableVersion) (ms : Members) → has_keys_of version Four ≡ false → first_bad_key version ms ≡ None → LineNamesAsInThree ms
+names_as_before version ms before good =
+    let host = text_stands (text_at (codes "host") ms) (is_line_host Three) (host_is_text version ms before good) in (
+      text_is_no_list (get_member (codes "host") ms) (is_line_host Three) (host_is_text version ms before good),
+      text_is_no_list (get_member (codes "path") ms) is_line_path (path_is_text version ms before good),
+      ap (is_some_and begins_with_star_dot) host.1.0 ∙ host_of_three host.0 host.1.1,
+    )
+
+read_of_one : (host path : List ℕ) (line : PlainLine) → line.hosts ≡ line_host_of host ∷ [] → line.paths ≡ table_path_of path ∷ [] → begins_with_star_dot host ≡ false → LineHasOneHostAndPath line
+read_of_one host path line hosts paths isnt = (ap length hosts, ap length paths, ap (list_any is_for_hosts_below) hosts ∙ by_tests (bytes_eq host (codes "*")) (begins_with_star_dot host) isnt)
+  where
+    by_tests : (star below : Bool) → below ≡ false → list_any is_for_hosts_below (cond star Every (cond below (Below (drop 2 host)) (OneHost host)) ∷ []) ≡ false
+    by_tests true below isnt = refl
+    by_tests false true isnt = absurd cc
+    by_tests false false isnt = refl
+
+pub has_one_host_and_path : (version : TableVersion) (n : ℕ) (ms : Members) → has_keys_of version Four ≡ false → line_fault version n ms ≡ None → LineHasOneHostAndPath (line_read version ms)
+unfolding line_read
+has_one_host_and_path version n ms before none =
+    let good = keys_are_good version n ms none in
+    let host = text_stands (text_at (codes "host") ms) (is_line_host Three) (host_is_text version ms before good) in
+    let path = text_stands (text_at (codes "path") ms) is_line_path (path_is_text version ms before good) in
+    read_of_one host.0 path.0 (line_read version ms)
+    (ap (λ (o : Option (List ℕ)). map line_host_of (texts_or_one o (items_at (codes "host") ms))) host.1.0)
+    (ap (λ (o : Option (List ℕ)). map table_path_of (texts_or_one o (items_at (codes "path") ms))) path.1.0)
+    (host_of_three host.0 host.1.1)
+
+pub each_has_one : (t : Members) (table : Table) → has_keys_of (version_of t) Four ≡ false → judge_table t ≡ Ok table → All LineHasOneHostAndPath table.lines
+each_has_one t read before e = each_line_read LineHasOneHostAndPath t read (λ n ms none. has_one_host_and_path (version_of t) n ms before none) (sym e)

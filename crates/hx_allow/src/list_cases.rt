@@ -1,0 +1,178 @@
+//! What the definitions give on worked lines with lists of hosts and paths, computed from them: each
+//! function's contract is the cases, and its body is empty.
+ghost use Rattle.std.specs.Prelude.{◌≡◌, ◌∷◌, ◌++◌, [], Some, None, Ok, true, false, codes, option_map, pos};
+ghost use Rattle.toml.specs.Data.{array, integer, string, no_items};
+ghost use Rattle.toml.specs.Parse.{parse_document};
+ghost use Rattle.hx_policy.specs.Policies.{plain};
+ghost use Rattle.hx_allow.specs.Examples.{line_table_of, list_of_texts, lines_with_lists, line_with_lists};
+ghost use Rattle.hx_allow.specs.Examples.{line_with_method, origin_8081};
+ghost use Rattle.hx_allow.specs.Examples.{repeated_value, array_of_values, target_for_path};
+ghost use Rattle.hx_allow.specs.Index.{hosts_above, is_one, is_below, is_every, line_numbers_of};
+ghost use Rattle.hx_allow.specs.LineHosts.{line_host_of, matches_host};
+ghost use Rattle.hx_allow.specs.LineTables.{is_line_host, line_fault, line_read};
+ghost use Rattle.hx_allow.specs.Matching.{verdict_of};
+ghost use Rattle.hx_allow.specs.NeverReached.{takes_each_request_of, first_line_taking};
+ghost use Rattle.hx_allow.specs.Tables.{judge_table};
+ghost use Rattle.hx_allow.specs.declared.config_faults.ConfigFault.TheVariants.{BadHost, BadPath};
+ghost use Rattle.hx_allow.specs.declared.config_faults.ConfigFault.TheVariants.{BadMethod, StarInPath};
+ghost use Rattle.hx_allow.specs.declared.line_hosts.LineHost.TheVariants.{Every, One as OneHost, Below};
+ghost use Rattle.hx_allow.specs.declared.values.TableVersion.TheVariants.{One, Two, Three, Four};
+ghost use Rattle.hx_allow.specs.declared.verdicts.Verdict.TheVariants.{Allowed, DeniedBy, NoLine};
+
+/// What may stand as a host in the fourth version, and what before.
+#[tactic(auto, unfolding(crate::specs::LineTables::is_line_host, hx_target::specs::Hosts::is_host))]
+pub fn hosts_of_each_version()
+    ensures below { is_line_host Four (codes "*.example") ≡ true }
+    ensures below_two_labels { is_line_host Four (codes "*.b.example") ≡ true }
+    ensures final_dot { is_line_host Four (codes "*.example.") ≡ true }
+    ensures of_three { is_line_host Three (codes "*.example") ≡ false }
+    ensures of_one { is_line_host One (codes "*.example") ≡ false }
+    ensures star_alone { is_line_host Four (codes "*") ≡ true }
+    ensures a_host { is_line_host Four (codes "example") ≡ true }
+    ensures nothing { is_line_host Four (codes "*.") ≡ false }
+    ensures two_stars { is_line_host Four (codes "*.*.example") ≡ false }
+    ensures star_in_a_label { is_line_host Four (codes "a*.example") ≡ false }
+    ensures star_in_the_first { is_line_host Four (codes "*a.example") ≡ false }
+    ensures no_dot { is_line_host Four (codes "*example") ≡ false }
+    ensures star_inside { is_line_host Four (codes "a.*.example") ≡ false }
+    ensures star_behind { is_line_host Four (codes "example.*") ≡ false }
+    ensures upper { is_line_host Four (codes "*.Example") ≡ false }
+    ensures port { is_line_host Four (codes "*.example:80") ≡ false }
+    ensures address { is_line_host Four (codes "*.0.0.1") ≡ false }
+    ensures in_brackets { is_line_host Four (codes "*.[::a]") ≡ false }
+    ensures letter_and_number { is_line_host Four (codes "*.a1") ≡ true }
+    ensures empty { is_line_host Four [] ≡ false }
+{}
+
+/// What a text names.
+pub fn worked_texts_of_hosts()
+    ensures every { line_host_of (codes "*") ≡ Every }
+    ensures one { line_host_of (codes "example") ≡ OneHost (codes "example") }
+    ensures below { line_host_of (codes "*.example") ≡ Below (codes "example") }
+    ensures matches_below { matches_host (Below (codes "example")) (codes "a.b.example") ≡ true }
+    ensures not_itself { matches_host (Below (codes "example")) (codes "example") ≡ false }
+    ensures looked_up { hosts_above (codes "a.b.example") ≡ codes "b.example" ∷ codes "example" ∷ [] }
+    ensures looked_up_at_dots { hosts_above (codes ".x..") ≡ codes "x.." ∷ codes "." ∷ [] ∷ [] }
+    ensures none_above { hosts_above (codes "example") ≡ [] }
+{}
+
+/// Faults of lists: in the fourth version alone they stand, of 1 to 32 texts, and each entry has the fault
+/// of its key, in the order of the keys.
+#[tactic(auto, unfolding(crate::specs::LineTables::line_fault, crate::specs::LineTables::is_line_host, crate::specs::LineTables::is_line_method, crate::specs::LineTables::is_line_path, crate::specs::Addresses::address_of, hx_target::specs::Hosts::is_host, hx_target::specs::Hosts::short_number, hx_target::specs::Paths::has_dot_segment))]
+pub fn faults_of_lists()
+    ensures none { line_fault Four 3 (line_table_of (list_of_texts (codes "a" ∷ codes "*.a" ∷ codes "*" ∷ []))
+        (list_of_texts (codes "/a" ∷ codes "/" ∷ [])))
+        ≡ None }
+    ensures alone { line_fault Four 3 (line_table_of (string (codes "*.a")) (string (codes "/a"))) ≡ None }
+    ensures of_one_text { line_fault Four 3 (line_table_of (list_of_texts (codes "a" ∷ []))
+        (list_of_texts (codes "/" ∷ [])))
+        ≡ None }
+    ensures no_host { line_fault Four 3 (line_table_of (array no_items) (string (codes "/"))) ≡ Some (BadHost 3) }
+    ensures no_path { line_fault Four 3 (line_table_of (string (codes "a")) (array no_items)) ≡ Some (BadPath 3) }
+    ensures hosts_32 { line_fault Four 3 (line_table_of (array (repeated_value 32 (string (codes "a"))))
+        (string (codes "/")))
+        ≡ None }
+    ensures hosts_33 { line_fault Four 3 (line_table_of (array (repeated_value 33 (string (codes "a"))))
+        (string (codes "/")))
+        ≡ Some (BadHost 3) }
+    ensures paths_32 { line_fault Four 3 (line_table_of (string (codes "a")) (array (repeated_value 32
+        (string (codes "/")))))
+        ≡ None }
+    ensures paths_33 { line_fault Four 3 (line_table_of (string (codes "a")) (array (repeated_value 33
+        (string (codes "/")))))
+        ≡ Some (BadPath 3) }
+    ensures second_host { line_fault Four 3 (line_table_of (list_of_texts (codes "a" ∷ codes "B" ∷ []))
+        (string (codes "/")))
+        ≡ Some (BadHost 3) }
+    ensures second_path { line_fault Four 3 (line_table_of (string (codes "a"))
+        (list_of_texts (codes "/" ∷ codes "/a/" ∷ [])))
+        ≡ Some (BadPath 3) }
+    ensures a_number { line_fault Four 3 (line_table_of (array (array_of_values (integer (pos 1) ∷ [])))
+        (string (codes "/")))
+        ≡ Some (BadHost 3) }
+    ensures number_alone { line_fault Four 3 (line_table_of (integer (pos 1)) (string (codes "/"))) ≡ Some (BadHost 3) }
+    ensures host_first { line_fault Four 3 (line_table_of (array no_items) (array no_items)) ≡ Some (BadHost 3) }
+    ensures star_in_a_path { line_fault Four 3 (line_table_of (string (codes "a"))
+        (list_of_texts (codes "/" ∷ codes "/a*" ∷ [])))
+        ≡ Some (StarInPath 3) }
+    ensures hosts_of_three { line_fault Three 3 (line_table_of (list_of_texts (codes "a" ∷ [])) (string (codes "/")))
+        ≡ Some (BadHost 3) }
+    ensures paths_of_three { line_fault Three 3 (line_table_of (string (codes "a")) (list_of_texts (codes "/" ∷ [])))
+        ≡ Some (BadPath 3) }
+    ensures hosts_of_one { line_fault One 3 (line_table_of (list_of_texts (codes "a" ∷ [])) (string (codes "/")))
+        ≡ Some (BadHost 3) }
+{}
+
+/// What lines with lists say.
+#[tactic(auto, unfolding(crate::specs::LineTables::line_read, crate::specs::Addresses::address_of, hx_target::specs::Hosts::short_number))]
+pub fn worked_lines_with_lists()
+    ensures lists { line_read Four (line_table_of (list_of_texts (codes "a" ∷ codes "*.a" ∷ codes "*" ∷ []))
+        (list_of_texts (codes "/%61" ∷ codes "/" ∷ [])))
+        ≡ record {
+          hosts = OneHost (codes "a") ∷ Below (codes "a") ∷ Every ∷ [];
+          methods = codes "GET" ∷ [];
+          paths = codes "/a" ∷ codes "/" ∷ [];
+          origin = None;
+          policy = plain true;
+        } }
+    ensures alone { line_read Four (line_table_of (string (codes "a")) (string (codes "/")))
+        ≡ line_with_method (Some (codes "a")) (codes "GET") (codes "/") None }
+    ensures of_one { line_read Four (line_table_of (list_of_texts (codes "a" ∷ [])) (list_of_texts (codes "/" ∷ [])))
+        ≡ line_with_method (Some (codes "a")) (codes "GET") (codes "/") None }
+{}
+
+/// A line decides where one of its hosts and one of its paths match, and the first such line does.
+#[tactic(auto, unfolding(crate::specs::Matching::verdict_of, crate::specs::Matching::matches_line))]
+pub fn lines_with_lists_decide()
+    ensures first { verdict_of lines_with_lists (codes "GET") (target_for_path (codes "a") (codes "/p")) ≡ DeniedBy 1 }
+    ensures second { verdict_of lines_with_lists (codes "GET") (target_for_path (codes "b") (codes "/q/x"))
+        ≡ DeniedBy 1 }
+    ensures below { verdict_of lines_with_lists (codes "GET") (target_for_path (codes "x.c") (codes "/q"))
+        ≡ DeniedBy 1 }
+    ensures further_below { verdict_of lines_with_lists (codes "GET") (target_for_path (codes "y.x.c") (codes "/"))
+        ≡ Allowed 2 }
+    ensures not_itself { verdict_of lines_with_lists (codes "GET") (target_for_path (codes "c") (codes "/p"))
+        ≡ Allowed 3 }
+    ensures other_path { verdict_of lines_with_lists (codes "GET") (target_for_path (codes "a") (codes "/r"))
+        ≡ Allowed 3 }
+    ensures other_host { verdict_of lines_with_lists (codes "GET") (target_for_path (codes "d") (codes "/p"))
+        ≡ Allowed 3 }
+    ensures connect { verdict_of lines_with_lists (codes "CONNECT") (target_for_path (codes "a") (codes "/p"))
+        ≡ NoLine }
+    ensures named { line_numbers_of (is_one (codes "b")) lines_with_lists ≡ 1 ∷ [] }
+    ensures named_below { line_numbers_of (is_below (codes "c")) lines_with_lists ≡ 1 ∷ 2 ∷ [] }
+    ensures every { line_numbers_of is_every lines_with_lists ≡ 3 ∷ [] }
+    ensures twice { line_numbers_of (is_one (codes "a"))
+        (line_with_lists (OneHost (codes "a") ∷ OneHost (codes "a") ∷ []) (codes "/" ∷ []) None ∷ [])
+        ≡ 1 ∷ 1 ∷ [] }
+{}
+
+/// A line in front takes another where each host of that is one of its hosts, and each path one that its
+/// paths take.
+#[tactic(auto, unfolding(crate::specs::NeverReached::takes_each_request_of))]
+pub fn worked_lists_never_reached()
+    ensures fewer { takes_each_request_of
+        (line_with_lists (OneHost (codes "a") ∷ OneHost (codes "b") ∷ []) (codes "/p" ∷ codes "/q" ∷ []) None)
+        (line_with_lists (OneHost (codes "b") ∷ []) (codes "/q/x" ∷ []) None) ≡ true }
+    ensures more_hosts { takes_each_request_of (line_with_lists (OneHost (codes "a") ∷ []) (codes "/" ∷ []) None)
+        (line_with_lists (OneHost (codes "a") ∷ OneHost (codes "b") ∷ []) (codes "/" ∷ []) None) ≡ false }
+    ensures more_paths { takes_each_request_of (line_with_lists (OneHost (codes "a") ∷ []) (codes "/p" ∷ []) None)
+        (line_with_lists (OneHost (codes "a") ∷ []) (codes "/p" ∷ codes "/q" ∷ []) None) ≡ false }
+    ensures one_below { takes_each_request_of (line_with_lists (Below (codes "c") ∷ []) (codes "/" ∷ []) None)
+        (line_with_lists (OneHost (codes "x.c") ∷ []) (codes "/" ∷ []) None) ≡ true }
+    ensures not_itself { takes_each_request_of (line_with_lists (Below (codes "c") ∷ []) (codes "/" ∷ []) None)
+        (line_with_lists (OneHost (codes "c") ∷ []) (codes "/" ∷ []) None) ≡ false }
+    ensures same_below { takes_each_request_of (line_with_lists (Below (codes "c") ∷ []) (codes "/" ∷ []) None)
+        (line_with_lists (Below (codes "c") ∷ []) (codes "/" ∷ []) None) ≡ true }
+    ensures further_below { takes_each_request_of (line_with_lists (Below (codes "c") ∷ []) (codes "/" ∷ []) None)
+        (line_with_lists (Below (codes "x.c") ∷ []) (codes "/" ∷ []) None) ≡ true }
+    ensures above { takes_each_request_of (line_with_lists (Below (codes "x.c") ∷ []) (codes "/" ∷ []) None)
+        (line_with_lists (Below (codes "c") ∷ []) (codes "/" ∷ []) None) ≡ false }
+    ensures one_takes_no_below { takes_each_request_of (line_with_lists (OneHost (codes "c") ∷ []) (codes "/" ∷ []) None)
+        (line_with_lists (Below (codes "c") ∷ []) (codes "/" ∷ []) None) ≡ false }
+    ensures below_takes_not_every { takes_each_request_of (line_with_lists (Below (codes "c") ∷ []) (codes "/" ∷ []) None)
+        (line_with_lists (Every ∷ []) (codes "/" ∷ []) None) ≡ false }
+    ensures every { takes_each_request_of (line_with_lists (OneHost (codes "a") ∷ Every ∷ []) (codes "/" ∷ []) None)
+        (line_with_lists (Below (codes "c") ∷ OneHost (codes "b") ∷ []) (codes "/" ∷ []) None) ≡ true }
+    ensures none_taken { first_line_taking lines_with_lists 2 ≡ None }
+{}
