@@ -30,8 +30,8 @@ edge_table = record {
   max_body = 1000;
   max_stored = 10;
   max_store = None;
-  lines = record line_with_no_cache { path = codes "/admin"; origin = None }
-      ∷ record line_with_no_cache { path = codes "/raw"; policy = plain false } ∷ line_with_no_cache ∷ [];
+  lines = record line_with_no_cache { paths = codes "/admin" ∷ []; origin = None }
+      ∷ record line_with_no_cache { paths = codes "/raw" ∷ []; policy = plain false } ∷ line_with_no_cache ∷ [];
 }
 
 abbrev pub trace_of_good_events : List Event → List Item
