@@ -20,7 +20,7 @@ turned g c =
 stays : (g : Over) (c : After-turn_over g) → c.turn_over.new.sockets.moment ≡ c.self.inside.ends.moment
 stays g c =
     let reached = c.self.invariant.0 in
-    let runs = c.engines_go_on.ensures.runs c.self.inside.engine reached.first reached.link reached.steps reached.last reached.executed in
+    let runs = c.engines_go_on.ensures.runs c.self.inside.engine reached.held reached.first reached.link reached.steps reached.last reached.executed in
     let both = c.turn_over.ensures.turns reached.last reached.executed.represents runs.0 in
     both.calls.5
 
