@@ -10,8 +10,10 @@ import subprocess
 
 AFL = "/usr/lib/afl/afl-compiler-rt.o"
 CLANG = """#!/bin/sh
-# Keeps the module that is compiled without an address sanitizer.
-case " $* " in *-fsanitize=address*) ;; *module.bc*) cp module.bc {room}/module.bc ;; esac
+# Keeps the largest module: rt first compiles a small one, to see whether it can.
+if [ -f module.bc ]; then
+    if [ ! -f {room}/module.bc ] || [ "$(stat -c %s module.bc)" -gt "$(stat -c %s {room}/module.bc)" ]; then cp module.bc {room}/module.bc; fi
+fi
 exec {kit}/toolchain/bin/clang "$@"
 """
 
