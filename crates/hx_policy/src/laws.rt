@@ -4,9 +4,9 @@ ghost use Rattle.std.specs.Prelude.{◌≡◌, ◌≤◌, ◌<◌, ℕ, Bool, So
 ghost use Rattle.hx_policy.specs.Policies.{plain, is_heuristic, given_lifetime};
 ghost use Rattle.hx_policy.specs.declared.words.Policy.{Policy as Words};
 
-/// A line that has no word gives no lifetime and no stale-if-error, takes each stated lifetime as it is, stores and heeds
-/// what the written rules say, lets nobody wait for what is stale, tells no storing rule, and leaves the conditions of
-/// clients to the origin.
+/// A line that has no word gives no lifetime and no stale-if-error, takes each stated lifetime as it is, stores and
+/// heeds what the written rules say, lets nobody wait for what is stale, tells no storing rule, and leaves the
+/// conditions of clients to the origin.
 pub fn a_plain_policy_has_no_words()
     ensures caches { (caches : Bool) → (plain caches).caches ≡ caches }
     ensures lifetime { (caches : Bool) (status : ℕ) → given_lifetime (plain caches) status ≡ None }
