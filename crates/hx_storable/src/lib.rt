@@ -12,7 +12,8 @@ mod storing_rules;
 
 pub use crate::known_facts::StoringFacts;
 pub use crate::laws::{
-    a_cookie_is_not_stored_for_others, an_error_is_not_stored, authorization_and_private,
+    a_cookie_is_not_stored_for_others, a_page_for_one_is_not_stored_by_the_line,
+    an_error_is_not_stored, authorization_and_private,
     default_policy_changes_nothing, least_storage_rule, line_without_cache,
     must_understand_overrides_no_store, nothing_is_stored_against_the_operator,
     nothing_private_is_stored, only_whole_answers_to_get_are_stored, status_alone_allows_storing,
