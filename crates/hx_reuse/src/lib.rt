@@ -37,8 +37,8 @@ pub use crate::on_error::may_serve_on_error;
 pub use crate::rule::{ErrorRule, ReuseRule};
 pub use crate::worked_cases::{
     a_variant_comes_before_the_default, age_equal_to_lifetime_is_stale, bypass_rules_in_order,
-    least_error_rule, least_reuse_rule, line_without_cache, minute_after_an_error,
-    minute_at_most, minute_from_the_line, moment_goes_backwards, no_lifetime_is_only_validated,
+    least_error_rule, least_reuse_rule, line_without_cache, minute_after_an_error, minute_at_most,
+    minute_from_the_line, moment_goes_backwards, no_lifetime_is_only_validated,
     of_two_alike_the_later_comes_first, reload_is_ignored, request_max_age_and_only_if_cached,
     seconds_of_errors, stale_if_error_of_request, stale_if_error_of_response,
     vary_values_are_compared, whose_condition_stays,

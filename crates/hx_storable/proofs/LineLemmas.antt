@@ -72,9 +72,10 @@ module _ (asked : Asked) (answered : Answered) (facts : StoringFacts) where
         errors (inr h) = inr (no_error (either_false (nat_le 400 answered.status) (not (is_heuristic answered.status)) h))
 
         of_no_one : is_from_someone asked ≡ false → RequestTellsNotWhoAsks asked
-        of_no_one h =
-            (left_false (has_line asked.fields (codes "Cookie")) (has_line asked.fields (codes "Authorization")) h,
-             right_false (has_line asked.fields (codes "Cookie")) (has_line asked.fields (codes "Authorization")) h)
+        of_no_one h = (
+          left_false (has_line asked.fields (codes "Cookie")) (has_line asked.fields (codes "Authorization")) h,
+          right_false (has_line asked.fields (codes "Cookie")) (has_line asked.fields (codes "Authorization")) h,
+        )
 
         by_itself : states_lifetime answered ≡ true → ResponseStatesItsLifetime answered
         by_itself h = first (one_of (response_has answered directive.SMaxage || response_has answered directive.MaxAge) (has_line answered.fields (codes "Expires")) h)
@@ -162,8 +163,8 @@ module _ (asked : Asked) (answered : Answered) (facts : StoringFacts) where
       → given_lifetime facts.policy answered.status ≡ Some seconds → response_has answered directive.Public ≡ false → ResponseIsStored asked answered facts → ⊥
   request_cookie_forbids seconds word who none given public h =
       let stated : states_lifetime answered ≡ false =
-        neither (response_has answered directive.SMaxage || response_has answered directive.MaxAge) (has_line answered.fields (codes "Expires"))
-        (neither (response_has answered directive.SMaxage) (response_has answered directive.MaxAge) none.0 none.1) none.2 in
+      neither (response_has answered directive.SMaxage || response_has answered directive.MaxAge) (has_line answered.fields (codes "Expires"))
+      (neither (response_has answered directive.SMaxage) (response_has answered directive.MaxAge) none.0 none.1) none.2 in
       let asks = both (not facts.policy.gives_to_cookies) (is_from_someone asked) (turned facts.policy.gives_to_cookies word) (tells_who who) in
       let lasts = both (not (states_lifetime answered)) (is_some (given_lifetime facts.policy answered.status)) (turned (states_lifetime answered) stated) (rw given refl) in
       let for_one = both (lasts_by_the_line facts.policy answered) (not (response_has answered directive.Public)) lasts (turned (response_has answered directive.Public) public) in
