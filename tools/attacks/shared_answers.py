@@ -38,6 +38,8 @@ LINES = {
     "all words of version 3": (3, {**ALL_WORDS, "explain": "storing"}),
     "version 4": (4, {}),
     "lifetime of version 4": (4, {"lifetime": 60}),
+    "shared cookies": (4, {"lifetime": 60, "cookies": "shared"}),
+    "a most": (4, {"lifetime-most": 60}),
     "both lifetimes": (4, {"lifetime": 60, "error-lifetime": 30}),
     "all words of version 4": (4, {**ALL_WORDS, "error-lifetime": 30, "explain": "storing"}),
 }
@@ -132,6 +134,16 @@ def forbids_storing(case, who, words):
     return None
 
 
+def is_for_one(case, who, version, words):
+    """What was asked for with a cookie or credentials, and others may have by the lifetime of the line alone (docs/COOKIES.md)."""
+    if version < 4 or words.get("cookies") == "shared" or has(case.lines, "public"):
+        return False
+    stated = any(it.partition("=")[0] in ("max-age", "s-maxage") for it in words_of(case.lines, "cache-control"))
+    if stated or any(it.startswith("Expires") for it in case.lines):
+        return False
+    return lifetime_of(case, version, words) > 0 and any(it.startswith(("Cookie", "Authorization")) for it in case.asked[who])
+
+
 def lifetime_of(case, version, words):
     """The seconds that the response is fresh for anybody, by what it states or by the line (RFC 9111, 4.2.1)."""
     for directive in ("s-maxage", "max-age"):
@@ -150,6 +162,8 @@ def forbids_sending(case, maker, who, was_asked, line):
     """Why what was made for `maker` may not be sent to `who` (RFC 9111, section 4); none where it may. Behind a validation for `who` it may be old."""
     version, words = line
     asked = case.asked[who]
+    if is_for_one(case, maker, version, words):
+        return "for one visitor"
     for name in words_of(case.lines, "vary"):
         values = [", ".join(words_of(case.asked[it], name)) for it in (maker, who)]
         if values[0] != values[1]:

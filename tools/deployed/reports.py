@@ -130,7 +130,7 @@ lifetime = 60 2 of 5, a guess
 wait = "missing-or-stale" 2 of 4, a guess
 a larger max_stored 1 of 2, a guess
 stale-if-error = SECONDS 2 of 2, a guess, and no hits
-2 kept out by the line's own set-cookie or errors: detail=not-stored-set-cookie, not-stored-error-status
+2 kept out by the line's own set-cookie, cookies or errors: detail=not-stored-set-cookie, not-stored-request-cookie, not-stored-error-status
 2 kept out by the origin or the client, and no word helps: another detail=not-stored-.. (tools/why)
 2 not stored, and nothing says why: explain = "storing" in the line has the answer say it
 10.0.0.2 20 69.0 % 0 13,340

@@ -20,12 +20,17 @@ def with_a_cookie():
     return lambda fetch: whole(200, MINUTE, f"Set-Cookie: sid={next(numbers)}", content=b"welcome")(fetch)
 
 
+def of_the_visitor():
+    """A page for who asks, by the cookie, of an origin that says nothing of caching."""
+    return lambda fetch: whole(200, content=f"hello {fetch.value('Cookie')}".encode())(fetch)
+
+
 class Site:
     """A cache by this table, before an origin of pages, one of assets, one of the API and one that answers to PURGE."""
 
     def __init__(self, stand):
         bare, second = whole(200, content=b"hello"), whole(200, "Cache-Control: max-age=1", content=b"hello")
-        of_pages = {"/": bare, "/news": bare, "/old": second, "/login": with_a_cookie(), "/account/me": with_a_cookie()}
+        of_pages = {"/": bare, "/news": bare, "/old": second, "/login": with_a_cookie(), "/account/me": with_a_cookie(), "/orders": of_the_visitor()}
         of_api = {
             "/api/public/list": bare,
             "/api/public/old": second,
@@ -70,9 +75,15 @@ def what_is_denied(site):
 
 
 def what_one_visitor_sees(site):
-    """Never stored, whatever it says; and a cookie keeps a page out."""
+    """Never stored, whatever it says; a cookie that a page sets keeps it out, and so does one that asked for it. Assets are for all."""
     site.expect(site.pages, 2, "/account/me", *[(200, "edge;fwd=bypass;detail=operator")] * 2)
     site.expect(site.pages, 2, "/login", *[(200, "edge;fwd=uri-miss;detail=not-stored-set-cookie")] * 2)
+    for it in ("session=alice", "session=bob"):
+        answer = curl(site.cache.port, URL("/orders"), "--header", f"Cookie: {it}")
+        expect_from(answer, 200, "edge;fwd=uri-miss;detail=not-stored-request-cookie")
+        expect(f"the page of {it}", f"hello {it}".encode(), answer.content)
+    shared = ["--header", "Cookie: session=alice"]
+    site.expect(site.assets, 1, "/assets/app.js", (200, "edge;fwd=uri-miss;ttl=;stored"), (200, "edge;hit;ttl="), words=shared)
 
 
 def what_all_share(site):

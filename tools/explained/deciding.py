@@ -40,7 +40,7 @@ def line_of(fields, name):
 
 class InHand:
     """A request by GET, and the answer that an origin gave to it through the proxy. `words` are those of the table's
-    line, with `max_stored`; None where the table isn't known."""
+    line, with `max_stored` and `version`; None where the table isn't known."""
 
     def __init__(self, asked, status, fields, words=None):
         self.asked, self.status, self.fields, self.words = list(asked), status, list(fields), words
@@ -81,6 +81,25 @@ class InHand:
         )
         return verdict, f"the content has {self.content()} bytes: {why}"
 
+    def word_of_lifetime(self):
+        """The word by which a line gives this status a lifetime."""
+        of_errors = self.status >= 400 and (self.words or {}).get("version", 4) >= 4
+        return "error-lifetime" if of_errors else "lifetime"
+
+    def for_one_visitor(self):
+        """The rule of answers to a request with a cookie or credentials that only the line gives a lifetime."""
+        tells = [name for name in ("Cookie", "Authorization") if values_of(self.asked, name)]
+        given = self.status in HEURISTIC and not self.has_lifetime() and "public" not in self.said
+        if not (tells and given):
+            return FALLS, ""
+        why = f"the request has {tells[0]}; {self.control()}, no Expires"
+        word = self.word_of_lifetime()
+        if self.words is None:
+            return MAY, f'{why}: if the line has {word} in a table of version 4, and no cookies = "shared"'
+        if self.words.get("version", 4) < 4 or word not in self.words or self.words.get("cookies") == "shared":
+            return FALLS, ""
+        return STANDS, f"{why}: the line's {word} isn't given to such a request"
+
     def judged(self):
         """Of each rule its name, whether it stands, and what of the answer says so."""
         allows = self.said & {"public", "max-age", "s-maxage"} or self.has("Expires") or self.status in HEURISTIC
@@ -101,7 +120,7 @@ class InHand:
         is_star = any(it == "*" or not TOKEN.fullmatch(it) for it in members(values_of(self.fields, "Vary")))
         yield "VaryStar", STANDS if is_star else FALLS, line_of(self.fields, "Vary")
         yield "ConnectionField", MAY, "the origin's Connection isn't passed on: ask the origin itself"
-        is_given = self.words is not None and "lifetime" in self.words and self.status in HEURISTIC
+        is_given = self.words is not None and self.word_of_lifetime() in self.words and self.status in HEURISTIC
         has_none = not self.has_lifetime() and not self.has_validator() and not is_given
         lacks = f"{self.control()}, no Expires, no ETag or Last-Modified that can be read"
         yield "NothingToReuse", STANDS if has_none else FALLS, lacks
@@ -114,6 +133,7 @@ class InHand:
         is_error = self.status >= 400 and self.status not in HEURISTIC
         verdict, why = self.by_table(is_error, "errors", lambda it: it == "not-stored", 'if the line has errors = "not-stored"')
         yield "ErrorStatus", verdict, f"status {self.status}: {why}"
+        yield "RequestCookie", *self.for_one_visitor()
 
     def first(self):
         """The first rule that stands, with what says so, or None; and those that may stand, where none does. (What stands

@@ -22,6 +22,8 @@ OTHERS.append(("UnansweredCause", "unanswered_name", Words.left))
 
 # What may stand against any answer that says nothing against itself.
 UNSEEN = ["ConnectionField", "TooLarge", "Overtaken"]
+TAKEN = ["ConnectionField", "Overtaken"]
+VISITOR = [("Cookie", "session=alice")]
 MINUTE, COOKIE = ("Cache-Control", "max-age=60"), ("Set-Cookie", "sid=1")
 # An answer in hand: what was asked with, its status and fields, the table's words if they are known; then the rule that
 # stands, or those that may (docs/RULES.md, "Storing").
@@ -55,6 +57,16 @@ IN_HAND = [
     ([], 500, [MINUTE], None, [*UNSEEN, "ErrorStatus"]),
     ([], 500, [MINUTE, ("Content-Length", "5")], {"max_stored": 9, "errors": "not-stored"}, "ErrorStatus"),
     ([], 404, [MINUTE], None, UNSEEN),
+    (VISITOR, 200, [("ETag", '"v1"')], None, [*UNSEEN, "RequestCookie"]),
+    (VISITOR, 200, [("Content-Length", "5")], {"max_stored": 9, "lifetime": 60, "version": 4}, "RequestCookie"),
+    (VISITOR, 200, [("Content-Length", "5")], {"max_stored": 9, "lifetime": 60, "cookies": "shared", "version": 4}, TAKEN),
+    (VISITOR, 200, [("Content-Length", "5")], {"max_stored": 9, "lifetime": 60, "version": 3}, TAKEN),
+    (VISITOR, 200, [MINUTE, ("Content-Length", "5")], {"max_stored": 9, "lifetime": 60, "version": 4}, TAKEN),
+    (VISITOR, 200, [("Cache-Control", "public"), ("Content-Length", "5")], {"max_stored": 9, "lifetime": 60, "version": 4}, TAKEN),
+    ([("Authorization", "Basic eDp5")], 200, [("Cache-Control", "must-revalidate")], {"max_stored": 9, "lifetime": 60, "version": 4}, "RequestCookie"),
+    (VISITOR, 404, [("Content-Length", "5")], {"max_stored": 9, "error-lifetime": 5, "version": 4}, "RequestCookie"),
+    (VISITOR, 404, [("Content-Length", "5")], {"max_stored": 9, "lifetime": 60, "version": 4}, "NothingToReuse"),
+    ([], 404, [("Content-Length", "5")], {"max_stored": 9, "lifetime": 60, "version": 3}, TAKEN),
 ]
 # Lines of --header, and whether they may be sent.
 HEADERS = {"Accept-Encoding: gzip, br": True, "Cookie:sid=1": True, "X-Empty:": True, "Host: h": False, "no colon": False}

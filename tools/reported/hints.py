@@ -12,7 +12,7 @@ REQUEST, NO_LIFETIME, STALE, TOO_LARGE, NO_DIRECTIVE, OWN_WORD, OTHER_RULE, UNTO
 # What stale responses are named by for which others wait by `wait`.
 OVER = {None, "must-revalidate", "max-stale", "max-age", "min-fresh"}
 NOT_STORED = {"not-stored-no-lifetime": NO_LIFETIME, "not-stored-too-large": TOO_LARGE}
-NOT_STORED |= {"not-stored-set-cookie": OWN_WORD, "not-stored-error-status": OWN_WORD}
+NOT_STORED |= {f"not-stored-{it}": OWN_WORD for it in ("set-cookie", "request-cookie", "error-status")}
 # The rows of the list: the word, how sure it is, and what is counted of which answers.
 WORDS = [
     (
@@ -45,7 +45,11 @@ WORDS = [
 ]
 NOT_HITS = [
     (BORN_OLD, "stored when they were over already (ttl below 0): a clock that is behind, an Age, or no lifetime to speak of"),
-    (OWN_WORD, "kept out by the line's own set-cookie or errors: detail=not-stored-set-cookie, not-stored-error-status"),
+    (
+        OWN_WORD,
+        "kept out by the line's own set-cookie, cookies or errors: detail=not-stored-set-cookie, not-stored-request-cookie, "
+        "not-stored-error-status",
+    ),
     (OTHER_RULE, "kept out by the origin or the client, and no word helps: another detail=not-stored-.. (tools/why)"),
     (UNTOLD, 'not stored, and nothing says why: explain = "storing" in the line has the answer say it'),
 ]

@@ -65,7 +65,7 @@ static TARGET_FAULTS: [TargetFault; 8] = [
     TargetFault::TooLong,
 ];
 
-static STORING_RULES: [(&str, StoreRule); 18] = [
+static STORING_RULES: [(&str, StoreRule); 19] = [
     ("Operator", StoreRule::Operator),
     ("Method", StoreRule::Method),
     ("Bypass", StoreRule::Bypass),
@@ -84,6 +84,7 @@ static STORING_RULES: [(&str, StoreRule); 18] = [
     ("Serials", StoreRule::Serials),
     ("SetCookie", StoreRule::SetCookie),
     ("ErrorStatus", StoreRule::ErrorStatus),
+    ("RequestCookie", StoreRule::RequestCookie),
 ];
 
 fn frame_fault(name: &str) -> Option<FrameFault> {

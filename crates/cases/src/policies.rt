@@ -1,6 +1,6 @@
 //! What a line says of caching, in a case: `words` and each word as `lifetime=60`, with the values of the operator's
 //! table of version 4. A line of version 3 with that lifetime has `error-lifetime=60` too, and one of version 4 has
-//! `conditions=answered` without that word.
+//! `conditions=answered` without that word, and where it gives a lifetime `cookies=private`.
 
 use hx_policy::Policy;
 use std::alloc::AllocError;
@@ -11,8 +11,10 @@ fn with_word(policy: Policy, word: &str) -> Option<Policy> {
     match word.split_once('=')? {
         ("lifetime", seconds) => policy.lifetime = Some(seconds.parse::<u32>().ok()?),
         ("error-lifetime", seconds) => policy.error_lifetime = Some(seconds.parse::<u32>().ok()?),
+        ("lifetime-most", seconds) => policy.lifetime_most = Some(seconds.parse::<u32>().ok()?),
         ("stale-if-error", seconds) => policy.stale_if_error = Some(seconds.parse::<u32>().ok()?),
         ("set-cookie", "not-stored") => policy.stores_cookies = false,
+        ("cookies", "private") => policy.gives_to_cookies = false,
         ("errors", "not-stored") => policy.stores_errors = false,
         ("request-directives", "ignored") => policy.heeds_requests = false,
         ("wait", "missing-or-stale") => policy.waits_for_stale = true,
@@ -43,13 +45,28 @@ fn write_unless(text: &mut String, kept: bool, word: &str) -> Result<(), AllocEr
     if kept { Ok(()) } else { text.push_str(word) }
 }
 
+/// Whether a line gives a lifetime, and to no request with a cookie.
+fn withholds_from_cookies(policy: Policy) -> bool {
+    let gives = policy.lifetime.is_some() || policy.error_lifetime.is_some();
+    gives && !policy.gives_to_cookies
+}
+
+/// Whether a policy has a word that isn't as it is without words in versions 1 to 3.
+pub fn has_words(policy: Policy) -> bool {
+    let mut shown = policy;
+    shown.gives_to_cookies = !withholds_from_cookies(policy);
+    shown != Policy::plain(true)
+}
+
 /// Writes each word of a policy that isn't as it is without words in versions 1 to 3, behind a space.
 pub fn write_words(text: &mut String, policy: Policy) -> Result<(), AllocError> {
     write_unless(text, policy.caches, " cache=off")?;
     write_seconds(text, "lifetime", policy.lifetime)?;
     write_seconds(text, "error-lifetime", policy.error_lifetime)?;
+    write_seconds(text, "lifetime-most", policy.lifetime_most)?;
     write_seconds(text, "stale-if-error", policy.stale_if_error)?;
     write_unless(text, policy.stores_cookies, " set-cookie=not-stored")?;
+    write_unless(text, !withholds_from_cookies(policy), " cookies=private")?;
     write_unless(text, policy.stores_errors, " errors=not-stored")?;
     write_unless(text, policy.heeds_requests, " request-directives=ignored")?;
     write_unless(text, !policy.waits_for_stale, " wait=missing-or-stale")?;

@@ -3,14 +3,13 @@
 use crate::case_file::Case;
 use crate::lines::{Fault, Line, bytes_spelled, push_spelled};
 use crate::parts::{lines_of, only_line};
-use crate::policies::write_words;
+use crate::policies::{has_words, write_words};
 use crate::requests::method_of;
 use crate::targets::write_refused;
 use case_text::push_shown;
 use http::Method;
 use hx_allow::{Config, ConfigFault, MOST_LINES, Verdict};
 use hx_fields::{Bytes, Fields};
-use hx_policy::Policy;
 use hx_target::{Target, TargetFault, read_target};
 use std::alloc::{AllocError, Global};
 
@@ -41,7 +40,7 @@ fn write_read(text: &mut String, config: &Config) -> Result<(), AllocError> {
     text.push_str("read")?;
     for line in 1..=MOST_LINES {
         let policy = config.policy(line);
-        if usize::from(line) <= config.lines() && policy != Policy::plain(true) {
+        if usize::from(line) <= config.lines() && has_words(policy) {
             write!(text, ", line {line}")?;
             write_words(text, policy)?;
         }

@@ -8,11 +8,11 @@ use Rattle.std.proofs.lemmas.List.Elements.{All-nil, All-cons}
 use Rattle.toml.specs.Data.{Members, get_member}
 use Rattle.hx_policy.specs.Policies.{plain}
 use Rattle.hx_allow.specs.LineTables.{is_good, first_bad_key}
-use Rattle.hx_allow.specs.LineWords.{key_has_text, word_of_error_lifetime, line_takes_words, leaves_conditions_to_origin, policy_of_line_table}
+use Rattle.hx_allow.specs.LineWords.{key_has_text, word_of_error_lifetime, line_takes_words, gives_lifetimes_to_cookies, leaves_conditions_to_origin, policy_of_line_table}
 use Rattle.hx_allow.specs.Keys.{word_key}
 use Rattle.hx_allow.specs.Rows.{line_keys, has_keys_of}
 use Rattle.hx_allow.specs.Versions.{LineHasNoWord}
-use Rattle.hx_allow.specs.declared.config_faults.LineWord.TheVariants.{Lifetime, ErrorLifetime, StaleIfError, SetCookie, Errors, RequestDirectives, Wait, Explain, Conditions}
+use Rattle.hx_allow.specs.declared.config_faults.LineWord.TheVariants.{Lifetime, ErrorLifetime, LifetimeMost, StaleIfError, SetCookie, Cookies, Errors, RequestDirectives, Wait, Explain, Conditions}
 use Rattle.hx_allow.specs.declared.rows.LineKey.{LineKey}
 use Rattle.hx_allow.specs.declared.rows.LineKey.TheVariants.{Host, Methods, Path, Origin, Cache, Word}
 use Rattle.hx_allow.specs.declared.values.TableVersion.{TableVersion}
@@ -28,13 +28,15 @@ listed P all Origin = all 3 Host (omega arith)
 listed P all Cache = all 4 Host (omega arith)
 listed P all (Word Lifetime) = all 5 Host (omega arith)
 listed P all (Word ErrorLifetime) = all 6 Host (omega arith)
-listed P all (Word StaleIfError) = all 7 Host (omega arith)
-listed P all (Word SetCookie) = all 8 Host (omega arith)
-listed P all (Word Errors) = all 9 Host (omega arith)
-listed P all (Word RequestDirectives) = all 10 Host (omega arith)
-listed P all (Word Wait) = all 11 Host (omega arith)
-listed P all (Word Explain) = all 12 Host (omega arith)
-listed P all (Word Conditions) = all 13 Host (omega arith)
+listed P all (Word LifetimeMost) = all 7 Host (omega arith)
+listed P all (Word StaleIfError) = all 8 Host (omega arith)
+listed P all (Word SetCookie) = all 9 Host (omega arith)
+listed P all (Word Cookies) = all 10 Host (omega arith)
+listed P all (Word Errors) = all 11 Host (omega arith)
+listed P all (Word RequestDirectives) = all 12 Host (omega arith)
+listed P all (Word Wait) = all 13 Host (omega arith)
+listed P all (Word Explain) = all 14 Host (omega arith)
+listed P all (Word Conditions) = all 15 Host (omega arith)
 
 -- where no word stands, the policy is that of the versions before the third, in a version before the fourth, or where
 -- the line takes none
@@ -42,14 +44,16 @@ pub plain_policy : (version : TableVersion) (ms : Members) → LineHasNoWord ms 
 plain_policy version ms none older =
     let error_lifetime : get_member (word_key (word_of_error_lifetime version)) ms ≡ None = none (word_of_error_lifetime version) in
     let lifetime : get_member (codes "lifetime") ms ≡ None = none Lifetime in
+    let lifetime_most : get_member (codes "lifetime-most") ms ≡ None = none LifetimeMost in
     let stale_if_error : get_member (codes "stale-if-error") ms ≡ None = none StaleIfError in
     let set_cookie : get_member (codes "set-cookie") ms ≡ None = none SetCookie in
     let errors : get_member (codes "errors") ms ≡ None = none Errors in
     let request_directives : get_member (codes "request-directives") ms ≡ None = none RequestDirectives in
     let wait : get_member (codes "wait") ms ≡ None = none Wait in
     let explain : get_member (codes "explain") ms ≡ None = none Explain in
+    let cookies : gives_lifetimes_to_cookies version ms ≡ true = rw older refl in
     let conditions : leaves_conditions_to_origin version ms ≡ true = rw older refl in
-    rw conditions (rw error_lifetime (rw lifetime (rw stale_if_error (rw set_cookie (rw errors (rw request_directives (rw wait (rw explain refl))))))))
+    rw cookies (rw conditions (rw error_lifetime (rw lifetime (rw lifetime_most (rw stale_if_error (rw set_cookie (rw errors (rw request_directives (rw wait (rw explain refl))))))))))
 
 -- ---- what a test of the list tells of each
 

@@ -23,7 +23,7 @@ use Rattle.hx_allow.specs.Versions.{LineHasNoWord, LineHasNoWordOfFour, LineIsSp
 use Rattle.hx_allow.specs.declared.config_faults.ConfigFault.{ConfigFault}
 use Rattle.hx_allow.specs.declared.config_faults.ConfigFault.TheVariants.{UnknownKey, BadNumber, BadCache, BadWord, MethodInLowerCase, StarInPath}
 use Rattle.hx_allow.specs.declared.config_faults.LineWord.{LineWord}
-use Rattle.hx_allow.specs.declared.config_faults.LineWord.TheVariants.{Lifetime, ErrorLifetime, StaleIfError, SetCookie, Errors, RequestDirectives, Wait, Explain, Conditions}
+use Rattle.hx_allow.specs.declared.config_faults.LineWord.TheVariants.{Lifetime, ErrorLifetime, LifetimeMost, StaleIfError, SetCookie, Cookies, Errors, RequestDirectives, Wait, Explain, Conditions}
 use Rattle.hx_allow.specs.declared.config_faults.NumberKey.TheVariants.{Version, Capacity, MaxBody, MaxStored, MaxStore}
 use Rattle.hx_allow.specs.declared.rows.LineKey.{LineKey}
 use Rattle.hx_allow.specs.declared.rows.LineKey.TheVariants.{Host, Methods, Path, Origin, Cache, Word}
@@ -153,8 +153,10 @@ known_in_four key other = any_alike (λ known. is_key_of Four key (line_row know
     alike Cache = refl
     alike (Word Lifetime) = refl
     alike (Word ErrorLifetime) = other ErrorLifetime refl
+    alike (Word LifetimeMost) = other LifetimeMost refl
     alike (Word StaleIfError) = refl
     alike (Word SetCookie) = refl
+    alike (Word Cookies) = other Cookies refl
     alike (Word Errors) = refl
     alike (Word RequestDirectives) = refl
     alike (Word Wait) = refl
@@ -364,8 +366,10 @@ unknown_word_of_four One word since before = unknown_word One word refl
 unknown_word_of_four Two word since before = unknown_word Two word refl
 unknown_word_of_four Three Lifetime since before = cc
 unknown_word_of_four Three ErrorLifetime since before = refl
+unknown_word_of_four Three LifetimeMost since before = refl
 unknown_word_of_four Three StaleIfError since before = cc
 unknown_word_of_four Three SetCookie since before = cc
+unknown_word_of_four Three Cookies since before = refl
 unknown_word_of_four Three Errors since before = cc
 unknown_word_of_four Three RequestDirectives since before = cc
 unknown_word_of_four Three Wait since before = cc
@@ -582,9 +586,12 @@ is_plain_line : (version : TableVersion) (n : ℕ) (ms : Members) → has_keys_o
 unfolding line_read
 is_plain_line version n ms other none = plain_policy version ms (no_words version ms other (all_keys_known version n ms none)) (older version ms other)
 
-is_line_of_three : (version : TableVersion) (ms : Members) → has_keys_of version Four ≡ false → LineIsOfThree (line_read version ms)
+is_line_of_three : (version : TableVersion) (n : ℕ) (ms : Members) → has_keys_of version Four ≡ false → line_fault version n ms ≡ None → LineIsOfThree (line_read version ms)
 unfolding line_read
-is_line_of_three version ms before = (rw before refl, rw before refl)
+is_line_of_three version n ms before none =
+    let known = all_keys_known version n ms none in
+    let most : get_member (codes "lifetime-most") ms ≡ None = not_among_known (Line version) (codes "lifetime-most") ms (unknown_word_of_four version LifetimeMost refl before) known in
+    (rw before refl, rw most refl, rw before refl, rw before refl)
 
 pub each_is_cached : (t : Members) (table : Table) → version_of t ≡ One → judge_table t ≡ Ok table → All (λ (line : PlainLine). line.policy ≡ plain true) table.lines
 each_is_cached t table one e =
@@ -596,4 +603,4 @@ each_is_plain t table other e =
     each_line_read (λ (line : PlainLine). line.policy ≡ plain line.policy.caches) t table (λ n ms none. is_plain_line (version_of t) n ms other none) (sym e)
 
 pub each_is_of_three : (t : Members) (table : Table) → has_keys_of (version_of t) Four ≡ false → judge_table t ≡ Ok table → All LineIsOfThree table.lines
-each_is_of_three t table before e = each_line_read LineIsOfThree t table (λ n ms none. is_line_of_three (version_of t) ms before) (sym e)
+each_is_of_three t table before e = each_line_read LineIsOfThree t table (λ n ms none. is_line_of_three (version_of t) n ms before none) (sym e)

@@ -108,9 +108,10 @@ line_with_lists hosts paths origin = record {
   policy = plain true;
 }
 
--- what a line without words says in a table of version 4: the conditions of clients stay with the proxy
+-- what a line without words says in a table of version 4: requests with a cookie are given no lifetime, and the
+-- conditions of clients stay with the proxy
 abbrev pub plain_of_four : Policy
-plain_of_four = record (plain true) { forwards_conditions = false }
+plain_of_four = record (plain true) { gives_to_cookies = false; forwards_conditions = false }
 
 -- the origin of the first run
 abbrev pub origin_8081 : Option (List ℕ)

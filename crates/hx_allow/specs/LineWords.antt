@@ -2,6 +2,7 @@
 --
 -- line_denies, line_takes_words: a line has no origin, or has one and its cache on
 -- word_of_error_lifetime: the word that gives errors their lifetime
+-- gives_lifetimes_to_cookies: the line gives its lifetimes to requests with a cookie, too
 -- leaves_conditions_to_origin: the conditions of clients are the origin's to judge
 -- policy_of_line_table: what a line without fault says
 use Rattle.std.specs.Prelude.{ℕ, Bool, false, not, ◌&&◌, ◌||◌, if◌then◌else◌, List, codes, bytes_eq}
@@ -12,7 +13,7 @@ use Rattle.hx_allow.specs.Values.{text_at, is_some_and, number_in}
 use Rattle.hx_allow.specs.declared.config_faults.LineWord.{LineWord}
 use Rattle.hx_allow.specs.declared.config_faults.LineWord.TheVariants.{Lifetime, ErrorLifetime, StaleIfError, SetCookie}
 use Rattle.hx_allow.specs.declared.config_faults.LineWord.TheVariants.{Errors, RequestDirectives, Wait, Explain}
-use Rattle.hx_allow.specs.declared.config_faults.LineWord.TheVariants.{Conditions}
+use Rattle.hx_allow.specs.declared.config_faults.LineWord.TheVariants.{LifetimeMost, Cookies, Conditions}
 use Rattle.hx_allow.specs.declared.rows.LineKey.TheVariants.{Cache}
 use Rattle.hx_allow.specs.declared.values.TableVersion.{TableVersion}
 
@@ -47,6 +48,12 @@ abbrev pub word_of_error_lifetime : TableVersion → LineWord
 word_of_error_lifetime version =
     if has_keys_of version (word_row ErrorLifetime).since then ErrorLifetime else Lifetime
 
+-- own: from the fourth version on a line gives no lifetime to the response to a request with a cookie, unless the line
+-- says else; a line that takes no words gives none at all ("A page for one isn't given a lifetime for all")
+abbrev pub gives_lifetimes_to_cookies : TableVersion → Members → Bool
+gives_lifetimes_to_cookies version ms =
+    not (has_keys_of version (word_row Cookies).since && line_takes_words ms) || says_second (word_row Cookies) ms
+
 -- own: from the fourth version on the conditions of clients stay with the proxy, unless the line says else; a line that
 -- takes no words says nothing of them ("A client's condition doesn't empty the cache")
 abbrev pub leaves_conditions_to_origin : TableVersion → Members → Bool
@@ -60,8 +67,10 @@ policy_of_line_table version ms = record {
   caches = not (says_second (line_row Cache) ms);
   lifetime = number_in (word_row Lifetime) ms;
   error_lifetime = number_in (word_row (word_of_error_lifetime version)) ms;
+  lifetime_most = number_in (word_row LifetimeMost) ms;
   stale_if_error = number_in (word_row StaleIfError) ms;
   stores_cookies = not (says_second (word_row SetCookie) ms);
+  gives_to_cookies = gives_lifetimes_to_cookies version ms;
   stores_errors = not (says_second (word_row Errors) ms);
   heeds_requests = not (says_second (word_row RequestDirectives) ms);
   waits_for_stale = says_second (word_row Wait) ms;

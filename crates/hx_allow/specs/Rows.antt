@@ -12,7 +12,7 @@ use Rattle.hx_allow.specs.declared.config_faults.ConfigFault.TheVariants.{BadPat
 use Rattle.hx_allow.specs.declared.config_faults.LineWord.{LineWord}
 use Rattle.hx_allow.specs.declared.config_faults.LineWord.TheVariants.{Lifetime, ErrorLifetime, StaleIfError, SetCookie}
 use Rattle.hx_allow.specs.declared.config_faults.LineWord.TheVariants.{Errors, RequestDirectives, Wait, Explain}
-use Rattle.hx_allow.specs.declared.config_faults.LineWord.TheVariants.{Conditions}
+use Rattle.hx_allow.specs.declared.config_faults.LineWord.TheVariants.{LifetimeMost, Cookies, Conditions}
 use Rattle.hx_allow.specs.declared.config_faults.NumberKey.{NumberKey}
 use Rattle.hx_allow.specs.declared.config_faults.NumberKey.TheVariants.{Version, Capacity, MaxBody, MaxStored}
 use Rattle.hx_allow.specs.declared.config_faults.NumberKey.TheVariants.{MaxStore}
@@ -94,8 +94,10 @@ most_seconds = 2147483648
 abbrev pub word_row : LineWord → Row
 word_row Lifetime = row_for_caching_lines (codes "lifetime") Three (some_seconds 1 most_seconds)
 word_row ErrorLifetime = row_for_caching_lines (codes "error-lifetime") Four (some_seconds 1 most_seconds)
+word_row LifetimeMost = row_for_caching_lines (codes "lifetime-most") Four (some_seconds 1 most_seconds)
 word_row StaleIfError = row_for_caching_lines (codes "stale-if-error") Three (some_seconds 0 most_seconds)
 word_row SetCookie = row_for_caching_lines (codes "set-cookie") Three (one_of (codes "stored") (codes "not-stored"))
+word_row Cookies = row_for_caching_lines (codes "cookies") Four (one_of (codes "private") (codes "shared"))
 word_row Errors = row_for_caching_lines (codes "errors") Three (one_of (codes "stored") (codes "not-stored"))
 word_row RequestDirectives = row_for_caching_lines (codes "request-directives") Three (one_of (codes "heeded") (codes "ignored"))
 word_row Wait = row_for_caching_lines (codes "wait") Three (one_of (codes "missing") (codes "missing-or-stale"))
@@ -105,11 +107,12 @@ word_row Conditions = row_for_caching_lines (codes "conditions") Four (one_of (c
 -- the words of a line, in the order in which they are looked at
 abbrev pub line_words : List LineWord
 line_words =
-    Lifetime ∷ ErrorLifetime ∷ StaleIfError ∷ SetCookie ∷ Errors ∷ RequestDirectives ∷ Wait ∷ Explain ∷ Conditions ∷ []
+    Lifetime ∷ ErrorLifetime ∷ LifetimeMost ∷ StaleIfError ∷ SetCookie ∷ Cookies ∷ Errors ∷ RequestDirectives ∷ Wait
+    ∷ Explain ∷ Conditions ∷ []
 
 -- what is told of a key that isn't known, with the keys that a version adds
 abbrev pub words_of_unknown_key : List ℕ
-words_of_unknown_key = codes "a key isn't known where it stands; correct its spelling or delete it: behind [[line]] keys belong to that line; cache needs version = 2, 3 or 4, lifetime, stale-if-error, set-cookie, errors, request-directives, wait and explain need version = 3 or 4, and max_store, error-lifetime and conditions need version = 4"
+words_of_unknown_key = codes "a key isn't known where it stands; correct its spelling or delete it: behind [[line]] keys belong to that line; cache needs version = 2, 3 or 4, lifetime, stale-if-error, set-cookie, errors, request-directives, wait and explain need version = 3 or 4, and max_store, error-lifetime, lifetime-most, cookies and conditions need version = 4"
 
 abbrev pub line_row : LineKey → Row
 line_row Host = required_row (codes "host") a_host

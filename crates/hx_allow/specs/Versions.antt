@@ -35,11 +35,12 @@ abbrev pub LineHasOneHostAndPath : Line → Type 0
 LineHasOneHostAndPath line =
     (length line.hosts ≡ 1) × (length line.paths ≡ 1) × (list_any is_for_hosts_below line.hosts ≡ false)
 
--- what a line of the third version says: errors have the lifetime of all others, and the conditions of clients are the
--- origin's to judge
+-- what a line of the third version says: errors have the lifetime of all others, each stated lifetime counts as it is,
+-- requests with a cookie are given the lifetimes of all others, and the conditions of clients are the origin's to judge
 abbrev pub LineIsOfThree : Line → Type 0
 LineIsOfThree line =
-    (line.policy.error_lifetime ≡ line.policy.lifetime) × (line.policy.forwards_conditions ≡ true)
+    (line.policy.error_lifetime ≡ line.policy.lifetime) × (line.policy.lifetime_most ≡ None)
+    × (line.policy.gives_to_cookies ≡ true) × (line.policy.forwards_conditions ≡ true)
 
 -- a line has no word, or it allows and has its cache on
 abbrev pub LineTakesItsWords : Line → Type 0

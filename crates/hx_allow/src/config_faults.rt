@@ -39,11 +39,16 @@ pub enum LineWord {
     Lifetime,
     /// The lifetime of an error that states none, 1 to 2,147,483,648 seconds. It needs version 4.
     ErrorLifetime,
+    /// The most seconds that a stated lifetime counts for, 1 to 2,147,483,648. It needs version 4.
+    LifetimeMost,
     /// The staleness in which a stored response is sent in place of an error, 0 to 2,147,483,648
     /// seconds (RFC 5861, section 4).
     StaleIfError,
     /// Whether a response with Set-Cookie is stored (RFC 9111, section 7.3).
     SetCookie,
+    /// Whether the line gives its lifetimes to the response to a request with Cookie or Authorization, too. It needs
+    /// version 4.
+    Cookies,
     /// Whether a response with a status of an error is stored.
     Errors,
     /// Whether a request's no-cache, max-age and min-fresh count (RFC 9111, section 5.2.1).

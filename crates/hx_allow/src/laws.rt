@@ -92,7 +92,8 @@ pub fn version_two_reads_as_before()
 /// A table of the first three versions is never refused for what the fourth adds: for the bound of
 /// the store's bytes, of which it has none, so that what is stored is bounded by its number alone, as
 /// before; and for a word of the fourth, of which none of its lines has one, so that errors have the
-/// lifetime of all others, and the conditions of clients go to the origin, as before. Nor is it refused
+/// lifetime of all others, each stated lifetime counts as it is, requests with a cookie are given the
+/// lifetimes of all others, and the conditions of clients go to the origin, as before. Nor is it refused
 /// for a method in lower case or a `*` in a path. Each of its lines has one path, and one host or every
 /// one. A line without such a word, such a spelling, a list and `*.` and a host is read alike in the
 /// fourth; what the third reads has neither of the last two.
@@ -136,6 +137,14 @@ pub fn conditions_stay_with_the_proxy_in_version_four()
     ensures { (members : Members) → line_takes_words members ≡ true
         → (line_read Four members).policy.forwards_conditions
         ≡ key_has_text (codes "conditions") (codes "forwarded") members }
+{}
+
+/// Over a line of version 4 that has an origin and its cache on the response to a request with a cookie is given the
+/// line's lifetimes exactly where the line says that they are shared.
+#[tactic(auto, unfolding(crate::specs::LineTables::line_read))]
+pub fn cookies_are_private_in_version_four()
+    ensures { (members : Members) → line_takes_words members ≡ true
+        → (line_read Four members).policy.gives_to_cookies ≡ key_has_text (codes "cookies") (codes "shared") members }
 {}
 
 /// Where a table bounds the bytes of its store, the bound is in its range, and no content that may be

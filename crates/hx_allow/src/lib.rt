@@ -42,17 +42,18 @@ pub use laws::{
     a_fault_of_the_second_line_has_its_number, a_store_takes_each_content,
     a_table_is_read_in_one_way, a_table_of_two_lines_is_read, a_taken_line_never_decides,
     a_whole_table_is_read, conditions_stay_with_the_proxy_in_version_four,
-    lines_without_cache_are_read, one_verdict_for_each_table_path, table_versions,
-    the_first_line_at_fault_is_named, the_first_line_that_matches_decides,
-    version_four_refuses_what_is_meant_otherwise, version_one_reads_as_before,
-    version_three_reads_as_before, version_two_reads_as_before, words_belong_where_a_line_caches,
+    cookies_are_private_in_version_four, lines_without_cache_are_read,
+    one_verdict_for_each_table_path, table_versions, the_first_line_at_fault_is_named,
+    the_first_line_that_matches_decides, version_four_refuses_what_is_meant_otherwise,
+    version_one_reads_as_before, version_three_reads_as_before, version_two_reads_as_before,
+    words_belong_where_a_line_caches,
 };
 pub use limits::{MOST_LINES, MOST_TABLE_BYTES};
 pub use line_word_cases::{
     a_table_with_a_lifetime_of_errors_is_read, a_table_with_words_is_read,
-    worked_conditions_of_versions, worked_keys_of_words, worked_lifetimes_of_versions,
-    worked_places_of_words, worked_policies_of_words, worked_seconds_of_a_line,
-    worked_texts_of_a_line,
+    worked_conditions_of_versions, worked_cookies_of_versions, worked_keys_of_words,
+    worked_lifetimes_of_versions, worked_places_of_words, worked_policies_of_words,
+    worked_seconds_of_a_line, worked_texts_of_a_line,
 };
 pub use list_cases::{
     faults_of_lists, hosts_of_each_version, lines_with_lists_decide, worked_lines_with_lists,

@@ -14,6 +14,7 @@ ghost use Rattle.hx_allow.specs.declared.config_faults.ConfigFault.TheVariants.{
 ghost use Rattle.hx_allow.specs.declared.config_faults.LineWord.TheVariants.{Lifetime, ErrorLifetime, StaleIfError};
 ghost use Rattle.hx_allow.specs.declared.config_faults.LineWord.TheVariants.{SetCookie, Errors, RequestDirectives};
 ghost use Rattle.hx_allow.specs.declared.config_faults.LineWord.TheVariants.{Wait, Explain, Conditions};
+ghost use Rattle.hx_allow.specs.declared.config_faults.LineWord.TheVariants.{LifetimeMost, Cookies};
 ghost use Rattle.hx_allow.specs.declared.values.Scope.TheVariants.{Top, Line};
 ghost use Rattle.hx_allow.specs.declared.values.TableVersion.TheVariants.{One, Two, Three, Four};
 
@@ -51,6 +52,14 @@ pub fn worked_keys_of_words()
     ensures conditions_of_three { is_known (Line Three) (codes "conditions") ≡ false }
     ensures conditions_at_the_top { is_known (Top Four) (codes "conditions") ≡ false }
     ensures text_of_conditions { word_key Conditions ≡ codes "conditions" }
+    ensures lifetime_most { is_known (Line Four) (word_key LifetimeMost) ≡ true }
+    ensures lifetime_most_of_three { is_known (Line Three) (codes "lifetime-most") ≡ false }
+    ensures lifetime_most_at_the_top { is_known (Top Four) (codes "lifetime-most") ≡ false }
+    ensures text_of_lifetime_most { word_key LifetimeMost ≡ codes "lifetime-most" }
+    ensures cookies { is_known (Line Four) (word_key Cookies) ≡ true }
+    ensures cookies_of_three { is_known (Line Three) (codes "cookies") ≡ false }
+    ensures cookies_at_the_top { is_known (Top Four) (codes "cookies") ≡ false }
+    ensures text_of_cookies { word_key Cookies ≡ codes "cookies" }
 {}
 
 /// Seconds of a line: whole numbers within their bounds, and no text.
@@ -86,6 +95,17 @@ pub fn worked_seconds_of_a_line()
         (line_table_with_keys (key_with_text (codes "error-lifetime") (codes "60") ∷ [])) ≡ Some (BadWord 1 ErrorLifetime) }
     ensures of_errors_of_three { line_fault Three 1
         (line_table_with_keys (key_with_number (codes "error-lifetime") 60 ∷ [])) ≡ Some (UnknownKey (codes "error-lifetime")) }
+    ensures least_most { line_fault Four 1 (line_table_with_keys (key_with_number (codes "lifetime-most") 1 ∷ [])) ≡ None }
+    ensures most_most { line_fault Four 1
+        (line_table_with_keys (key_with_number (codes "lifetime-most") 2147483648 ∷ [])) ≡ None }
+    ensures zero_most { line_fault Four 1 (line_table_with_keys (key_with_number (codes "lifetime-most") 0 ∷ []))
+        ≡ Some (BadWord 1 LifetimeMost) }
+    ensures above_most { line_fault Four 1
+        (line_table_with_keys (key_with_number (codes "lifetime-most") 2147483649 ∷ [])) ≡ Some (BadWord 1 LifetimeMost) }
+    ensures a_text_of_most { line_fault Four 1
+        (line_table_with_keys (key_with_text (codes "lifetime-most") (codes "1d") ∷ [])) ≡ Some (BadWord 1 LifetimeMost) }
+    ensures most_of_three { line_fault Three 1
+        (line_table_with_keys (key_with_number (codes "lifetime-most") 60 ∷ [])) ≡ Some (UnknownKey (codes "lifetime-most")) }
 {}
 
 /// Texts of a line: two words each, in lower case.
@@ -131,6 +151,14 @@ pub fn worked_texts_of_a_line()
         ≡ Some (BadWord 1 Conditions) }
     ensures conditions_of_three { line_fault Three 1
         (line_table_with_keys (key_with_text (codes "conditions") (codes "forwarded") ∷ [])) ≡ Some (UnknownKey (codes "conditions")) }
+    ensures cookies_private { line_fault Four 1
+        (line_table_with_keys (key_with_text (codes "cookies") (codes "private") ∷ [])) ≡ None }
+    ensures cookies_shared { line_fault Four 1
+        (line_table_with_keys (key_with_text (codes "cookies") (codes "shared") ∷ [])) ≡ None }
+    ensures cookies_ignored { line_fault Four 1 (line_table_with_keys (key_with_text (codes "cookies") (codes "ignored") ∷ []))
+        ≡ Some (BadWord 1 Cookies) }
+    ensures cookies_of_three { line_fault Three 1
+        (line_table_with_keys (key_with_text (codes "cookies") (codes "shared") ∷ [])) ≡ Some (UnknownKey (codes "cookies")) }
     ensures directives_stored { line_fault Three 1 (line_table_with_keys (key_with_text (codes "request-directives") (codes "stored") ∷ []))
         ≡ Some (BadWord 1 RequestDirectives) }
 {}
@@ -167,6 +195,19 @@ pub fn worked_places_of_words()
         (denying_line_table_with (key_with_number (codes "error-lifetime") 60 ∷ [])) ≡ Some (BadWord 2 ErrorLifetime) }
     ensures error_lifetime_without_cache { line_fault Four 2 (line_table_with_keys (key_with_text (codes "cache") (codes "off")
         ∷ key_with_number (codes "error-lifetime") 60 ∷ [])) ≡ Some (BadWord 2 ErrorLifetime) }
+    ensures lifetime_most_next { line_fault Four 2 (line_table_with_keys (key_with_number (codes "lifetime-most") 0
+        ∷ key_with_number (codes "error-lifetime") 1 ∷ key_with_text (codes "stale-if-error") (codes "x") ∷ []))
+        ≡ Some (BadWord 2 LifetimeMost) }
+    ensures error_lifetime_before_most { line_fault Four 2 (line_table_with_keys (key_with_number (codes "lifetime-most") 0
+        ∷ key_with_number (codes "error-lifetime") 0 ∷ [])) ≡ Some (BadWord 2 ErrorLifetime) }
+    ensures lifetime_most_denying { line_fault Four 2
+        (denying_line_table_with (key_with_number (codes "lifetime-most") 60 ∷ [])) ≡ Some (BadWord 2 LifetimeMost) }
+    ensures cookies_next { line_fault Four 2 (line_table_with_keys (key_with_text (codes "cookies") (codes "x")
+        ∷ key_with_text (codes "errors") (codes "x") ∷ [])) ≡ Some (BadWord 2 Cookies) }
+    ensures set_cookie_before_cookies { line_fault Four 2 (line_table_with_keys (key_with_text (codes "cookies") (codes "x")
+        ∷ key_with_text (codes "set-cookie") (codes "x") ∷ [])) ≡ Some (BadWord 2 SetCookie) }
+    ensures cookies_without_cache { line_fault Four 2 (line_table_with_keys (key_with_text (codes "cache") (codes "off")
+        ∷ key_with_text (codes "cookies") (codes "private") ∷ [])) ≡ Some (BadWord 2 Cookies) }
     ensures set_cookie_next { line_fault Three 2 (line_table_with_keys (key_with_text (codes "set-cookie") (codes "x")
         ∷ key_with_text (codes "errors") (codes "x") ∷ key_with_text (codes "request-directives") (codes "x") ∷ []))
         ≡ Some (BadWord 2 SetCookie) }
@@ -231,6 +272,11 @@ pub fn worked_lifetimes_of_versions()
         ≡ record plain_of_four { lifetime = Some 60; error_lifetime = Some 5 } }
     ensures of_three { (line_read Three (line_table_with_keys (key_with_number (codes "lifetime") 60 ∷ []))).policy
         ≡ record (plain true) { lifetime = Some 60; error_lifetime = Some 60 } }
+    ensures most { (line_read Four (line_table_with_keys (key_with_number (codes "lifetime-most") 600 ∷ []))).policy
+        ≡ record plain_of_four { lifetime_most = Some 600 } }
+    ensures most_beside { (line_read Four (line_table_with_keys (key_with_number (codes "lifetime-most") 600
+        ∷ key_with_number (codes "lifetime") 3600 ∷ []))).policy
+        ≡ record plain_of_four { lifetime = Some 3600; lifetime_most = Some 600 } }
     ensures others { (line_read Four (line_table_with_keys (key_with_text (codes "errors") (codes "not-stored")
         ∷ []))).policy ≡ record plain_of_four { stores_errors = false } }
 {}
@@ -244,7 +290,24 @@ pub fn worked_conditions_of_versions()
     ensures answered { (line_read Four (line_table_with_keys (key_with_text (codes "conditions") (codes "answered") ∷ []))).policy
         ≡ plain_of_four }
     ensures forwarded { (line_read Four (line_table_with_keys (key_with_text (codes "conditions") (codes "forwarded") ∷ []))).policy
-        ≡ plain true }
+        ≡ record plain_of_four { forwards_conditions = true } }
+    ensures off { (line_read Four (line_table_with_keys (key_with_text (codes "cache") (codes "off") ∷ []))).policy
+        ≡ plain false }
+    ensures denying { (line_read Four (denying_line_table_with [])).policy ≡ plain true }
+{}
+
+/// In the fourth version a line gives its lifetimes to no request with a cookie, unless it says else, denies or has its
+/// cache off; in the third it gives them to each.
+#[tactic(auto, unfolding(crate::specs::LineTables::line_read))]
+pub fn worked_cookies_of_versions()
+    ensures of_three { (line_read Three
+        (line_table_with_keys (key_with_number (codes "lifetime") 60 ∷ []))).policy.gives_to_cookies ≡ true }
+    ensures of_four { (line_read Four
+        (line_table_with_keys (key_with_number (codes "lifetime") 60 ∷ []))).policy.gives_to_cookies ≡ false }
+    ensures private { (line_read Four (line_table_with_keys (key_with_text (codes "cookies") (codes "private") ∷ []))).policy
+        ≡ plain_of_four }
+    ensures shared { (line_read Four (line_table_with_keys (key_with_text (codes "cookies") (codes "shared") ∷ []))).policy
+        ≡ record plain_of_four { gives_to_cookies = true } }
     ensures off { (line_read Four (line_table_with_keys (key_with_text (codes "cache") (codes "off") ∷ []))).policy
         ≡ plain false }
     ensures denying { (line_read Four (denying_line_table_with [])).policy ≡ plain true }
@@ -264,8 +327,10 @@ pub fn a_table_with_words_is_read()
           caches = true;
           lifetime = Some 60;
           error_lifetime = Some 60;
+          lifetime_most = None;
           stale_if_error = Some 600;
           stores_cookies = false;
+          gives_to_cookies = true;
           stores_errors = false;
           heeds_requests = false;
           waits_for_stale = true;

@@ -3,7 +3,8 @@ ghost use Rattle.std.specs.Prelude.{◌≡◌};
 ghost use Rattle.toml.specs.View.{table_view};
 ghost use Rattle.hx_allow.specs.LineWords.{key_has_one_of_two, key_has_text, line_denies, line_takes_words};
 ghost use Rattle.hx_allow.specs.LineWords.{says_second, word_of_error_lifetime};
-ghost use Rattle.hx_allow.specs.LineWords.{leaves_conditions_to_origin, policy_of_line_table};
+ghost use Rattle.hx_allow.specs.LineWords.{gives_lifetimes_to_cookies, leaves_conditions_to_origin};
+ghost use Rattle.hx_allow.specs.LineWords.{policy_of_line_table};
 ghost use Rattle.hx_allow.specs.Rows.{plain_row};
 
 use crate::config_faults::LineWord;
@@ -66,6 +67,14 @@ fn word_of_error_lifetime(version: TableVersion) -> LineWord
     }
 }
 
+/// Whether a line gives its lifetimes to the response to a request with a cookie, too.
+fn gives_lifetimes_to_cookies(version: TableVersion, table: &Table) -> bool
+    ensures { result ≡ gives_lifetimes_to_cookies version (table_view table.now) }
+{
+    let row = LineWord::Cookies.row();
+    !(row.is_known_in(version) && line_takes_words(table)) || says_second(row, table)
+}
+
 /// Whether the conditions of clients are the origin's to judge.
 fn leaves_conditions_to_origin(version: TableVersion, table: &Table) -> bool
     ensures { result ≡ leaves_conditions_to_origin version (table_view table.now) }
@@ -82,8 +91,10 @@ pub fn policy_of_line_table(version: TableVersion, table: &Table) -> Policy
         caches: !says_second(LineKey::Cache.row(), table),
         lifetime: seconds_in(LineWord::Lifetime.row(), table),
         error_lifetime: seconds_in(word_of_error_lifetime(version).row(), table),
+        lifetime_most: seconds_in(LineWord::LifetimeMost.row(), table),
         stale_if_error: seconds_in(LineWord::StaleIfError.row(), table),
         stores_cookies: !says_second(LineWord::SetCookie.row(), table),
+        gives_to_cookies: gives_lifetimes_to_cookies(version, table),
         stores_errors: !says_second(LineWord::Errors.row(), table),
         heeds_requests: !says_second(LineWord::RequestDirectives.row(), table),
         waits_for_stale: says_second(LineWord::Wait.row(), table),

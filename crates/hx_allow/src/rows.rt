@@ -89,7 +89,7 @@ pub(crate) const TOP_KEYS: [TopKey; 7] = [
 ];
 
 /// The keys of a line, in the order in which they are looked at.
-pub(crate) const LINE_KEYS: [LineKey; 14] = [
+pub(crate) const LINE_KEYS: [LineKey; 16] = [
     LineKey::Host,
     LineKey::Methods,
     LineKey::Path,
@@ -97,8 +97,10 @@ pub(crate) const LINE_KEYS: [LineKey; 14] = [
     LineKey::Cache,
     LineKey::Word(LineWord::Lifetime),
     LineKey::Word(LineWord::ErrorLifetime),
+    LineKey::Word(LineWord::LifetimeMost),
     LineKey::Word(LineWord::StaleIfError),
     LineKey::Word(LineWord::SetCookie),
+    LineKey::Word(LineWord::Cookies),
     LineKey::Word(LineWord::Errors),
     LineKey::Word(LineWord::RequestDirectives),
     LineKey::Word(LineWord::Wait),
@@ -108,7 +110,7 @@ pub(crate) const LINE_KEYS: [LineKey; 14] = [
 
 /// What is told of a key that isn't known, with the keys that a version adds.
 pub(crate) const WORDS_OF_UNKNOWN_KEY: &str =
-    "a key isn't known where it stands; correct its spelling or delete it: behind [[line]] keys belong to that line; cache needs version = 2, 3 or 4, lifetime, stale-if-error, set-cookie, errors, request-directives, wait and explain need version = 3 or 4, and max_store, error-lifetime and conditions need version = 4";
+    "a key isn't known where it stands; correct its spelling or delete it: behind [[line]] keys belong to that line; cache needs version = 2, 3 or 4, lifetime, stale-if-error, set-cookie, errors, request-directives, wait and explain need version = 3 or 4, and max_store, error-lifetime, lifetime-most, cookies and conditions need version = 4";
 
 impl NumberKey {
     pub(crate) fn row(self) -> Row
@@ -164,6 +166,11 @@ impl LineWord {
                 Four,
                 Seconds(1, MOST_SECONDS),
             ),
+            LineWord::LifetimeMost => Row::of_caching(
+                "lifetime-most",
+                Four,
+                Seconds(1, MOST_SECONDS),
+            ),
             LineWord::StaleIfError => Row::of_caching(
                 "stale-if-error",
                 Three,
@@ -174,6 +181,7 @@ impl LineWord {
                 Three,
                 OneOf("stored", "not-stored"),
             ),
+            LineWord::Cookies => Row::of_caching("cookies", Four, OneOf("private", "shared")),
             LineWord::Errors => Row::of_caching("errors", Three, OneOf("stored", "not-stored")),
             LineWord::RequestDirectives => Row::of_caching(
                 "request-directives",

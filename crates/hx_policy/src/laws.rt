@@ -4,13 +4,16 @@ ghost use Rattle.std.specs.Prelude.{◌≡◌, ◌≤◌, ◌<◌, ℕ, Bool, So
 ghost use Rattle.hx_policy.specs.Policies.{plain, is_heuristic, given_lifetime};
 ghost use Rattle.hx_policy.specs.declared.words.Policy.{Policy as Words};
 
-/// A line that has no word gives no lifetime and no stale-if-error, stores and heeds what the written rules say, lets
-/// nobody wait for what is stale, tells no storing rule, and leaves the conditions of clients to the origin.
+/// A line that has no word gives no lifetime and no stale-if-error, takes each stated lifetime as it is, stores and
+/// heeds what the written rules say, lets nobody wait for what is stale, tells no storing rule, and leaves the
+/// conditions of clients to the origin.
 pub fn a_plain_policy_has_no_words()
     ensures caches { (caches : Bool) → (plain caches).caches ≡ caches }
     ensures lifetime { (caches : Bool) (status : ℕ) → given_lifetime (plain caches) status ≡ None }
+    ensures most { (caches : Bool) → (plain caches).lifetime_most ≡ None }
     ensures on_error { (caches : Bool) → (plain caches).stale_if_error ≡ None }
     ensures cookies { (caches : Bool) → (plain caches).stores_cookies ≡ true }
+    ensures requests_with_cookies { (caches : Bool) → (plain caches).gives_to_cookies ≡ true }
     ensures errors { (caches : Bool) → (plain caches).stores_errors ≡ true }
     ensures requests { (caches : Bool) → (plain caches).heeds_requests ≡ true }
     ensures waiting { (caches : Bool) → (plain caches).waits_for_stale ≡ false }

@@ -4,8 +4,8 @@ ghost use Rattle.hx_policy.specs.Policies.{plain, given_lifetime};
 
 use crate::heuristics::{is_error, is_heuristic};
 
-/// What a line says of caching. Each word but the first needs version 3 of the table, those of errors and of conditions
-/// version 4.
+/// What a line says of caching. Each word but the first needs version 3 of the table, those of errors, of the most
+/// seconds, of the cookies of requests and of conditions version 4.
 #[derive(Clone, Copy, Debug, PartialEq, Eq)]
 pub struct Policy {
     /// Requests may be answered from the store, and their responses stored.
@@ -16,11 +16,16 @@ pub struct Policy {
     /// The same of a status from 400 on, which tells an error. In a table of a version before the fourth it is that of
     /// all others.
     pub error_lifetime: Option<u32>,
+    /// The most seconds that the lifetime which a response states counts for (RFC 9111, section 4.2.1).
+    pub lifetime_most: Option<u32>,
     /// The stale-if-error of a response, in seconds, where neither the response nor the request has that directive (RFC
     /// 5861, section 4).
     pub stale_if_error: Option<u32>,
     /// A response with Set-Cookie is stored though it has no public (RFC 9111, section 7.3).
     pub stores_cookies: bool,
+    /// The lifetimes of the line are also given to the response to a request with Cookie or Authorization. Else such a
+    /// response that has neither a lifetime of its own nor public isn't stored where the line would give it one.
+    pub gives_to_cookies: bool,
     /// A response of status 400 or above is stored though its status isn't heuristically cacheable.
     pub stores_errors: bool,
     /// A request's no-cache, max-age and min-fresh count (RFC 9111, section 5.2.1, calls them advisory).
@@ -46,8 +51,10 @@ impl Policy {
             caches,
             lifetime: None,
             error_lifetime: None,
+            lifetime_most: None,
             stale_if_error: None,
             stores_cookies: true,
+            gives_to_cookies: true,
             stores_errors: true,
             heeds_requests: true,
             waits_for_stale: false,

@@ -1,5 +1,5 @@
 -- What the words of a line change, and that a line without words changes nothing.
-use Rattle.std.proofs.Common.{◌≡◌, ℕ, ◌≤◌, ◌<◌, ◌-◌, ◌⊎◌, inl, inr, Bool, true, false, cond, List, [], ◌∷◌, refl, sym, ◌∙◌, ap, arith}
+use Rattle.std.proofs.Common.{◌≡◌, ℕ, ◌≤◌, ◌<◌, ◌-◌, ◌⊎◌, inl, inr, Bool, true, false, cond, List, [], ◌∷◌, refl, sym, ◌∙◌, ap, subst, arith}
 use Rattle.std.proofs.lemmas.Bool.Decides.{nat_tests}
 use Rattle.std.specs.Prelude.{not, ◌&&◌, ◌||◌, ◌==◌, nat_lt, nat_le, bytes_eq, codes, length, find, filter, is_none, Option, Some, None, option_map}
 use Rattle.hx_fields.specs.declared.field_line.Field.{Field}
@@ -23,12 +23,13 @@ use Rattle.hx_reuse.specs.declared.rule.ReuseRule.TheVariants.{Operator, Method,
 use Rattle.hx_reuse.specs.declared.rule.ErrorRule.{ErrorRule}
 use Rattle.hx_reuse.specs.declared.rule.ErrorRule.TheVariants as on_error
 use Rattle.hx_reuse.specs.Chosen.{chosen_of}
-use Rattle.hx_reuse.specs.Lifetimes.{lifetime_with_given, lifetime_under}
+use Rattle.hx_reuse.specs.Lifetimes.{lifetime_at_most, lifetime_with_given, lifetime_under}
 use Rattle.hx_reuse.specs.Rules.{Situation, situation_at, situation_of_request, is_fresh_situation, asks_to_validate, is_above_max_age_limit, is_below_min_fresh_limit, asks_for_freshness, accepts_stale, is_past_max_stale, is_some_and, rule_condition, reuse_rule_applies, reuse_rules, reuse_rule_of, decision_by_rule, decision_of}
 use Rattle.hx_reuse.specs.ErrorRules.{seconds_stated_once, stale_limit_of_response, stale_limit_of_request, stale_limit_of_operator, is_past_stale_limit, error_rule_condition, error_rules, situation_of_stored, error_rule_on, permission_of_rule, permission_on_error}
 use Rattle.hx_reuse.specs.OnError.{staleness_at}
 use Rattle.hx_reuse.specs.PlainLines.{plain_rule_condition, plain_condition_on_chosen, plain_applies, plain_decision_of, plain_error_rule_condition, plain_permission_on_error}
 use Rattle.hx_reuse.specs.LineWordsInReuse.{is_rule_on_advice, RequestsAskTheSame, StatesNoStaleLimit, policy_without_stale_limit}
+use Rattle.std.proofs.Math.Nat.{min-le_left, min-eq_left, min-eq_right}
 use Rattle.hx_fields.proofs.JoinedTests.{never, first_absent, last_absent, neither, or_right, has_value, is_below, is_not_below}
 use Rattle.hx_reuse.proofs.OnErrorLemmas.{is_given}
 
@@ -44,20 +45,50 @@ same_of_some p q (Some x) all = all x
 
 -- ---- a lifetime
 
-stays : (l : Lifetime) (o : Option ℕ) (b : Bool) → l.explicit ≡ b → b ≡ true → cond l.explicit l (lifetime_with_given o l) ≡ l
-stays l o true e h = rw e refl
-stays l o false e h = absurd (never (sym h))
+stated : (l : Lifetime) (m o : Option ℕ) (b : Bool) → b ≡ true → cond b (lifetime_at_most m l) (lifetime_with_given o l) ≡ lifetime_at_most m l
+stated l m o true h = refl
+stated l m o false h = absurd (never (sym h))
 
-pub stated_stays : (policy : Policy) (status : ℕ) (fields : List Field) → (lifetime_of fields).explicit ≡ true → lifetime_under policy status fields ≡ lifetime_of fields
-stated_stays policy status fields h = stays (lifetime_of fields) (given_lifetime policy status) true h refl
+counts_at_most : (policy : Policy) (status : ℕ) (fields : List Field) → (lifetime_of fields).explicit ≡ true → lifetime_under policy status fields ≡ lifetime_at_most policy.lifetime_most (lifetime_of fields)
+counts_at_most policy status fields h = stated (lifetime_of fields) policy.lifetime_most (given_lifetime policy status) (lifetime_of fields).explicit h
 
-none_given : (l : Lifetime) (o : Option ℕ) (b : Bool) → o ≡ None → cond b l (lifetime_with_given o l) ≡ l
-none_given l o true h = refl
-none_given l o false h = ap (λ (n : Option ℕ). lifetime_with_given n l) h
+pub stated_stays : (policy : Policy) (status : ℕ) (fields : List Field) → (lifetime_of fields).explicit ≡ true → policy.lifetime_most ≡ None → lifetime_under policy status fields ≡ lifetime_of fields
+stated_stays policy status fields h none =
+    counts_at_most policy status fields h ∙ ap (λ (m : Option ℕ). lifetime_at_most m (lifetime_of fields)) none
 
-pub others_stay : (policy : Policy) (status : ℕ) (fields : List Field) → is_heuristic status ≡ false → lifetime_under policy status fields ≡ lifetime_of fields
-others_stay policy status fields h =
-    none_given (lifetime_of fields) (given_lifetime policy status) (lifetime_of fields).explicit (rw h refl)
+within : (l : Lifetime) (most : ℕ) → l.seconds ≤ most → lifetime_at_most (Some most) l ≡ l
+within l most fits = ap (λ (n : ℕ). record { explicit = l.explicit; seconds = n }) (min-eq_left fits)
+
+pub within_the_most : (policy : Policy) (status : ℕ) (fields : List Field) (most : ℕ) → (lifetime_of fields).explicit ≡ true → policy.lifetime_most ≡ Some most → (lifetime_of fields).seconds ≤ most → lifetime_under policy status fields ≡ lifetime_of fields
+within_the_most policy status fields most h is fits =
+    counts_at_most policy status fields h ∙ ap (λ (m : Option ℕ). lifetime_at_most m (lifetime_of fields)) is ∙ within (lifetime_of fields) most fits
+
+beyond : (l : Lifetime) (most : ℕ) → l.explicit ≡ true → most < l.seconds → lifetime_at_most (Some most) l ≡ record { explicit = true; seconds = most }
+beyond l most h over = rw (h, min-eq_right (below_is_at_most over)) refl
+  where
+    below_is_at_most : most < l.seconds → most ≤ l.seconds
+    below_is_at_most less = omega arith
+
+pub beyond_the_most : (policy : Policy) (status : ℕ) (fields : List Field) (most : ℕ) → (lifetime_of fields).explicit ≡ true → policy.lifetime_most ≡ Some most → most < (lifetime_of fields).seconds
+    → lifetime_under policy status fields ≡ record { explicit = true; seconds = most }
+beyond_the_most policy status fields most h is over =
+    counts_at_most policy status fields h ∙ ap (λ (m : Option ℕ). lifetime_at_most m (lifetime_of fields)) is ∙ beyond (lifetime_of fields) most h over
+
+at_most_stated : (m : Option ℕ) (l : Lifetime) → (lifetime_at_most m l).seconds ≤ l.seconds
+at_most_stated None l = omega arith
+at_most_stated (Some most) l = min-le_left l.seconds most
+
+pub never_longer : (policy : Policy) (status : ℕ) (fields : List Field) → (lifetime_of fields).explicit ≡ true → (lifetime_under policy status fields).seconds ≤ (lifetime_of fields).seconds
+never_longer policy status fields h =
+    subst (λ (l : Lifetime). l.seconds ≤ (lifetime_of fields).seconds) (sym (counts_at_most policy status fields h)) (at_most_stated policy.lifetime_most (lifetime_of fields))
+
+none_given : (l k : Lifetime) (o : Option ℕ) (b : Bool) → b ≡ false → o ≡ None → cond b k (lifetime_with_given o l) ≡ l
+none_given l k o true h none = absurd (never h)
+none_given l k o false h none = ap (λ (n : Option ℕ). lifetime_with_given n l) none
+
+pub others_stay : (policy : Policy) (status : ℕ) (fields : List Field) → (lifetime_of fields).explicit ≡ false → is_heuristic status ≡ false → lifetime_under policy status fields ≡ lifetime_of fields
+others_stay policy status fields unstated h =
+    none_given (lifetime_of fields) (lifetime_at_most policy.lifetime_most (lifetime_of fields)) (given_lifetime policy status) (lifetime_of fields).explicit unstated (rw h refl)
 
 below_400 : (status : ℕ) → status < 400 → nat_le 400 status ≡ false
 below_400 status h = grind (arith, nat_tests)
@@ -69,30 +100,34 @@ same_none : (b : Bool) → ◌≡◌ {A = Option ℕ} (cond b None None) None
 same_none true = refl
 same_none false = refl
 
-pub errors_stay : (policy : Policy) (status : ℕ) (fields : List Field) → 400 ≤ status → policy.error_lifetime ≡ None → lifetime_under policy status fields ≡ lifetime_of fields
-errors_stay policy status fields high none =
-    none_given (lifetime_of fields) (given_lifetime policy status) (lifetime_of fields).explicit (rw (from_400 status high) (rw none (same_none (is_heuristic status))))
+pub errors_stay : (policy : Policy) (status : ℕ) (fields : List Field) → (lifetime_of fields).explicit ≡ false → 400 ≤ status → policy.error_lifetime ≡ None → lifetime_under policy status fields ≡ lifetime_of fields
+errors_stay policy status fields unstated high none =
+    none_given (lifetime_of fields) (lifetime_at_most policy.lifetime_most (lifetime_of fields)) (given_lifetime policy status) (lifetime_of fields).explicit unstated (rw (from_400 status high) (rw none (same_none (is_heuristic status))))
 
-is_some_given : (l : Lifetime) (o : Option ℕ) (n : ℕ) (b : Bool) → b ≡ false → o ≡ Some n → cond b l (lifetime_with_given o l) ≡ lifetime_with_given (Some n) l
-is_some_given l o n b h k = rw (h, k) refl
+is_some_given : (l m : Lifetime) (o : Option ℕ) (n : ℕ) (b : Bool) → b ≡ false → o ≡ Some n → cond b m (lifetime_with_given o l) ≡ lifetime_with_given (Some n) l
+is_some_given l m o n b h k = rw (h, k) refl
 
 pub given_counts : (policy : Policy) (status : ℕ) (fields : List Field) (n : ℕ) → (lifetime_of fields).explicit ≡ false → is_heuristic status ≡ true → status < 400 → policy.lifetime ≡ Some n
     → lifetime_under policy status fields ≡ lifetime_with_given (Some n) (lifetime_of fields)
 given_counts policy status fields n none heuristic low word =
-    is_some_given (lifetime_of fields) (given_lifetime policy status) n (lifetime_of fields).explicit none (rw heuristic (rw (below_400 status low) word))
+    is_some_given (lifetime_of fields) (lifetime_at_most policy.lifetime_most (lifetime_of fields)) (given_lifetime policy status) n (lifetime_of fields).explicit none (rw heuristic (rw (below_400 status low) word))
 
 pub given_to_errors_counts : (policy : Policy) (status : ℕ) (fields : List Field) (n : ℕ) → (lifetime_of fields).explicit ≡ false → is_heuristic status ≡ true → 400 ≤ status → policy.error_lifetime ≡ Some n
     → lifetime_under policy status fields ≡ lifetime_with_given (Some n) (lifetime_of fields)
 given_to_errors_counts policy status fields n none heuristic high word =
-    is_some_given (lifetime_of fields) (given_lifetime policy status) n (lifetime_of fields).explicit none (rw heuristic (rw (from_400 status high) word))
+    is_some_given (lifetime_of fields) (lifetime_at_most policy.lifetime_most (lifetime_of fields)) (given_lifetime policy status) n (lifetime_of fields).explicit none (rw heuristic (rw (from_400 status high) word))
 
 none_of_both : (b c : Bool) → ◌≡◌ {A = Option ℕ} (cond b (cond c None None) None) None
 none_of_both b true = same_none b
 none_of_both b false = same_none b
 
+as_stated : (l : Lifetime) (o : Option ℕ) (b : Bool) → o ≡ None → cond b l (lifetime_with_given o l) ≡ l
+as_stated l o true none = refl
+as_stated l o false none = ap (λ (n : Option ℕ). lifetime_with_given n l) none
+
 pub plain_lifetime : (caches : Bool) (status : ℕ) (fields : List Field) → lifetime_under (plain caches) status fields ≡ lifetime_of fields
 plain_lifetime caches status fields =
-    none_given (lifetime_of fields) (given_lifetime (plain caches) status) (lifetime_of fields).explicit (none_of_both (is_heuristic status) (is_error status))
+    as_stated (lifetime_of fields) (given_lifetime (plain caches) status) (lifetime_of fields).explicit (none_of_both (is_heuristic status) (is_error status))
 
 -- ---- a line without words
 

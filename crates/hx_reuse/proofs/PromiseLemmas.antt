@@ -1,5 +1,5 @@
 -- What is sent without the origin has the nominated values, and is fresh where it forbids to be sent stale.
-use Rattle.std.proofs.Common.{◌≡◌, ℕ, ◌<◌, ◌⊎◌, inl, inr, Bool, true, false, List, [], ◌∷◌, refl, sym, ◌∙◌, ap, subst}
+use Rattle.std.proofs.Common.{◌≡◌, ℕ, ◌<◌, ◌⊎◌, inl, inr, Bool, true, false, List, [], ◌∷◌, refl, sym, ◌∙◌, ap, subst, arith}
 use Rattle.std.specs.Prelude.{◌&&◌, Option, Some, None}
 use Rattle.std.specs.List.{Contains, list_all}
 use Rattle.std.proofs.lemmas.Slice.Eq.{bytes_eq-Decides}
@@ -26,7 +26,7 @@ use Rattle.hx_fields.proofs.JoinedTests.{never}
 use Rattle.hx_reuse.proofs.Choice.{member_contained}
 use Rattle.hx_reuse.proofs.ReusableLemmas.{reused_is_allowed}
 use Rattle.hx_reuse.proofs.OnErrorLemmas.{sent_may_be}
-use Rattle.hx_reuse.proofs.LineLemmas.{stated_stays}
+use Rattle.hx_reuse.proofs.LineLemmas.{never_longer}
 
 same_value : (a b : Option (List ℕ)) → is_same_value a b ≡ true → a ≡ b
 same_value None None h = refl
@@ -74,7 +74,9 @@ module _ (policy : Policy) (held : List Stored) (asked : Asked) (now : ℕ) (res
 
   pub keeps_its_own : ResponseForbidsStale response → (lifetime_of response.fields).explicit ≡ true → age_of response.times now < (lifetime_of response.fields).seconds
   keeps_its_own forbids stated =
-      subst (λ (l : Lifetime). age_of response.times now < l.seconds) (stated_stays policy response.status response.fields stated) (is_fresh forbids)
+      let fresh : age_of response.times now < (lifetime_under policy response.status response.fields).seconds = is_fresh forbids in
+      let longer = never_longer policy response.status response.fields stated in
+      omega (arith, fresh, longer)
 
   pub has_no_no_cache : directive_occurs (occurrences_of response.fields) NoCache ≡ true → ⊥
   has_no_no_cache h = never (sym h ∙ reused.no_no_cache)

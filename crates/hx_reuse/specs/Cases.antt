@@ -98,13 +98,16 @@ one_held_with_etag more = stored_at 0 [] (line (codes "ETag") (codes "\"e\"") �
 abbrev pub request_directives : List ℕ → List Occurrence
 request_directives value = occurrences_of (cache_control_fields value)
 
--- a line that caches and gives a lifetime, one that gives errors one of their own, one that allows a
--- staleness after an error, and one that heeds no advice of a request
+-- a line that caches and gives a lifetime, one that gives errors one of their own, one that gives a lifetime and has a
+-- most, one that allows a staleness after an error, and one that heeds no advice of a request
 abbrev pub lifetime_policy : ℕ → Policy
 lifetime_policy n = record (plain true) { lifetime = Some n }
 
 abbrev pub error_lifetime_policy : ℕ → ℕ → Policy
 error_lifetime_policy n errors = record (plain true) { lifetime = Some n; error_lifetime = Some errors }
+
+abbrev pub lifetime_most_policy : ℕ → ℕ → Policy
+lifetime_most_policy n most = record (plain true) { lifetime = Some n; lifetime_most = Some most }
 
 abbrev pub stale_if_error_policy : ℕ → Policy
 stale_if_error_policy n = record (plain true) { stale_if_error = Some n }

@@ -31,15 +31,18 @@ use Rattle.hx_reuse.specs.declared.rule.ErrorRule.TheVariants as on_error
 
 -- ---- a lifetime
 
--- "when an explicit time is not specified" (RFC 9111, section 4.2.2): where one is, the operator's changes nothing
+-- "when an explicit time is not specified" (RFC 9111, section 4.2.2): where one is, the lifetimes that the operator gives
+-- change nothing, and where he has no most it counts as it is
 abbrev pub StatedLifetimeIsUnchanged : Type 0
 StatedLifetimeIsUnchanged = (policy : Policy) (status : ℕ) (fields : List Field) →
-    (lifetime_of fields).explicit ≡ true → lifetime_under policy status fields ≡ lifetime_of fields
+    (lifetime_of fields).explicit ≡ true → policy.lifetime_most ≡ None
+    → lifetime_under policy status fields ≡ lifetime_of fields
 
--- nor does it where the status isn't heuristically cacheable (RFC 9110, section 15.1)
+-- nor does he change anything where none is and the status isn't heuristically cacheable (RFC 9110, section 15.1)
 abbrev pub OtherStatusesAreUnchanged : Type 0
 OtherStatusesAreUnchanged = (policy : Policy) (status : ℕ) (fields : List Field) →
-    is_heuristic status ≡ false → lifetime_under policy status fields ≡ lifetime_of fields
+    (lifetime_of fields).explicit ≡ false → is_heuristic status ≡ false
+    → lifetime_under policy status fields ≡ lifetime_of fields
 
 -- elsewhere the response is as fresh as if it stated the operator's: an error his lifetime of errors, and any other
 -- response his lifetime
@@ -57,7 +60,26 @@ GivenErrorLifetimeCounts = (policy : Policy) (status : ℕ) (fields : List Field
 -- where the operator gives errors no lifetime, they have none but what they state, whatever he gives the others
 abbrev pub ErrorsOfNoLifetimeAreUnchanged : Type 0
 ErrorsOfNoLifetimeAreUnchanged = (policy : Policy) (status : ℕ) (fields : List Field) →
-    400 ≤ status → policy.error_lifetime ≡ None → lifetime_under policy status fields ≡ lifetime_of fields
+    (lifetime_of fields).explicit ≡ false → 400 ≤ status → policy.error_lifetime ≡ None
+    → lifetime_under policy status fields ≡ lifetime_of fields
+
+-- a stated lifetime within the operator's most counts as it is
+abbrev pub LifetimeWithinTheMostIsUnchanged : Type 0
+LifetimeWithinTheMostIsUnchanged = (policy : Policy) (status : ℕ) (fields : List Field) (most : ℕ) →
+    (lifetime_of fields).explicit ≡ true → policy.lifetime_most ≡ Some most → (lifetime_of fields).seconds ≤ most →
+    lifetime_under policy status fields ≡ lifetime_of fields
+
+-- and one beyond it as the most
+abbrev pub LifetimeBeyondTheMostIsTheMost : Type 0
+LifetimeBeyondTheMostIsTheMost = (policy : Policy) (status : ℕ) (fields : List Field) (most : ℕ) →
+    (lifetime_of fields).explicit ≡ true → policy.lifetime_most ≡ Some most → most < (lifetime_of fields).seconds →
+    lifetime_under policy status fields ≡ record { explicit = true; seconds = most }
+
+-- so nothing of a line lets a response count as fresh for longer than it states (RFC 9111, section 4.2.1)
+abbrev pub StatedLifetimeIsNeverLonger : Type 0
+StatedLifetimeIsNeverLonger = (policy : Policy) (status : ℕ) (fields : List Field) →
+    (lifetime_of fields).explicit ≡ true
+    → (lifetime_under policy status fields).seconds ≤ (lifetime_of fields).seconds
 
 -- ---- a request's advice
 

@@ -17,6 +17,8 @@ ghost use Rattle.hx_reuse.specs.declared.rule.ErrorRule.TheVariants as on_error;
 ghost use Rattle.hx_reuse.specs.RuleNames.{reuse_rule_detail, error_rule_word, reuse_rule_reason};
 ghost use Rattle.hx_reuse.specs.PlainLines.{PlainLineGivesNoLifetime, PlainLineAsksTheSame, PlainLineDecidesTheSame};
 ghost use Rattle.hx_reuse.specs.PlainLines.{PlainLineAsksTheSameOnError, PlainLinePermitsTheSameOnError};
+ghost use Rattle.hx_reuse.specs.LineWordsInReuse.{LifetimeWithinTheMostIsUnchanged, LifetimeBeyondTheMostIsTheMost};
+ghost use Rattle.hx_reuse.specs.LineWordsInReuse.{StatedLifetimeIsNeverLonger};
 ghost use Rattle.hx_reuse.specs.LineWordsInReuse.{StatedLifetimeIsUnchanged, OtherStatusesAreUnchanged};
 ghost use Rattle.hx_reuse.specs.LineWordsInReuse.{GivenLifetimeCounts, GivenErrorLifetimeCounts};
 ghost use Rattle.hx_reuse.specs.LineWordsInReuse.{ErrorsOfNoLifetimeAreUnchanged};
@@ -130,12 +132,20 @@ pub fn the_conditions_of_a_cacheable_get_stay()
     ensures only { NoOtherConditionsStay }
 {}
 
-/// The lifetime that a line gives changes nothing of a response that states its own, nor of one
-/// whose status isn't heuristically cacheable, nor of an error where the line gives errors none.
+/// The lifetime that a line gives changes nothing of a response that states its own, nor of any other
+/// whose status isn't heuristically cacheable, nor of any other error where the line gives errors none.
 pub fn a_stated_lifetime_stays()
     ensures stated { StatedLifetimeIsUnchanged }
     ensures other_status { OtherStatusesAreUnchanged }
     ensures errors { ErrorsOfNoLifetimeAreUnchanged }
+{}
+
+/// What a response states counts up to the line's most, and as the most beyond it: it never counts for longer than it
+/// states.
+pub fn a_stated_lifetime_has_a_most()
+    ensures within { LifetimeWithinTheMostIsUnchanged }
+    ensures beyond { LifetimeBeyondTheMostIsTheMost }
+    ensures never_longer { StatedLifetimeIsNeverLonger }
 {}
 
 /// To any other response it gives a lifetime that counts as stated.

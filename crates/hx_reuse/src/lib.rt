@@ -22,7 +22,7 @@ mod worked_cases;
 pub use crate::conditions::{forwards_condition, keeps_conditions};
 pub use crate::decision::{Decision, decide};
 pub use crate::laws::{
-    a_given_lifetime_counts, a_hit_is_held, a_stated_lifetime_stays,
+    a_given_lifetime_counts, a_hit_is_held, a_stated_lifetime_has_a_most, a_stated_lifetime_stays,
     default_policy_changes_nothing, details_of_the_rules, forward_names_the_least_rule,
     ignored_directives_are_not_asked, no_other_requests_variant_is_sent, no_other_variant_is_sent,
     nothing_is_reused_against_the_operator, reasons_of_the_rules, sent_on_error_where_it_may_be,
@@ -37,7 +37,7 @@ pub use crate::on_error::may_serve_on_error;
 pub use crate::rule::{ErrorRule, ReuseRule};
 pub use crate::worked_cases::{
     a_variant_comes_before_the_default, age_equal_to_lifetime_is_stale, bypass_rules_in_order,
-    least_error_rule, least_reuse_rule, line_without_cache, minute_after_an_error,
+    least_error_rule, least_reuse_rule, line_without_cache, minute_after_an_error, minute_at_most,
     minute_from_the_line, moment_goes_backwards, no_lifetime_is_only_validated,
     of_two_alike_the_later_comes_first, reload_is_ignored, request_max_age_and_only_if_cached,
     seconds_of_errors, stale_if_error_of_request, stale_if_error_of_response,

@@ -13,7 +13,7 @@ ghost use Rattle.hx_reuse.specs.ErrorRules.{permission_on_error, error_rule_of};
 ghost use Rattle.hx_reuse.specs.Cases.{cache_control_fields, accept_language, get_a_with, get_b, get_a_with_content};
 ghost use Rattle.hx_reuse.specs.Cases.{stored_at, stored_with_cache_control, one_held_with_cache_control};
 ghost use Rattle.hx_reuse.specs.Cases.{one_held_in_german, one_held_with_etag, request_directives, lifetime_policy};
-ghost use Rattle.hx_reuse.specs.Cases.{error_lifetime_policy};
+ghost use Rattle.hx_reuse.specs.Cases.{error_lifetime_policy, lifetime_most_policy};
 ghost use Rattle.hx_reuse.specs.Cases.{stale_if_error_policy, ignore_directives_policy, stored_with_status};
 ghost use Rattle.hx_reuse.specs.Cases.{one_held_of_status, variant_made_at, default_made_at, english_and_default};
 ghost use Rattle.hx_reuse.specs.Cases.{get_a_in, keep_conditions_policy, get_a_if_none_match};
@@ -222,6 +222,41 @@ pub fn seconds_of_errors()
         (stored_with_status 404 (cache_control_fields (codes "stale-if-error=60"))) [] 65 ≡ Ok tt }
     ensures past_on_error { permission_on_error (error_lifetime_policy 60 5)
         (stored_with_status 404 (cache_control_fields (codes "stale-if-error=60"))) [] 66 ≡ Err ErrorRule.TooStale }
+{}
+
+/// Under a line that gives an hour and takes a minute at most of what is stated: a response of a year is fresh at 59
+/// and stale at 60, when it isn't sent in place of an error for longer than it allows; one of ten seconds keeps its
+/// own, one that states none has the hour, and one of no second is stale.
+pub fn minute_at_most()
+    ensures fresh { decision_of (lifetime_most_policy 3600 60) (one_held_with_cache_control (codes "max-age=31536000"))
+        (get_a_with []) 59 ≡ Decision.Hit 1 }
+    ensures stale { decision_of (lifetime_most_policy 3600 60) (one_held_with_cache_control (codes "max-age=31536000"))
+        (get_a_with []) 60 ≡ Decision.Forward ReuseRule.NoMaxStale (Some 1) }
+    ensures shared { decision_of (lifetime_most_policy 3600 60)
+        (one_held_with_cache_control (codes "max-age=5, s-maxage=31536000")) (get_a_with []) 59 ≡ Decision.Hit 1 }
+    ensures shared_stale { decision_of (lifetime_most_policy 3600 60)
+        (one_held_with_cache_control (codes "s-maxage=31536000")) (get_a_with []) 60
+        ≡ Decision.Forward ReuseRule.MustRevalidate (Some 1) }
+    ensures as_stated { decision_of (lifetime_most_policy 3600 60) (one_held_with_cache_control (codes "max-age=60"))
+        (get_a_with []) 59 ≡ Decision.Hit 1 }
+    ensures shorter { decision_of (lifetime_most_policy 3600 60) (one_held_with_cache_control (codes "max-age=10"))
+        (get_a_with []) 10 ≡ Decision.Forward ReuseRule.NoMaxStale (Some 1) }
+    ensures no_second { decision_of (lifetime_most_policy 3600 60) (one_held_with_cache_control (codes "max-age=0"))
+        (get_a_with []) 0 ≡ Decision.Forward ReuseRule.NoMaxStale (Some 1) }
+    ensures given { decision_of (lifetime_most_policy 3600 60) (one_held_of_status 200) (get_a_with []) 3599
+        ≡ Decision.Hit 1 }
+    ensures given_stale { decision_of (lifetime_most_policy 3600 60) (one_held_of_status 200) (get_a_with []) 3600
+        ≡ Decision.Forward ReuseRule.NoMaxStale (Some 1) }
+    ensures taken_stale { decision_of (lifetime_most_policy 3600 60) (one_held_with_cache_control (codes "max-age=31536000"))
+        (get_a_with (cache_control_fields (codes "max-stale=5"))) 65 ≡ Decision.Hit 1 }
+    ensures past_stale { decision_of (lifetime_most_policy 3600 60) (one_held_with_cache_control (codes "max-age=31536000"))
+        (get_a_with (cache_control_fields (codes "max-stale=5"))) 66 ≡ Decision.Forward ReuseRule.PastMaxStale (Some 1) }
+    ensures on_error { permission_on_error (lifetime_most_policy 3600 60)
+        (stored_with_cache_control (codes "max-age=31536000, stale-if-error=60")) [] 120 ≡ Ok tt }
+    ensures past_on_error { permission_on_error (lifetime_most_policy 3600 60)
+        (stored_with_cache_control (codes "max-age=31536000, stale-if-error=60")) [] 121 ≡ Err ErrorRule.TooStale }
+    ensures without_the_word { decision_of (lifetime_policy 3600) (one_held_with_cache_control (codes "max-age=31536000"))
+        (get_a_with []) 31535999 ≡ Decision.Hit 1 }
 {}
 
 /// A line that heeds no advice of requests, and a response of a minute: what is fresh is sent, what

@@ -1,6 +1,6 @@
 -- The word of an answer that isn't stored is made of its rule's.
 use Rattle.std.proofs.Common.{refl}
-use Rattle.hx_storable.specs.declared.rule.StoreRule.TheVariants.{Operator, Method, Bypass, Status, MustUnderstand, ResponseNoStore, RequestNoStore, Private, Authorization, NothingAllows, VaryStar, ConnectionField, NothingToReuse, TooLarge, Overtaken, Serials, SetCookie, ErrorStatus}
+use Rattle.hx_storable.specs.declared.rule.StoreRule.TheVariants.{Operator, Method, Bypass, Status, MustUnderstand, ResponseNoStore, RequestNoStore, Private, Authorization, NothingAllows, VaryStar, ConnectionField, NothingToReuse, TooLarge, Overtaken, Serials, SetCookie, ErrorStatus, RequestCookie}
 use Rattle.hx_status.specs.Member.{NotStoredNamesTheRule}
 
 pub shown_with_the_rule : NotStoredNamesTheRule
@@ -22,3 +22,4 @@ shown_with_the_rule Overtaken = refl
 shown_with_the_rule Serials = refl
 shown_with_the_rule SetCookie = refl
 shown_with_the_rule ErrorStatus = refl
+shown_with_the_rule RequestCookie = refl

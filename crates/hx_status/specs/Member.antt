@@ -65,6 +65,7 @@ not_stored_word storing.Overtaken = codes "not-stored-overtaken"
 not_stored_word storing.Serials = codes "not-stored-no-serial"
 not_stored_word storing.SetCookie = codes "not-stored-set-cookie"
 not_stored_word storing.ErrorStatus = codes "not-stored-error-status"
+not_stored_word storing.RequestCookie = codes "not-stored-request-cookie"
 
 abbrev pub word_or_not_stored : Option (List ℕ) → Option StoreRule → Option (List ℕ)
 word_or_not_stored (Some word) rule = Some word

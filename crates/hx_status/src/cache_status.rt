@@ -119,6 +119,7 @@ fn not_stored_word(rule: StoreRule) -> &'static str
         StoreRule::Serials => "not-stored-no-serial",
         StoreRule::SetCookie => "not-stored-set-cookie",
         StoreRule::ErrorStatus => "not-stored-error-status",
+        StoreRule::RequestCookie => "not-stored-request-cookie",
     }
 }
 

@@ -1,19 +1,19 @@
 -- What the words of a line keep from the store.
 use Rattle.std.proofs.Common.{◌≡◌, ℕ, ◌<◌, ◌≤◌, ◌⊎◌, inl, inr, Bool, true, false, refl, sym, ◌∙◌, arith}
-use Rattle.std.specs.Prelude.{nat_le, ◌&&◌, not, find, codes}
+use Rattle.std.specs.Prelude.{nat_le, ◌&&◌, ◌||◌, not, find, codes, Option, Some, None, is_some}
 use Rattle.std.proofs.lemmas.Bool.Decides.{nat_tests}
 use Rattle.hx_fields.specs.FieldLines.{has_field as has_line}
 use Rattle.hx_directives.specs.declared.names.Directive.TheVariants as directive
 use Rattle.hx_hop.specs.declared.request_view.Asked.{Asked}
 use Rattle.hx_hop.specs.declared.response_view.Answered.{Answered}
-use Rattle.hx_policy.specs.Policies.{is_heuristic, plain}
+use Rattle.hx_policy.specs.Policies.{is_heuristic, given_lifetime, plain}
 use Rattle.hx_storable.specs.declared.known_facts.StoringFacts.{StoringFacts}
 use Rattle.hx_storable.specs.declared.rule.StoreRule.{StoreRule}
-use Rattle.hx_storable.specs.declared.rule.StoreRule.TheVariants.{Operator, SetCookie, ErrorStatus}
-use Rattle.hx_storable.specs.Rules.{response_has, has_cookie_for_one, is_uncached_error, storing_rule_applies, rules_of_words, storage_rule_of}
-use Rattle.hx_storable.specs.Storable.{ResponseIsWithinTheWords, ResponseIsStored}
-use Rattle.hx_storable.specs.LineWordsInStoring.{facts_with_policy, rules_without_words}
-use Rattle.hx_fields.proofs.JoinedTests.{never, not_false, not_true, first_absent, last_absent, either_false}
+use Rattle.hx_storable.specs.declared.rule.StoreRule.TheVariants.{Operator, SetCookie, ErrorStatus, RequestCookie}
+use Rattle.hx_storable.specs.Rules.{response_has, has_cookie_for_one, is_uncached_error, is_from_someone, states_lifetime, lasts_by_the_line, storing_rule_applies, rules_of_words, storage_rule_of}
+use Rattle.hx_storable.specs.Storable.{RequestTellsNotWhoAsks, ResponseStatesItsLifetime, ResponseIsWithinTheWords, ResponseIsStored}
+use Rattle.hx_storable.specs.LineWordsInStoring.{ResponseStatesNoLifetime, facts_with_policy, rules_without_words}
+use Rattle.hx_fields.proofs.JoinedTests.{never, not_false, not_true, left_false, right_false, neither, one_of, or_left, or_right, first_absent, last_absent, either_false}
 use Rattle.hx_storable.proofs.Joined.{find_before}
 use Rattle.hx_storable.proofs.LeastRule.{no_rule_applies, no_rule_found}
 
@@ -30,6 +30,10 @@ both : (a b : Bool) → a ≡ true → b ≡ true → a && b ≡ true
 both true b h k = k
 both false b h k = absurd (never (sym h))
 
+is_absent : {X : Type 0} (o : Option X) → is_some o ≡ false → o ≡ None
+is_absent None h = refl
+is_absent (Some x) h = absurd (never h)
+
 pub turned : (a : Bool) → a ≡ false → not a ≡ true
 turned true h = sym h
 turned false h = refl
@@ -38,10 +42,11 @@ module _ (asked : Asked) (answered : Answered) (facts : StoringFacts) where
   -- where no rule stands the words allow it, and where they do neither rule of theirs stands
 
   module _ (none : (any : StoreRule) → storing_rule_applies any asked answered facts ≡ false) where
-    pub within_the_words : ResponseIsWithinTheWords answered facts.policy
+    pub within_the_words : ResponseIsWithinTheWords asked answered facts.policy
     within_the_words = record {
       cookies = cookies (either_false (not facts.policy.stores_cookies) (has_cookie_for_one answered) (none SetCookie));
       errors = errors (either_false (not facts.policy.stores_errors) (is_uncached_error answered.status) (none ErrorStatus));
+      requests_with_cookies = given (either_false (not facts.policy.gives_to_cookies && is_from_someone asked) (lasts_by_the_line facts.policy answered && not public) (none RequestCookie));
     }
       where
         cookie : Bool
@@ -66,6 +71,39 @@ module _ (asked : Asked) (answered : Answered) (facts : StoringFacts) where
         errors (inl h) = inl (not_false facts.policy.stores_errors h)
         errors (inr h) = inr (no_error (either_false (nat_le 400 answered.status) (not (is_heuristic answered.status)) h))
 
+        of_no_one : is_from_someone asked ≡ false → RequestTellsNotWhoAsks asked
+        of_no_one h = (
+          left_false (has_line asked.fields (codes "Cookie")) (has_line asked.fields (codes "Authorization")) h,
+          right_false (has_line asked.fields (codes "Cookie")) (has_line asked.fields (codes "Authorization")) h,
+        )
+
+        by_itself : states_lifetime answered ≡ true → ResponseStatesItsLifetime answered
+        by_itself h = first (one_of (response_has answered directive.SMaxage || response_has answered directive.MaxAge) (has_line answered.fields (codes "Expires")) h)
+          where
+            second : (response_has answered directive.SMaxage ≡ true) ⊎ (response_has answered directive.MaxAge ≡ true) → ResponseStatesItsLifetime answered
+            second (inl k) = inl k
+            second (inr k) = inr (inl k)
+
+            first : (response_has answered directive.SMaxage || response_has answered directive.MaxAge ≡ true) ⊎ (has_line answered.fields (codes "Expires") ≡ true) → ResponseStatesItsLifetime answered
+            first (inl k) = second (one_of (response_has answered directive.SMaxage) (response_has answered directive.MaxAge) k)
+            first (inr k) = inr (inr k)
+
+        lasting : (lasts_by_the_line facts.policy answered ≡ false) ⊎ (not public ≡ false) → (public ≡ true) ⊎ (ResponseStatesItsLifetime answered ⊎ (given_lifetime facts.policy answered.status ≡ None))
+        lasting (inr h) = inl (not_false public h)
+        lasting (inl h) = inr (own_or_none (either_false (not (states_lifetime answered)) (is_some (given_lifetime facts.policy answered.status)) h))
+          where
+            own_or_none : (not (states_lifetime answered) ≡ false) ⊎ (is_some (given_lifetime facts.policy answered.status) ≡ false) → ResponseStatesItsLifetime answered ⊎ (given_lifetime facts.policy answered.status ≡ None)
+            own_or_none (inl k) = inl (by_itself (not_false (states_lifetime answered) k))
+            own_or_none (inr k) = inr (is_absent (given_lifetime facts.policy answered.status) k)
+
+        asking : (not facts.policy.gives_to_cookies ≡ false) ⊎ (is_from_someone asked ≡ false) → (facts.policy.gives_to_cookies ≡ true) ⊎ (RequestTellsNotWhoAsks asked ⊎ ((public ≡ true) ⊎ (ResponseStatesItsLifetime answered ⊎ (given_lifetime facts.policy answered.status ≡ None))))
+        asking (inl h) = inl (not_false facts.policy.gives_to_cookies h)
+        asking (inr h) = inr (inl (of_no_one h))
+
+        given : (not facts.policy.gives_to_cookies && is_from_someone asked ≡ false) ⊎ (lasts_by_the_line facts.policy answered && not public ≡ false) → (facts.policy.gives_to_cookies ≡ true) ⊎ (RequestTellsNotWhoAsks asked ⊎ ((public ≡ true) ⊎ (ResponseStatesItsLifetime answered ⊎ (given_lifetime facts.policy answered.status ≡ None))))
+        given (inl h) = asking (either_false (not facts.policy.gives_to_cookies) (is_from_someone asked) h)
+        given (inr h) = inr (inr (lasting (either_false (lasts_by_the_line facts.policy answered) (not public) h)))
+
   pub cookie_applies : (facts.policy.stores_cookies ≡ true) ⊎ ((has_line answered.fields (codes "Set-Cookie") ≡ false) ⊎ (response_has answered directive.Public ≡ true)) → storing_rule_applies SetCookie asked answered facts ≡ false
   cookie_applies (inl h) = first_absent (not facts.policy.stores_cookies) (has_cookie_for_one answered) (not_true facts.policy.stores_cookies h)
   cookie_applies (inr (inl absent)) =
@@ -84,7 +122,53 @@ module _ (asked : Asked) (answered : Answered) (facts : StoringFacts) where
       last_absent (not facts.policy.stores_errors) (is_uncached_error answered.status)
       (last_absent (nat_le 400 answered.status) (not (is_heuristic answered.status)) (not_true (is_heuristic answered.status) heuristic))
 
+  itself_states : ResponseStatesItsLifetime answered → states_lifetime answered ≡ true
+  itself_states (inl h) = or_left (response_has answered directive.SMaxage || response_has answered directive.MaxAge) (has_line answered.fields (codes "Expires")) (or_left (response_has answered directive.SMaxage) (response_has answered directive.MaxAge) h)
+  itself_states (inr (inl h)) = or_left (response_has answered directive.SMaxage || response_has answered directive.MaxAge) (has_line answered.fields (codes "Expires")) (or_right (response_has answered directive.SMaxage) (response_has answered directive.MaxAge) h)
+  itself_states (inr (inr h)) = or_right (response_has answered directive.SMaxage || response_has answered directive.MaxAge) (has_line answered.fields (codes "Expires")) h
+
+  pub request_cookie_applies : (facts.policy.gives_to_cookies ≡ true) ⊎ (RequestTellsNotWhoAsks asked ⊎ ((response_has answered directive.Public ≡ true) ⊎ (ResponseStatesItsLifetime answered ⊎ (given_lifetime facts.policy answered.status ≡ None)))) → storing_rule_applies RequestCookie asked answered facts ≡ false
+  request_cookie_applies says_so = at says_so
+    where
+      asks : Bool
+      asks = not facts.policy.gives_to_cookies && is_from_someone asked
+
+      lasts : Bool
+      lasts = lasts_by_the_line facts.policy answered
+
+      public : Bool
+      public = response_has answered directive.Public
+
+      by_asking : asks ≡ false → storing_rule_applies RequestCookie asked answered facts ≡ false
+      by_asking h = first_absent asks (lasts && not public) h
+
+      by_lasting : lasts ≡ false → storing_rule_applies RequestCookie asked answered facts ≡ false
+      by_lasting h = last_absent asks (lasts && not public) (first_absent lasts (not public) h)
+
+      at : (facts.policy.gives_to_cookies ≡ true) ⊎ (RequestTellsNotWhoAsks asked ⊎ ((public ≡ true) ⊎ (ResponseStatesItsLifetime answered ⊎ (given_lifetime facts.policy answered.status ≡ None)))) → storing_rule_applies RequestCookie asked answered facts ≡ false
+      at (inl h) = by_asking (first_absent (not facts.policy.gives_to_cookies) (is_from_someone asked) (not_true facts.policy.gives_to_cookies h))
+      at (inr (inl no_one)) =
+          by_asking (last_absent (not facts.policy.gives_to_cookies) (is_from_someone asked) (neither (has_line asked.fields (codes "Cookie")) (has_line asked.fields (codes "Authorization")) no_one.0 no_one.1))
+      at (inr (inr (inl h))) = last_absent asks (lasts && not public) (last_absent lasts (not public) (not_true public h))
+      at (inr (inr (inr (inl own)))) = by_lasting (first_absent (not (states_lifetime answered)) (is_some (given_lifetime facts.policy answered.status)) (not_true (states_lifetime answered) (itself_states own)))
+      at (inr (inr (inr (inr none)))) = by_lasting (last_absent (not (states_lifetime answered)) (is_some (given_lifetime facts.policy answered.status)) (rw none refl))
+
   -- ---- what is never stored, and what is all the same
+
+  tells_who : (has_line asked.fields (codes "Cookie") ≡ true) ⊎ (has_line asked.fields (codes "Authorization") ≡ true) → is_from_someone asked ≡ true
+  tells_who (inl h) = or_left (has_line asked.fields (codes "Cookie")) (has_line asked.fields (codes "Authorization")) h
+  tells_who (inr h) = or_right (has_line asked.fields (codes "Cookie")) (has_line asked.fields (codes "Authorization")) h
+
+  pub request_cookie_forbids : (seconds : ℕ) → facts.policy.gives_to_cookies ≡ false → (has_line asked.fields (codes "Cookie") ≡ true) ⊎ (has_line asked.fields (codes "Authorization") ≡ true) → ResponseStatesNoLifetime answered
+      → given_lifetime facts.policy answered.status ≡ Some seconds → response_has answered directive.Public ≡ false → ResponseIsStored asked answered facts → ⊥
+  request_cookie_forbids seconds word who none given public h =
+      let stated : states_lifetime answered ≡ false =
+      neither (response_has answered directive.SMaxage || response_has answered directive.MaxAge) (has_line answered.fields (codes "Expires"))
+      (neither (response_has answered directive.SMaxage) (response_has answered directive.MaxAge) none.0 none.1) none.2 in
+      let asks = both (not facts.policy.gives_to_cookies) (is_from_someone asked) (turned facts.policy.gives_to_cookies word) (tells_who who) in
+      let lasts = both (not (states_lifetime answered)) (is_some (given_lifetime facts.policy answered.status)) (turned (states_lifetime answered) stated) (rw given refl) in
+      let for_one = both (lasts_by_the_line facts.policy answered) (not (response_has answered directive.Public)) lasts (turned (response_has answered directive.Public) public) in
+      never (sym (both (not facts.policy.gives_to_cookies && is_from_someone asked) (lasts_by_the_line facts.policy answered && not (response_has answered directive.Public)) asks for_one) ∙ no_rule_applies asked answered facts RequestCookie h)
 
   pub cookie_forbids : facts.policy.stores_cookies ≡ false → has_line answered.fields (codes "Set-Cookie") ≡ true → response_has answered directive.Public ≡ false → ResponseIsStored asked answered facts → ⊥
   cookie_forbids word cookie public h =
@@ -101,17 +185,19 @@ module _ (asked : Asked) (answered : Answered) (facts : StoringFacts) where
   plain_none none Operator = refl
   plain_none none SetCookie = refl
   plain_none none ErrorStatus = refl
+  plain_none none RequestCookie = refl
   plain_none none any = none any
 
   pub stored_without_words : ResponseIsStored asked answered facts → ResponseIsStored asked answered (facts_with_policy facts (plain true))
   stored_without_words h = no_rule_found asked answered (facts_with_policy facts (plain true)) (plain_none (λ any. no_rule_applies asked answered facts any h))
 
-  words_none : ((any : StoreRule) → storing_rule_applies any asked answered (facts_with_policy facts (plain facts.policy.caches)) ≡ false) → ResponseIsWithinTheWords answered facts.policy → (any : StoreRule) → storing_rule_applies any asked answered facts ≡ false
+  words_none : ((any : StoreRule) → storing_rule_applies any asked answered (facts_with_policy facts (plain facts.policy.caches)) ≡ false) → ResponseIsWithinTheWords asked answered facts.policy → (any : StoreRule) → storing_rule_applies any asked answered facts ≡ false
   words_none none within SetCookie = cookie_applies within.cookies
   words_none none within ErrorStatus = error_applies within.errors
+  words_none none within RequestCookie = request_cookie_applies within.requests_with_cookies
   words_none none within any = none any
 
-  pub stored_with_words : ResponseIsStored asked answered (facts_with_policy facts (plain facts.policy.caches)) → ResponseIsWithinTheWords answered facts.policy → ResponseIsStored asked answered facts
+  pub stored_with_words : ResponseIsStored asked answered (facts_with_policy facts (plain facts.policy.caches)) → ResponseIsWithinTheWords asked answered facts.policy → ResponseIsStored asked answered facts
   stored_with_words h within =
       no_rule_found asked answered facts (words_none (λ any. no_rule_applies asked answered (facts_with_policy facts (plain facts.policy.caches)) any h) within)
 

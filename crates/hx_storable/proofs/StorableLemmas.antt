@@ -10,13 +10,13 @@ use Rattle.hx_hop.specs.declared.response_view.Answered.{Answered}
 use Rattle.hx_hop.specs.Bypass.{request_has_content, asks_for_range, has_precondition}
 use Rattle.hx_storable.specs.declared.known_facts.StoringFacts.{StoringFacts}
 use Rattle.hx_storable.specs.declared.rule.StoreRule.{StoreRule}
-use Rattle.hx_storable.specs.declared.rule.StoreRule.TheVariants.{Operator, Method, Bypass, Status, MustUnderstand, ResponseNoStore, RequestNoStore, Private, Authorization, NothingAllows, VaryStar, ConnectionField, NothingToReuse, TooLarge, Overtaken, Serials, SetCookie, ErrorStatus}
+use Rattle.hx_storable.specs.declared.rule.StoreRule.TheVariants.{Operator, Method, Bypass, Status, MustUnderstand, ResponseNoStore, RequestNoStore, Private, Authorization, NothingAllows, VaryStar, ConnectionField, NothingToReuse, TooLarge, Overtaken, Serials, SetCookie, ErrorStatus, RequestCookie}
 use Rattle.hx_policy.specs.Policies.{is_heuristic}
 use Rattle.hx_storable.specs.Rules.{request_has, response_has, is_understood_status, allows_shared, allows_storing, storing_rule_applies}
 use Rattle.hx_storable.specs.Storable.{StatusIsFinal, NeedsUnderstanding, NoStoreIsAbsentOrLifted, ResponseAllowsShared, ResponseAllowsStoring, RequestIsForTheStore, ResponseMayBeStored, ResponseIsStored}
 use Rattle.hx_fields.proofs.JoinedTests.{never, not_false, not_true, left_false, right_false, neither, one_of, or_left, or_right, second_false, either_false, first_absent, last_absent, is_equal, not_equal, implied}
 use Rattle.hx_storable.proofs.LeastRule.{no_rule_applies, no_rule_found}
-use Rattle.hx_storable.proofs.LineLemmas.{turned, within_the_words, cookie_applies, error_applies}
+use Rattle.hx_storable.proofs.LineLemmas.{turned, within_the_words, cookie_applies, error_applies, request_cookie_applies}
 
 -- ---- statuses and methods
 
@@ -216,6 +216,7 @@ module _ (asked : Asked) (answered : Answered) (facts : StoringFacts) where
     none_applies Serials = may.has_room.has_serial
     none_applies SetCookie = cookie_applies asked answered facts may.is_within_the_words.cookies
     none_applies ErrorStatus = error_applies asked answered facts may.is_within_the_words.errors
+    none_applies RequestCookie = request_cookie_applies asked answered facts may.is_within_the_words.requests_with_cookies
 
     pub is_stored : ResponseIsStored asked answered facts
     is_stored = no_rule_found asked answered facts none_applies

@@ -2,7 +2,7 @@
 use Rattle.std.proofs.Common.{◌≡◌, refl}
 use Rattle.std.specs.Prelude.{◌==◌, find, Some}
 use Rattle.hx_storable.specs.declared.rule.StoreRule.{StoreRule}
-use Rattle.hx_storable.specs.declared.rule.StoreRule.TheVariants.{Operator, Method, Bypass, Status, MustUnderstand, ResponseNoStore, RequestNoStore, Private, Authorization, NothingAllows, VaryStar, ConnectionField, NothingToReuse, TooLarge, Overtaken, Serials, SetCookie, ErrorStatus}
+use Rattle.hx_storable.specs.declared.rule.StoreRule.TheVariants.{Operator, Method, Bypass, Status, MustUnderstand, ResponseNoStore, RequestNoStore, Private, Authorization, NothingAllows, VaryStar, ConnectionField, NothingToReuse, TooLarge, Overtaken, Serials, SetCookie, ErrorStatus, RequestCookie}
 use Rattle.hx_storable.specs.Rules.{storing_rule_number, storage_rules}
 
 pub each_is_listed : (rule : StoreRule) → find (λ other. storing_rule_number other == storing_rule_number rule) storage_rules ≡ Some rule
@@ -24,3 +24,4 @@ each_is_listed Overtaken = refl
 each_is_listed Serials = refl
 each_is_listed SetCookie = refl
 each_is_listed ErrorStatus = refl
+each_is_listed RequestCookie = refl

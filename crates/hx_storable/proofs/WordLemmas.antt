@@ -2,7 +2,7 @@
 use Rattle.std.proofs.Common.{◌≡◌, List, ℕ, refl, sym, ◌∙◌, ap}
 use Rattle.std.specs.Prelude.{bytes_eq, find, Option, Some}
 use Rattle.hx_storable.specs.declared.rule.StoreRule.{StoreRule}
-use Rattle.hx_storable.specs.declared.rule.StoreRule.TheVariants.{Operator, Method, Bypass, Status, MustUnderstand, ResponseNoStore, RequestNoStore, Private, Authorization, NothingAllows, VaryStar, ConnectionField, NothingToReuse, TooLarge, Overtaken, Serials, SetCookie, ErrorStatus}
+use Rattle.hx_storable.specs.declared.rule.StoreRule.TheVariants.{Operator, Method, Bypass, Status, MustUnderstand, ResponseNoStore, RequestNoStore, Private, Authorization, NothingAllows, VaryStar, ConnectionField, NothingToReuse, TooLarge, Overtaken, Serials, SetCookie, ErrorStatus, RequestCookie}
 use Rattle.hx_storable.specs.Rules.{storage_rules}
 use Rattle.hx_storable.specs.StoringRuleNames.{storing_rule_word}
 
@@ -30,6 +30,7 @@ named Overtaken = refl
 named Serials = refl
 named SetCookie = refl
 named ErrorStatus = refl
+named RequestCookie = refl
 
 same_rule : (r q : StoreRule) → ◌≡◌ {A = Option StoreRule} (Some r) (Some q) → r ≡ q
 same_rule r q h = cc

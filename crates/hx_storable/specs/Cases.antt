@@ -1,5 +1,5 @@
 -- The messages that the laws of worked cases speak of.
-use Rattle.std.specs.Prelude.{ℕ, List, [], ◌∷◌, codes, None, true, false}
+use Rattle.std.specs.Prelude.{ℕ, List, [], ◌∷◌, codes, None, Some, true, false}
 use Rattle.hx_fields.specs.Examples.{line}
 use Rattle.hx_fields.specs.declared.field_line.Field.{Field}
 use Rattle.hx_hop.specs.declared.request_view.Asked.{Asked}
@@ -25,6 +25,10 @@ get_a_with fields = record {
 -- with Authorization
 abbrev pub get_with_authorization : Asked
 get_with_authorization = get_a_with (line (codes "Authorization") (codes "x") ∷ [])
+
+-- with a cookie
+abbrev pub get_with_cookie : Asked
+get_with_cookie = get_a_with (line (codes "Cookie") (codes "session=alice") ∷ [])
 
 abbrev pub answer_with : ℕ → List Field → Answered
 answer_with status fields = record { status = status; fields = fields }
@@ -99,3 +103,12 @@ without_cookies = record storable_facts { policy = record (plain true) { stores_
 
 abbrev pub without_errors : StoringFacts
 without_errors = record storable_facts { policy = record (plain true) { stores_errors = false } }
+
+-- where the line gives a lifetime, and doesn't give it to requests with a cookie
+abbrev pub with_private_lifetime : StoringFacts
+with_private_lifetime =
+    record storable_facts { policy = record (plain true) { lifetime = Some 60; gives_to_cookies = false } }
+
+-- and where it gives it to each
+abbrev pub with_shared_lifetime : StoringFacts
+with_shared_lifetime = record storable_facts { policy = record (plain true) { lifetime = Some 60 } }

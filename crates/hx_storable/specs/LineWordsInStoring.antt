@@ -3,12 +3,12 @@
 -- prove.
 --
 -- facts_with_policy: the same, over another line     rules_without_words: the rules that ask for no word
-use Rattle.std.specs.Prelude.{◌≡◌, ◌≤◌, Bool, not, true, false, List, [], ◌∷◌, find, codes}
+use Rattle.std.specs.Prelude.{◌≡◌, ◌≤◌, ◌⊎◌, ℕ, Bool, not, true, false, List, [], ◌∷◌, find, codes, Some}
 use Rattle.hx_fields.specs.FieldLines.{has_field as has_line}
 use Rattle.hx_directives.specs.declared.names.Directive.TheVariants as directive
 use Rattle.hx_hop.specs.declared.request_view.Asked.{Asked}
 use Rattle.hx_hop.specs.declared.response_view.Answered.{Answered}
-use Rattle.hx_policy.specs.Policies.{is_heuristic, plain}
+use Rattle.hx_policy.specs.Policies.{is_heuristic, given_lifetime, plain}
 use Rattle.hx_policy.specs.declared.words.Policy.{Policy}
 use Rattle.hx_storable.specs.declared.known_facts.StoringFacts.{StoringFacts}
 use Rattle.hx_storable.specs.declared.rule.StoreRule.{StoreRule}
@@ -16,7 +16,7 @@ use Rattle.hx_storable.specs.declared.rule.StoreRule.TheVariants.{Operator, Meth
 use Rattle.hx_storable.specs.declared.rule.StoreRule.TheVariants.{ResponseNoStore, RequestNoStore, Private}
 use Rattle.hx_storable.specs.declared.rule.StoreRule.TheVariants.{Authorization, NothingAllows, VaryStar}
 use Rattle.hx_storable.specs.declared.rule.StoreRule.TheVariants.{ConnectionField, NothingToReuse, TooLarge, Overtaken}
-use Rattle.hx_storable.specs.declared.rule.StoreRule.TheVariants.{Serials, SetCookie, ErrorStatus}
+use Rattle.hx_storable.specs.declared.rule.StoreRule.TheVariants.{Serials, SetCookie, ErrorStatus, RequestCookie}
 use Rattle.hx_storable.specs.Rules.{response_has, storing_rule_applies, storage_rule_of}
 use Rattle.hx_storable.specs.Storable.{ResponseIsStored, ResponseIsWithinTheWords}
 
@@ -33,6 +33,23 @@ ErrorForbidsStoring = (asked : Asked) (answered : Answered) (facts : StoringFact
     facts.policy.stores_errors ≡ false → 400 ≤ answered.status → is_heuristic answered.status ≡ false
     → ResponseIsStored asked answered facts → ⊥
 
+-- the response says nothing of how long it is fresh (RFC 9111, section 4.2.1)
+abbrev pub ResponseStatesNoLifetime : Answered → Type 0
+ResponseStatesNoLifetime answered =
+    (response_has answered directive.SMaxage ≡ false)
+    × (response_has answered directive.MaxAge ≡ false)
+    × (has_line answered.fields (codes "Expires") ≡ false)
+
+-- where he gives no lifetime to what was asked for with a cookie or with credentials, a response to such a request that
+-- has no public, and that only the line would give a lifetime
+abbrev pub RequestCookieForbidsStoring : Type 0
+RequestCookieForbidsStoring = (asked : Asked) (answered : Answered) (facts : StoringFacts) (seconds : ℕ) →
+    facts.policy.gives_to_cookies ≡ false →
+    (has_line asked.fields (codes "Cookie") ≡ true) ⊎ (has_line asked.fields (codes "Authorization") ≡ true) →
+    ResponseStatesNoLifetime answered → given_lifetime facts.policy answered.status ≡ Some seconds →
+    response_has answered directive.Public ≡ false →
+    ResponseIsStored asked answered facts → ⊥
+
 -- the same, with another policy
 abbrev pub facts_with_policy : StoringFacts → Policy → StoringFacts
 facts_with_policy facts policy = record facts { policy = policy }
@@ -46,7 +63,7 @@ WordsOnlyForbid = (asked : Asked) (answered : Answered) (facts : StoringFacts) �
 abbrev pub WordsForbidNothingElse : Type 0
 WordsForbidNothingElse = (asked : Asked) (answered : Answered) (facts : StoringFacts) →
     ResponseIsStored asked answered (facts_with_policy facts (plain facts.policy.caches))
-    → ResponseIsWithinTheWords answered facts.policy
+    → ResponseIsWithinTheWords asked answered facts.policy
     → ResponseIsStored asked answered facts
 
 -- a line without words stands against what it keeps from the store, and no rule of the words stands
@@ -61,6 +78,10 @@ PlainLineStoresCookies = (caches : Bool) (asked : Asked) (answered : Answered) (
 abbrev pub PlainLineStoresErrors : Type 0
 PlainLineStoresErrors = (caches : Bool) (asked : Asked) (answered : Answered) (facts : StoringFacts) →
     storing_rule_applies ErrorStatus asked answered (facts_with_policy facts (plain caches)) ≡ false
+
+abbrev pub PlainLineGivesToCookies : Type 0
+PlainLineGivesToCookies = (caches : Bool) (asked : Asked) (answered : Answered) (facts : StoringFacts) →
+    storing_rule_applies RequestCookie asked answered (facts_with_policy facts (plain caches)) ≡ false
 
 -- the rules that ask for no word
 abbrev pub rules_without_words : List StoreRule

@@ -3,11 +3,12 @@
 --
 -- is_understood_status: statuses     allows_storing, allows_shared: what a response says of it
 -- has_cookie_for_one, is_uncached_error: what the operator may keep from the store
+-- is_from_someone, lasts_by_the_line: who asked, and whose lifetime it is
 -- storing_rule_applies: the condition of each rule
 -- storage_rules, storing_rule_number: the rules by their numbers
 -- storage_rule_of: the least that stands
 use Rattle.std.specs.Prelude.{ℕ, ◌==◌, nat_le, Bool, not, ◌&&◌, ◌||◌, List, [], ◌∷◌, ◌++◌, find, codes, bytes_eq}
-use Rattle.std.specs.Prelude.{Option}
+use Rattle.std.specs.Prelude.{Option, is_some}
 use Rattle.hx_fields.specs.FieldLines.{has_field as has_line}
 use Rattle.hx_directives.specs.Occurrences.{occurrences_of}
 use Rattle.hx_directives.specs.Answers.{directive_occurs}
@@ -17,14 +18,15 @@ use Rattle.hx_directives.specs.declared.names.Directive.TheVariants as directive
 use Rattle.hx_hop.specs.declared.request_view.Asked.{Asked}
 use Rattle.hx_hop.specs.declared.response_view.Answered.{Answered}
 use Rattle.hx_hop.specs.Bypass.{request_has_content, asks_for_range, has_precondition}
-use Rattle.hx_policy.specs.Policies.{is_heuristic}
+use Rattle.hx_policy.specs.Policies.{is_heuristic, given_lifetime}
+use Rattle.hx_policy.specs.declared.words.Policy.{Policy}
 use Rattle.hx_storable.specs.declared.known_facts.StoringFacts.{StoringFacts}
 use Rattle.hx_storable.specs.declared.rule.StoreRule.{StoreRule}
 use Rattle.hx_storable.specs.declared.rule.StoreRule.TheVariants.{Operator, Method, Bypass, Status, MustUnderstand}
 use Rattle.hx_storable.specs.declared.rule.StoreRule.TheVariants.{ResponseNoStore, RequestNoStore, Private}
 use Rattle.hx_storable.specs.declared.rule.StoreRule.TheVariants.{Authorization, NothingAllows, VaryStar}
 use Rattle.hx_storable.specs.declared.rule.StoreRule.TheVariants.{ConnectionField, NothingToReuse, TooLarge, Overtaken}
-use Rattle.hx_storable.specs.declared.rule.StoreRule.TheVariants.{Serials, SetCookie, ErrorStatus}
+use Rattle.hx_storable.specs.declared.rule.StoreRule.TheVariants.{Serials, SetCookie, ErrorStatus, RequestCookie}
 
 -- the statuses whose caching this cache understands (RFC 9111, section 5.2.2.3)
 -- own: those of the standard's list but 206, for no incomplete response is stored
@@ -58,6 +60,21 @@ has_cookie_for_one answered = has_line answered.fields (codes "Set-Cookie") && n
 -- the status tells an error (RFC 9110, sections 15.5 and 15.6), and none of 404, 405, 410, 414 and 501
 abbrev pub is_uncached_error : ℕ → Bool
 is_uncached_error status = nat_le 400 status && not (is_heuristic status)
+
+-- the request tells who asks, by a cookie or by credentials (RFC 6265, section 4.2; RFC 9110, section 11.6.2)
+abbrev pub is_from_someone : Asked → Bool
+is_from_someone asked = has_line asked.fields (codes "Cookie") || has_line asked.fields (codes "Authorization")
+
+-- the response says how long it is fresh, whether or not that can be read (RFC 9111, section 4.2.1)
+abbrev pub states_lifetime : Answered → Bool
+states_lifetime answered =
+    (response_has answered directive.SMaxage || response_has answered directive.MaxAge)
+    || has_line answered.fields (codes "Expires")
+
+-- it doesn't, and the operator's line gives it a lifetime (RFC 9111, section 4.2.2)
+abbrev pub lasts_by_the_line : Policy → Answered → Bool
+lasts_by_the_line policy answered =
+    not (states_lifetime answered) && is_some (given_lifetime policy answered.status)
 
 -- the condition of each rule
 abbrev pub storing_rule_applies : StoreRule → Asked → Answered → StoringFacts → Bool
@@ -102,13 +119,18 @@ storing_rule_applies SetCookie asked answered facts = not facts.policy.stores_co
 -- own: where the operator stores no errors
 storing_rule_applies ErrorStatus asked answered facts = not facts.policy.stores_errors
     && is_uncached_error answered.status
+-- own: what tells who asks may be answered for that one, so the line alone doesn't let the answer be sent to others
+storing_rule_applies RequestCookie asked answered facts =
+    (not facts.policy.gives_to_cookies && is_from_someone asked)
+    && (lasts_by_the_line facts.policy answered && not (response_has answered directive.Public))
 
--- the rules by their numbers; six ask for nothing but the facts, and the last two are the words of the operator's line
+-- the rules by their numbers; six ask for nothing but the facts, and the last three are the words of the operator's
+-- line
 abbrev pub rules_on_facts : List StoreRule
 rules_on_facts = VaryStar ∷ ConnectionField ∷ NothingToReuse ∷ TooLarge ∷ Overtaken ∷ Serials ∷ []
 
 abbrev pub rules_of_words : List StoreRule
-rules_of_words = SetCookie ∷ ErrorStatus ∷ []
+rules_of_words = SetCookie ∷ ErrorStatus ∷ RequestCookie ∷ []
 
 abbrev pub storage_rules : List StoreRule
 storage_rules =
@@ -134,6 +156,7 @@ storing_rule_number Overtaken = 14
 storing_rule_number Serials = 15
 storing_rule_number SetCookie = 16
 storing_rule_number ErrorStatus = 17
+storing_rule_number RequestCookie = 18
 
 -- the least rule that stands
 unfoldable pub storage_rule_of : Asked → Answered → StoringFacts → Option StoreRule

@@ -13,7 +13,7 @@ use Rattle.hx_hop.specs.declared.request_view.Asked.{Asked}
 use Rattle.hx_hop.specs.declared.response_view.Answered.{Answered}
 use Rattle.hx_hop.specs.Bypass.{request_has_content, asks_for_range, has_precondition}
 use Rattle.hx_policy.specs.declared.words.Policy.{Policy}
-use Rattle.hx_policy.specs.Policies.{is_heuristic}
+use Rattle.hx_policy.specs.Policies.{is_heuristic, given_lifetime}
 use Rattle.hx_storable.specs.declared.known_facts.StoringFacts.{StoringFacts}
 use Rattle.hx_storable.specs.declared.rule.StoreRule.{StoreRule}
 use Rattle.hx_storable.specs.Rules.{request_has, response_has, is_understood_status, storing_rule_applies}
@@ -82,13 +82,30 @@ pub record StoreHasRoomForIt (facts : StoringFacts) : Type 0 where
   pub not_too_large : facts.too_large ≡ false
   pub has_serial : facts.no_serial ≡ false
 
+-- the request has neither a cookie nor credentials (RFC 6265, section 4.2; RFC 9110, section 11.6.2)
+abbrev pub RequestTellsNotWhoAsks : Asked → Type 0
+RequestTellsNotWhoAsks asked =
+    (has_line asked.fields (codes "Cookie") ≡ false) × (has_line asked.fields (codes "Authorization") ≡ false)
+
+-- the response says how long it is fresh (RFC 9111, section 4.2.1)
+abbrev pub ResponseStatesItsLifetime : Answered → Type 0
+ResponseStatesItsLifetime answered =
+    (response_has answered directive.SMaxage ≡ true)
+    ⊎ ((response_has answered directive.MaxAge ≡ true) ⊎ (has_line answered.fields (codes "Expires") ≡ true))
+
 -- own: where the operator stores no cookies the response sets none, or has public (RFC 9111,
 -- section 7.3); where he stores no errors its status tells none, or is heuristically cacheable (RFC
--- 9110, section 15.1)
-pub record ResponseIsWithinTheWords (answered : Answered) (policy : Policy) : Type 0 where
+-- 9110, section 15.1); where he gives no lifetime to what was asked for with a cookie or with
+-- credentials, it wasn't, has public or a lifetime of its own, or is given none
+pub record ResponseIsWithinTheWords (asked : Asked) (answered : Answered) (policy : Policy) : Type 0 where
   pub cookies : (policy.stores_cookies ≡ true)
       ⊎ ((has_line answered.fields (codes "Set-Cookie") ≡ false) ⊎ (response_has answered directive.Public ≡ true))
   pub errors : (policy.stores_errors ≡ true) ⊎ ((answered.status < 400) ⊎ (is_heuristic answered.status ≡ true))
+  pub requests_with_cookies : (policy.gives_to_cookies ≡ true)
+      ⊎ (RequestTellsNotWhoAsks asked
+      ⊎ ((response_has answered directive.Public ≡ true)
+      ⊎ (ResponseStatesItsLifetime answered
+      ⊎ (given_lifetime policy answered.status ≡ None))))
 
 -- own: the operator lets it be stored
 pub record ResponseMayBeStored (asked : Asked) (answered : Answered) (facts : StoringFacts) : Type 0 where
@@ -97,7 +114,7 @@ pub record ResponseMayBeStored (asked : Asked) (answered : Answered) (facts : St
   pub is_for_the_store : RequestIsForTheStore asked
   pub is_of_use : ResponseIsOfUse facts
   pub has_room : StoreHasRoomForIt facts
-  pub is_within_the_words : ResponseIsWithinTheWords answered facts.policy
+  pub is_within_the_words : ResponseIsWithinTheWords asked answered facts.policy
 
 -- the rule stands, and none of a smaller number does
 pub record IsLeastStoringRule (asked : Asked) (answered : Answered) (facts : StoringFacts)

@@ -7,7 +7,7 @@ use Rattle.hx_storable.specs.declared.rule.StoreRule.TheVariants.{Operator, Meth
 use Rattle.hx_storable.specs.declared.rule.StoreRule.TheVariants.{ResponseNoStore, RequestNoStore, Private}
 use Rattle.hx_storable.specs.declared.rule.StoreRule.TheVariants.{Authorization, NothingAllows, VaryStar}
 use Rattle.hx_storable.specs.declared.rule.StoreRule.TheVariants.{ConnectionField, NothingToReuse, TooLarge, Overtaken}
-use Rattle.hx_storable.specs.declared.rule.StoreRule.TheVariants.{Serials, SetCookie, ErrorStatus}
+use Rattle.hx_storable.specs.declared.rule.StoreRule.TheVariants.{Serials, SetCookie, ErrorStatus, RequestCookie}
 
 abbrev pub storing_rule_word : StoreRule → List ℕ
 storing_rule_word Operator = codes "operator"
@@ -28,6 +28,7 @@ storing_rule_word Overtaken = codes "overtaken"
 storing_rule_word Serials = codes "no-serial"
 storing_rule_word SetCookie = codes "set-cookie"
 storing_rule_word ErrorStatus = codes "error-status"
+storing_rule_word RequestCookie = codes "request-cookie"
 
 -- who reads the word knows the rule
 abbrev pub WordsOfStoringRulesDiffer : Type 0

@@ -9,7 +9,7 @@ use Rattle.hx_storable.specs.declared.rule.StoreRule.{StoreRule}
 abbrev pub StoringRulesAreInOrder : Type 0
 StoringRulesAreInOrder =
     map storing_rule_number storage_rules
-    ≡ 0 ∷ 1 ∷ 2 ∷ 3 ∷ 4 ∷ 5 ∷ 6 ∷ 7 ∷ 8 ∷ 9 ∷ 10 ∷ 11 ∷ 12 ∷ 13 ∷ 14 ∷ 15 ∷ 16 ∷ 17 ∷ []
+    ≡ 0 ∷ 1 ∷ 2 ∷ 3 ∷ 4 ∷ 5 ∷ 6 ∷ 7 ∷ 8 ∷ 9 ∷ 10 ∷ 11 ∷ 12 ∷ 13 ∷ 14 ∷ 15 ∷ 16 ∷ 17 ∷ 18 ∷ []
 
 -- and none is left out
 abbrev pub EachStoringRuleIsListed : Type 0

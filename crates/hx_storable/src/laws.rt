@@ -13,14 +13,15 @@ ghost use Rattle.hx_storable.specs.Storable.{PrivateForbidsStoring};
 ghost use Rattle.hx_storable.specs.Storable.{AuthorizationForbidsStoring, PartsAreNeverStored, OnlyGetIsStored};
 ghost use Rattle.hx_storable.specs.Storable.{OperatorForbidsStoring};
 ghost use Rattle.hx_storable.specs.LineWordsInStoring.{CookieForbidsStoring, ErrorForbidsStoring, WordsOnlyForbid};
-ghost use Rattle.hx_storable.specs.LineWordsInStoring.{WordsForbidNothingElse};
+ghost use Rattle.hx_storable.specs.LineWordsInStoring.{WordsForbidNothingElse, RequestCookieForbidsStoring};
 ghost use Rattle.hx_storable.specs.LineWordsInStoring.{PlainLineIsTheOperators, PlainLineStoresCookies};
-ghost use Rattle.hx_storable.specs.LineWordsInStoring.{PlainLineStoresErrors};
+ghost use Rattle.hx_storable.specs.LineWordsInStoring.{PlainLineStoresErrors, PlainLineGivesToCookies};
 ghost use Rattle.hx_storable.specs.LineWordsInStoring.{PlainLineAsksOnlyOtherRules};
 ghost use Rattle.hx_storable.specs.Cases.{cache_control_fields, get_a_with, get_with_authorization, answer_with};
 ghost use Rattle.hx_storable.specs.Cases.{storable_facts, facts_with_vary_star, facts_with_star_and_listed};
 ghost use Rattle.hx_storable.specs.Cases.{facts_of_uncached_line, facts_of_cached_line, login_page, answer_of_a_minute};
-ghost use Rattle.hx_storable.specs.Cases.{without_cookies, without_errors};
+ghost use Rattle.hx_storable.specs.Cases.{without_cookies, without_errors, get_with_cookie, with_private_lifetime};
+ghost use Rattle.hx_storable.specs.Cases.{with_shared_lifetime};
 
 use crate::{StoreRule, StoringFacts};
 
@@ -102,6 +103,35 @@ pub fn an_error_is_not_stored()
     ensures cookies_alone { storage_rule_of (get_a_with []) (answer_of_a_minute 400) without_cookies ≡ None }
 {}
 
+/// Where the operator gives his lifetimes to no request with Cookie or Authorization, the response to one that has no
+/// public isn't stored for others where nothing but the line would let it be sent to them.
+#[tactic(auto, unfolding(crate::specs::Rules::storage_rule_of))]
+pub fn a_page_for_one_is_not_stored_by_the_line()
+    ensures every { RequestCookieForbidsStoring }
+    ensures cookie { storage_rule_of get_with_cookie (answer_with 200 []) with_private_lifetime
+        ≡ Some StoreRule.RequestCookie }
+    ensures authorization { storage_rule_of get_with_authorization
+        (answer_with 200 (cache_control_fields (codes "must-revalidate"))) with_private_lifetime
+        ≡ Some StoreRule.RequestCookie }
+    ensures redirect { storage_rule_of get_with_cookie (answer_with 301 []) with_private_lifetime
+        ≡ Some StoreRule.RequestCookie }
+    ensures public { storage_rule_of get_with_cookie (answer_with 200 (cache_control_fields (codes "public")))
+        with_private_lifetime ≡ None }
+    ensures max_age { storage_rule_of get_with_cookie (answer_of_a_minute 200) with_private_lifetime ≡ None }
+    ensures unreadable { storage_rule_of get_with_cookie (answer_with 200 (cache_control_fields (codes "max-age=x")))
+        with_private_lifetime ≡ None }
+    ensures s_maxage { storage_rule_of get_with_authorization
+        (answer_with 200 (cache_control_fields (codes "s-maxage=60"))) with_private_lifetime ≡ None }
+    ensures expires { storage_rule_of get_with_cookie (answer_with 200 (line (codes "Expires") (codes "0") ∷ []))
+        with_private_lifetime ≡ None }
+    ensures no_cookie { storage_rule_of (get_a_with []) (answer_with 200 []) with_private_lifetime ≡ None }
+    ensures not_given { storage_rule_of get_with_cookie (answer_with 404 []) with_private_lifetime ≡ None }
+    ensures without_a_lifetime { storage_rule_of get_with_cookie (answer_with 200 []) storable_facts ≡ None }
+    ensures shared { storage_rule_of get_with_cookie (answer_with 200 []) with_shared_lifetime ≡ None }
+    ensures private_first { storage_rule_of get_with_cookie (answer_with 200 (cache_control_fields (codes "private")))
+        with_private_lifetime ≡ Some StoreRule.Private }
+{}
+
 /// The words of a line keep a response from the store, or do nothing: what is stored with them is
 /// stored without them, and what they allow is stored as without them.
 pub fn words_only_forbid_storing()
@@ -115,6 +145,7 @@ pub fn default_policy_changes_nothing()
     ensures operator { PlainLineIsTheOperators }
     ensures cookies { PlainLineStoresCookies }
     ensures errors { PlainLineStoresErrors }
+    ensures requests_with_cookies { PlainLineGivesToCookies }
     ensures others { PlainLineAsksOnlyOtherRules }
 {}
 

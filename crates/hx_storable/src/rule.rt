@@ -39,4 +39,7 @@ pub enum StoreRule {
     SetCookie,
     /// The status is 400 or above and not heuristically cacheable, and the operator stores no errors.
     ErrorStatus,
+    /// The request has Cookie or Authorization, and the response neither public nor a lifetime but the one that the
+    /// line would give, which doesn't give it to such requests.
+    RequestCookie,
 }

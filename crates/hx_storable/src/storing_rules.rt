@@ -9,6 +9,7 @@ ghost use Rattle.hx_hop.specs.declared.response_view.Answered.{Answered as Answe
 ghost use Rattle.hx_hop.specs.Bypass.{request_has_content, asks_for_range, has_precondition};
 ghost use Rattle.hx_storable.specs.declared.known_facts.StoringFacts.{StoringFacts as Known};
 ghost use Rattle.hx_policy.specs.Policies.{is_heuristic};
+ghost use Rattle.hx_storable.specs.Rules.{response_has, is_from_someone, states_lifetime, lasts_by_the_line};
 ghost use Rattle.hx_storable.specs.Rules.{is_understood_status, allows_shared, allows_storing, has_cookie_for_one};
 ghost use Rattle.hx_storable.specs.Rules.{is_uncached_error, storing_rule_applies, rules_on_facts, rules_of_words};
 ghost use Rattle.hx_storable.specs.Rules.{storage_rule_of};
@@ -98,6 +99,48 @@ fn is_uncached_error(status: u16) -> bool
     status >= 400 && !is_heuristic(status)
 }
 
+/// Whether a request tells who asks, by a cookie or by credentials.
+fn is_from_someone(asked: &Asked) -> bool
+    ensures { result ≡ is_from_someone asked.now }
+{
+    asked.fields.has(b"Cookie") || asked.fields.has(b"Authorization")
+}
+
+/// Whether a response says how long it is fresh.
+fn states_lifetime(answered: &Answered, directives: &Directives) -> bool
+    requires { directives.now ≡ occurrences_of answered.now.fields }
+    ensures { result ≡ states_lifetime answered.now }
+{
+    directives.has(Directive::SMaxage)
+        || directives.has(Directive::MaxAge)
+        || answered.fields.has(b"Expires")
+}
+
+/// Whether a response doesn't, and the operator's line gives it a lifetime.
+fn lasts_by_the_line(policy: Policy, answered: &Answered, directives: &Directives) -> bool
+    requires { directives.now ≡ occurrences_of answered.now.fields }
+    ensures { result ≡ lasts_by_the_line policy answered.now }
+{
+    !states_lifetime(answered, directives) && policy.given_lifetime(answered.status).is_some()
+}
+
+/// Whether only the line lets a response be fresh that may be for the one who asked, and the line doesn't give it that.
+fn is_given_to_someone(
+    asked: &Asked,
+    answered: &Answered,
+    directives: &Directives,
+    policy: Policy,
+) -> bool
+    requires { directives.now ≡ occurrences_of answered.now.fields }
+    ensures { result ≡ ((not policy.gives_to_cookies && is_from_someone asked.now)
+        && (lasts_by_the_line policy answered.now && not (response_has answered.now directive.Public))) }
+{
+    !policy.gives_to_cookies
+        && is_from_someone(asked)
+        && lasts_by_the_line(policy, answered, directives)
+        && !directives.has(Directive::Public)
+}
+
 fn is_of_no_use(facts: StoringFacts) -> bool
     ensures { result ≡ (not facts.explicit && not facts.validator) }
 {
@@ -139,23 +182,24 @@ pub fn first_rule_against(
     } else if !allows_storing(answered, directives) {
         Some(StoreRule::NothingAllows)
     } else {
-        rule_after_the_head(answered, directives, facts)
+        rule_after_the_head(asked, answered, directives, facts)
     }
 }
 
 /// The least of the rules on what is known besides the head, and of those that the words of a line add.
 fn rule_after_the_head(
+    asked: &Asked,
     answered: &Answered,
     directives: &Directives,
     facts: StoringFacts,
 ) -> Option<StoreRule>
     requires { directives.now ≡ occurrences_of answered.now.fields }
-    ensures { (asked : AskedFor) → result
-        ≡ find (λ r. storing_rule_applies r asked answered.now facts) (rules_on_facts ++ rules_of_words) }
+    ensures { result
+        ≡ find (λ r. storing_rule_applies r asked.now answered.now facts) (rules_on_facts ++ rules_of_words) }
 {
     match rule_on_facts(facts) {
         Some(rule) => Some(rule),
-        None => rule_of_words(answered, directives, facts.policy),
+        None => rule_of_words(asked, answered, directives, facts.policy),
     }
 }
 
@@ -182,15 +226,22 @@ fn rule_on_facts(facts: StoringFacts) -> Option<StoreRule>
 }
 
 /// The least of the rules that the words of a line add.
-fn rule_of_words(answered: &Answered, directives: &Directives, policy: Policy) -> Option<StoreRule>
+fn rule_of_words(
+    asked: &Asked,
+    answered: &Answered,
+    directives: &Directives,
+    policy: Policy,
+) -> Option<StoreRule>
     requires { directives.now ≡ occurrences_of answered.now.fields }
-    ensures { (asked : AskedFor) (facts : Known) → facts.policy ≡ policy
-        → result ≡ find (λ r. storing_rule_applies r asked answered.now facts) rules_of_words }
+    ensures { (facts : Known) → facts.policy ≡ policy
+        → result ≡ find (λ r. storing_rule_applies r asked.now answered.now facts) rules_of_words }
 {
     if !policy.stores_cookies && has_cookie_for_one(answered, directives) {
         Some(StoreRule::SetCookie)
     } else if !policy.stores_errors && is_uncached_error(answered.status) {
         Some(StoreRule::ErrorStatus)
+    } else if is_given_to_someone(asked, answered, directives, policy) {
+        Some(StoreRule::RequestCookie)
     } else {
         None
     }

@@ -18,7 +18,7 @@ use Rattle.hx_store.specs.Serials.{Distinct}
 use Rattle.hx_store.specs.Shelf.{serials, find_entry}
 use Rattle.std.specs.Option.{option_and_then}
 use Rattle.hx_reuse.proofs.Choice.{found_by_serial, chosen_is_held}
-use Rattle.hx_reuse.specs.Lifetimes.{lifetime_under, lifetime_with_given}
+use Rattle.hx_reuse.specs.Lifetimes.{lifetime_under, lifetime_at_most, lifetime_with_given}
 use Rattle.hx_reuse.specs.Chosen.{chosen_of}
 use Rattle.hx_reuse.specs.RuleNames.{reuse_rule_number}
 use Rattle.hx_reuse.specs.Rules.{Situation, rule_condition, reuse_rule_applies, rule_applies_to_chosen, situation_of_request, is_fresh_situation, is_some_and, names_chosen, decision_of}
@@ -57,10 +57,14 @@ lifetime_is_stated policy status fields h = by_test (lifetime_of fields).explici
     by_given None k h = no_seconds (lifetime_of fields).seconds (stated_or_zero fields k) h
     by_given (Some n) k h = refl
 
+    at_most : (most : Option ℕ) → (lifetime_of fields).explicit ≡ true → (lifetime_at_most most (lifetime_of fields)).explicit ≡ true
+    at_most None k = k
+    at_most (Some most) k = k
+
     by_test : (b : Bool) → (lifetime_of fields).explicit ≡ b →
-        nat_lt 0 (if b then lifetime_of fields else lifetime_with_given (given_lifetime policy status) (lifetime_of fields)).seconds ≡ true →
-        (if b then lifetime_of fields else lifetime_with_given (given_lifetime policy status) (lifetime_of fields)).explicit ≡ true
-    by_test true k h = k
+        nat_lt 0 (if b then lifetime_at_most policy.lifetime_most (lifetime_of fields) else lifetime_with_given (given_lifetime policy status) (lifetime_of fields)).seconds ≡ true →
+        (if b then lifetime_at_most policy.lifetime_most (lifetime_of fields) else lifetime_with_given (given_lifetime policy status) (lifetime_of fields)).explicit ≡ true
+    by_test true k h = at_most policy.lifetime_most k
     by_test false k h = by_given (given_lifetime policy status) k h
 
 -- ---- rules

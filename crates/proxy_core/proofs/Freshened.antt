@@ -13,13 +13,13 @@ use Rattle.hx_allow.specs.Matching.{policy_of}
 use Rattle.hx_store.specs.Stored.{Stored}
 use Rattle.hx_store.specs.Weights.{weight_of}
 use Rattle.hx_storable.specs.Rules.{allows_shared, allows_storing, is_understood_status, response_has, storing_rule_applies, storage_rule_of}
-use Rattle.hx_storable.specs.Storable.{NeedsUnderstanding, NoStoreIsAbsentOrLifted, ResponseAllowsShared, ResponseAllowsStoring}
+use Rattle.hx_storable.specs.Storable.{NeedsUnderstanding, NoStoreIsAbsentOrLifted, ResponseAllowsShared, ResponseAllowsStoring, ResponseIsWithinTheWords}
 use Rattle.hx_storable.specs.declared.rule.StoreRule.{StoreRule}
-use Rattle.hx_storable.specs.declared.rule.StoreRule.TheVariants.{Operator, Method, Bypass, Status, MustUnderstand, ResponseNoStore, RequestNoStore, Private, Authorization, NothingAllows, VaryStar, ConnectionField, NothingToReuse, TooLarge, Overtaken, Serials, SetCookie, ErrorStatus}
+use Rattle.hx_storable.specs.declared.rule.StoreRule.TheVariants.{Operator, Method, Bypass, Status, MustUnderstand, ResponseNoStore, RequestNoStore, Private, Authorization, NothingAllows, VaryStar, ConnectionField, NothingToReuse, TooLarge, Overtaken, Serials, SetCookie, ErrorStatus, RequestCookie}
 use Rattle.hx_validate.specs.Room.{head_leaves_room}
 use Rattle.hx_fields.proofs.JoinedTests.{never, not_false, not_true, left_false, right_false, neither, one_of, or_left, or_right, second_false, either_false, first_absent, last_absent, is_equal, not_equal, implied}
 use Rattle.hx_storable.proofs.LeastRule.{no_rule_applies, no_rule_found}
-use Rattle.hx_storable.proofs.LineLemmas.{within_the_words, cookie_applies, error_applies}
+use Rattle.hx_storable.proofs.LineLemmas.{within_the_words, cookie_applies, error_applies, request_cookie_applies}
 use Rattle.proxy_core.specs.declared.open.exchange.Exchange.{Exchange}
 use Rattle.proxy_core.specs.Validating.{is_above, as_get_request, head_of_stored, storing_facts_of_freshened}
 use Rattle.proxy_core.specs.StoredAnswers.{FreshenedMayBeKept, FreshenedIsKeptWhereItMayBe, NothingElseIsKept}
@@ -38,6 +38,9 @@ never_understood status n e unknown h = never (sym h ∙ ap is_understood_status
 
 module _ (table : Table) (x : Exchange) (r : Response) (e : Stored) where
   -- ---- in words
+
+  as_it_came : ResponseIsWithinTheWords (as_get_request x.asked) (head_of_stored e) (policy_of table.lines x.line) → ResponseIsWithinTheWords x.asked (head_of_stored e) (policy_of table.lines x.line)
+  as_it_came within = record { cookies = within.cookies; errors = within.errors; requests_with_cookies = within.requests_with_cookies }
 
   module _ (none : (any : StoreRule) → storing_rule_applies any (as_get_request x.asked) (head_of_stored e) (storing_facts_of_freshened table x r e) ≡ false) where
     must_be_understood : response_has (head_of_stored e) directive.MustUnderstand ≡ true → is_understood_status e.status ≡ true
@@ -125,7 +128,7 @@ module _ (table : Table) (x : Exchange) (r : Response) (e : Stored) where
           no_content = left_false (request_has_content x.asked) (asks_for_range x.asked) both;
           no_range = right_false (request_has_content x.asked) (asks_for_range x.asked) both;
           no_precondition = right_false (request_has_content x.asked || asks_for_range x.asked) (has_precondition x.asked) (none Bypass);
-          is_within_the_words = within_the_words (as_get_request x.asked) (head_of_stored e) (storing_facts_of_freshened table x r e) none;
+          is_within_the_words = as_it_came (within_the_words (as_get_request x.asked) (head_of_stored e) (storing_facts_of_freshened table x r e) none);
           names_fields = fields_named e.fields (none VaryStar);
           the_304_keeps_its_fields = keeps_all r.fields (none ConnectionField);
           can_be_reused = can_be_reused e.fields (policy_of table.lines x.line) e.status lasts_or_is_validated;
@@ -218,6 +221,7 @@ module _ (table : Table) (x : Exchange) (r : Response) (e : Stored) where
   none_applies may Serials = refl
   none_applies may SetCookie = cookie_applies (as_get_request x.asked) (head_of_stored e) (storing_facts_of_freshened table x r e) may.is_within_the_words.cookies
   none_applies may ErrorStatus = error_applies (as_get_request x.asked) (head_of_stored e) (storing_facts_of_freshened table x r e) may.is_within_the_words.errors
+  none_applies may RequestCookie = request_cookie_applies (as_get_request x.asked) (head_of_stored e) (storing_facts_of_freshened table x r e) may.is_within_the_words.requests_with_cookies
 
 -- ---- the laws
 

@@ -16,7 +16,7 @@ use Rattle.hx_vary.specs.Vary.{is_star, is_star_member, vary_names}
 use Rattle.hx_hop.specs.Stripping.{cache_names, connection_names, lists_cache_field}
 use Rattle.hx_policy.specs.Policies.{given_lifetime}
 use Rattle.hx_policy.specs.declared.words.Policy.{Policy}
-use Rattle.hx_reuse.specs.Lifetimes.{lifetime_with_given, lifetime_under}
+use Rattle.hx_reuse.specs.Lifetimes.{lifetime_at_most, lifetime_with_given, lifetime_under}
 use Rattle.hx_validate.specs.Validators.{has_validator, modified_value, tag_value}
 use Rattle.proxy_core.specs.Validating.{is_above}
 use Rattle.proxy_core.specs.StoredAnswers.{ResponseCanBeReused, ConnectionTookNoCacheField, VaryNamesFields}
@@ -94,16 +94,17 @@ said_by false false true a b c h = inr (inr refl)
 said_by false false false a b c h = absurd cc
 
 -- a lifetime stands where the response states one or is given one
-explicit_under : (l : Lifetime) (e : Bool) → l.explicit ≡ e → (g : Option ℕ) → (cond e l (lifetime_with_given g l)).explicit ≡ true → (l.explicit ≡ true) ⊎ (is_some g ≡ true)
-explicit_under l true k g h = inl k
-explicit_under l false k None h = inl h
-explicit_under l false k (Some n) h = inr refl
+explicit_under : (l : Lifetime) (e : Bool) → l.explicit ≡ e → (m g : Option ℕ) → (cond e (lifetime_at_most m l) (lifetime_with_given g l)).explicit ≡ true → (l.explicit ≡ true) ⊎ (is_some g ≡ true)
+explicit_under l true k m g h = inl k
+explicit_under l false k m None h = inl h
+explicit_under l false k m (Some n) h = inr refl
 
-under_explicit : (l : Lifetime) (e : Bool) → l.explicit ≡ e → (g : Option ℕ) → (l.explicit ≡ true) ⊎ (is_some g ≡ true) → (cond e l (lifetime_with_given g l)).explicit ≡ true
-under_explicit l true k g h = k
-under_explicit l false k None (inl h) = h
-under_explicit l false k None (inr h) = absurd cc
-under_explicit l false k (Some n) h = refl
+under_explicit : (l : Lifetime) (e : Bool) → l.explicit ≡ e → (m g : Option ℕ) → (l.explicit ≡ true) ⊎ (is_some g ≡ true) → (cond e (lifetime_at_most m l) (lifetime_with_given g l)).explicit ≡ true
+under_explicit l true k None g h = k
+under_explicit l true k (Some most) g h = k
+under_explicit l false k m None (inl h) = h
+under_explicit l false k m None (inr h) = absurd cc
+under_explicit l false k m (Some n) h = refl
 
 module _ (fields : List Field) where
   lasting : (directive_occurs (occurrences_of fields) SMaxage ≡ true) ⊎ ((directive_occurs (occurrences_of fields) MaxAge ≡ true) ⊎ (has_line fields (codes "Expires") ≡ true)) → (lifetime_of fields).explicit ≡ true
@@ -118,7 +119,7 @@ module _ (fields : List Field) where
 
   module _ (policy : Policy) (status : ℕ) where
     pub can_be_reused : ((lifetime_under policy status fields).explicit ≡ true) ⊎ (has_validator fields ≡ true) → ResponseCanBeReused policy status fields
-    can_be_reused (inl h) = of_either (explicit_under (lifetime_of fields) (lifetime_of fields).explicit refl (given_lifetime policy status) h)
+    can_be_reused (inl h) = of_either (explicit_under (lifetime_of fields) (lifetime_of fields).explicit refl policy.lifetime_most (given_lifetime policy status) h)
       where
         of_lifetime : (directive_occurs (occurrences_of fields) SMaxage ≡ true) ⊎ ((directive_occurs (occurrences_of fields) MaxAge ≡ true) ⊎ (has_line fields (codes "Expires") ≡ true)) → ResponseCanBeReused policy status fields
         of_lifetime (inl s) = inl s
@@ -135,7 +136,7 @@ module _ (fields : List Field) where
         of_validator (inr m) = inr (inr (inr (inr (inl m))))
 
     stated_lasts : (lifetime_of fields).explicit ≡ true → (lifetime_under policy status fields).explicit ≡ true
-    stated_lasts h = under_explicit (lifetime_of fields) (lifetime_of fields).explicit refl (given_lifetime policy status) (inl h)
+    stated_lasts h = under_explicit (lifetime_of fields) (lifetime_of fields).explicit refl policy.lifetime_most (given_lifetime policy status) (inl h)
 
     pub lasts_or_validates : ResponseCanBeReused policy status fields → ((lifetime_under policy status fields).explicit ≡ true) ⊎ (has_validator fields ≡ true)
     lasts_or_validates (inl s) = inl (stated_lasts (lasting (inl s)))
@@ -148,7 +149,7 @@ module _ (fields : List Field) where
         last true h = refl
         last false h = h
     lasts_or_validates (inr (inr (inr (inr (inr g))))) =
-        inl (under_explicit (lifetime_of fields) (lifetime_of fields).explicit refl (given_lifetime policy status) (inr g))
+        inl (under_explicit (lifetime_of fields) (lifetime_of fields).explicit refl policy.lifetime_most (given_lifetime policy status) (inr g))
 
 -- ---- limits
 

@@ -71,6 +71,12 @@ explains_storing_policy = record (plain true) { explains_storing = true }
 abbrev pub lifetime_60_policy : Policy
 lifetime_60_policy = record (plain true) { lifetime = Some 60 }
 
+abbrev pub private_lifetime_policy : Policy
+private_lifetime_policy = record lifetime_60_policy { gives_to_cookies = false }
+
+abbrev pub lifetime_most_15_policy : Policy
+lifetime_most_15_policy = record (plain true) { lifetime_most = Some 15 }
+
 abbrev pub no_cookies_policy : Policy
 no_cookies_policy = record (plain true) { stores_cookies = false }
 
@@ -106,6 +112,10 @@ wait_for_stale_policy = record (plain true) { waits_for_stale = true }
 
 abbrev pub get_a_with_authorization : Asked
 get_a_with_authorization = get_a_with (line (codes "Authorization") (codes "Basic eA==") ∷ [])
+
+-- and one with a cookie
+abbrev pub get_a_with_cookie : Asked
+get_a_with_cookie = get_a_with (line (codes "Cookie") (codes "session=alice") ∷ [])
 
 abbrev pub forwarded_over_line_2 : Exchange
 forwarded_over_line_2 = record (forwarded_on_miss (get_a_with [])) { line = 2 }

@@ -95,7 +95,7 @@ pub record AnswerMayBeStored (table : Table) (next : Option ℕ) (past : List It
   pub operator_allows : (policy_of table.lines x.line).caches ≡ true
   pub is_storable : ResponseIsStorable x.asked (answered_of r now)
   pub is_for_the_store : RequestIsForTheStore x.asked
-  pub is_within_the_words : ResponseIsWithinTheWords (answered_of r now) (policy_of table.lines x.line)
+  pub is_within_the_words : ResponseIsWithinTheWords x.asked (answered_of r now) (policy_of table.lines x.line)
   pub names_fields : VaryNamesFields (answered_of r now).fields
   pub keeps_its_fields : ConnectionTookNoCacheField r.fields
   pub can_be_reused : ResponseCanBeReused (policy_of table.lines x.line) r.status (answered_of r now).fields
@@ -138,7 +138,7 @@ pub record FreshenedMayBeKept (table : Table) (x : Exchange) (r : Response) (e :
   pub no_content : request_has_content x.asked ≡ false
   pub no_range : asks_for_range x.asked ≡ false
   pub no_precondition : has_precondition x.asked ≡ false
-  pub is_within_the_words : ResponseIsWithinTheWords (head_of_stored e) (policy_of table.lines x.line)
+  pub is_within_the_words : ResponseIsWithinTheWords x.asked (head_of_stored e) (policy_of table.lines x.line)
   pub names_fields : VaryNamesFields e.fields
   pub the_304_keeps_its_fields : ConnectionTookNoCacheField r.fields
   pub can_be_reused : ResponseCanBeReused (policy_of table.lines x.line) e.status e.fields

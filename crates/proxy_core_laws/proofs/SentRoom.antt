@@ -2,7 +2,7 @@
 use Rattle.std.proofs.Common.{◌≡◌, ℕ, zero, suc, ◌-◌, ◌<◌, ◌≤◌, ◌^◌, ◌==◌, Bool, true, false, cond, List, ◌∷◌, length, refl, sym, ap, ◌∙◌, subst, arith}
 use Rattle.std.specs.Prelude.{IfSome, Option, None, Some, pos, negsuc, ◌-ℤ◌, codes, if◌then◌else◌, nat_lt}
 use Rattle.std.specs.List.{AllByRecursion}
-use Rattle.std.proofs.Math.Nat.{min-le_right}
+use Rattle.std.proofs.Math.Nat.{min-le_left, min-le_right}
 use Rattle.httparse.specs.Grammar.{IsToken}
 use Rattle.hx_fields.specs.declared.field_line.Field.{Field}
 use Rattle.hx_fields.specs.FieldLines.{has_field as has_line}
@@ -12,7 +12,7 @@ use Rattle.hx_directives.specs.declared.names.Directive.TheVariants.{MaxAge, SMa
 use Rattle.hx_policy.specs.Policies.{given_lifetime}
 use Rattle.hx_policy.specs.declared.words.Policy.{Policy}
 use Rattle.hx_allow.specs.Matching.{policy_of}
-use Rattle.hx_reuse.specs.Lifetimes.{lifetime_with_given, lifetime_under}
+use Rattle.hx_reuse.specs.Lifetimes.{lifetime_at_most, lifetime_with_given, lifetime_under}
 use Rattle.hx_age.specs.Age.{age_of}
 use Rattle.hx_age.specs.declared.lifetimes.Lifetime.{Lifetime}
 use Rattle.hx_age.specs.Lifetime.{explicit_lifetime, lifetime_of, stated_seconds, until_expires}
@@ -86,12 +86,16 @@ came_low (Some n) status is = by_test (n == status)
 read_low : (r : Response) → WasReadFromAStream r → r.status ≤ 999
 read_low r is = let final = final_status is.max_body is.to_head is.ended is.bytes r is.rest is.reads in let high = final.1 in omega (arith, high)
 
--- so is what the operator gives
+-- so is what the operator lets be stated, and what he gives
+at_most_low : (most : Option ℕ) (l : Lifetime) → l.seconds ≤ 2147483648 → (lifetime_at_most most l).seconds ≤ 2147483648
+at_most_low None l low = low
+at_most_low (Some most) l low = let less = min-le_left l.seconds most in omega (arith, low, less)
+
 lifetime_under_low : (policy : Policy) (status : ℕ) (fields : List Field) → (lifetime_under policy status fields).seconds ≤ 2147483648
 lifetime_under_low policy status fields = by_given (lifetime_of fields).explicit (given_lifetime policy status)
   where
-    by_given : (stated : Bool) (o : Option ℕ) → (cond stated (lifetime_of fields) (lifetime_with_given o (lifetime_of fields))).seconds ≤ 2147483648
-    by_given true o = lifetime_low fields
+    by_given : (stated : Bool) (o : Option ℕ) → (cond stated (lifetime_at_most policy.lifetime_most (lifetime_of fields)) (lifetime_with_given o (lifetime_of fields))).seconds ≤ 2147483648
+    by_given true o = at_most_low policy.lifetime_most (lifetime_of fields) (lifetime_low fields)
     by_given false None = lifetime_low fields
     by_given false (Some n) = min-le_right n 2147483648
 

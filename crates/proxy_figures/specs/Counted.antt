@@ -52,7 +52,7 @@ abbrev pub CausePlacesAreWithin : Type 0
 CausePlacesAreWithin = (cause : Cause) → cause_place cause < 24
 
 abbrev pub StoringRulePlacesAreWithin : Type 0
-StoringRulePlacesAreWithin = (rule : StoreRule) → storing_rule_place rule < 18
+StoringRulePlacesAreWithin = (rule : StoreRule) → storing_rule_place rule < 19
 
 abbrev pub UnansweredPlacesAreWithin : Type 0
 UnansweredPlacesAreWithin = (cause : UnansweredCause) → unanswered_place cause < 7

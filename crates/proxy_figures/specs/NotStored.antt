@@ -15,7 +15,7 @@ storing_rules =
     (storing.ResponseNoStore ∷ (storing.RequestNoStore ∷ (storing.Private ∷ (storing.Authorization ∷
     (storing.NothingAllows ∷ (storing.VaryStar ∷ (storing.ConnectionField ∷ (storing.NothingToReuse ∷
     (storing.TooLarge ∷ (storing.Overtaken ∷ (storing.Serials ∷ (storing.SetCookie ∷ (storing.ErrorStatus ∷
-    [])))))))))))))))))
+    (storing.RequestCookie ∷ []))))))))))))))))))
 
 abbrev pub storing_rule_place : StoreRule → ℕ
 storing_rule_place storing.Operator = 0
@@ -36,6 +36,7 @@ storing_rule_place storing.Overtaken = 14
 storing_rule_place storing.Serials = 15
 storing_rule_place storing.SetCookie = 16
 storing_rule_place storing.ErrorStatus = 17
+storing_rule_place storing.RequestCookie = 18
 
 -- the rule whose word this is
 abbrev pub named_storing_rule : List ℕ → Option StoreRule

@@ -5,7 +5,7 @@ ghost use Rattle.proxy_figures.specs.NotStored.{named_storing_rule};
 
 use hx_storable::StoreRule;
 
-pub(crate) const ALL_STORING_RULES: [StoreRule; 18] = [
+pub(crate) const ALL_STORING_RULES: [StoreRule; 19] = [
     StoreRule::Operator,
     StoreRule::Method,
     StoreRule::Bypass,
@@ -24,6 +24,7 @@ pub(crate) const ALL_STORING_RULES: [StoreRule; 18] = [
     StoreRule::Serials,
     StoreRule::SetCookie,
     StoreRule::ErrorStatus,
+    StoreRule::RequestCookie,
 ];
 
 /// The word of a storing rule.
@@ -49,6 +50,7 @@ pub(crate) fn storing_rule_name(rule: StoreRule) -> &'static str
         StoreRule::Serials => "no-serial",
         StoreRule::SetCookie => "set-cookie",
         StoreRule::ErrorStatus => "error-status",
+        StoreRule::RequestCookie => "request-cookie",
     }
 }
 
@@ -92,6 +94,8 @@ pub(crate) fn named_storing_rule(detail: &[u8]) -> Option<StoreRule>
         Some(StoreRule::SetCookie)
     } else if detail == b"not-stored-error-status".as_slice() {
         Some(StoreRule::ErrorStatus)
+    } else if detail == b"not-stored-request-cookie".as_slice() {
+        Some(StoreRule::RequestCookie)
     } else {
         None
     }

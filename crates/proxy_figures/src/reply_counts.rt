@@ -37,7 +37,7 @@ pub struct ReplyCounts {
     reasons: [u64; 176],
     causes: [u64; 24],
     /// Answers that weren't stored, by storing rule.
-    not_stored: [u64; 18],
+    not_stored: [u64; 19],
     statuses: [u64; 400],
     pub stored: u64,
     pub collapsed: u64,
@@ -96,7 +96,7 @@ impl ReplyCounts {
     pub fn new() -> ReplyCounts
         ensures reasons { result.reasons ≡ replicate 176 0 }
         ensures causes { result.causes ≡ replicate 24 0 }
-        ensures not_stored { result.not_stored ≡ replicate 18 0 }
+        ensures not_stored { result.not_stored ≡ replicate 19 0 }
         ensures statuses { result.statuses ≡ replicate 400 0 }
         ensures words { (result.stored ≡ 0) × (result.collapsed ≡ 0) }
         ensures from_store { result.from_store ≡ no_times }
@@ -106,7 +106,7 @@ impl ReplyCounts {
         ReplyCounts {
             reasons: [0; 176],
             causes: [0; 24],
-            not_stored: [0; 18],
+            not_stored: [0; 19],
             statuses: [0; 400],
             stored: 0,
             collapsed: 0,

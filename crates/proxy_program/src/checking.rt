@@ -18,6 +18,12 @@ fn default_or_word(is_default: bool, word: &'static str) -> &'static str {
     if is_default { "" } else { word }
 }
 
+/// Whether a line gives a lifetime, and to no request with a cookie.
+fn withholds_from_cookies(policy: Policy) -> bool {
+    let gives = policy.lifetime.is_some() || policy.error_lifetime.is_some();
+    gives && !policy.gives_to_cookies
+}
+
 /// Tells the words of a line that allows.
 fn print_policy<R: Print>(rt: &R, policy: Policy) -> io::Result<()> {
     if !policy.caches {
@@ -30,11 +36,15 @@ fn print_policy<R: Print>(rt: &R, policy: Policy) -> io::Result<()> {
     if let Some(seconds) = policy.error_lifetime {
         println!(rt; "    error-lifetime = {seconds}")?;
     }
+    if let Some(seconds) = policy.lifetime_most {
+        println!(rt; "    lifetime-most = {seconds}")?;
+    }
     if let Some(seconds) = policy.stale_if_error {
         println!(rt; "    stale-if-error = {seconds}")?;
     }
     for word in [
         default_or_word(policy.stores_cookies, "set-cookie = \"not-stored\""),
+        default_or_word(!withholds_from_cookies(policy), "cookies = \"private\""),
         default_or_word(policy.stores_errors, "errors = \"not-stored\""),
         default_or_word(policy.heeds_requests, "request-directives = \"ignored\""),
         default_or_word(!policy.waits_for_stale, "wait = \"missing-or-stale\""),

@@ -41,7 +41,8 @@ ghost use Rattle.proxy_core.specs.State.{serial_used_by_outcome};
 ghost use Rattle.proxy_core.specs.State.{entries_after_use};
 ghost use Rattle.proxy_core.specs.Cases.{response_with, revalidates_e, request_for, get_a_with_authorization};
 ghost use Rattle.proxy_core.specs.Cases.{reply_bytes, connection_field, cache_control};
-ghost use Rattle.proxy_core.specs.Cases.{keeps_conditions_policy};
+ghost use Rattle.proxy_core.specs.Cases.{keeps_conditions_policy, get_a_with_cookie, lifetime_most_15_policy};
+ghost use Rattle.proxy_core.specs.Cases.{private_lifetime_policy};
 ghost use Rattle.proxy_core.specs.Cases.{set_cookie_field, date_101, explains_storing_policy, first_answer_fields};
 ghost use Rattle.proxy_core.specs.Cases.{first_stored, get_a_with, lifetime_60_policy, head_of_a};
 ghost use Rattle.proxy_core.specs.Cases.{key_of_path, wait_for_stale_policy, lines_of_304, no_cookies_policy};
@@ -272,7 +273,8 @@ pub fn what_a_304_leaves()
 
 /// What the words of the line change: an answer that isn't stored says why where its line explains
 /// it (RFC 9211, section 2.8), a stored response without a lifetime has the operator's (RFC 9111,
-/// section 4.2.2), and a 304 keeps neither a cookie nor an error whose line stores none.
+/// section 4.2.2), as one with a long lifetime has his most; a page for one visitor isn't stored by the lifetime alone,
+/// nor kept behind his 304; and a 304 keeps neither a cookie nor an error whose line stores none.
 #[tactic(auto, unfolding(httpdate::proofs::OnLiterals::httpdate_on_literals, hx_storable::specs::Rules::storage_rule_of, hx_allow::specs::Matching::policy_of))]
 pub fn what_the_words_of_a_line_change()
     ensures explained { storing_rule_to_explain (table_with_policy explains_storing_policy)
@@ -290,6 +292,21 @@ pub fn what_the_words_of_a_line_change()
         (record stored_without_lifetime { status = 404 }) 110 ≡ negsuc 9 }
     ensures none_given { ttl_of_stored (plain true) stored_without_lifetime 110 ≡ negsuc 9 }
     ensures stated { ttl_of_stored lifetime_60_policy (stored_with 1 (cache_control (codes "max-age=20") ∷ [])) 110 ≡ pos 10 }
+    ensures at_most { ttl_of_stored lifetime_most_15_policy (stored_with 1 (cache_control (codes "max-age=31536000") ∷ [])) 110
+        ≡ pos 5 }
+    ensures for_one { is_storable (table_with_policy private_lifetime_policy) (forwarded_on_miss get_a_with_cookie)
+        (response_with 200 []) 101 (Some 4) ≡ false }
+    ensures for_all { is_storable (table_with_policy private_lifetime_policy) (forwarded_on_miss (get_a_with []))
+        (response_with 200 []) 101 (Some 4) ≡ true }
+    ensures for_one_who_shares { is_storable (table_with_policy lifetime_60_policy)
+        (forwarded_on_miss get_a_with_cookie) (response_with 200 []) 101 (Some 4) ≡ true }
+    ensures for_one_of_his_own { is_storable (table_with_policy private_lifetime_policy)
+        (forwarded_on_miss get_a_with_cookie) (response_with 200 (cache_control (codes "max-age=60") ∷ [])) 101
+        (Some 4) ≡ true }
+    ensures freshened_for_one { freshened_may_be_kept (table_with_policy private_lifetime_policy)
+        (revalidates_e get_a_with_cookie) (response_with 304 []) (stored_with 1 (etag_field (codes "\"e\"") ∷ [])) ≡ false }
+    ensures freshened_for_all { freshened_may_be_kept (table_with_policy private_lifetime_policy)
+        (revalidates_e (get_a_with [])) (response_with 304 []) (stored_with 1 (etag_field (codes "\"e\"") ∷ [])) ≡ true }
     ensures cookie_kept { freshened_may_be_kept table (revalidates_e (get_a_with [])) (response_with 304 [])
         (stored_with 1 (set_cookie_field ∷ first_answer_fields))
         ≡ true }

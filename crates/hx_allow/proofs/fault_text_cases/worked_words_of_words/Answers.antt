@@ -10,6 +10,10 @@ pub returns-clause-stale_if_error : goal.returns-clause-stale_if_error
 unfolding digits
 returns-clause-stale_if_error c line = refl
 
+pub returns-clause-lifetime_most : goal.returns-clause-lifetime_most
+unfolding digits
+returns-clause-lifetime_most c line = refl
+
 pub returns-clause-error_lifetime : goal.returns-clause-error_lifetime
 unfolding digits
 returns-clause-error_lifetime c line = refl

@@ -5,4 +5,4 @@ use Rattle.hx_storable.proofs.storing_rules.first_rule_against.Goals as goal
 
 pub returns-else-not-allows_storing : goal.returns-else-not-allows_storing
 unfolding storage_rule_of
-returns-else-not-allows_storing c = grind (arith, common_steps, c.rule_after_the_head.ensures c.args.asked.now)
+returns-else-not-allows_storing c = grind (arith, common_steps, c.rule_after_the_head.ensures)
