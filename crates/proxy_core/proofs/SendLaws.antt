@@ -8,7 +8,8 @@ use Rattle.hx_directives.specs.Occurrences.{occurrences_of}
 use Rattle.hx_framing.specs.declared.messages.Response.{Response}
 use Rattle.hx_hop.specs.declared.request_view.Asked.{Asked}
 use Rattle.hx_allow.specs.TableLines.{Table}
-use Rattle.hx_allow.specs.Matching.{verdict_of, policy_of}
+use Rattle.hx_allow.specs.Matching.{policy_of}
+use Rattle.proxy_core.specs.Allowing.{verdict_of_asked}
 use Rattle.hx_allow.specs.declared.verdicts.Verdict.{Verdict}
 use Rattle.hx_allow.specs.declared.verdicts.Verdict.TheVariants as verdict
 use Rattle.hx_store.specs.Stored.{Stored}
@@ -223,8 +224,8 @@ module _ (table : Table) (es : List Stored) (distinct : Distinct (serials es)) (
   used_failed now x kind came s (Refuses rule error) k h = absurd (never_one s h)
 
   -- an arrival
-  used_arrived : (now : ℕ) (asked : Asked) (s : ℕ) (v : Verdict) → verdict_of table.lines asked.method asked.target ≡ v → serial_used_by_outcome (outcome_of_arrival table es xs now asked v) ≡ Some s →
-      (line : ℕ) × (verdict_of table.lines asked.method asked.target ≡ verdict.Allowed line) × StoredResponseIsReusable (policy_of table.lines line) es asked now s
+  used_arrived : (now : ℕ) (asked : Asked) (s : ℕ) (v : Verdict) → verdict_of_asked table asked ≡ v → serial_used_by_outcome (outcome_of_arrival table es xs now asked v) ≡ Some s →
+      (line : ℕ) × (verdict_of_asked table asked ≡ verdict.Allowed line) × StoredResponseIsReusable (policy_of table.lines line) es asked now s
   used_arrived now asked s (verdict.Allowed line) v h = (line, v, by_decision (decision_of (policy_of table.lines line) es asked now) refl h)
     where
       on : (condition : Option Condition) (leader : Option ℕ) → serial_used_by_outcome (outcome_of_waiting_or_forwarding table line asked condition leader) ≡ Some s → ⊥
@@ -240,6 +241,7 @@ module _ (table : Table) (es : List Stored) (distinct : Distinct (serials es)) (
       by_decision (decision.Forward rule against) k h = absurd (unless rule (condition_about_serial es against) (is_only_if_cached asked) h)
   used_arrived now asked s (verdict.DeniedBy line) v h = absurd (never_one s h)
   used_arrived now asked s verdict.NoLine v h = absurd (never_one s h)
+  used_arrived now asked s (verdict.Looped line) v h = absurd (never_one s h)
 
   module _ (x : Exchange) (now id : ℕ) (r : Response) (next : Option ℕ) (s : ℕ) where
     abbrev IsUsed : Outcome → Type 0
@@ -334,7 +336,7 @@ module _ (table : Table) (es : List Stored) (distinct : Distinct (serials es)) (
   may_be_used x next (Abandon id) s may = absurd may
 
   used_may_be : (x : Option Exchange) (next : Option ℕ) (event : Event) (s : ℕ) → serial_used_by_outcome (outcome_of table es xs x next event) ≡ Some s → StoredResponseMayBeSentAt table es x event s
-  used_may_be x next (Arrive now id asked) s h = used_arrived now asked s (verdict_of table.lines asked.method asked.target) refl h
+  used_may_be x next (Arrive now id asked) s h = used_arrived now asked s (verdict_of_asked table asked) refl h
   used_may_be (Some x) next (Answer now id r) s h = used_answered x now id r next s h
   used_may_be None next (Answer now id r) s h = absurd (never_one s h)
   used_may_be (Some x) next (Fail now id kind) s h = used_failed now x kind None s (fallback_for (policy_of table.lines x.line) es x.asked now (decision_of (policy_of table.lines x.line) es x.asked now)) refl h
@@ -358,7 +360,7 @@ sends_nothing_else table start first s item past g h =
 -- ---- going forward
 
 pub arrival_is : (table : Table) (start : StoreAtStart) (first now id : ℕ) (asked : Asked) (item : Item) (past : List Item) → IsGoodHistory table start first (item ∷ past) → item.event ≡ Arrive now id asked →
-    item.outcome ≡ outcome_of_arrival table (held_entries table start past) (open_exchanges table start past) now asked (verdict_of table.lines asked.method asked.target)
+    item.outcome ≡ outcome_of_arrival table (held_entries table start past) (open_exchanges table start past) now asked (verdict_of_asked table asked)
 arrival_is table start first now id asked item past g e =
     g.0.outcome_is ∙ ap (λ (v : Event). outcome_of_event table (held_entries table start past) (open_exchanges table start past) (next_serial first past) v) e
 
@@ -378,10 +380,10 @@ forwards_where_allowed table start first now id line asked rule item past g e v 
 -- what is known of a request that goes forward at its arrival
 abbrev GoesOn : Table → List Stored → List Exchange → ℕ → ℕ → Asked → Type 0
 GoesOn table es xs now line asked =
-    (verdict_of table.lines asked.method asked.target ≡ verdict.Allowed line)
+    (verdict_of_asked table asked ≡ verdict.Allowed line)
     × ((rule : ReuseRule) × IsLeastReuseRule (policy_of table.lines line) es asked now rule × NoLeaderIsOpen (policy_of table.lines line) es xs asked now) × (is_only_if_cached asked ≡ false)
 
-forward_parts : (table : Table) (es : List Stored) (distinct : Distinct (serials es)) (xs : List Exchange) (now line : ℕ) (asked : Asked) (bytes : List ℕ) (v : Verdict) → verdict_of table.lines asked.method asked.target ≡ v →
+forward_parts : (table : Table) (es : List Stored) (distinct : Distinct (serials es)) (xs : List Exchange) (now line : ℕ) (asked : Asked) (bytes : List ℕ) (v : Verdict) → verdict_of_asked table asked ≡ v →
     outcome_of_arrival table es xs now asked v ≡ Forward line bytes → GoesOn table es xs now line asked
 forward_parts table es distinct xs now line asked bytes (verdict.Allowed n) v h = by_decision (decision_of (policy_of table.lines n) es asked now) refl h
   where
@@ -410,10 +412,11 @@ forward_parts table es distinct xs now line asked bytes (verdict.Allowed n) v h 
     by_decision (decision.Forward rule against) k h = unless rule against (is_only_if_cached asked) refl k h
 forward_parts table es distinct xs now line asked bytes (verdict.DeniedBy n) v h = absurd (cc)
 forward_parts table es distinct xs now line asked bytes verdict.NoLine v h = absurd (cc)
+forward_parts table es distinct xs now line asked bytes (verdict.Looped n) v h = absurd (cc)
 
 pub forwards_nothing_else : RequestIsForwardedNowhereElse
 forwards_nothing_else table start first now id line asked bytes item past g e h =
-    forward_parts table (held_entries table start past) (held_distinct table start first past g.1) (open_exchanges table start past) now line asked bytes (verdict_of table.lines asked.method asked.target) refl
+    forward_parts table (held_entries table start past) (held_distinct table start first past g.1) (open_exchanges table start past) now line asked bytes (verdict_of_asked table asked) refl
     (sym (arrival_is table start first now id asked item past g e) ∙ h)
 
 -- ---- reaching cache or origin
@@ -445,11 +448,12 @@ module _ (table : Table) (es : List Stored) (distinct : Distinct (serials es)) (
   reach line (decision.Hit s) d = inl (s, refl)
   reach line (decision.Forward rule against) d = reach_unless line rule against (is_only_if_cached asked) refl d
 
-  refuse : (v : Verdict) → verdict_of table.lines asked.method asked.target ≡ v → ((line : ℕ) → verdict_of table.lines asked.method asked.target ≢ verdict.Allowed line) →
+  refuse : (v : Verdict) → verdict_of_asked table asked ≡ v → ((line : ℕ) → verdict_of_asked table asked ≢ verdict.Allowed line) →
       RequestIsTurnedAway table now asked (outcome_of_arrival table es xs now asked v)
   refuse (verdict.Allowed line) v n = absurd (n line v)
   refuse (verdict.DeniedBy line) v n = inl (line, v, refl)
-  refuse verdict.NoLine v n = inr (v, refl)
+  refuse verdict.NoLine v n = inr (inl (v, refl))
+  refuse (verdict.Looped line) v n = inr (inr (line, v, refl))
 
 pub reaches_where_allowed : AllowedRequestReachesCacheOrOrigin
 reaches_where_allowed table start first now id line asked item past g e v =
@@ -464,4 +468,4 @@ refuses_where_not_allowed table start first now id asked item past g e n =
     let es = held_entries table start past in
     let xs = open_exchanges table start past in
     subst (RequestIsTurnedAway table now asked) (sym (arrival_is table start first now id asked item past g e))
-    (refuse table es (held_distinct table start first past g.1) xs now asked (verdict_of table.lines asked.method asked.target) refl n)
+    (refuse table es (held_distinct table start first past g.1) xs now asked (verdict_of_asked table asked) refl n)

@@ -9,7 +9,8 @@ use Rattle.hx_target.specs.declared.keys.Key.{Key}
 use Rattle.hx_target.specs.Keys.{same_key}
 use Rattle.hx_hop.specs.declared.request_view.Asked.{Asked}
 use Rattle.hx_allow.specs.TableLines.{Table}
-use Rattle.hx_allow.specs.Matching.{verdict_of, policy_of}
+use Rattle.hx_allow.specs.Matching.{policy_of}
+use Rattle.proxy_core.specs.Allowing.{verdict_of_asked}
 use Rattle.hx_allow.specs.declared.verdicts.Verdict.{Verdict}
 use Rattle.hx_allow.specs.declared.verdicts.Verdict.TheVariants as verdict
 use Rattle.hx_store.specs.Stored.{Stored}
@@ -101,10 +102,10 @@ waits_where_one_leads table start first now id line l asked awaited item past g 
 -- what is known of a request that waits
 abbrev WaitsBy : Table → List Stored → List Exchange → ℕ → ℕ → Asked → Type 0
 WaitsBy table es xs now l asked =
-    (line : ℕ) × (verdict_of table.lines asked.method asked.target ≡ verdict.Allowed line) × (is_only_if_cached asked ≡ false)
+    (line : ℕ) × (verdict_of_asked table asked ≡ verdict.Allowed line) × (is_only_if_cached asked ≡ false)
     × ((awaited : Awaited) × RequestAwaits (policy_of table.lines line) es asked now awaited × (leader (policy_of table.lines line) awaited asked xs ≡ Some l))
 
-wait_parts : (table : Table) (es : List Stored) (distinct : Distinct (serials es)) (xs : List Exchange) (now l : ℕ) (asked : Asked) (v : Verdict) → verdict_of table.lines asked.method asked.target ≡ v →
+wait_parts : (table : Table) (es : List Stored) (distinct : Distinct (serials es)) (xs : List Exchange) (now l : ℕ) (asked : Asked) (v : Verdict) → verdict_of_asked table asked ≡ v →
     outcome_of_arrival table es xs now asked v ≡ Waits l → WaitsBy table es xs now l asked
 wait_parts table es distinct xs now l asked (verdict.Allowed line) v h = by_decision (decision_of (policy_of table.lines line) es asked now) refl h
   where
@@ -125,6 +126,7 @@ wait_parts table es distinct xs now l asked (verdict.Allowed line) v h = by_deci
     by_decision (decision.Forward rule against) k h = unless rule against (is_only_if_cached asked) refl k h
 wait_parts table es distinct xs now l asked (verdict.DeniedBy line) v h = absurd (cc)
 wait_parts table es distinct xs now l asked verdict.NoLine v h = absurd (cc)
+wait_parts table es distinct xs now l asked (verdict.Looped line) v h = absurd (cc)
 
 -- none but a request that arrives waits
 abbrev pub is_wait : Outcome → Bool
@@ -177,7 +179,7 @@ waits_nowhere_else table start first l item past g h = by_event item.event refl
 
     by_event : (event : Event) → item.event ≡ event → RequestIsToWait table start l item past
     by_event (Arrive now id asked) e =
-        let p = wait_parts table (held_entries table start past) (held_distinct table start first past g.1) (open_exchanges table start past) now l asked (verdict_of table.lines asked.method asked.target) refl (sym (arrival_is table start first now id asked item past g e) ∙ h) in
+        let p = wait_parts table (held_entries table start past) (held_distinct table start first past g.1) (open_exchanges table start past) now l asked (verdict_of_asked table asked) refl (sym (arrival_is table start first now id asked item past g e) ∙ h) in
         record {
           now = now;
           id = id;

@@ -13,7 +13,8 @@ use Rattle.std.specs.List.{AllByRecursion}
 use Rattle.hx_target.specs.Keys.{same_key}
 use Rattle.hx_hop.specs.declared.request_view.Asked.{Asked}
 use Rattle.hx_allow.specs.TableLines.{Table}
-use Rattle.hx_allow.specs.Matching.{verdict_of, policy_of}
+use Rattle.hx_allow.specs.Matching.{policy_of}
+use Rattle.proxy_core.specs.Allowing.{verdict_of_asked}
 use Rattle.hx_allow.specs.declared.verdicts.Verdict.TheVariants.{Allowed}
 use Rattle.hx_store.specs.Serials.{serial_is_in}
 use Rattle.hx_store.specs.Stored.{Stored}
@@ -48,7 +49,7 @@ use Rattle.proxy_core.specs.Sending.{StoredResponseIsReusable}
 -- to another.
 pub record RequestCouldWait (table : Table) (start : StoreAtStart) (past : List Item) (now line : ℕ) (asked : Asked)
     (awaited : Awaited) : Type 0 where
-  pub line_allows : verdict_of table.lines asked.method asked.target ≡ Allowed line
+  pub line_allows : verdict_of_asked table asked ≡ Allowed line
   pub takes_others : is_only_if_cached asked ≡ false
   pub awaits : RequestAwaits (policy_of table.lines line) (held_entries table start past) asked now awaited
 

@@ -1,7 +1,8 @@
 //! A request arrives.
 ghost use Rattle.std.specs.Prelude.{◌≡◌, ◌<◌, ◌++◌, ◌∷◌, [], None, IfOk, IfErr, OnOk, OnErr};
 ghost use Rattle.hx_directives.specs.Occurrences.{occurrences_of};
-ghost use Rattle.hx_allow.specs.Matching.{policy_of, verdict_of};
+ghost use Rattle.hx_allow.specs.Matching.{policy_of};
+ghost use Rattle.proxy_core.specs.Allowing.{verdict_of_asked};
 ghost use Rattle.hx_allow.specs.declared.verdicts.Verdict.TheVariants.{Allowed};
 ghost use Rattle.hx_reuse.specs.Rules.{decision_of};
 ghost use Rattle.hx_reuse.specs.declared.decision.Decision.TheVariants as decision;
@@ -94,10 +95,11 @@ impl<S: Shelf> Core<S> {
             None => {}
             Some(fault) => return Err(fault),
         }
-        match self.config.judge(&asked.method, &asked.target) {
+        match self.config.judge(&asked.method, &asked.target, &asked.fields) {
             Verdict::Allowed(line) => Ok(self.serve_allowed(alloc, now, id, asked, line)?),
             Verdict::DeniedBy(line) => deny_request(alloc, now, Cause::Denied(line), asked),
             Verdict::NoLine => deny_request(alloc, now, Cause::NoLine, asked),
+            Verdict::Looped(line) => deny_request(alloc, now, Cause::Looped(line), asked),
         }
     }
 
@@ -112,7 +114,7 @@ impl<S: Shelf> Core<S> {
     ) -> Result<Outcome, AllocError>
         requires early { now < 253_402_300_800 }
         requires free { find_exchange id self.old.exchanges ≡ None }
-        requires line { verdict_of self.old.table.lines asked.now.method asked.now.target ≡ Allowed line }
+        requires line { verdict_of_asked self.old.table asked.now ≡ Allowed line }
         ensures outcome { IfOk result
             (λ outcome. outcome ≡ outcome_of_allowed_request self.old.table self.old.entries self.old.exchanges
             line now asked.now (decision_of (policy_of self.old.table.lines line) self.old.entries asked.now now)) }

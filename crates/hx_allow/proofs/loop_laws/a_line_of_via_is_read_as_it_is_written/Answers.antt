@@ -1,0 +1,5 @@
+use Rattle.hx_allow.proofs.ViaWritten.{times_written}
+use Rattle.hx_allow.proofs.loop_laws.a_line_of_via_is_read_as_it_is_written.Goals as goal
+
+pub returns : goal.returns
+returns c = λ name member more all. times_written name member more all
