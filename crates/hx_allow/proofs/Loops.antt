@@ -1,5 +1,5 @@
 -- What the table says of requests that loop, and of all others.
-use Rattle.std.proofs.Common.{◌≡◌, ℕ, ◌+◌, ◌-◌, ◌≤◌, ◌<◌, Bool, true, false, cond, List, [], ◌∷◌, ◌++◌, length, get_or, Option, Some, None, inl, inr, refl, sym, ◌∙◌, ap, subst, absurd, arith, codes, ⊥}
+use Rattle.std.proofs.Common.{◌≡◌, ℕ, ◌+◌, ◌-◌, ◌≤◌, ◌<◌, Bool, true, false, cond, List, [], ◌∷◌, ◌++◌, length, get_or, Option, Some, None, inl, inr, refl, sym, ◌∙◌, ap, subst, arith, codes}
 use Rattle.std.specs.Prelude.{Ok, ◌&&◌, ◌==◌, nat_le, map, sum, filter, is_some, unwrap_or, option_map, slice_get}
 use Rattle.std.specs.List.{All}
 use Rattle.std.proofs.lemmas.Bool.{le-leb, lt-leb, leb-true}
@@ -29,12 +29,12 @@ and_none false = refl
 -- a verdict on method and target alone tells no loop
 never_looped : (n k : ℕ) (lines : List Line) (method : List ℕ) (target : Target) → verdict_from k lines method target ≡ Looped n → ⊥
 never_looped n k [] method target e = cc
-never_looped n k (line ∷ lines) method target e = by_tests (matches_line line method target) (is_some line.origin) e
+never_looped n k (line ∷ lines) method target e = by_tests (matches_line line method target) (is_some line.origin) (never_looped n (k + 1) lines method target) e
   where
-    by_tests : (matches allows : Bool) → cond matches (cond allows (Allowed k) (DeniedBy k)) (verdict_from (k + 1) lines method target) ≡ Looped n → ⊥
-    by_tests true true e = cc
-    by_tests true false e = cc
-    by_tests false allows e = never_looped n (k + 1) lines method target e
+    by_tests : (matches allows : Bool) → (verdict_from (k + 1) lines method target ≡ Looped n → ⊥) → cond matches (cond allows (Allowed k) (DeniedBy k)) (verdict_from (k + 1) lines method target) ≡ Looped n → ⊥
+    by_tests true true later e = cc
+    by_tests true false later e = cc
+    by_tests false allows later e = later e
 
 module _ (table : Table) (method : List ℕ) (target : Target) (fields : List Field) where
   abbrev told : Verdict

@@ -67,7 +67,7 @@ naming name ps = count_by (names_proxy name) ps
 abbrev once : List ℕ → List ℕ → ℕ
 once name p = cond (names_proxy name p) 1 0
 
-naming_of_more : (name p : List ℕ) (ps : List (List ℕ)) → naming name (p ∷ ps) ≡ once name p + naming name ps
+pub naming_of_more : (name p : List ℕ) (ps : List (List ℕ)) → naming name (p ∷ ps) ≡ once name p + naming name ps
 naming_of_more name p ps = sum_by-cons (λ q. once name q) p ps
 
 -- what is left behind the last comma is a piece

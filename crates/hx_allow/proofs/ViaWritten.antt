@@ -17,10 +17,10 @@ use Rattle.hx_allow.proofs.ViaPieces.{naming, naming_of_more, none_in_front}
 -- ---- bytes of words
 
 other_byte : (p : ℕ → Bool) (k b : ℕ) → p k ≡ false → p b ≡ true → (b == k) ≡ false
-other_byte p k b no yes = by_test (b == k) refl
+other_byte p k b unlike like = by_test (b == k) refl
   where
     by_test : (t : Bool) → (b == k) ≡ t → t ≡ false
-    by_test true is = sym yes ∙ ap p (eqb-true b k is) ∙ no
+    by_test true is = sym like ∙ ap p (eqb-true b k is) ∙ unlike
     by_test false is = refl
 
 via_byte_is_not_blank : (b : ℕ) → is_via_byte b ≡ true → is_blank b ≡ false
@@ -33,7 +33,7 @@ blank_is_of_no_word : (b : ℕ) → is_blank b ≡ true → is_word_byte b ≡ f
 blank_is_of_no_word b h = rw h refl
 
 blank_is_other : (k b : ℕ) → is_blank k ≡ false → is_blank b ≡ true → (b == k) ≡ false
-blank_is_other k b no h = other_byte is_blank k b no h
+blank_is_other k b unlike h = other_byte is_blank k b unlike h
 
 -- ---- words of a member
 
@@ -72,12 +72,12 @@ record IsWritten (m : ViaMember) : Type 0 where
 
 written : (m : ViaMember) → is_via_member m ≡ true → IsWritten m
 written m is =
-    let a = and_parts (list_all is_blank m.before) (is_via_word m.protocol && are_blanks m.between && is_via_word m.by && is_comment m.comment && list_all is_blank m.after) is in
-    let b = and_parts (is_via_word m.protocol) (are_blanks m.between && is_via_word m.by && is_comment m.comment && list_all is_blank m.after) a.1 in
-    let c = and_parts (are_blanks m.between) (is_via_word m.by && is_comment m.comment && list_all is_blank m.after) b.1 in
-    let d = and_parts (is_via_word m.by) (is_comment m.comment && list_all is_blank m.after) c.1 in
-    let e = and_parts (is_comment m.comment) (list_all is_blank m.after) d.1 in
-    record { before = a.0; protocol = b.0; between = c.0; by = d.0; comment = e.0; after = e.1 }
+    let e = and_parts (list_all is_blank m.before && is_via_word m.protocol && are_blanks m.between && is_via_word m.by && is_comment m.comment) (list_all is_blank m.after) is in
+    let d = and_parts (list_all is_blank m.before && is_via_word m.protocol && are_blanks m.between && is_via_word m.by) (is_comment m.comment) e.0 in
+    let c = and_parts (list_all is_blank m.before && is_via_word m.protocol && are_blanks m.between) (is_via_word m.by) d.0 in
+    let b = and_parts (list_all is_blank m.before && is_via_word m.protocol) (are_blanks m.between) c.0 in
+    let a = and_parts (list_all is_blank m.before) (is_via_word m.protocol) b.0 in
+    record { before = a.0; protocol = a.1; between = b.1; by = c.1; comment = d.1; after = e.1 }
 
 -- no word begins behind received-by
 end_of_by : (comment : Option (List ℕ × CommentRest)) (after : List ℕ) → is_comment comment ≡ true → list_all is_blank after ≡ true → prefix_len is_word_byte (comment_text comment ++ after) ≡ 0
@@ -96,13 +96,16 @@ received_by_written m is =
     let between = and_parts (is_nonempty m.between) (list_all is_blank m.between) it.between in
     let by = and_parts (is_nonempty m.by) (list_all is_via_byte m.by) it.by in
     let rest = comment_text m.comment ++ m.after in
-    let first : without_blanks (via_member_text m) ≡ m.protocol ++ m.between ++ m.by ++ rest
-        = run_dropped is_blank m.before (m.protocol ++ m.between ++ m.by ++ rest) it.before (stops_at is_blank is_via_byte via_byte_is_not_blank m.protocol (m.between ++ m.by ++ rest) protocol.0 protocol.1) in
-    let second : behind_word (m.protocol ++ m.between ++ m.by ++ rest) ≡ m.between ++ m.by ++ rest
-        = run_dropped is_word_byte m.protocol (m.between ++ m.by ++ rest) (all_of_kind is_word_byte is_via_byte via_byte_is_of_words m.protocol protocol.1) (stops_at is_word_byte is_blank blank_is_of_no_word m.between (m.by ++ rest) between.0 between.1) in
-    let third : without_blanks (m.between ++ m.by ++ rest) ≡ m.by ++ rest
-        = run_dropped is_blank m.between (m.by ++ rest) between.1 (stops_at is_blank is_via_byte via_byte_is_not_blank m.by rest by.0 by.1) in
-    let last : first_word (m.by ++ rest) ≡ m.by
+    let behind_between = m.by ++ rest in
+    let behind_protocol = m.between ++ behind_between in
+    let behind_before = m.protocol ++ behind_protocol in
+    let first : without_blanks (via_member_text m) ≡ behind_before
+        = run_dropped is_blank m.before behind_before it.before (stops_at is_blank is_via_byte via_byte_is_not_blank m.protocol behind_protocol protocol.0 protocol.1) in
+    let second : behind_word behind_before ≡ behind_protocol
+        = run_dropped is_word_byte m.protocol behind_protocol (all_of_kind is_word_byte is_via_byte via_byte_is_of_words m.protocol protocol.1) (stops_at is_word_byte is_blank blank_is_of_no_word m.between behind_between between.0 between.1) in
+    let third : without_blanks behind_protocol ≡ behind_between
+        = run_dropped is_blank m.between behind_between between.1 (stops_at is_blank is_via_byte via_byte_is_not_blank m.by rest by.0 by.1) in
+    let last : first_word behind_between ≡ m.by
         = run_taken is_word_byte m.by rest (all_of_kind is_word_byte is_via_byte via_byte_is_of_words m.by by.1) (end_of_by m.comment m.after it.comment it.after) in
     ap (λ t. first_word (without_blanks (behind_word t))) first ∙ ap (λ t. first_word (without_blanks t)) second ∙ ap first_word third ∙ last
 
@@ -200,10 +203,11 @@ keeps_member m is =
     let protocol = (and_parts (is_nonempty m.protocol) (list_all is_via_byte m.protocol) it.protocol).1 in
     let between = (and_parts (is_nonempty m.between) (list_all is_blank m.between) it.between).1 in
     let by = (and_parts (is_nonempty m.by) (list_all is_via_byte m.by) it.by).1 in
-    keeps_both Outside Outside Outside m.before (m.protocol ++ m.between ++ m.by ++ comment_text m.comment ++ m.after) (keeps_blanks m.before it.before)
-    (keeps_both Outside Outside Outside m.protocol (m.between ++ m.by ++ comment_text m.comment ++ m.after) (keeps_word m.protocol protocol)
-    (keeps_both Outside Outside Outside m.between (m.by ++ comment_text m.comment ++ m.after) (keeps_blanks m.between between)
-    (keeps_both Outside Outside Outside m.by (comment_text m.comment ++ m.after) (keeps_word m.by by)
+    let rest = comment_text m.comment ++ m.after in
+    keeps_both Outside Outside Outside m.before (m.protocol ++ (m.between ++ (m.by ++ rest))) (keeps_blanks m.before it.before)
+    (keeps_both Outside Outside Outside m.protocol (m.between ++ (m.by ++ rest)) (keeps_word m.protocol protocol)
+    (keeps_both Outside Outside Outside m.between (m.by ++ rest) (keeps_blanks m.between between)
+    (keeps_both Outside Outside Outside m.by rest (keeps_word m.by by)
     (keeps_both Outside Outside Outside (comment_text m.comment) m.after (keeps_comment_text m.comment it.comment) (keeps_blanks m.after it.after)))))
 
 -- ---- the members of a line

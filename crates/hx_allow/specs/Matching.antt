@@ -4,7 +4,7 @@
 -- verdict_of: the first line that matches
 -- verdict_of_request: what the whole table says of a whole request
 -- origin_of, origin_address_of, policy_of: what the line of a number says
-use Rattle.std.specs.Prelude.{◌≤◌, IsSome, ℕ, ◌+◌, ◌-◌, ◌==◌, nat_lt, Bool, false, not, ◌&&◌, ◌||◌, if◌then◌else◌}
+use Rattle.std.specs.Prelude.{◌≤◌, IsSome, ℕ, ◌+◌, ◌-◌, ◌==◌, nat_lt, nat_le, Bool, false, not, ◌&&◌, ◌||◌, if◌then◌else◌}
 use Rattle.std.specs.Prelude.{List, [], ◌∷◌, length, take, slice_index, slice_get, codes, bytes_eq, Option}
 use Rattle.std.specs.Prelude.{Some, None, is_some, unwrap_or, option_map}
 use Rattle.std.specs.Option.{option_and_then}
@@ -17,7 +17,7 @@ use Rattle.hx_policy.specs.Policies.{plain}
 use Rattle.hx_allow.specs.Addresses.{address_of}
 use Rattle.hx_allow.specs.LineHosts.{any_host_matches}
 use Rattle.hx_allow.specs.TableLines.{Line, Table}
-use Rattle.hx_allow.specs.Via.{request_loops}
+use Rattle.hx_allow.specs.Via.{times_named, request_loops}
 use Rattle.hx_allow.specs.declared.verdicts.Verdict.{Verdict}
 use Rattle.hx_allow.specs.declared.verdicts.Verdict.TheVariants.{Allowed, DeniedBy, NoLine, Looped}
 
@@ -103,6 +103,10 @@ line_number (Looped n) = Some n
 abbrev pub line_refuses_loops : List Line → ℕ → Bool
 line_refuses_loops lines n =
     unwrap_or (option_map (λ (line : Line). line.refuses_loops) (line_of_number lines n)) false
+
+-- over a line of this number that refuses loops a request was here before
+abbrev pub request_came_back : Table → ℕ → List Field → Bool
+request_came_back table n fields = line_refuses_loops table.lines n && nat_le 1 (times_named table.name fields)
 
 -- what is said of a request that a line allows, by whether it loops
 abbrev pub verdict_on_loops : List Line → Bool → Verdict → Verdict

@@ -126,7 +126,7 @@ comment_text None = []
 comment_text (Some c) = c.0 ++ comment_begin ∷ comment_rest_text c.1
 
 abbrev pub via_member_text : ViaMember → List ℕ
-via_member_text m = m.before ++ m.protocol ++ m.between ++ m.by ++ comment_text m.comment ++ m.after
+via_member_text m = m.before ++ (m.protocol ++ (m.between ++ (m.by ++ (comment_text m.comment ++ m.after))))
 
 -- tokens with a slash or a colon: protocol-name "/" protocol-version, pseudonym ":" port
 abbrev pub is_via_byte : ℕ → Bool

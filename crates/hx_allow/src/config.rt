@@ -3,7 +3,7 @@ ghost use Rattle.std.specs.Prelude.{◌≡◌, ◌≤◌, [], length, Err, IfSom
 ghost use Rattle.std.specs.Option.{option_copied, option_map};
 ghost use Rattle.std.specs.Net.Text.{socket_v4_text};
 ghost use Rattle.hx_allow.specs.Matching.{verdict_of, verdict_of_request, origin_of, origin_address_of, policy_of};
-ghost use Rattle.hx_allow.specs.Matching.{line_refuses_loops, VerdictNamesAnOrigin};
+ghost use Rattle.hx_allow.specs.Matching.{line_refuses_loops, request_came_back, VerdictNamesAnOrigin};
 ghost use Rattle.hx_allow.specs.NeverReached.{first_line_taking};
 ghost use Rattle.hx_allow.specs.Tables.{BytesReadAs, TableWasRead};
 
@@ -12,7 +12,7 @@ use crate::lines::{Line, is_never_allowed};
 use crate::matching::{line_at, line_refuses_loops, verdict_for_host};
 use crate::origins::Origin;
 use crate::shadows::first_taking;
-use crate::via::request_loops;
+use crate::via::{request_loops, was_here};
 use crate::{ConfigFault, Verdict, config_reading};
 use http::Method;
 use hx_fields::Fields;
@@ -179,6 +179,13 @@ impl Config {
         ensures { result ≡ line_refuses_loops self.now.lines line }
     {
         line_refuses_loops(&self.lines, line)
+    }
+
+    /// Whether the Via of a request names this proxy, over a line that refuses loops.
+    pub fn came_back(&self, line: u16, fields: &Fields) -> bool
+        ensures { result ≡ request_came_back self.now line fields.now }
+    {
+        self.refuses_loops(line) && was_here(self.name.as_bytes(), fields.as_slice())
     }
 
     /// The first line in front of one, both counted from 1, that takes all that this could match,

@@ -67,7 +67,7 @@ pub use list_laws::{
 };
 pub use loop_cases::{
     loops_are_refused_by_lines, worked_comments_of_via, worked_lines_of_via, worked_loops_of_lines,
-    worked_requests_that_loop,
+    worked_requests_that_came_back, worked_requests_that_loop,
 };
 pub use loop_laws::{
     a_line_of_via_is_read_as_it_is_written, a_loop_is_refused_where_its_line_says_so,

@@ -5,7 +5,7 @@ ghost use Rattle.hx_allow.specs.Examples.{key_with_text, line_table_with_keys, d
 ghost use Rattle.hx_allow.specs.Examples.{looping_table, target_for_path};
 ghost use Rattle.hx_allow.specs.LineTables.{line_fault, line_read};
 ghost use Rattle.hx_allow.specs.Keys.{word_key};
-ghost use Rattle.hx_allow.specs.Matching.{verdict_of_request};
+ghost use Rattle.hx_allow.specs.Matching.{verdict_of_request, request_came_back};
 ghost use Rattle.hx_allow.specs.Values.{is_known};
 ghost use Rattle.hx_allow.specs.Via.{times_named_in, request_loops};
 ghost use Rattle.hx_allow.specs.declared.config_faults.ConfigFault.TheVariants.{BadWord, UnknownKey};
@@ -75,6 +75,16 @@ pub fn loops_are_refused_by_lines()
         (line (codes "Via") (codes "1.1 edge, 1.1 edge") ∷ []) ≡ DeniedBy 1 }
     ensures unmatched { verdict_of_request looping_table (codes "POST") (target_for_path (codes "y") (codes "/"))
         (line (codes "Via") (codes "1.1 edge, 1.1 edge") ∷ []) ≡ NoLine }
+{}
+
+/// Which requests were here before, over which lines.
+pub fn worked_requests_that_came_back()
+    ensures once { request_came_back looping_table 2 (line (codes "Via") (codes "1.0 core, 1.1 edge") ∷ []) ≡ true }
+    ensures twice { request_came_back looping_table 2 (line (codes "Via") (codes "1.1 edge, 1.1 edge") ∷ []) ≡ true }
+    ensures another { request_came_back looping_table 2 (line (codes "Via") (codes "1.0 core") ∷ []) ≡ false }
+    ensures without_via { request_came_back looping_table 2 [] ≡ false }
+    ensures forwarded { request_came_back looping_table 3 (line (codes "Via") (codes "1.1 edge") ∷ []) ≡ false }
+    ensures no_line { request_came_back looping_table 4 (line (codes "Via") (codes "1.1 edge") ∷ []) ≡ false }
 {}
 
 /// The key `loops`: in version 4 alone, in each line that has an origin, and looked at last.

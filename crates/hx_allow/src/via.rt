@@ -1,9 +1,9 @@
 //! How often the Via of a request names a proxy. No function here takes memory.
-ghost use Rattle.std.specs.Prelude.{◌≡◌, ◌≤◌, ◌<◌, ◌+◌, ◌^◌, length, if◌then◌else◌};
+ghost use Rattle.std.specs.Prelude.{◌≡◌, ◌≤◌, ◌<◌, ◌+◌, ◌^◌, length, nat_le, if◌then◌else◌};
 ghost use Rattle.std.specs.List.{prefix_len};
 ghost use Rattle.hx_fields.specs.Names.{is_blank};
 ghost use Rattle.hx_allow.specs.Via.{via_place_after, is_comma_of_list, is_word_byte, without_blanks, received_by};
-ghost use Rattle.hx_allow.specs.Via.{comments_around, names_proxy, times_named_in, request_loops};
+ghost use Rattle.hx_allow.specs.Via.{comments_around, names_proxy, times_named_in, times_named, request_loops};
 
 use hx_fields::{Field, is_same_name};
 
@@ -147,18 +147,33 @@ fn times_named_in(name: &[u8], value: &[u8]) -> usize
     found + one_if_named(name, &value[start..])
 }
 
-/// Whether a request with these lines was here twice already.
-pub(crate) fn request_loops(name: &[u8], fields: &[Field]) -> bool
-    ensures { result ≡ request_loops name.now fields.now }
+/// Whether these lines name a proxy so often, once or twice.
+fn is_named(name: &[u8], fields: &[Field], least: usize) -> bool
+    requires { (1 ≤ least) × (least ≤ 2) }
+    ensures { result ≡ nat_le least (times_named name.now fields.now) }
 {
     let mut found = 0;
     for line in fields {
         if is_same_name(line.name.as_slice(), b"Via") {
             found += times_named_in(name, line.value.as_slice());
-            if found >= 2 {
+            if found >= least {
                 return true;
             }
         }
     }
     false
+}
+
+/// Whether a request with these lines was here twice already.
+pub(crate) fn request_loops(name: &[u8], fields: &[Field]) -> bool
+    ensures { result ≡ request_loops name.now fields.now }
+{
+    is_named(name, fields, 2)
+}
+
+/// Whether a request with these lines was here already.
+pub(crate) fn was_here(name: &[u8], fields: &[Field]) -> bool
+    ensures { result ≡ nat_le 1 (times_named name.now fields.now) }
+{
+    is_named(name, fields, 1)
 }

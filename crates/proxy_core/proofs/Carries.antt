@@ -9,7 +9,7 @@ use Rattle.hx_framing.specs.declared.messages.Response.{Response}
 use Rattle.hx_hop.specs.declared.request_view.Asked.{Asked}
 use Rattle.hx_allow.specs.TableLines.{Table}
 use Rattle.hx_allow.specs.Matching.{policy_of}
-use Rattle.proxy_core.specs.Allowing.{verdict_of_asked}
+use Rattle.proxy_core.specs.Allowing.{verdict_of_asked, exchanges_to_wait_for}
 use Rattle.hx_allow.specs.declared.verdicts.Verdict.{Verdict}
 use Rattle.hx_allow.specs.declared.verdicts.Verdict.TheVariants as verdict
 use Rattle.hx_store.specs.Stored.{Stored}
@@ -85,7 +85,7 @@ module _ (table : Table) (es : List Stored) (xs : List Exchange) (now : ℕ) (as
       unless : (rule : ReuseRule) (against : Option ℕ) (b : Bool) → decision_of (policy_of table.lines n) es asked now ≡ decision.Forward rule against →
           Goes (outcome_without_stored_response table es xs n now asked rule (condition_about_serial es against) b)
       unless rule against true d = tt
-      unless rule against false d = led rule against (leader_of_request (policy_of table.lines n) es xs asked rule) d
+      unless rule against false d = led rule against (leader_of_request (policy_of table.lines n) es (exchanges_to_wait_for table n asked xs) asked rule) d
 
       by_decision : (d : Decision) → decision_of (policy_of table.lines n) es asked now ≡ d → Goes (outcome_of_allowed_request table es xs n now asked d)
       by_decision (decision.Hit t) k = tt

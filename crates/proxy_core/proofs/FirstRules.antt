@@ -9,7 +9,7 @@ use Rattle.hx_framing.specs.declared.messages.Response.{Response}
 use Rattle.hx_hop.specs.declared.request_view.Asked.{Asked}
 use Rattle.hx_allow.specs.TableLines.{Table}
 use Rattle.hx_allow.specs.Matching.{policy_of}
-use Rattle.proxy_core.specs.Allowing.{verdict_of_asked}
+use Rattle.proxy_core.specs.Allowing.{verdict_of_asked, exchanges_to_wait_for}
 use Rattle.hx_allow.specs.declared.verdicts.Verdict.{Verdict}
 use Rattle.hx_allow.specs.declared.verdicts.Verdict.TheVariants as verdict
 use Rattle.hx_store.specs.Stored.{Stored}
@@ -114,7 +114,7 @@ module _ (table : Table) (start : StoreAtStart) (past : List Item) (distinct : D
           decision_of (policy_of table.lines line) es asked now ≡ decision.Forward rule against → is_only_if_cached asked ≡ b →
           AnswerNamesFirstRule table start past next x (Arrive now id asked) (outcome_without_stored_response table es xs line now asked rule (condition_about_serial es against) b)
       unless line rule against true v d k = λ h. inr (inr (inl (line, rule, v, k, (names_the_least (policy_of table.lines line) es asked now rule against d).0, refl)))
-      unless line rule against false v d k = on line (condition_about_serial es against) (leader_of_request (policy_of table.lines line) es xs asked rule)
+      unless line rule against false v d k = on line (condition_about_serial es against) (leader_of_request (policy_of table.lines line) es (exchanges_to_wait_for table line asked xs) asked rule)
 
       by_decision : (line : ℕ) (d : Decision) → verdict_of_asked table asked ≡ verdict.Allowed line → decision_of (policy_of table.lines line) es asked now ≡ d →
           AnswerNamesFirstRule table start past next x (Arrive now id asked) (outcome_of_allowed_request table es xs line now asked d)

@@ -7,7 +7,7 @@ use Rattle.hx_framing.specs.declared.messages.Response.{Response}
 use Rattle.hx_hop.specs.declared.request_view.Asked.{Asked}
 use Rattle.hx_allow.specs.TableLines.{Table}
 use Rattle.hx_allow.specs.Matching.{policy_of}
-use Rattle.proxy_core.specs.Allowing.{verdict_of_asked}
+use Rattle.proxy_core.specs.Allowing.{verdict_of_asked, exchanges_to_wait_for}
 use Rattle.hx_allow.specs.declared.verdicts.Verdict.{Verdict}
 use Rattle.hx_allow.specs.declared.verdicts.Verdict.TheVariants as verdict
 use Rattle.hx_allow.specs.declared.verdicts.Verdict.TheVariants.{Allowed}
@@ -200,7 +200,7 @@ module _ (table : Table) (es : List Stored) where
 
       unless : (rule : ReuseRule) (condition : Option Condition) (b : Bool) → close_in asked.close (outcome_without_stored_response table es xs line now asked rule condition b) ≡ asked.close
       unless rule condition true = refl
-      unless rule condition false = on condition (leader_of_request (policy_of table.lines line) es xs asked rule)
+      unless rule condition false = on condition (leader_of_request (policy_of table.lines line) es (exchanges_to_wait_for table line asked xs) asked rule)
 
       by_decision : (d : Decision) → close_in asked.close (outcome_of_allowed_request table es xs line now asked d) ≡ asked.close
       by_decision (decision.Hit s) = refl

@@ -13,7 +13,7 @@ use Rattle.hx_hop.specs.declared.request_view.Asked.{Asked}
 use Rattle.hx_hop.specs.Moments.{date_text_of}
 use Rattle.hx_allow.specs.TableLines.{Table}
 use Rattle.hx_allow.specs.Matching.{policy_of}
-use Rattle.proxy_core.specs.Allowing.{verdict_of_asked}
+use Rattle.proxy_core.specs.Allowing.{verdict_of_asked, exchanges_to_wait_for}
 use Rattle.hx_allow.specs.declared.verdicts.Verdict.{Verdict}
 use Rattle.hx_allow.specs.declared.verdicts.Verdict.TheVariants as verdict
 use Rattle.hx_store.specs.Stored.{Stored}
@@ -134,11 +134,11 @@ module _ (table : Table) (es : List Stored) (distinct : Distinct (serials es)) (
       m ∙ ap (λ l. outcome_of_refusal now (Looped l) asked) lines ∙ sym n
 
   module _ (line : ℕ) (o p : Outcome) (unused : serial_used_by_outcome o ≡ None) (other_unused : serial_used_by_outcome p ≡ None) where
-    meets : (rule : ReuseRule) → IsLeastReuseRule (policy_of table.lines line) es asked now rule → NoLeaderIsOpen (policy_of table.lines line) es xs asked now → RequestWaitsForTheFirst table es xs now asked line p → {P : Type 0} → P
+    meets : (rule : ReuseRule) → IsLeastReuseRule (policy_of table.lines line) es asked now rule → NoLeaderIsOpen (policy_of table.lines line) es (exchanges_to_wait_for table line asked xs) asked now → RequestWaitsForTheFirst table es xs now asked line p → {P : Type 0} → P
     meets rule least nobody w =
         never_one w.leader
-        (sym (leads_for_none (policy_of table.lines line) es distinct xs asked now rule least nobody)
-        ∙ leads_for (policy_of table.lines line) es distinct xs asked now rule least w.awaited w.leader w.awaits w.first_leads)
+        (sym (leads_for_none (policy_of table.lines line) es distinct (exchanges_to_wait_for table line asked xs) asked now rule least nobody)
+        ∙ leads_for (policy_of table.lines line) es distinct (exchanges_to_wait_for table line asked xs) asked now rule least w.awaited w.leader w.awaits w.first_leads)
 
   reached_same : (line : ℕ) (o p : Outcome) → serial_used_by_outcome o ≡ None → serial_used_by_outcome p ≡ None → RequestReachesCacheOrOrigin table es xs now asked line o → RequestReachesCacheOrOrigin table es xs now asked line p → o ≡ p
   reached_same line o p u v (inl (s, used)) h = never_one s (sym u ∙ used)
@@ -149,8 +149,8 @@ module _ (table : Table) (es : List Stored) (distinct : Distinct (serials es)) (
   reached_same line o p u v (inr (inr (inl w))) (inr (inl (b, n, others, nobody))) = meets line p o v u b n.is_least nobody w
   reached_same line o p u v (inr (inr (inl w))) (inr (inr (inl z))) =
       let same : Some w.leader ≡ Some z.leader =
-      sym (leads_for (policy_of table.lines line) es distinct xs asked now w.awaits.rule w.awaits.is_least w.awaited w.leader w.awaits w.first_leads)
-      ∙ leads_for (policy_of table.lines line) es distinct xs asked now w.awaits.rule w.awaits.is_least z.awaited z.leader z.awaits z.first_leads
+      sym (leads_for (policy_of table.lines line) es distinct (exchanges_to_wait_for table line asked xs) asked now w.awaits.rule w.awaits.is_least w.awaited w.leader w.awaits w.first_leads)
+      ∙ leads_for (policy_of table.lines line) es distinct (exchanges_to_wait_for table line asked xs) asked now w.awaits.rule w.awaits.is_least z.awaited z.leader z.awaits z.first_leads
       in
       w.outcome_is ∙ ap (λ l. Waits l) (same_Some w.leader z.leader same) ∙ sym z.outcome_is
   reached_same line o p u v (inr (inr (inl w))) (inr (inr (inr (b, only, least, is)))) = no_true (sym w.takes_others ∙ only)

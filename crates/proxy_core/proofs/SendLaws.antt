@@ -9,7 +9,7 @@ use Rattle.hx_framing.specs.declared.messages.Response.{Response}
 use Rattle.hx_hop.specs.declared.request_view.Asked.{Asked}
 use Rattle.hx_allow.specs.TableLines.{Table}
 use Rattle.hx_allow.specs.Matching.{policy_of}
-use Rattle.proxy_core.specs.Allowing.{verdict_of_asked}
+use Rattle.proxy_core.specs.Allowing.{verdict_of_asked, exchanges_to_wait_for}
 use Rattle.hx_allow.specs.declared.verdicts.Verdict.{Verdict}
 use Rattle.hx_allow.specs.declared.verdicts.Verdict.TheVariants as verdict
 use Rattle.hx_store.specs.Stored.{Stored}
@@ -234,7 +234,7 @@ module _ (table : Table) (es : List Stored) (distinct : Distinct (serials es)) (
 
       unless : (rule : ReuseRule) (condition : Option Condition) (b : Bool) → serial_used_by_outcome (outcome_without_stored_response table es xs line now asked rule condition b) ≡ Some s → ⊥
       unless rule condition true h = never_one s h
-      unless rule condition false h = on condition (leader_of_request (policy_of table.lines line) es xs asked rule) h
+      unless rule condition false h = on condition (leader_of_request (policy_of table.lines line) es (exchanges_to_wait_for table line asked xs) asked rule) h
 
       by_decision : (d : Decision) → decision_of (policy_of table.lines line) es asked now ≡ d → serial_used_by_outcome (outcome_of_allowed_request table es xs line now asked d) ≡ Some s → StoredResponseIsReusable (policy_of table.lines line) es asked now s
       by_decision (decision.Hit t) k h = subst (λ n. StoredResponseIsReusable (policy_of table.lines line) es asked now n) (same_Some t s h) (reused_is_allowed (policy_of table.lines line) es asked now t k)
@@ -374,20 +374,20 @@ forwards_where_allowed table start first now id line asked rule item past g e v 
           ∙ ap (λ (v : Verdict). outcome_of_arrival table es xs now asked v) v
           ∙ ap (λ (d : Decision). outcome_of_allowed_request table es xs line now asked d) d.1
           ∙ ap (λ b. outcome_without_stored_response table es xs line now asked rule (condition_about_serial es d.0) b) other
-          ∙ ap (λ (leader : Option ℕ). outcome_of_waiting_or_forwarding table line asked (condition_about_serial es d.0) leader) (leads_for_none (policy_of table.lines line) es (held_distinct table start first past g.1) xs asked now rule least none),
+          ∙ ap (λ (leader : Option ℕ). outcome_of_waiting_or_forwarding table line asked (condition_about_serial es d.0) leader) (leads_for_none (policy_of table.lines line) es (held_distinct table start first past g.1) (exchanges_to_wait_for table line asked xs) asked now rule least none),
     )
 
 -- what is known of a request that goes forward at its arrival
 abbrev GoesOn : Table → List Stored → List Exchange → ℕ → ℕ → Asked → Type 0
 GoesOn table es xs now line asked =
     (verdict_of_asked table asked ≡ verdict.Allowed line)
-    × ((rule : ReuseRule) × IsLeastReuseRule (policy_of table.lines line) es asked now rule × NoLeaderIsOpen (policy_of table.lines line) es xs asked now) × (is_only_if_cached asked ≡ false)
+    × ((rule : ReuseRule) × IsLeastReuseRule (policy_of table.lines line) es asked now rule × NoLeaderIsOpen (policy_of table.lines line) es (exchanges_to_wait_for table line asked xs) asked now) × (is_only_if_cached asked ≡ false)
 
 forward_parts : (table : Table) (es : List Stored) (distinct : Distinct (serials es)) (xs : List Exchange) (now line : ℕ) (asked : Asked) (bytes : List ℕ) (v : Verdict) → verdict_of_asked table asked ≡ v →
     outcome_of_arrival table es xs now asked v ≡ Forward line bytes → GoesOn table es xs now line asked
 forward_parts table es distinct xs now line asked bytes (verdict.Allowed n) v h = by_decision (decision_of (policy_of table.lines n) es asked now) refl h
   where
-    on : (rule : ReuseRule) (against leader : Option ℕ) → leader_of_request (policy_of table.lines n) es xs asked rule ≡ leader → is_only_if_cached asked ≡ false →
+    on : (rule : ReuseRule) (against leader : Option ℕ) → leader_of_request (policy_of table.lines n) es (exchanges_to_wait_for table n asked xs) asked rule ≡ leader → is_only_if_cached asked ≡ false →
         decision_of (policy_of table.lines n) es asked now ≡ decision.Forward rule against → outcome_of_waiting_or_forwarding table n asked (condition_about_serial es against) leader ≡ Forward line bytes → GoesOn table es xs now line asked
     on rule against (Some leader) l k d h = absurd (cc)
     on rule against None l k d h =
@@ -396,8 +396,8 @@ forward_parts table es distinct xs now line asked bytes (verdict.Allowed n) v h 
           (
             rule,
             subst (λ m. IsLeastReuseRule (policy_of table.lines m) es asked now rule) same (names_the_least (policy_of table.lines n) es asked now rule against d).0,
-            subst (λ m. NoLeaderIsOpen (policy_of table.lines m) es xs asked now) same
-                (nobody_leads (policy_of table.lines n) es distinct xs asked now rule (names_the_least (policy_of table.lines n) es asked now rule against d).0 l),
+            subst (λ m. NoLeaderIsOpen (policy_of table.lines m) es (exchanges_to_wait_for table m asked xs) asked now) same
+                (nobody_leads (policy_of table.lines n) es distinct (exchanges_to_wait_for table n asked xs) asked now rule (names_the_least (policy_of table.lines n) es asked now rule against d).0 l),
           ),
           k,
         )
@@ -405,7 +405,7 @@ forward_parts table es distinct xs now line asked bytes (verdict.Allowed n) v h 
     unless : (rule : ReuseRule) (against : Option ℕ) (b : Bool) → is_only_if_cached asked ≡ b → decision_of (policy_of table.lines n) es asked now ≡ decision.Forward rule against →
         outcome_without_stored_response table es xs n now asked rule (condition_about_serial es against) b ≡ Forward line bytes → GoesOn table es xs now line asked
     unless rule against true k d h = absurd (cc)
-    unless rule against false k d h = on rule against (leader_of_request (policy_of table.lines n) es xs asked rule) refl k d h
+    unless rule against false k d h = on rule against (leader_of_request (policy_of table.lines n) es (exchanges_to_wait_for table n asked xs) asked rule) refl k d h
 
     by_decision : (d : Decision) → decision_of (policy_of table.lines n) es asked now ≡ d → outcome_of_allowed_request table es xs n now asked d ≡ Forward line bytes → GoesOn table es xs now line asked
     by_decision (decision.Hit t) k h = absurd (cc)
@@ -422,27 +422,27 @@ forwards_nothing_else table start first now id line asked bytes item past g e h 
 -- ---- reaching cache or origin
 
 module _ (table : Table) (es : List Stored) (distinct : Distinct (serials es)) (xs : List Exchange) (now : ℕ) (asked : Asked) where
-  reach_on : (line : ℕ) (rule : ReuseRule) (against leader : Option ℕ) → is_only_if_cached asked ≡ false → leader_of_request (policy_of table.lines line) es xs asked rule ≡ leader →
+  reach_on : (line : ℕ) (rule : ReuseRule) (against leader : Option ℕ) → is_only_if_cached asked ≡ false → leader_of_request (policy_of table.lines line) es (exchanges_to_wait_for table line asked xs) asked rule ≡ leader →
       decision_of (policy_of table.lines line) es asked now ≡ decision.Forward rule against → RequestReachesCacheOrOrigin table es xs now asked line (outcome_of_waiting_or_forwarding table line asked (condition_about_serial es against) leader)
   reach_on line rule against None k l d =
       let named = names_the_least (policy_of table.lines line) es asked now rule against d in
-      inr (inl (rule, record { is_least = named.0; against = against; names = named.1; outcome_is = refl }, k, nobody_leads (policy_of table.lines line) es distinct xs asked now rule named.0 l))
+      inr (inl (rule, record { is_least = named.0; against = against; names = named.1; outcome_is = refl }, k, nobody_leads (policy_of table.lines line) es distinct (exchanges_to_wait_for table line asked xs) asked now rule named.0 l))
   reach_on line rule against (Some leader) k l d =
       let named = names_the_least (policy_of table.lines line) es asked now rule against d in
-      let led = is_led (policy_of table.lines line) es distinct xs asked now rule named.0 leader l in
+      let led = is_led (policy_of table.lines line) es distinct (exchanges_to_wait_for table line asked xs) asked now rule named.0 leader l in
       inr (inr (inl (record {
         leader = leader;
         takes_others = k;
         awaited = led.0;
         awaits = led.1;
-        first_leads = led_by (policy_of table.lines line) led.0 asked xs leader led.2;
+        first_leads = led_by (policy_of table.lines line) led.0 asked (exchanges_to_wait_for table line asked xs) leader led.2;
         outcome_is = refl;
       })))
 
   reach_unless : (line : ℕ) (rule : ReuseRule) (against : Option ℕ) (b : Bool) → is_only_if_cached asked ≡ b → decision_of (policy_of table.lines line) es asked now ≡ decision.Forward rule against →
       RequestReachesCacheOrOrigin table es xs now asked line (outcome_without_stored_response table es xs line now asked rule (condition_about_serial es against) b)
   reach_unless line rule against true k d = inr (inr (inr (rule, k, (names_the_least (policy_of table.lines line) es asked now rule against d).0, refl)))
-  reach_unless line rule against false k d = reach_on line rule against (leader_of_request (policy_of table.lines line) es xs asked rule) k refl d
+  reach_unless line rule against false k d = reach_on line rule against (leader_of_request (policy_of table.lines line) es (exchanges_to_wait_for table line asked xs) asked rule) k refl d
 
   reach : (line : ℕ) (d : Decision) → decision_of (policy_of table.lines line) es asked now ≡ d → RequestReachesCacheOrOrigin table es xs now asked line (outcome_of_allowed_request table es xs line now asked d)
   reach line (decision.Hit s) d = inl (s, refl)

@@ -8,7 +8,7 @@ use Rattle.hx_framing.specs.declared.messages.Response.{Response}
 use Rattle.hx_hop.specs.declared.request_view.Asked.{Asked}
 use Rattle.hx_allow.specs.TableLines.{Table}
 use Rattle.hx_allow.specs.Matching.{policy_of}
-use Rattle.proxy_core.specs.Allowing.{verdict_of_asked}
+use Rattle.proxy_core.specs.Allowing.{verdict_of_asked, exchanges_to_wait_for}
 use Rattle.hx_allow.specs.declared.verdicts.Verdict.{Verdict}
 use Rattle.hx_allow.specs.declared.verdicts.Verdict.TheVariants as verdict
 use Rattle.hx_store.specs.Stored.{Stored}
@@ -134,7 +134,7 @@ module _ (table : Table) (es : List Stored) (distinct : Distinct (serials es)) w
       unless : (rule : ReuseRule) (condition : Option Condition) (b : Bool) → serial_used_by_outcome (outcome_without_stored_response table es xs line now asked rule condition b) ≡ Some s →
           ReplyIsThatStoredResponse table es x (Arrive now id asked) (outcome_without_stored_response table es xs line now asked rule condition b) s
       unless rule condition true h = absurd (never_one s h)
-      unless rule condition false h = on condition (leader_of_request (policy_of table.lines line) es xs asked rule) h
+      unless rule condition false h = on condition (leader_of_request (policy_of table.lines line) es (exchanges_to_wait_for table line asked xs) asked rule) h
 
       by_decision : (d : Decision) → decision_of (policy_of table.lines line) es asked now ≡ d → serial_used_by_outcome (outcome_of_allowed_request table es xs line now asked d) ≡ Some s →
           ReplyIsThatStoredResponse table es x (Arrive now id asked) (outcome_of_allowed_request table es xs line now asked d) s

@@ -7,7 +7,7 @@ use Rattle.hx_framing.specs.declared.messages.Response.{Response}
 use Rattle.hx_hop.specs.declared.request_view.Asked.{Asked}
 use Rattle.hx_allow.specs.TableLines.{Table}
 use Rattle.hx_allow.specs.Matching.{policy_of}
-use Rattle.proxy_core.specs.Allowing.{verdict_of_asked}
+use Rattle.proxy_core.specs.Allowing.{verdict_of_asked, exchanges_to_wait_for}
 use Rattle.hx_allow.specs.declared.verdicts.Verdict.{Verdict}
 use Rattle.hx_allow.specs.declared.verdicts.Verdict.TheVariants as verdict
 use Rattle.hx_store.specs.Stored.{Stored}
@@ -109,7 +109,7 @@ module _ (table : Table) (es : List Stored) (x : Option Exchange) (event : Event
   kind_unanswered : (xs : List Exchange) (line now : ℕ) (asked : Asked) (rule : ReuseRule) (condition : Option Condition) (b : Bool) → KindOf es x event next (outcome_without_stored_response table es xs line now asked rule condition b)
   unfolding KindOf
   kind_unanswered xs line now asked rule condition true = idle refl refl
-  kind_unanswered xs line now asked rule condition false = kind_sent_on line asked condition (leader_of_request (policy_of table.lines line) es xs asked rule)
+  kind_unanswered xs line now asked rule condition false = kind_sent_on line asked condition (leader_of_request (policy_of table.lines line) es (exchanges_to_wait_for table line asked xs) asked rule)
 
   kind_allowed : (xs : List Exchange) (line now : ℕ) (asked : Asked) (d : Decision) → ((s : ℕ) → d ≡ decision.Hit s → IsFound es s) → KindOf es x event next (outcome_of_allowed_request table es xs line now asked d)
   unfolding KindOf

@@ -8,7 +8,7 @@ use Rattle.hx_framing.specs.declared.messages.Response.{Response}
 use Rattle.hx_hop.specs.Answering.{answered_of}
 use Rattle.hx_allow.specs.TableLines.{Table}
 use Rattle.hx_allow.specs.Matching.{policy_of}
-use Rattle.proxy_core.specs.Allowing.{verdict_of_asked}
+use Rattle.proxy_core.specs.Allowing.{verdict_of_asked, exchanges_to_wait_for}
 use Rattle.hx_allow.specs.declared.verdicts.Verdict.{Verdict}
 use Rattle.hx_allow.specs.declared.verdicts.Verdict.TheVariants as verdict
 use Rattle.hx_vary.specs.Vary.{is_star}
@@ -427,7 +427,7 @@ module _ (table : Table) (es : List Stored) (xs : List Exchange) (next : Option 
 
       unless : (line : ℕ) (rule : ReuseRule) (condition : Option Condition) (b : Bool) → serials_removed_by_outcome (outcome_without_stored_response table es xs line now asked rule condition b) ≡ []
       unless line rule condition true = refl
-      unless line rule condition false = on line condition (leader_of_request (policy_of table.lines line) es xs asked rule)
+      unless line rule condition false = on line condition (leader_of_request (policy_of table.lines line) es (exchanges_to_wait_for table line asked xs) asked rule)
 
       by_decision : (line : ℕ) (d : Decision) → serials_removed_by_outcome (outcome_of_allowed_request table es xs line now asked d) ≡ []
       by_decision line (decision.Hit s) = refl

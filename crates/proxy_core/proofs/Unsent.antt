@@ -13,7 +13,7 @@ use Rattle.hx_hop.specs.Answering.{answered_of}
 use Rattle.hx_hop.specs.declared.request_view.Asked.{Asked}
 use Rattle.hx_allow.specs.TableLines.{Table}
 use Rattle.hx_allow.specs.Matching.{policy_of}
-use Rattle.proxy_core.specs.Allowing.{verdict_of_asked}
+use Rattle.proxy_core.specs.Allowing.{verdict_of_asked, exchanges_to_wait_for}
 use Rattle.hx_allow.specs.declared.verdicts.Verdict.{Verdict}
 use Rattle.hx_allow.specs.declared.verdicts.Verdict.TheVariants as verdict
 use Rattle.hx_store.specs.Stored.{Stored}
@@ -118,7 +118,7 @@ stored_arrival table es xs now asked (verdict.Allowed line) s h = by_decision (d
 
     unless : (rule : ReuseRule) (condition : Option Condition) (b : Bool) → serial_stored_by_outcome (outcome_without_stored_response table es xs line now asked rule condition b) ≡ Some s → ⊥
     unless rule condition true h = none_stored s h
-    unless rule condition false h = on condition (leader_of_request (policy_of table.lines line) es xs asked rule) h
+    unless rule condition false h = on condition (leader_of_request (policy_of table.lines line) es (exchanges_to_wait_for table line asked xs) asked rule) h
 
     by_decision : (d : Decision) → serial_stored_by_outcome (outcome_of_allowed_request table es xs line now asked d) ≡ Some s → ⊥
     by_decision (decision.Hit t) h = none_stored s h

@@ -17,7 +17,7 @@ use Rattle.hx_hop.specs.Forwarding.{forwarded_of}
 use Rattle.hx_hop.specs.Moments.{date_text_of}
 use Rattle.hx_allow.specs.TableLines.{Table}
 use Rattle.hx_allow.specs.Matching.{policy_of}
-use Rattle.proxy_core.specs.Allowing.{verdict_of_asked}
+use Rattle.proxy_core.specs.Allowing.{verdict_of_asked, exchanges_to_wait_for}
 use Rattle.hx_allow.specs.declared.verdicts.Verdict.{Verdict}
 use Rattle.hx_allow.specs.declared.verdicts.Verdict.TheVariants as verdict
 use Rattle.hx_store.specs.Stored.{Stored}
@@ -112,7 +112,7 @@ outcome_without_stored_response table es xs line now asked rule condition true =
     (OnlyIfCached rule) asked
 outcome_without_stored_response table es xs line now asked rule condition false =
     outcome_of_waiting_or_forwarding table line asked
-    condition (leader_of_request (policy_of table.lines line) es xs asked rule)
+    condition (leader_of_request (policy_of table.lines line) es (exchanges_to_wait_for table line asked xs) asked rule)
 
 abbrev pub hit_status_info : Policy → CacheStatusInfo
 hit_status_info policy = record { policy = policy; how = Hit; came = None; detail = None; collapsed = false }

@@ -15,7 +15,7 @@ use Rattle.hx_framing.specs.declared.messages.Response.{Response}
 use Rattle.hx_hop.specs.declared.request_view.Asked.{Asked}
 use Rattle.hx_allow.specs.TableLines.{Table}
 use Rattle.hx_allow.specs.Matching.{policy_of}
-use Rattle.proxy_core.specs.Allowing.{verdict_of_asked}
+use Rattle.proxy_core.specs.Allowing.{verdict_of_asked, exchanges_to_wait_for}
 use Rattle.hx_allow.specs.declared.verdicts.Verdict.TheVariants.{Allowed, DeniedBy, NoLine as Unmatched}
 use Rattle.hx_allow.specs.declared.verdicts.Verdict.TheVariants as verdict
 use Rattle.hx_store.specs.Stored.{Stored}
@@ -122,7 +122,8 @@ pub record RequestWaitsForTheFirst (table : Table) (held : List Stored) (xs : Li
   pub takes_others : is_only_if_cached asked ≡ false
   pub awaited : Awaited
   pub awaits : RequestAwaits (policy_of table.lines line) held asked now awaited
-  pub first_leads : IsFirstLeader (policy_of table.lines line) awaited asked xs leader
+  pub first_leads : IsFirstLeader (policy_of table.lines line) awaited asked (exchanges_to_wait_for table line asked xs)
+      leader
   pub outcome_is : outcome ≡ Waits leader
 
 -- A request that is allowed reaches the cache, which sends a stored response, or the origin of that
@@ -133,7 +134,7 @@ RequestReachesCacheOrOrigin table held xs now asked line outcome =
     ((s : ℕ) × (serial_used_by_outcome outcome ≡ Some s))
     ⊎ (((rule : ReuseRule)
     × RequestGoesForward table held asked now line rule outcome × (is_only_if_cached asked ≡ false)
-    × NoLeaderIsOpen (policy_of table.lines line) held xs asked now)
+    × NoLeaderIsOpen (policy_of table.lines line) held (exchanges_to_wait_for table line asked xs) asked now)
     ⊎ (RequestWaitsForTheFirst table held xs now asked line outcome
     ⊎ ((rule : ReuseRule) × (is_only_if_cached asked ≡ true) × IsLeastReuseRule
     (policy_of table.lines line) held asked now rule
@@ -234,7 +235,8 @@ RequestIsForwardedWhereAllowed =
     verdict_of_asked table asked ≡ Allowed line
     → IsLeastReuseRule (policy_of table.lines line) (held_entries table start past) asked now rule
     → is_only_if_cached asked ≡ false →
-    NoLeaderIsOpen (policy_of table.lines line) (held_entries table start past) (open_exchanges table start past)
+    NoLeaderIsOpen (policy_of table.lines line) (held_entries table start past)
+    (exchanges_to_wait_for table line asked (open_exchanges table start past))
     asked now →
     (bytes : List ℕ) × (item.outcome ≡ Forward line bytes)
 
@@ -246,7 +248,8 @@ RequestIsForwardedNowhereElse =
     → item.outcome ≡ Forward line bytes →
     (verdict_of_asked table asked ≡ Allowed line)
     × ((rule : ReuseRule) × IsLeastReuseRule (policy_of table.lines line) (held_entries table start past) asked now rule
-    × NoLeaderIsOpen (policy_of table.lines line) (held_entries table start past) (open_exchanges table start past)
+    × NoLeaderIsOpen (policy_of table.lines line) (held_entries table start past)
+    (exchanges_to_wait_for table line asked (open_exchanges table start past))
     asked now)
     × (is_only_if_cached asked ≡ false)
 

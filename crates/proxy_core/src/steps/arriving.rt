@@ -2,7 +2,7 @@
 ghost use Rattle.std.specs.Prelude.{◌≡◌, ◌<◌, ◌++◌, ◌∷◌, [], None, IfOk, IfErr, OnOk, OnErr};
 ghost use Rattle.hx_directives.specs.Occurrences.{occurrences_of};
 ghost use Rattle.hx_allow.specs.Matching.{policy_of};
-ghost use Rattle.proxy_core.specs.Allowing.{verdict_of_asked};
+ghost use Rattle.proxy_core.specs.Allowing.{verdict_of_asked, exchanges_to_wait_for};
 ghost use Rattle.hx_allow.specs.declared.verdicts.Verdict.TheVariants.{Allowed};
 ghost use Rattle.hx_reuse.specs.Rules.{decision_of};
 ghost use Rattle.hx_reuse.specs.declared.decision.Decision.TheVariants as decision;
@@ -179,11 +179,30 @@ impl<S: Shelf> Core<S> {
         awaited_of(alloc, judged.policy, asked, directives, judged.rule, chosen)
     }
 
-    /// The open exchange for whose answer a request waits.
-    fn leader_for(&self, policy: Policy, awaited: Option<Awaited>, asked: &Asked) -> Option<u64>
+    /// The first of the open exchanges that has asked for what a request could be sent.
+    fn leader_among(&self, policy: Policy, awaited: Option<Awaited>, asked: &Asked) -> Option<u64>
         ensures { result ≡ leader_if_awaited policy asked.now self.now.exchanges awaited }
     {
         self.exchanges.leader(policy, awaited?, asked)
+    }
+
+    /// The open exchange for whose answer a request waits over this line. One that came back waits for none.
+    #[tactic(auto, using(crate::proofs::Leads::nobody_to_wait_for))]
+    fn leader_for(
+        &self,
+        policy: Policy,
+        awaited: Option<Awaited>,
+        asked: &Asked,
+        line: u16,
+    ) -> Option<u64>
+        ensures { result ≡ leader_if_awaited policy asked.now
+            (exchanges_to_wait_for self.now.table line asked.now self.now.exchanges) awaited }
+    {
+        if self.config.came_back(line, &asked.fields) {
+            None
+        } else {
+            self.leader_among(policy, awaited, asked)
+        }
     }
 
     /// The exchange of a request opens, which waits or goes forward.
@@ -198,15 +217,18 @@ impl<S: Shelf> Core<S> {
         requires stage { exchange.stage ≡ Forwarded }
         ensures outcome { IfOk result
             (λ outcome. outcome ≡ outcome_of_waiting_or_forwarding self.old.table exchange.line exchange.asked
-            exchange.condition (leader_if_awaited policy exchange.asked self.old.exchanges awaited)) }
+            exchange.condition (leader_if_awaited policy exchange.asked
+            (exchanges_to_wait_for self.old.table exchange.line exchange.asked self.old.exchanges) awaited)) }
         ensures after { OnOk result (self.new ≡ record self.old {
           exchanges = self.old.exchanges
               ++ exchange_with_leader
-              (leader_if_awaited policy exchange.asked self.old.exchanges awaited) exchange ∷ [];
+              (leader_if_awaited policy exchange.asked
+              (exchanges_to_wait_for self.old.table exchange.line exchange.asked self.old.exchanges) awaited)
+              exchange ∷ [];
         }) }
         ensures unchanged { OnErr result (self.new ≡ self.old) }
     {
-        match self.leader_for(policy, awaited, &exchange.asked) {
+        match self.leader_for(policy, awaited, &exchange.asked, exchange.line) {
             Some(leader) => {
                 let mut waiting = exchange;
                 waiting.stage = Stage::Waiting(leader);
