@@ -1,9 +1,10 @@
 """Scenarios of requests that come back to the proxy that they went through, over tables of version 4. What becomes of them is what
-docs/WORDS.md, "loops", says of Via (RFC 9110, 7.6.3)."""
+docs/ORIGINS.md, "Requests that come back", says of Via (RFC 9110, 7.6.3)."""
 import socket
 import time
 
 from live.expect import expect, expect_answer, expect_refusal, expect_within
+from live.figures import expect_samples, figures_with, of, reasons
 from live.line_words import MINUTE, by_words
 from live.origin import whole
 from live.scenario import scenario
@@ -52,12 +53,15 @@ def a_request_that_names_the_proxy_twice_reaches_no_origin(stage):
         ("Via: 1.1 edge", "via: 1.1 core", "VIA: 1.0 edge"),
         ("Via: 1.1 other (unclosed", "Via: 1.1 edge", "Via: 1.1 edge"),
     )
-    client, origin = by_words(stage, {"cache": "off"}, page, 4)
+    file = f"{stage.room.name}/figures"
+    client, origin = by_words(stage, {"cache": "off"}, page, 4, options=["--stats", file])
     for line in once:
         expect_answer(client.ask("/a", line), 200, "edge;fwd=bypass;detail=operator", b"page")
     for lines in twice:
         expect_refusal(client.ask("/a", *lines), 508, LOOP)
     expect("requests at the origin", len(once), len(origin.fetches))
+    samples = figures_with(file, of("refusals_total", cause="loop"), len(twice))
+    expect_samples(samples, {of("responses_total", code=508): len(twice), **reasons(bypass__operator=len(once), denied=len(twice))})
     for words, version in (({"cache": "off", "loops": "forwarded"}, 4), ({"cache": "off"}, 3)):
         client, origin = by_words(stage, words, page, version)
         for lines in twice:

@@ -36,10 +36,15 @@ fn write_fault(text: &mut String, fault: &ConfigFault) -> Result<(), AllocError>
     }
 }
 
+/// Whether a line that has an origin refuses requests that loop.
+fn refuses_loops(config: &Config, line: u16) -> bool {
+    config.refuses_loops(line) && !config.origin(line).is_empty()
+}
+
 /// Writes the words of a line that aren't as without words in versions 1 to 3, each behind a space.
 fn write_line_words(text: &mut String, config: &Config, line: u16) -> Result<(), AllocError> {
     write_words(text, config.policy(line))?;
-    if config.refuses_loops(line) {
+    if refuses_loops(config, line) {
         text.push_str(" loops=refused")?;
     }
     Ok(())
@@ -49,7 +54,7 @@ fn write_line_words(text: &mut String, config: &Config, line: u16) -> Result<(),
 fn write_read(text: &mut String, config: &Config) -> Result<(), AllocError> {
     text.push_str("read")?;
     for line in 1..=MOST_LINES {
-        let is_plain = config.policy(line) == Policy::plain(true) && !config.refuses_loops(line);
+        let is_plain = config.policy(line) == Policy::plain(true) && !refuses_loops(config, line);
         if usize::from(line) <= config.lines() && !is_plain {
             write!(text, ", line {line}")?;
             write_line_words(text, config, line)?;

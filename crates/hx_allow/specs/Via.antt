@@ -108,7 +108,8 @@ comment_rest_text (comment_within inner rest) = comment_begin ∷ comment_rest_t
 -- ctext has neither parentheses nor a backslash (RFC 9110, section 5.6.5)
 abbrev pub is_comment_rest : CommentRest → Bool
 is_comment_rest ends = true
-is_comment_rest (text_byte b rest) = not (b == comment_begin || b == comment_end || b == backslash) && is_comment_rest rest
+is_comment_rest (text_byte b rest) =
+    not (b == comment_begin || b == comment_end || b == backslash) && is_comment_rest rest
 is_comment_rest (quoted_pair b rest) = is_comment_rest rest
 is_comment_rest (comment_within inner rest) = is_comment_rest inner && is_comment_rest rest
 

@@ -285,6 +285,8 @@ pub fn a_table_with_a_lifetime_of_errors_is_read()
       max_body = 1000;
       max_stored = 1000;
       max_store = None;
-      lines = record line_of_four { policy = record plain_of_four { lifetime = Some 60; error_lifetime = Some 5 } } ∷ [];
+      lines = record line_of_four {
+        policy = record plain_of_four { lifetime = Some 60; error_lifetime = Some 5 };
+      } ∷ [];
     })) }
 {}

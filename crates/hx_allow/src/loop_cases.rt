@@ -107,11 +107,11 @@ pub fn worked_loops_of_lines()
     ensures conditions_first { line_fault Four 1 (line_table_with_keys (key_with_text (codes "conditions") (codes "x")
         ∷ key_with_text (codes "loops") (codes "x") ∷ [])) ≡ Some (BadWord 1 Conditions) }
     ensures default { (line_read Four (line_table_with_keys [])).refuses_loops ≡ true }
-    ensures default_without_cache { (line_read Four (line_table_with_keys (key_with_text (codes "cache") (codes "off") ∷ []))).refuses_loops
-        ≡ true }
+    ensures default_without_cache { (line_read Four
+        (line_table_with_keys (key_with_text (codes "cache") (codes "off") ∷ []))).refuses_loops ≡ true }
     ensures default_of_three { (line_read Three (line_table_with_keys [])).refuses_loops ≡ false }
-    ensures says_refused { (line_read Four (line_table_with_keys (key_with_text (codes "loops") (codes "refused") ∷ []))).refuses_loops
-        ≡ true }
-    ensures says_forwarded { (line_read Four (line_table_with_keys (key_with_text (codes "loops") (codes "forwarded") ∷ []))).refuses_loops
-        ≡ false }
+    ensures says_refused { (line_read Four
+        (line_table_with_keys (key_with_text (codes "loops") (codes "refused") ∷ []))).refuses_loops ≡ true }
+    ensures says_forwarded { (line_read Four
+        (line_table_with_keys (key_with_text (codes "loops") (codes "forwarded") ∷ []))).refuses_loops ≡ false }
 {}

@@ -18,8 +18,8 @@ ghost use Rattle.hx_allow.specs.declared.verdicts.Verdict.TheVariants.{Allowed, 
 /// A line of Via that is written as RFC 9110, section 7.6.3 says is read so: it names a proxy as often as a member's
 /// received-by is its name, whatever stands in comments.
 pub fn a_line_of_via_is_read_as_it_is_written()
-    ensures { (name : List ℕ) (member : ViaMember) (more : List ViaMember) → list_all is_via_member (member ∷ more) ≡ true
-        → times_named_in name (via_line_text member more)
+    ensures { (name : List ℕ) (member : ViaMember) (more : List ViaMember)
+        → list_all is_via_member (member ∷ more) ≡ true → times_named_in name (via_line_text member more)
         ≡ count_by (λ (m : ViaMember). is_same_name m.by name) (member ∷ more) }
 {}
 

@@ -34,7 +34,7 @@ pub fn worked_texts()
     ensures denied { refusal_text (Denied 1) ≡ codes "denied by line 1" }
     ensures no_line { refusal_text NoLine ≡ codes "no line allows it" }
     ensures forbidden { refusal_status NoLine ≡ 403 }
-    ensures loop { refusal_text (Looped 12) ≡ codes "loop refused by line 12" }
+    ensures looped { refusal_text (Looped 12) ≡ codes "loop refused by line 12" }
     ensures status_of_a_loop { refusal_status (Looped 12) ≡ 508 }
 {}
 
