@@ -100,13 +100,13 @@ received_by_written m is =
     let behind_protocol = m.between ++ behind_between in
     let behind_before = m.protocol ++ behind_protocol in
     let first : without_blanks (via_member_text m) ≡ behind_before
-        = run_dropped is_blank m.before behind_before it.before (stops_at is_blank is_via_byte via_byte_is_not_blank m.protocol behind_protocol protocol.0 protocol.1) in
+    = run_dropped is_blank m.before behind_before it.before (stops_at is_blank is_via_byte via_byte_is_not_blank m.protocol behind_protocol protocol.0 protocol.1) in
     let second : behind_word behind_before ≡ behind_protocol
-        = run_dropped is_word_byte m.protocol behind_protocol (all_of_kind is_word_byte is_via_byte via_byte_is_of_words m.protocol protocol.1) (stops_at is_word_byte is_blank blank_is_of_no_word m.between behind_between between.0 between.1) in
+    = run_dropped is_word_byte m.protocol behind_protocol (all_of_kind is_word_byte is_via_byte via_byte_is_of_words m.protocol protocol.1) (stops_at is_word_byte is_blank blank_is_of_no_word m.between behind_between between.0 between.1) in
     let third : without_blanks behind_protocol ≡ behind_between
-        = run_dropped is_blank m.between behind_between between.1 (stops_at is_blank is_via_byte via_byte_is_not_blank m.by rest by.0 by.1) in
+    = run_dropped is_blank m.between behind_between between.1 (stops_at is_blank is_via_byte via_byte_is_not_blank m.by rest by.0 by.1) in
     let last : first_word behind_between ≡ m.by
-        = run_taken is_word_byte m.by rest (all_of_kind is_word_byte is_via_byte via_byte_is_of_words m.by by.1) (end_of_by m.comment m.after it.comment it.after) in
+    = run_taken is_word_byte m.by rest (all_of_kind is_word_byte is_via_byte via_byte_is_of_words m.by by.1) (end_of_by m.comment m.after it.comment it.after) in
     ap (λ t. first_word (without_blanks (behind_word t))) first ∙ ap (λ t. first_word (without_blanks t)) second ∙ ap first_word third ∙ last
 
 -- ---- where lines are cut

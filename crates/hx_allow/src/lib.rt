@@ -65,13 +65,9 @@ pub use list_laws::{
     a_text_alone_is_a_list_of_one, hosts_below_one_end_with_it, lists_are_a_spelling,
     worked_hosts_below_others,
 };
-pub use loop_cases::{
-    loops_are_refused_by_lines, worked_comments_of_via, worked_lines_of_via, worked_loops_of_lines,
-    worked_requests_that_came_back, worked_requests_that_loop,
-};
+pub use loop_cases::{worked_lines_of_via, worked_loops_of_lines, worked_requests_that_loop};
 pub use loop_laws::{
     a_line_of_via_is_read_as_it_is_written, a_loop_is_refused_where_its_line_says_so,
-    lines_of_via_count_together, loops_are_refused_in_version_four,
     other_requests_are_judged_as_before,
 };
 pub use table_cases::{

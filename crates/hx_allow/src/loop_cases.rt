@@ -14,7 +14,8 @@ ghost use Rattle.hx_allow.specs.declared.values.Scope.TheVariants.{Top, Line};
 ghost use Rattle.hx_allow.specs.declared.values.TableVersion.TheVariants.{Three, Four};
 ghost use Rattle.hx_allow.specs.declared.verdicts.Verdict.TheVariants.{Allowed, DeniedBy, NoLine, Looped};
 
-/// How often lines of Via name a proxy, among them the examples of RFC 9110, section 7.6.3.
+/// How often lines of Via name a proxy, among them the examples of RFC 9110, section 7.6.3; and what stands in
+/// comments (section 5.6.5) and in quotes.
 pub fn worked_lines_of_via()
     ensures one { times_named_in (codes "edge") (codes "1.1 edge") ≡ 1 }
     ensures of_the_rfc { times_named_in (codes "fred") (codes "1.0 fred, 1.1 p.example.net") ≡ 1 }
@@ -31,11 +32,7 @@ pub fn worked_lines_of_via()
     ensures empty_members { times_named_in (codes "edge") (codes ", ,1.1 edge,,") ≡ 1 }
     ensures tabs { times_named_in (codes "edge") (codes "\t1.1 \t edge\t,1.1\tedge") ≡ 2 }
     ensures behind { times_named_in (codes "edge") (codes "1.1 other edge") ≡ 0 }
-{}
-
-/// Comments of Via, and what stands in them.
-pub fn worked_comments_of_via()
-    ensures behind { times_named_in (codes "edge") (codes "1.1 edge (a proxy)") ≡ 1 }
+    ensures before_a_comment { times_named_in (codes "edge") (codes "1.1 edge (a proxy)") ≡ 1 }
     ensures comma { times_named_in (codes "edge") (codes "1.1 other (a, 1.1 edge, b)") ≡ 0 }
     ensures then_another { times_named_in (codes "edge") (codes "1.1 other (a, 1.1 edge), 1.1 edge") ≡ 1 }
     ensures within { times_named_in (codes "edge") (codes "1.1 other (a (b), 1.1 edge), 1.1 edge") ≡ 1 }
@@ -49,7 +46,9 @@ pub fn worked_comments_of_via()
     ensures end_alone { times_named_in (codes "edge") (codes "1.1 other), 1.1 edge") ≡ 1 }
 {}
 
-/// Which requests loop.
+/// Which requests loop, and which were here before; and what a table says of them whose first line denies, whose second
+/// refuses loops, and whose third lets them go on.
+#[tactic(auto, unfolding(crate::specs::Matching::verdict_of, crate::specs::Matching::verdict_of_request, crate::specs::Matching::matches_line))]
 pub fn worked_requests_that_loop()
     ensures none { request_loops (codes "edge") (line (codes "Host") (codes "h") ∷ []) ≡ false }
     ensures once { request_loops (codes "edge") (line (codes "Via") (codes "1.1 edge") ∷ []) ≡ false }
@@ -60,31 +59,22 @@ pub fn worked_requests_that_loop()
         ∷ line (codes "Via") (codes "1.1 edge") ∷ line (codes "Via") (codes "1.1 edge") ∷ []) ≡ true }
     ensures another_field { request_loops (codes "edge") (line (codes "Received") (codes "1.1 edge, 1.1 edge") ∷ []) ≡ false }
     ensures another_name { request_loops (codes "edge") (line (codes "Via") (codes "1.1 core, 1.1 edge, 1.1 core") ∷ []) ≡ false }
-{}
-
-/// What a table says of loops whose first line denies, whose second refuses them, and whose third lets them go on.
-#[tactic(auto, unfolding(crate::specs::Matching::verdict_of, crate::specs::Matching::verdict_of_request, crate::specs::Matching::matches_line))]
-pub fn loops_are_refused_by_lines()
-    ensures refused { verdict_of_request looping_table (codes "GET") (target_for_path (codes "x") (codes "/"))
+    ensures told_refused { verdict_of_request looping_table (codes "GET") (target_for_path (codes "x") (codes "/"))
         (line (codes "Via") (codes "1.1 edge, 1.1 edge") ∷ []) ≡ Looped 2 }
-    ensures once { verdict_of_request looping_table (codes "GET") (target_for_path (codes "x") (codes "/"))
+    ensures told_once { verdict_of_request looping_table (codes "GET") (target_for_path (codes "x") (codes "/"))
         (line (codes "Via") (codes "1.1 edge") ∷ []) ≡ Allowed 2 }
-    ensures forwarded { verdict_of_request looping_table (codes "POST") (target_for_path (codes "x") (codes "/"))
+    ensures told_forwarded { verdict_of_request looping_table (codes "POST") (target_for_path (codes "x") (codes "/"))
         (line (codes "Via") (codes "1.1 edge, 1.1 edge") ∷ []) ≡ Allowed 3 }
-    ensures denied { verdict_of_request looping_table (codes "GET") (target_for_path (codes "x") (codes "/p"))
+    ensures told_denied { verdict_of_request looping_table (codes "GET") (target_for_path (codes "x") (codes "/p"))
         (line (codes "Via") (codes "1.1 edge, 1.1 edge") ∷ []) ≡ DeniedBy 1 }
-    ensures unmatched { verdict_of_request looping_table (codes "POST") (target_for_path (codes "y") (codes "/"))
+    ensures told_unmatched { verdict_of_request looping_table (codes "POST") (target_for_path (codes "y") (codes "/"))
         (line (codes "Via") (codes "1.1 edge, 1.1 edge") ∷ []) ≡ NoLine }
-{}
-
-/// Which requests were here before, over which lines.
-pub fn worked_requests_that_came_back()
-    ensures once { request_came_back looping_table 2 (line (codes "Via") (codes "1.0 core, 1.1 edge") ∷ []) ≡ true }
-    ensures twice { request_came_back looping_table 2 (line (codes "Via") (codes "1.1 edge, 1.1 edge") ∷ []) ≡ true }
-    ensures another { request_came_back looping_table 2 (line (codes "Via") (codes "1.0 core") ∷ []) ≡ false }
-    ensures without_via { request_came_back looping_table 2 [] ≡ false }
-    ensures forwarded { request_came_back looping_table 3 (line (codes "Via") (codes "1.1 edge") ∷ []) ≡ false }
-    ensures no_line { request_came_back looping_table 4 (line (codes "Via") (codes "1.1 edge") ∷ []) ≡ false }
+    ensures came_back_once { request_came_back looping_table 2 (line (codes "Via") (codes "1.0 core, 1.1 edge") ∷ []) ≡ true }
+    ensures came_back_twice { request_came_back looping_table 2 (line (codes "Via") (codes "1.1 edge, 1.1 edge") ∷ []) ≡ true }
+    ensures came_back_another { request_came_back looping_table 2 (line (codes "Via") (codes "1.0 core") ∷ []) ≡ false }
+    ensures came_back_without_via { request_came_back looping_table 2 [] ≡ false }
+    ensures came_back_forwarded { request_came_back looping_table 3 (line (codes "Via") (codes "1.1 edge") ∷ []) ≡ false }
+    ensures came_back_no_line { request_came_back looping_table 4 (line (codes "Via") (codes "1.1 edge") ∷ []) ≡ false }
 {}
 
 /// The key `loops`: in version 4 alone, in each line that has an origin, and looked at last.

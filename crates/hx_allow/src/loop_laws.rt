@@ -16,21 +16,18 @@ ghost use Rattle.hx_allow.specs.declared.values.TableVersion.TheVariants.{Four};
 ghost use Rattle.hx_allow.specs.declared.verdicts.Verdict.TheVariants.{Allowed, Looped};
 
 /// A line of Via that is written as RFC 9110, section 7.6.3 says is read so: it names a proxy as often as a member's
-/// received-by is its name, whatever stands in comments.
+/// received-by is its name, whatever stands in comments. Several lines count together.
 pub fn a_line_of_via_is_read_as_it_is_written()
-    ensures { (name : List ℕ) (member : ViaMember) (more : List ViaMember)
+    ensures written { (name : List ℕ) (member : ViaMember) (more : List ViaMember)
         → list_all is_via_member (member ∷ more) ≡ true → times_named_in name (via_line_text member more)
         ≡ count_by (λ (m : ViaMember). is_same_name m.by name) (member ∷ more) }
-{}
-
-/// Several lines of Via count together.
-pub fn lines_of_via_count_together()
-    ensures { (name : List ℕ) (fields more : List Field) → times_named name (fields ++ more)
+    ensures together { (name : List ℕ) (fields more : List Field) → times_named name (fields ++ more)
         ≡ times_named name fields + times_named name more }
 {}
 
 /// A request is refused as a loop exactly where its Via names the proxy twice, and the line that would take it
-/// refuses loops.
+/// refuses loops. One of version 4 does exactly where it doesn't say that they are forwarded.
+#[tactic(auto, unfolding(crate::specs::LineTables::line_read))]
 pub fn a_loop_is_refused_where_its_line_says_so()
     ensures refused { (table : Table) (method : List ℕ) (target : Target) (fields : List Field) (line : ℕ)
         → verdict_of table.lines method target ≡ Allowed line → line_refuses_loops table.lines line ≡ true
@@ -39,6 +36,8 @@ pub fn a_loop_is_refused_where_its_line_says_so()
         → verdict_of_request table method target fields ≡ Looped line
         → (verdict_of table.lines method target ≡ Allowed line) × (line_refuses_loops table.lines line ≡ true)
         × (2 ≤ times_named table.name fields) }
+    ensures version_four { (members : Members) → (line_read Four members).refuses_loops
+        ≡ not (key_has_text (codes "loops") (codes "forwarded") members) }
 {}
 
 /// A request whose Via doesn't name the proxy twice has the verdict on its method and target, and so has each request
@@ -54,11 +53,4 @@ pub fn other_requests_are_judged_as_before()
     ensures earlier_versions { (t : Members) (table : Table) (method : List ℕ) (target : Target) (fields : List Field)
         → has_keys_of (version_of t) Four ≡ false → judge_table t ≡ Ok table
         → verdict_of_request table method target fields ≡ verdict_of table.lines method target }
-{}
-
-/// A line of version 4 refuses loops exactly where it doesn't say that they are forwarded.
-#[tactic(auto, unfolding(crate::specs::LineTables::line_read))]
-pub fn loops_are_refused_in_version_four()
-    ensures { (members : Members) → (line_read Four members).refuses_loops
-        ≡ not (key_has_text (codes "loops") (codes "forwarded") members) }
 {}

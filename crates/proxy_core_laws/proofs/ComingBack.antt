@@ -101,8 +101,7 @@ module _ (name : List ℕ) (is : is_name name ≡ true) where
 pub each_pass_is_named : EachPassIsNamed
 unfolding forwarded_of
 each_pass_is_named keeps asked name conditions is =
-    let front = line (codes "Host") (host_text asked.target.key) ∷ (client_lines (keeps || is_some conditions) asked.fields ++ condition_lines conditions) in
-    (
+    let front = line (codes "Host") (host_text asked.target.key) ∷ (client_lines (keeps || is_some conditions) asked.fields ++ condition_lines conditions) in (
       front,
       refl,
       times_together name front (line (codes "Via") (via_text asked.minor name) ∷ [])

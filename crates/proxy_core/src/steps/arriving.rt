@@ -95,7 +95,10 @@ impl<S: Shelf> Core<S> {
             None => {}
             Some(fault) => return Err(fault),
         }
-        match self.config.judge(&asked.method, &asked.target, &asked.fields) {
+        let verdict = self
+            .config
+            .judge(&asked.method, &asked.target, &asked.fields);
+        match verdict {
             Verdict::Allowed(line) => Ok(self.serve_allowed(alloc, now, id, asked, line)?),
             Verdict::DeniedBy(line) => deny_request(alloc, now, Cause::Denied(line), asked),
             Verdict::NoLine => deny_request(alloc, now, Cause::NoLine, asked),
@@ -187,7 +190,6 @@ impl<S: Shelf> Core<S> {
     }
 
     /// The open exchange for whose answer a request waits over this line. One that came back waits for none.
-    #[tactic(auto, using(crate::proofs::Leads::nobody_to_wait_for))]
     fn leader_for(
         &self,
         policy: Policy,
