@@ -1,10 +1,10 @@
 -- Who came back waits for nobody, and who goes forward names the proxy once more.
-use Rattle.std.proofs.Common.{◌≡◌, ℕ, ◌+◌, Bool, true, false, cond, ◌&&◌, ◌||◌, ◌==◌, List, [], ◌∷◌, ◌++◌, codes, Option, None, Some, refl, sym, ◌∙◌, ap, subst, arith, append-nil}
-use Rattle.std.specs.Prelude.{nat_le, slice_index, count_by, length, is_some}
+use Rattle.std.proofs.Common.{◌≡◌, ℕ, ◌+◌, Bool, true, false, cond, ◌&&◌, ◌||◌, ◌==◌, List, [], ◌∷◌, ◌++◌, codes, None, refl, sym, ◌∙◌, ap, subst, arith, append-nil}
+use Rattle.std.specs.Prelude.{nat_le, length, is_some}
 use Rattle.std.specs.Char.{is_ascii_lowercase}
 use Rattle.std.specs.List.{list_all}
 use Rattle.std.specs.Str.{str_to_ascii_lowercase}
-use Rattle.std.proofs.lemmas.Bool.{and_parts}
+use Rattle.std.proofs.lemmas.Bool.{and_parts, le-leb}
 use Rattle.std.proofs.lemmas.Bool.Decides.{nat_tests}
 use Rattle.std.proofs.lemmas.List.Sums.{sum_by-cons}
 use Rattle.hx_fields.specs.Names.{is_same_name, is_nonempty}
@@ -20,7 +20,6 @@ use Rattle.hx_allow.proofs.Loops.{times_together}
 use Rattle.hx_allow.proofs.ViaWritten.{times_written}
 use Rattle.proxy_core.specs.declared.open.awaited.Awaited.{Awaited}
 use Rattle.proxy_core.specs.declared.open.exchange.Exchange.{Exchange}
-use Rattle.proxy_core.specs.declared.event.Event.{Event}
 use Rattle.proxy_core.specs.declared.event.Event.TheVariants.{Arrive}
 use Rattle.proxy_core.specs.Allowing.{verdict_of_asked, came_back, exchanges_to_wait_for}
 use Rattle.proxy_core.specs.Leading.{IsFirstLeader}
@@ -59,6 +58,11 @@ name_via_bytes (b ∷ text) h =
     let parts = and_parts (is_name_byte b) (list_all is_name_byte text) h in
     rw (name_via_byte b parts.0) (name_via_bytes text parts.1)
 
+and_both : (a b : Bool) → a ≡ true → b ≡ true → (a && b) ≡ true
+and_both true true h k = refl
+and_both true false h k = k
+and_both false b h k = h
+
 name_is_word : (name : List ℕ) → is_name name ≡ true → is_via_word name ≡ true
 unfolding is_name
 name_is_word [] h = absurd (by_test (nat_le 0 32) h)
@@ -66,7 +70,9 @@ name_is_word [] h = absurd (by_test (nat_le 0 32) h)
     by_test : (t : Bool) → t && false && true ≡ true → ⊥
     by_test true e = cc
     by_test false e = cc
-name_is_word (b ∷ name) h = name_via_bytes (b ∷ name) (last (nat_le (length (b ∷ name)) 32) (is_ascii_lowercase b) (list_all is_name_byte (b ∷ name)) h)
+name_is_word (b ∷ name) h =
+    and_both (is_nonempty (b ∷ name)) (list_all is_via_byte (b ∷ name)) (le-leb 1 (length (b ∷ name)) (omega arith))
+    (name_via_bytes (b ∷ name) (last (nat_le (length (b ∷ name)) 32) (is_ascii_lowercase b) (list_all is_name_byte (b ∷ name)) h))
   where
     last : (s t u : Bool) → s && t && u ≡ true → u ≡ true
     last true true u e = e

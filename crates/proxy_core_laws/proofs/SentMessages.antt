@@ -16,7 +16,7 @@ use Rattle.hx_framing.proofs.RequestOnce.{read_once_lem as request_read_once}
 use Rattle.hx_framing.proofs.ResponseOnce.{read_once_lem as response_read_once}
 use Rattle.hx_allow.specs.TableLines.{Table}
 use Rattle.hx_allow.specs.Matching.{policy_of}
-use Rattle.proxy_core.specs.Allowing.{verdict_of_asked}
+use Rattle.proxy_core.specs.Allowing.{verdict_of_asked, exchanges_to_wait_for}
 use Rattle.hx_allow.specs.declared.verdicts.Verdict.{Verdict}
 use Rattle.hx_allow.specs.declared.verdicts.Verdict.TheVariants as verdict
 use Rattle.hx_hop.specs.declared.request_view.Asked.{Asked}
@@ -131,7 +131,7 @@ module _ (table : Table) (es : List Stored) (token : IsToken table.name) (fit : 
 
     unanswered_one : (xs : List Exchange) (line : ℕ) (rule : ReuseRule) (against : Option ℕ) (b : Bool) → OutcomeIsOneMessage table.name (is_head asked) (outcome_without_stored_response table es xs line now asked rule (condition_about_serial es against) b)
     unanswered_one xs line rule against true = refused_one (OnlyIfCached rule)
-    unanswered_one xs line rule against false = sent_on_one line (condition_about_serial es against) (leader_of_request (policy_of table.lines line) es xs asked rule) (fit against)
+    unanswered_one xs line rule against false = sent_on_one line (condition_about_serial es against) (leader_of_request (policy_of table.lines line) es (exchanges_to_wait_for table line asked xs) asked rule) (fit against)
 
     allowed_one : (xs : List Exchange) (line : ℕ) (d : Decision) → serial_used_by_outcome (outcome_of_allowed_request table es xs line now asked d) ≡ None → OutcomeIsOneMessage table.name (is_head asked) (outcome_of_allowed_request table es xs line now asked d)
     allowed_one xs line (decision.Hit serial) unused = never serial unused

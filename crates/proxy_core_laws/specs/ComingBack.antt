@@ -4,7 +4,6 @@
 -- EachPassIsNamed: who goes forward names the proxy once more
 use Rattle.std.specs.Prelude.{◌≡◌, ℕ, ◌+◌, Bool, true, List, [], ◌∷◌, ◌++◌, codes, Option}
 use Rattle.hx_fields.specs.declared.field_line.Field.{Field}
-use Rattle.hx_framing.specs.declared.messages.Request.{Request}
 use Rattle.hx_hop.specs.declared.request_view.Asked.{Asked}
 use Rattle.hx_hop.specs.declared.conditions.Conditions.{Conditions}
 use Rattle.hx_hop.specs.Forwarding.{forwarded_of, line, via_text}

@@ -5,7 +5,7 @@ use Rattle.std.proofs.lemmas.Bool.{cases_Bool, eqb-true, eq-eqb, false≢true}
 use Rattle.std.proofs.lemmas.Bool.Decides.{nat_tests}
 use Rattle.hx_allow.specs.TableLines.{Table}
 use Rattle.hx_allow.specs.Matching.{policy_of}
-use Rattle.proxy_core.specs.Allowing.{verdict_of_asked}
+use Rattle.proxy_core.specs.Allowing.{verdict_of_asked, exchanges_to_wait_for}
 use Rattle.hx_allow.specs.declared.verdicts.Verdict.{Verdict}
 use Rattle.hx_allow.specs.declared.verdicts.Verdict.TheVariants as verdict
 use Rattle.hx_framing.specs.declared.messages.Request.{Request}
@@ -114,7 +114,7 @@ arrival_tells table es xs now asked (verdict.Allowed line) = by_decision (decisi
 
     by_only : (rule : ReuseRule) (condition : Option Condition) (only : Bool) → is_end (outcome_without_stored_response table es xs line now asked rule condition only) ≡ false
     by_only rule condition true = refl
-    by_only rule condition false = by_leader condition (leader_of_request (policy_of table.lines line) es xs asked rule)
+    by_only rule condition false = by_leader condition (leader_of_request (policy_of table.lines line) es (exchanges_to_wait_for table line asked xs) asked rule)
 
     by_decision : (d : Decision) → is_end (outcome_of_allowed_request table es xs line now asked d) ≡ false
     by_decision (decision.Hit serial) = refl
