@@ -180,6 +180,7 @@ class Words:
 NAMES_OF_CAUSES = {
     "Denied": "denied by line N",
     "NoLine": "no line allows it",
+    "Looped": "loop refused by line N",
     "OnlyIfCached": "only-if-cached",
     "Origin": "origin",
 }

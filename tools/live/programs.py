@@ -308,16 +308,18 @@ def a_table_that_asks_the_server_itself_is_told(stage):
     with socket.create_server(("127.0.0.1", 0)) as free:
         port = free.getsockname()[1]
     own, other, deny = f"127.0.0.1:{port}", f"127.0.0.1:{port - 1}", "deny"
-    for listen, origins, lines in (
-        (own, (other, own, deny, own), (2, 4)),
-        (f"0.0.0.0:{port}", (own, f"127.0.0.2:{port}", other, f"192.0.2.1:{port}"), (1, 2)),
-        (own, (f"127.0.0.2:{port}", other, deny), ()),
+    for listen, origins, lines, version in (
+        (own, (other, own, deny, own), (2, 4), 1),
+        (f"0.0.0.0:{port}", (own, f"127.0.0.2:{port}", other, f"192.0.2.1:{port}"), (1, 2), 3),
+        (own, (f"127.0.0.2:{port}", other, deny), (), 1),
+        (own, (own, deny), (1,), 4),
     ):
         with open(file, "w", encoding="utf-8") as it:
-            it.write(table_of([(f"/{i}", ["*"], origin) for i, origin in enumerate(origins)]))
+            it.write(table_of([(f"/{i}", ["*"], origin) for i, origin in enumerate(origins)], version=version))
         status, _, err = run(stage, "serve", file, "--listen", listen, "--turns", "1")
         told = [it for it in err.splitlines() if it.startswith("warning: the origin")]
-        words = "is this server itself: its requests come back until connections run out"
+        end = "twice, and are refused then" if version == 4 else "until connections run out"
+        words = f"is this server itself: its requests come back {end}"
         expect(f"on {listen}", (0, [f"warning: the origin of line {n} {words}" for n in lines]), (status, told))
 
 

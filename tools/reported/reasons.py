@@ -36,6 +36,7 @@ FAMILIES = {
     "refused": "refused, malformed",
     "denied": "refused by the table",
     "no": "refused by the table",
+    "loop": "refused by the table",
     "origin": "failed at the origin",
 }
 

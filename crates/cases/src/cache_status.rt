@@ -178,6 +178,7 @@ fn cause_of(text: &str) -> Option<Cause> {
     let (what, which) = text.split_once(": ")?;
     match what {
         "denied by line" => Some(Cause::Denied(which.parse::<u16>().ok()?)),
+        "loop refused by line" => Some(Cause::Looped(which.parse::<u16>().ok()?)),
         "only-if-cached" => Some(Cause::OnlyIfCached(named(&REUSE_RULES, which)?)),
         "origin" => origin_cause(which),
         "stream" => Some(Cause::Frame(frame_fault(which)?)),

@@ -10,7 +10,7 @@ use case_text::push_shown;
 use http::Method;
 use hx_allow::{Config, ConfigFault, MOST_LINES, Verdict};
 use hx_fields::{Bytes, Fields};
-use hx_target::{Target, TargetFault, read_target};
+use hx_target::{Target, read_target};
 use std::alloc::{AllocError, Global};
 
 fn write_fault(text: &mut String, fault: &ConfigFault) -> Result<(), AllocError> {
@@ -35,14 +35,28 @@ fn write_fault(text: &mut String, fault: &ConfigFault) -> Result<(), AllocError>
     }
 }
 
-/// Tells that a table is read, and which of its lines have words on caching or no cache.
+/// Whether a line that has an origin refuses requests that loop.
+fn refuses_loops(config: &Config, line: u16) -> bool {
+    config.refuses_loops(line) && !config.origin(line).is_empty()
+}
+
+/// Writes the words of a line that aren't as without words in versions 1 to 3, each behind a space.
+fn write_line_words(text: &mut String, config: &Config, line: u16) -> Result<(), AllocError> {
+    write_words(text, config.policy(line))?;
+    if refuses_loops(config, line) {
+        text.push_str(" loops=refused")?;
+    }
+    Ok(())
+}
+
+/// Tells that a table is read, and which of its lines have words or no cache.
 fn write_read(text: &mut String, config: &Config) -> Result<(), AllocError> {
     text.push_str("read")?;
     for line in 1..=MOST_LINES {
-        let policy = config.policy(line);
-        if usize::from(line) <= config.lines() && has_words(policy) {
+        let has_any = has_words(config.policy(line)) || refuses_loops(config, line);
+        if usize::from(line) <= config.lines() && has_any {
             write!(text, ", line {line}")?;
-            write_words(text, policy)?;
+            write_line_words(text, config, line)?;
         }
     }
     Ok(())
@@ -128,10 +142,10 @@ pub fn changed_tables(text: &mut String, front: &[Line<'_>], case: &Case<'_>) ->
     )
 }
 
-/// The line that allows a request, its origin, and its words on caching.
+/// The line that allows a request, its origin, and its words.
 fn write_allowed(text: &mut String, config: &Config, line: u16) -> Result<(), AllocError> {
     write!(text, "allowed by line {line} to {}", config.origin(line))?;
-    write_words(text, config.policy(line))
+    write_line_words(text, config, line)
 }
 
 fn write_verdict(
@@ -139,44 +153,64 @@ fn write_verdict(
     config: &Config,
     method: &Method,
     target: &Target,
+    fields: &Fields,
 ) -> Result<(), AllocError> {
-    match config.judge(method, target) {
+    match config.judge(method, target, fields) {
         Verdict::Allowed(line) => write_allowed(text, config, line),
         Verdict::DeniedBy(line) => write!(text, "denied by line {line}"),
         Verdict::NoLine => text.push_str("no line"),
+        Verdict::Looped(line) => write!(text, "loop refused by line {line}"),
     }
 }
 
-/// The method, the host and the target of a request in a line.
-fn request_in<'a>(line: Line<'a>) -> Option<(&'a str, &'a str, &'a str)> {
-    let (method, rest) = line.text.split_once(' ')?;
+/// The method, the host and the target of a request.
+fn request_in(text: &str) -> Option<(&str, &str, &str)> {
+    let (method, rest) = text.split_once(' ')?;
     let (host, target) = rest.split_once(' ')?;
     Some((method, host, target))
 }
 
-fn target_of(
-    alloc: Global,
-    host: &str,
-    target: &str,
-) -> Result<Result<Target, TargetFault>, AllocError> {
+fn host_line(alloc: Global, host: &str) -> Result<Fields, AllocError> {
     let mut fields = Fields::new(alloc);
     fields.push(b"Host", host.as_bytes())?;
-    let target = Bytes::copy_of(alloc, target.as_bytes())?;
-    Ok(read_target(alloc, &target, &fields))
+    Ok(fields)
+}
+
+/// Appends the field lines that stand behind a request, each behind ` | `.
+fn push_field_lines(fields: &mut Fields, text: &str) -> Result<(), AllocError> {
+    let mut rest = text;
+    for _line in 0..text.len() {
+        let (text, behind) = rest.split_once(" | ").unwrap_or((rest, ""));
+        let (name, value) = text.split_once(": ").unwrap_or((text, ""));
+        fields.push(name.as_bytes(), value.as_bytes())?;
+        if behind.is_empty() {
+            break;
+        }
+        rest = behind;
+    }
+    Ok(())
 }
 
 fn write_verdict_in(text: &mut String, config: &Config, line: Line<'_>) -> Result<(), Fault> {
-    let Some((method, host, target)) = request_in(line) else {
+    let alloc = *text.allocator();
+    let (request, more) = line.text.split_once(" | ").unwrap_or((line.text, ""));
+    let Some((method, host, target)) = request_in(request) else {
         return Err(line.fault("no method, host and target"));
     };
-    let method = method_of(*text.allocator(), line, method)?;
-    match target_of(*text.allocator(), host, target)? {
-        Ok(target) => Ok(write_verdict(text, config, &method, &target)?),
+    let method = method_of(alloc, line, method)?;
+    let mut fields = host_line(alloc, host)?;
+    let target = Bytes::copy_of(alloc, target.as_bytes())?;
+    match read_target(alloc, &target, &fields) {
+        Ok(target) => {
+            push_field_lines(&mut fields, more)?;
+            Ok(write_verdict(text, config, &method, &target, &fields)?)
+        }
         Err(fault) => Ok(write_refused(text, fault)?),
     }
 }
 
-/// What the table of the front says of a request: `GET shop.example /cart`.
+/// What the table of the front says of a request: `GET shop.example /cart`, with its further field lines behind:
+/// `GET shop.example /cart | Via: 1.1 edge`.
 pub fn verdicts(text: &mut String, front: &[Line<'_>], case: &Case<'_>) -> Result<(), Fault> {
     let line = only_line(&[], case)?;
     let table = text_of(*text.allocator(), front)?;

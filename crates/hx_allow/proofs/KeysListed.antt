@@ -10,13 +10,14 @@ use Rattle.hx_policy.specs.Policies.{plain}
 use Rattle.hx_allow.specs.LineTables.{is_good, first_bad_key}
 use Rattle.hx_allow.specs.LineWords.{key_has_text, word_of_error_lifetime, line_takes_words, gives_lifetimes_to_cookies, leaves_conditions_to_origin, policy_of_line_table}
 use Rattle.hx_allow.specs.Keys.{word_key}
-use Rattle.hx_allow.specs.Rows.{line_keys, has_keys_of}
-use Rattle.hx_allow.specs.Versions.{LineHasNoWord}
-use Rattle.hx_allow.specs.declared.config_faults.LineWord.TheVariants.{Lifetime, ErrorLifetime, LifetimeMost, StaleIfError, SetCookie, Cookies, Errors, RequestDirectives, Wait, Explain, Conditions}
+use Rattle.hx_allow.specs.Rows.{line_keys, word_row, has_keys_of}
+use Rattle.hx_allow.specs.Versions.{LineHasNoCachingWord}
+use Rattle.hx_allow.specs.declared.config_faults.LineWord.TheVariants.{Lifetime, ErrorLifetime, LifetimeMost, StaleIfError, SetCookie, Cookies, Errors, RequestDirectives, Wait, Explain, Conditions, Loops}
 use Rattle.hx_allow.specs.declared.rows.LineKey.{LineKey}
 use Rattle.hx_allow.specs.declared.rows.LineKey.TheVariants.{Host, Methods, Path, Origin, Cache, Word}
 use Rattle.hx_allow.specs.declared.values.TableVersion.{TableVersion}
-use Rattle.hx_allow.specs.declared.values.TableVersion.TheVariants.{Four}
+use Rattle.hx_allow.specs.declared.rows.Place.TheVariants.{CachingLine}
+use Rattle.hx_allow.specs.declared.values.TableVersion.TheVariants.{One, Two, Three, Four}
 use Rattle.hx_allow.proofs.LinesRead.{none_applies}
 
 -- what holds of the list holds of each key
@@ -37,20 +38,27 @@ listed P all (Word RequestDirectives) = all 12 Host (omega arith)
 listed P all (Word Wait) = all 13 Host (omega arith)
 listed P all (Word Explain) = all 14 Host (omega arith)
 listed P all (Word Conditions) = all 15 Host (omega arith)
+listed P all (Word Loops) = all 16 Host (omega arith)
 
--- where no word stands, the policy is that of the versions before the third, in a version before the fourth, or where
--- the line takes none
-pub plain_policy : (version : TableVersion) (ms : Members) → LineHasNoWord ms → (has_keys_of version Four && line_takes_words ms) ≡ false → policy_of_line_table version ms ≡ plain (not (key_has_text (codes "cache") (codes "off") ms))
+-- where no word on caching stands, the policy is that of the versions before the third, in a version before the fourth,
+-- or where the line takes none
+error_lifetime_is_of_caching : (version : TableVersion) → (word_row (word_of_error_lifetime version)).place ≡ CachingLine
+error_lifetime_is_of_caching One = refl
+error_lifetime_is_of_caching Two = refl
+error_lifetime_is_of_caching Three = refl
+error_lifetime_is_of_caching Four = refl
+
+pub plain_policy : (version : TableVersion) (ms : Members) → LineHasNoCachingWord ms → (has_keys_of version Four && line_takes_words ms) ≡ false → policy_of_line_table version ms ≡ plain (not (key_has_text (codes "cache") (codes "off") ms))
 plain_policy version ms none older =
-    let error_lifetime : get_member (word_key (word_of_error_lifetime version)) ms ≡ None = none (word_of_error_lifetime version) in
-    let lifetime : get_member (codes "lifetime") ms ≡ None = none Lifetime in
-    let lifetime_most : get_member (codes "lifetime-most") ms ≡ None = none LifetimeMost in
-    let stale_if_error : get_member (codes "stale-if-error") ms ≡ None = none StaleIfError in
-    let set_cookie : get_member (codes "set-cookie") ms ≡ None = none SetCookie in
-    let errors : get_member (codes "errors") ms ≡ None = none Errors in
-    let request_directives : get_member (codes "request-directives") ms ≡ None = none RequestDirectives in
-    let wait : get_member (codes "wait") ms ≡ None = none Wait in
-    let explain : get_member (codes "explain") ms ≡ None = none Explain in
+    let error_lifetime : get_member (word_key (word_of_error_lifetime version)) ms ≡ None = none (word_of_error_lifetime version) (error_lifetime_is_of_caching version) in
+    let lifetime : get_member (codes "lifetime") ms ≡ None = none Lifetime refl in
+    let lifetime_most : get_member (codes "lifetime-most") ms ≡ None = none LifetimeMost refl in
+    let stale_if_error : get_member (codes "stale-if-error") ms ≡ None = none StaleIfError refl in
+    let set_cookie : get_member (codes "set-cookie") ms ≡ None = none SetCookie refl in
+    let errors : get_member (codes "errors") ms ≡ None = none Errors refl in
+    let request_directives : get_member (codes "request-directives") ms ≡ None = none RequestDirectives refl in
+    let wait : get_member (codes "wait") ms ≡ None = none Wait refl in
+    let explain : get_member (codes "explain") ms ≡ None = none Explain refl in
     let cookies : gives_lifetimes_to_cookies version ms ≡ true = rw older refl in
     let conditions : leaves_conditions_to_origin version ms ≡ true = rw older refl in
     rw cookies (rw conditions (rw error_lifetime (rw lifetime (rw lifetime_most (rw stale_if_error (rw set_cookie (rw errors (rw request_directives (rw wait (rw explain refl))))))))))

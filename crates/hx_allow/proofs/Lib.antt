@@ -8,6 +8,9 @@ pub mod LinesRead
 pub mod Readings
 pub mod TablePaths
 pub mod Versions
+pub mod ViaPieces
+pub mod ViaWritten
+pub mod Loops
 pub mod WordsRead
 pub mod PathTails
 pub mod LeastUnknown

@@ -23,7 +23,7 @@ use Rattle.hx_allow.specs.Versions.{LineHasNoWord, LineHasNoWordOfFour, LineIsSp
 use Rattle.hx_allow.specs.declared.config_faults.ConfigFault.{ConfigFault}
 use Rattle.hx_allow.specs.declared.config_faults.ConfigFault.TheVariants.{UnknownKey, BadNumber, BadCache, BadWord, MethodInLowerCase, StarInPath}
 use Rattle.hx_allow.specs.declared.config_faults.LineWord.{LineWord}
-use Rattle.hx_allow.specs.declared.config_faults.LineWord.TheVariants.{Lifetime, ErrorLifetime, LifetimeMost, StaleIfError, SetCookie, Cookies, Errors, RequestDirectives, Wait, Explain, Conditions}
+use Rattle.hx_allow.specs.declared.config_faults.LineWord.TheVariants.{Lifetime, ErrorLifetime, LifetimeMost, StaleIfError, SetCookie, Cookies, Errors, RequestDirectives, Wait, Explain, Conditions, Loops}
 use Rattle.hx_allow.specs.declared.config_faults.NumberKey.TheVariants.{Version, Capacity, MaxBody, MaxStored, MaxStore}
 use Rattle.hx_allow.specs.declared.rows.LineKey.{LineKey}
 use Rattle.hx_allow.specs.declared.rows.LineKey.TheVariants.{Host, Methods, Path, Origin, Cache, Word}
@@ -162,6 +162,7 @@ known_in_four key other = any_alike (λ known. is_key_of Four key (line_row know
     alike (Word Wait) = refl
     alike (Word Explain) = refl
     alike (Word Conditions) = other Conditions refl
+    alike (Word Loops) = other Loops refl
 
 same_unknown_of_four : (ms : Members) → LineHasNoWordOfFour ms → first_unknown (Line Four) ms ≡ first_unknown (Line Three) ms
 same_unknown_of_four no_members none = refl
@@ -375,6 +376,7 @@ unknown_word_of_four Three RequestDirectives since before = cc
 unknown_word_of_four Three Wait since before = cc
 unknown_word_of_four Three Explain since before = cc
 unknown_word_of_four Three Conditions since before = refl
+unknown_word_of_four Three Loops since before = refl
 unknown_word_of_four Four word since before = cc
 
 never_of_new_words : (version : TableVersion) (line : ℕ) (word : LineWord) (n : ℕ) (ms : Members) (key : LineKey) → (word_row word).since ≡ Four → has_keys_of version Four ≡ false → first_unknown (Line version) ms ≡ None → is_good version ms key ≡ false → ¬ (fault_of_line_key n key ≡ BadWord line word)
@@ -580,18 +582,18 @@ unfolding line_read
 is_cached_line n ms none =
     let known = all_keys_known One n ms none in
     let caches : not (key_has_text (codes "cache") (codes "off") ms) ≡ true = rw (no_cache ms known) refl in
-    plain_policy One ms (no_words One ms refl known) refl ∙ ap plain caches
+    plain_policy One ms (λ word of_caching. no_words One ms refl known word) refl ∙ ap plain caches
 
 is_plain_line : (version : TableVersion) (n : ℕ) (ms : Members) → has_keys_of version Three ≡ false → line_fault version n ms ≡ None → (line_read version ms).policy ≡ plain (line_read version ms).policy.caches
 unfolding line_read
-is_plain_line version n ms other none = plain_policy version ms (no_words version ms other (all_keys_known version n ms none)) (older version ms other)
+is_plain_line version n ms other none = plain_policy version ms (λ word of_caching. no_words version ms other (all_keys_known version n ms none) word) (older version ms other)
 
 is_line_of_three : (version : TableVersion) (n : ℕ) (ms : Members) → has_keys_of version Four ≡ false → line_fault version n ms ≡ None → LineIsOfThree (line_read version ms)
 unfolding line_read
 is_line_of_three version n ms before none =
     let known = all_keys_known version n ms none in
     let most : get_member (codes "lifetime-most") ms ≡ None = not_among_known (Line version) (codes "lifetime-most") ms (unknown_word_of_four version LifetimeMost refl before) known in
-    (rw before refl, rw most refl, rw before refl, rw before refl)
+    (rw before refl, rw most refl, rw before refl, rw before refl, rw before refl)
 
 pub each_is_cached : (t : Members) (table : Table) → version_of t ≡ One → judge_table t ≡ Ok table → All (λ (line : PlainLine). line.policy ≡ plain true) table.lines
 each_is_cached t table one e =

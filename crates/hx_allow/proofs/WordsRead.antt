@@ -11,7 +11,7 @@ use Rattle.hx_allow.specs.Rows.{Row, word_row, fault_of_line_key, has_keys_of}
 use Rattle.hx_allow.specs.LineTables.{is_line_origin, is_of_kind, is_good_at, first_bad_key, first_fault_or_later, spelling_fault, line_fault, line_read}
 use Rattle.hx_allow.specs.Tables.{version_of, judge_table}
 use Rattle.hx_allow.specs.Values.{first_unknown, text_at, is_some_and}
-use Rattle.hx_allow.specs.Versions.{LineHasNoWord, LineTakesItsWords}
+use Rattle.hx_allow.specs.Versions.{LineHasNoCachingWord, LineTakesItsWords}
 use Rattle.hx_allow.specs.declared.config_faults.ConfigFault.TheVariants.{UnknownKey}
 use Rattle.hx_allow.specs.declared.rows.LineKey.{LineKey}
 use Rattle.hx_allow.specs.declared.rows.LineKey.TheVariants.{Origin, Word}
@@ -20,18 +20,14 @@ use Rattle.hx_allow.specs.declared.rows.Place.TheVariants.{Needed, Optional, All
 use Rattle.hx_allow.specs.declared.values.Scope.TheVariants.{Line}
 use Rattle.hx_allow.specs.declared.values.TableVersion.{TableVersion}
 use Rattle.hx_allow.specs.declared.values.TableVersion.TheVariants.{Four}
-use Rattle.hx_allow.proofs.KeysListed.{each_key, each_good, plain_policy}
+use Rattle.hx_allow.proofs.KeysListed.{each_good, plain_policy}
 use Rattle.hx_allow.proofs.LinesRead.{none_mapped, or_later_none, each_line_read}
 
 abbrev is_of_caching : Place → Bool
 is_of_caching CachingLine = true
 is_of_caching _ = false
 
-abbrev is_caching_word : LineKey → Bool
-is_caching_word (Word word) = is_of_caching (word_row word).place
-is_caching_word key = true
-
--- a line that takes no words has none
+-- a line that takes no words on caching has none
 absent : (version : TableVersion) (place : Place) (row : Row) (ms : Members) → is_of_caching place ≡ true → line_takes_words ms ≡ false → is_good_at version place row ms ≡ true → get_member row.key ms ≡ None
 absent version Needed row ms caching untaken good = cc
 absent version Optional row ms caching untaken good = cc
@@ -44,9 +40,9 @@ absent version CachingLine row ms caching untaken good = by_value (get_member ro
     by_value (Some d) true false untaken good = cc
     by_value (Some d) false takes untaken good = cc
 
-no_words : (version : TableVersion) (ms : Members) → line_takes_words ms ≡ false → first_bad_key version ms ≡ None → LineHasNoWord ms
-no_words version ms untaken none = λ word.
-    absent version (word_row word).place (word_row word) ms (each_key is_caching_word refl (Word word)) untaken (each_good version ms none (Word word))
+no_words : (version : TableVersion) (ms : Members) → line_takes_words ms ≡ false → first_bad_key version ms ≡ None → LineHasNoCachingWord ms
+no_words version ms untaken none = λ word of_caching.
+    absent version (word_row word).place (word_row word) ms (ap is_of_caching of_caching) untaken (each_good version ms none (Word word))
 
 -- a line that takes words has an origin and its cache on
 has_origin : (text : Option (List ℕ)) → is_some_and is_line_origin text ≡ true → is_some_and (λ t. bytes_eq t (codes "deny")) text ≡ false → is_some (option_and_then address_text text) ≡ true

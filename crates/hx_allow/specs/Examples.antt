@@ -5,7 +5,7 @@ use Rattle.hx_target.specs.declared.targets.Target.{Target}
 use Rattle.hx_target.specs.Paths.{table_path_of}
 use Rattle.hx_policy.specs.Policies.{plain}
 use Rattle.hx_policy.specs.declared.words.Policy.{Policy}
-use Rattle.hx_allow.specs.TableLines.{Line}
+use Rattle.hx_allow.specs.TableLines.{Line, Table}
 use Rattle.hx_allow.specs.declared.line_hosts.LineHost.{LineHost}
 use Rattle.hx_allow.specs.declared.line_hosts.LineHost.TheVariants.{Every, One, Below}
 
@@ -96,6 +96,7 @@ line_with_method host name path origin = record {
   paths = path ∷ [];
   origin = origin;
   policy = plain true;
+  refuses_loops = false;
 }
 
 -- one for each method, with these hosts and paths
@@ -106,6 +107,7 @@ line_with_lists hosts paths origin = record {
   paths = paths;
   origin = origin;
   policy = plain true;
+  refuses_loops = false;
 }
 
 -- what a line without words says in a table of version 4: requests with a cookie are given no lifetime, and the
@@ -117,9 +119,12 @@ plain_of_four = record (plain true) { gives_to_cookies = false; forwards_conditi
 abbrev pub origin_8081 : Option (List ℕ)
 origin_8081 = Some (codes "127.0.0.1:8081")
 
--- a line without words of version 4
+-- a line without words of version 4, over which requests that loop are refused
 abbrev pub line_of_four : Line
-line_of_four = record (line_with_method None (codes "GET") (codes "/") origin_8081) { policy = plain_of_four }
+line_of_four = record (line_with_method None (codes "GET") (codes "/") origin_8081) {
+  policy = plain_of_four;
+  refuses_loops = true;
+}
 
 -- the first line denies a path, the second allows to get any
 abbrev pub first_line_denies : List Line
@@ -137,6 +142,19 @@ indexed_lines =
     line_with_method (Some (codes "x")) (codes "*") (codes "/p") None ∷ line_with_method None (codes "GET")
     (codes "/") origin_8081
     ∷ line_with_method (Some (codes "x")) (codes "POST") (codes "/") origin_8081 ∷ []
+
+-- the same in a table of this name, but that the second refuses requests that loop
+abbrev pub looping_table : Table
+looping_table = record {
+  name = codes "edge";
+  capacity = 2;
+  max_body = 1000;
+  max_stored = 1000;
+  max_store = None;
+  lines = line_with_method (Some (codes "x")) (codes "*") (codes "/p") None
+      ∷ record (line_with_method None (codes "GET") (codes "/") origin_8081) { refuses_loops = true }
+      ∷ line_with_method (Some (codes "x")) (codes "POST") (codes "/") origin_8081 ∷ [];
+}
 
 -- a line that denies two paths of two hosts and of those below one, one for the hosts below it, and one for every host
 abbrev pub lines_with_lists : List Line

@@ -14,6 +14,7 @@ pub mod Rows
 pub mod Tables
 pub mod Values
 pub mod Versions
+pub mod Via
 pub mod Unknown
 pub mod Deciding
 pub mod Examples

@@ -14,6 +14,7 @@ use Rattle.hx_allow.specs.Addresses.{is_address, address_text}
 use Rattle.hx_allow.specs.LineHosts.{begins_with_star_dot, line_host_of}
 use Rattle.hx_allow.specs.TableLines.{Line as PlainLine}
 use Rattle.hx_allow.specs.LineWords.{key_has_one_of_two, line_denies, line_takes_words, policy_of_line_table}
+use Rattle.hx_allow.specs.LineWords.{refuses_loops}
 use Rattle.hx_allow.specs.Matching.{is_never_allowed}
 use Rattle.hx_allow.specs.Rows.{Kind, a_number, some_seconds, one_of, a_host, some_methods, a_path, an_origin, Row}
 use Rattle.hx_allow.specs.Rows.{line_row, has_keys_of}
@@ -165,6 +166,7 @@ line_read version ms = record {
   paths = map table_path_of (texts_at (codes "path") ms);
   origin = option_and_then address_text (text_at (codes "origin") ms);
   policy = policy_of_line_table version ms;
+  refuses_loops = refuses_loops version ms;
 }
 
 abbrev pub fault_of_line_item : TableVersion → ℕ → Option Members → Option ConfigFault

@@ -4,6 +4,7 @@
 -- word_of_error_lifetime: the word that gives errors their lifetime
 -- gives_lifetimes_to_cookies: the line gives its lifetimes to requests with a cookie, too
 -- leaves_conditions_to_origin: the conditions of clients are the origin's to judge
+-- refuses_loops: requests that loop are refused
 -- policy_of_line_table: what a line without fault says
 use Rattle.std.specs.Prelude.{ℕ, Bool, false, not, ◌&&◌, ◌||◌, if◌then◌else◌, List, codes, bytes_eq}
 use Rattle.toml.specs.Data.{Members}
@@ -13,7 +14,7 @@ use Rattle.hx_allow.specs.Values.{text_at, is_some_and, number_in}
 use Rattle.hx_allow.specs.declared.config_faults.LineWord.{LineWord}
 use Rattle.hx_allow.specs.declared.config_faults.LineWord.TheVariants.{Lifetime, ErrorLifetime, StaleIfError, SetCookie}
 use Rattle.hx_allow.specs.declared.config_faults.LineWord.TheVariants.{Errors, RequestDirectives, Wait, Explain}
-use Rattle.hx_allow.specs.declared.config_faults.LineWord.TheVariants.{LifetimeMost, Cookies, Conditions}
+use Rattle.hx_allow.specs.declared.config_faults.LineWord.TheVariants.{LifetimeMost, Cookies, Conditions, Loops}
 use Rattle.hx_allow.specs.declared.rows.LineKey.TheVariants.{Cache}
 use Rattle.hx_allow.specs.declared.values.TableVersion.{TableVersion}
 
@@ -59,6 +60,11 @@ gives_lifetimes_to_cookies version ms =
 abbrev pub leaves_conditions_to_origin : TableVersion → Members → Bool
 leaves_conditions_to_origin version ms =
     not (has_keys_of version (word_row Conditions).since && line_takes_words ms) || says_second (word_row Conditions) ms
+
+-- own: from the fourth version on requests that loop are refused, unless the line says else ("A request that loops is
+-- refused")
+abbrev pub refuses_loops : TableVersion → Members → Bool
+refuses_loops version ms = has_keys_of version (word_row Loops).since && not (says_second (word_row Loops) ms)
 
 -- own: what a line of a table of a version says of caching, by the operator's words; each key that doesn't stand is as
 -- in the versions before

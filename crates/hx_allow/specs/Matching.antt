@@ -2,21 +2,25 @@
 --
 -- matches_line: one of a line's hosts, one of its methods and one of its paths match
 -- verdict_of: the first line that matches
+-- verdict_of_request: what the whole table says of a whole request
 -- origin_of, origin_address_of, policy_of: what the line of a number says
-use Rattle.std.specs.Prelude.{◌≤◌, IsSome, ℕ, ◌+◌, ◌-◌, ◌==◌, nat_lt, Bool, false, not, ◌&&◌, ◌||◌, if◌then◌else◌}
+use Rattle.std.specs.Prelude.{◌≤◌, IsSome, ℕ, ◌+◌, ◌-◌, ◌==◌, nat_lt, nat_le, Bool, false, not, ◌&&◌, ◌||◌}
+use Rattle.std.specs.Prelude.{if◌then◌else◌}
 use Rattle.std.specs.Prelude.{List, [], ◌∷◌, length, take, slice_index, slice_get, codes, bytes_eq, Option}
 use Rattle.std.specs.Prelude.{Some, None, is_some, unwrap_or, option_map}
 use Rattle.std.specs.Option.{option_and_then}
 use Rattle.std.specs.List.{list_any}
 use Rattle.std.specs.declared.net.socket_addr.SocketAddrV4.{SocketAddrV4}
+use Rattle.hx_fields.specs.declared.field_line.Field.{Field}
 use Rattle.hx_target.specs.declared.targets.Target.{Target}
 use Rattle.hx_policy.specs.declared.words.Policy.{Policy}
 use Rattle.hx_policy.specs.Policies.{plain}
 use Rattle.hx_allow.specs.Addresses.{address_of}
 use Rattle.hx_allow.specs.LineHosts.{any_host_matches}
-use Rattle.hx_allow.specs.TableLines.{Line}
+use Rattle.hx_allow.specs.TableLines.{Line, Table}
+use Rattle.hx_allow.specs.Via.{times_named, request_loops}
 use Rattle.hx_allow.specs.declared.verdicts.Verdict.{Verdict}
-use Rattle.hx_allow.specs.declared.verdicts.Verdict.TheVariants.{Allowed, DeniedBy, NoLine}
+use Rattle.hx_allow.specs.declared.verdicts.Verdict.TheVariants.{Allowed, DeniedBy, NoLine, Looped}
 
 -- own: methods that no line allows: a tunnel, and two that need Max-Forwards (RFC 9110, sections 7.6.2 and 9.3.6)
 abbrev pub is_never_allowed : List ℕ → Bool
@@ -87,9 +91,33 @@ abbrev pub VerdictNamesAnOrigin : List Line → Verdict → Type 0
 VerdictNamesAnOrigin lines (Allowed n) = LineAllows lines n
 VerdictNamesAnOrigin lines (DeniedBy n) = Unit {0}
 VerdictNamesAnOrigin lines NoLine = Unit {0}
+VerdictNamesAnOrigin lines (Looped n) = Unit {0}
 
 -- the number of the line that decided
 abbrev pub line_number : Verdict → Option ℕ
 line_number (Allowed n) = Some n
 line_number (DeniedBy n) = Some n
 line_number NoLine = None
+line_number (Looped n) = Some n
+
+-- the line of this number refuses requests that loop
+abbrev pub line_refuses_loops : List Line → ℕ → Bool
+line_refuses_loops lines n =
+    unwrap_or (option_map (λ (line : Line). line.refuses_loops) (line_of_number lines n)) false
+
+-- over a line of this number that refuses loops a request was here before
+abbrev pub request_came_back : Table → ℕ → List Field → Bool
+request_came_back table n fields = line_refuses_loops table.lines n && nat_le 1 (times_named table.name fields)
+
+-- what is said of a request that a line allows, by whether it loops
+abbrev pub verdict_on_loops : List Line → Bool → Verdict → Verdict
+verdict_on_loops lines loops (Allowed n) = if line_refuses_loops lines n && loops then Looped n else Allowed n
+verdict_on_loops lines loops (DeniedBy n) = DeniedBy n
+verdict_on_loops lines loops NoLine = NoLine
+verdict_on_loops lines loops (Looped n) = Looped n
+
+-- What the table says of a request, of which it knows method, target and fields: what the first line says that matches,
+-- but that one which refuses loops doesn't allow a request that was here twice already.
+unfoldable pub verdict_of_request : Table → List ℕ → Target → List Field → Verdict
+verdict_of_request table method target fields =
+    verdict_on_loops table.lines (request_loops table.name fields) (verdict_of table.lines method target)

@@ -12,7 +12,7 @@ use Rattle.hx_allow.specs.declared.config_faults.ConfigFault.TheVariants.{BadPat
 use Rattle.hx_allow.specs.declared.config_faults.LineWord.{LineWord}
 use Rattle.hx_allow.specs.declared.config_faults.LineWord.TheVariants.{Lifetime, ErrorLifetime, StaleIfError, SetCookie}
 use Rattle.hx_allow.specs.declared.config_faults.LineWord.TheVariants.{Errors, RequestDirectives, Wait, Explain}
-use Rattle.hx_allow.specs.declared.config_faults.LineWord.TheVariants.{LifetimeMost, Cookies, Conditions}
+use Rattle.hx_allow.specs.declared.config_faults.LineWord.TheVariants.{LifetimeMost, Cookies, Conditions, Loops}
 use Rattle.hx_allow.specs.declared.config_faults.NumberKey.{NumberKey}
 use Rattle.hx_allow.specs.declared.config_faults.NumberKey.TheVariants.{Version, Capacity, MaxBody, MaxStored}
 use Rattle.hx_allow.specs.declared.config_faults.NumberKey.TheVariants.{MaxStore}
@@ -61,6 +61,10 @@ required_row key kind = record { key = key; since = One; kind = kind; place = Ne
 abbrev pub row_for_caching_lines : List ℕ → TableVersion → Kind → Row
 row_for_caching_lines key since kind = record { key = key; since = since; kind = kind; place = CachingLine }
 
+-- a key of a line that has an origin
+abbrev pub row_for_allowing_lines : List ℕ → TableVersion → Kind → Row
+row_for_allowing_lines key since kind = record { key = key; since = since; kind = kind; place = AllowingLine }
+
 abbrev pub number_row : NumberKey → Row
 number_row Version = required_row (codes "version") a_version
 number_row Capacity = required_row (codes "capacity") (a_number 1 65536)
@@ -103,16 +107,17 @@ word_row RequestDirectives = row_for_caching_lines (codes "request-directives") 
 word_row Wait = row_for_caching_lines (codes "wait") Three (one_of (codes "missing") (codes "missing-or-stale"))
 word_row Explain = row_for_caching_lines (codes "explain") Three (one_of (codes "reuse") (codes "storing"))
 word_row Conditions = row_for_caching_lines (codes "conditions") Four (one_of (codes "answered") (codes "forwarded"))
+word_row Loops = row_for_allowing_lines (codes "loops") Four (one_of (codes "refused") (codes "forwarded"))
 
 -- the words of a line, in the order in which they are looked at
 abbrev pub line_words : List LineWord
 line_words =
     Lifetime ∷ ErrorLifetime ∷ LifetimeMost ∷ StaleIfError ∷ SetCookie ∷ Cookies ∷ Errors ∷ RequestDirectives ∷ Wait
-    ∷ Explain ∷ Conditions ∷ []
+    ∷ Explain ∷ Conditions ∷ Loops ∷ []
 
 -- what is told of a key that isn't known, with the keys that a version adds
 abbrev pub words_of_unknown_key : List ℕ
-words_of_unknown_key = codes "a key isn't known where it stands; correct its spelling or delete it: behind [[line]] keys belong to that line; cache needs version = 2, 3 or 4, lifetime, stale-if-error, set-cookie, errors, request-directives, wait and explain need version = 3 or 4, and max_store, error-lifetime, lifetime-most, cookies and conditions need version = 4"
+words_of_unknown_key = codes "a key isn't known where it stands; correct its spelling or delete it: behind [[line]] keys belong to that line; cache needs version = 2, 3 or 4, lifetime, stale-if-error, set-cookie, errors, request-directives, wait and explain need version = 3 or 4, and max_store, error-lifetime, lifetime-most, cookies, conditions and loops need version = 4"
 
 abbrev pub line_row : LineKey → Row
 line_row Host = required_row (codes "host") a_host

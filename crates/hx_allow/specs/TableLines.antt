@@ -1,16 +1,17 @@
 -- The operator's table as plain lists.
-use Rattle.std.specs.Prelude.{ℕ, List, Option}
+use Rattle.std.specs.Prelude.{ℕ, Bool, List, Option}
 use Rattle.hx_policy.specs.declared.words.Policy.{Policy}
 use Rattle.hx_allow.specs.declared.line_hosts.LineHost.{LineHost}
 
 -- A line: the hosts that it matches, its methods with `*` among them, its paths, the address of its origin or none
--- where it denies, and what it says of caching.
+-- where it denies, what it says of caching, and whether it refuses requests that loop.
 pub record Line : Type 0 where
   pub hosts : List LineHost
   pub methods : List (List ℕ)
   pub paths : List (List ℕ)
   pub origin : Option (List ℕ)
   pub policy : Policy
+  pub refuses_loops : Bool
 
 -- The whole table. Limits are bytes, but for the capacity, which is entries. The bytes of all stored responses are
 -- bounded where `max_store` stands.

@@ -10,6 +10,7 @@ use Rattle.hx_allow.specs.Rows.{word_row}
 use Rattle.hx_allow.specs.TableLines.{Line}
 use Rattle.hx_allow.specs.Values.{is_some_and, items_at, text_at}
 use Rattle.hx_allow.specs.declared.config_faults.LineWord.{LineWord}
+use Rattle.hx_allow.specs.declared.rows.Place.TheVariants.{CachingLine}
 use Rattle.hx_allow.specs.declared.values.TableVersion.TheVariants.{Four}
 
 -- no word stands
@@ -35,14 +36,20 @@ abbrev pub LineHasOneHostAndPath : Line → Type 0
 LineHasOneHostAndPath line =
     (length line.hosts ≡ 1) × (length line.paths ≡ 1) × (list_any is_for_hosts_below line.hosts ≡ false)
 
+-- no word on caching stands
+abbrev pub LineHasNoCachingWord : Members → Type 0
+LineHasNoCachingWord ms = (word : LineWord) → (word_row word).place ≡ CachingLine → get_member (word_key word) ms ≡ None
+
 -- what a line of the third version says: errors have the lifetime of all others, each stated lifetime counts as it is,
--- requests with a cookie are given the lifetimes of all others, and the conditions of clients are the origin's to judge
+-- requests with a cookie are given the lifetimes of all others, the conditions of clients are the origin's to judge, and
+-- requests that loop go on
 abbrev pub LineIsOfThree : Line → Type 0
 LineIsOfThree line =
     (line.policy.error_lifetime ≡ line.policy.lifetime) × (line.policy.lifetime_most ≡ None)
     × (line.policy.gives_to_cookies ≡ true) × (line.policy.forwards_conditions ≡ true)
+    × (line.refuses_loops ≡ false)
 
--- a line has no word, or it allows and has its cache on
+-- a line says nothing of caching but whether it caches, or it allows and has its cache on
 abbrev pub LineTakesItsWords : Line → Type 0
 LineTakesItsWords line =
     (line.policy ≡ plain line.policy.caches) ⊎ ((is_some line.origin ≡ true) × (line.policy.caches ≡ true))

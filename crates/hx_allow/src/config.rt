@@ -2,17 +2,20 @@
 ghost use Rattle.std.specs.Prelude.{◌≡◌, ◌≤◌, [], length, Err, IfSome, unwrap_or};
 ghost use Rattle.std.specs.Option.{option_copied, option_map};
 ghost use Rattle.std.specs.Net.Text.{socket_v4_text};
-ghost use Rattle.hx_allow.specs.Matching.{verdict_of, origin_of, origin_address_of, policy_of, VerdictNamesAnOrigin};
+ghost use Rattle.hx_allow.specs.Matching.{verdict_of, verdict_of_request, origin_of, origin_address_of, policy_of};
+ghost use Rattle.hx_allow.specs.Matching.{line_refuses_loops, request_came_back, VerdictNamesAnOrigin};
 ghost use Rattle.hx_allow.specs.NeverReached.{first_line_taking};
 ghost use Rattle.hx_allow.specs.Tables.{BytesReadAs, TableWasRead};
 
 use crate::host_index::HostIndex;
 use crate::lines::{Line, is_never_allowed};
-use crate::matching::{line_at, verdict_for_host};
+use crate::matching::{line_at, line_refuses_loops, verdict_for_host};
 use crate::origins::Origin;
 use crate::shadows::first_taking;
+use crate::via::{request_loops, was_here};
 use crate::{ConfigFault, Verdict, config_reading};
 use http::Method;
+use hx_fields::Fields;
 use hx_policy::Policy;
 use hx_target::Target;
 use std::alloc::Global;
@@ -97,8 +100,30 @@ impl Config {
         let _lines = &self.lines;
     }
 
-    /// What the table says of a request: the first line decides whose host, a method and path match.
-    pub fn judge(&self, method: &Method, target: &Target) -> Verdict
+    /// What the table says of a request: the first line decides whose host, a method and path match. Over a line that
+    /// refuses loops a request isn't allowed whose Via names this proxy twice (RFC 9110, section 7.6.3).
+    #[tactic(auto, unfolding(crate::specs::Matching::verdict_of_request))]
+    pub fn judge(&self, method: &Method, target: &Target, fields: &Fields) -> Verdict
+        ensures verdict { result ≡ verdict_of_request self.now method.now target.now fields.now }
+        ensures allowing { VerdictNamesAnOrigin self.now.lines result }
+    {
+        let verdict = self.judge_target(method, target);
+        match verdict {
+            Verdict::Allowed(line) => {
+                let name = self.name.as_bytes();
+                if self.refuses_loops(line) && request_loops(name, fields.as_slice()) {
+                    Verdict::Looped(line)
+                } else {
+                    verdict
+                }
+            }
+            _ => verdict,
+        }
+    }
+
+    /// What the first line says whose host, a method and path match: what the table says of a request that was never
+    /// here before.
+    pub fn judge_target(&self, method: &Method, target: &Target) -> Verdict
         ensures verdict { result ≡ verdict_of self.now.lines method.now target.now }
         ensures allowing { VerdictNamesAnOrigin self.now.lines result }
     {
@@ -147,6 +172,20 @@ impl Config {
             Some(line) => line.policy,
             None => Policy::plain(false),
         }
+    }
+
+    /// Whether a line, counted from 1, refuses requests that loop.
+    pub fn refuses_loops(&self, line: u16) -> bool
+        ensures { result ≡ line_refuses_loops self.now.lines line }
+    {
+        line_refuses_loops(&self.lines, line)
+    }
+
+    /// Whether the Via of a request names this proxy, over a line that refuses loops.
+    pub fn came_back(&self, line: u16, fields: &Fields) -> bool
+        ensures { result ≡ request_came_back self.now line fields.now }
+    {
+        self.refuses_loops(line) && was_here(self.name.as_bytes(), fields.as_slice())
     }
 
     /// The first line in front of one, both counted from 1, that takes all that this could match,

@@ -31,7 +31,7 @@ impl NumberKey {
     }
 }
 
-/// A key of a line of version 3 or 4 that says more of caching, in the table's order.
+/// A key of a line of version 3 or 4 that says more of caching, or of loops, in the table's order.
 #[derive(Clone, Copy, Debug, PartialEq, Eq, Hash)]
 pub enum LineWord {
     /// The lifetime of what states none, 1 to 2,147,483,648 seconds (RFC 9111, section 4.2.2). In
@@ -60,6 +60,8 @@ pub enum LineWord {
     /// Whether the proxy judges the If-None-Match and If-Modified-Since of a GET, or the origin (RFC 9111, section
     /// 4.3.2). It needs version 4.
     Conditions,
+    /// Whether a request whose Via names this proxy twice is refused (RFC 9110, section 7.6.3). It needs version 4.
+    Loops,
 }
 
 impl LineWord {

@@ -10,14 +10,14 @@ ghost use Rattle.hx_allow.specs.declared.config_faults.ConfigFault.TheVariants.{
 ghost use Rattle.hx_allow.specs.declared.config_faults.LineWord.TheVariants.{Lifetime, ErrorLifetime, StaleIfError};
 ghost use Rattle.hx_allow.specs.declared.config_faults.LineWord.TheVariants.{SetCookie, Errors, RequestDirectives};
 ghost use Rattle.hx_allow.specs.declared.config_faults.LineWord.TheVariants.{Wait, Explain, Conditions};
-ghost use Rattle.hx_allow.specs.declared.config_faults.LineWord.TheVariants.{LifetimeMost, Cookies};
+ghost use Rattle.hx_allow.specs.declared.config_faults.LineWord.TheVariants.{LifetimeMost, Cookies, Loops};
 ghost use Rattle.hx_allow.specs.declared.config_faults.NumberKey.TheVariants.{Version, Capacity, MaxBody, MaxStored};
 ghost use Rattle.hx_allow.specs.declared.config_faults.NumberKey.TheVariants.{MaxStore};
 
 /// What has to stand at the top of a table.
 pub fn worked_words_of_the_top()
     ensures not_toml { expected_words NotToml ≡ codes "the table is no TOML, has a key twice, or has more than 1048576 bytes; look for a quote or bracket that is missing" }
-    ensures unknown_key { (key : List ℕ) → expected_words (UnknownKey key) ≡ codes "a key isn't known where it stands; correct its spelling or delete it: behind [[line]] keys belong to that line; cache needs version = 2, 3 or 4, lifetime, stale-if-error, set-cookie, errors, request-directives, wait and explain need version = 3 or 4, and max_store, error-lifetime, lifetime-most, cookies and conditions need version = 4" }
+    ensures unknown_key { (key : List ℕ) → expected_words (UnknownKey key) ≡ codes "a key isn't known where it stands; correct its spelling or delete it: behind [[line]] keys belong to that line; cache needs version = 2, 3 or 4, lifetime, stale-if-error, set-cookie, errors, request-directives, wait and explain need version = 3 or 4, and max_store, error-lifetime, lifetime-most, cookies, conditions and loops need version = 4" }
     ensures bad_name { expected_words BadName ≡ codes "name has to be a lower-case letter and at most 31 of a-z, 0-9 and -, in quotes" }
     ensures no_lines { expected_words NoLines ≡ codes "a table has 1 to 256 lines, or 1 to 4096 in version 4, each of which begins with [[line]]" }
     ensures out_of_memory { expected_words OutOfMemory ≡ codes "no memory is left for the table" }
@@ -52,6 +52,7 @@ pub fn worked_words_of_words()
     ensures wait { (line : ℕ) → expected_words (BadWord line Wait) ≡ codes "wait has to be \"missing\" or \"missing-or-stale\", in a line that has an origin and its cache on" }
     ensures explain { (line : ℕ) → expected_words (BadWord line Explain) ≡ codes "explain has to be \"reuse\" or \"storing\", in a line that has an origin and its cache on" }
     ensures conditions { (line : ℕ) → expected_words (BadWord line Conditions) ≡ codes "conditions has to be \"answered\" or \"forwarded\", in a line that has an origin and its cache on" }
+    ensures loops { (line : ℕ) → expected_words (BadWord line Loops) ≡ codes "loops has to be \"refused\" or \"forwarded\", and not to stand in a line that denies" }
 {}
 
 /// A fault of a line begins with its number.

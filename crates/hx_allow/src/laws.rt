@@ -93,8 +93,8 @@ pub fn version_two_reads_as_before()
 /// the store's bytes, of which it has none, so that what is stored is bounded by its number alone, as
 /// before; and for a word of the fourth, of which none of its lines has one, so that errors have the
 /// lifetime of all others, each stated lifetime counts as it is, requests with a cookie are given the
-/// lifetimes of all others, and the conditions of clients go to the origin, as before. Nor is it refused
-/// for a method in lower case or a `*` in a path. Each of its lines has one path, and one host or every
+/// lifetimes of all others, the conditions of clients go to the origin, and requests that loop go on,
+/// as before. Nor is it refused for a method in lower case or a `*` in a path. Each of its lines has one path, and one host or every
 /// one. A line without such a word, such a spelling, a list and `*.` and a host is read alike in the
 /// fourth; what the third reads has neither of the last two.
 pub fn version_three_reads_as_before()
@@ -154,7 +154,7 @@ pub fn a_store_takes_each_content()
         → IfSome table.max_store (λ most. (65536 ≤ most) × (most ≤ 2 ^ 40) × (table.max_stored ≤ most)) }
 {}
 
-/// A line that has a word of the third version or the fourth allows, and has its cache on.
+/// A line that has a word on caching of the third version or the fourth allows, and has its cache on.
 pub fn words_belong_where_a_line_caches()
     ensures { (t : Members) (table : Table) → judge_table t ≡ Ok table → All LineTakesItsWords table.lines }
 {}
@@ -180,6 +180,7 @@ pub fn a_whole_table_is_read()
         paths = codes "/" ∷ [];
         origin = Some (codes "127.0.0.1:8081");
         policy = plain true;
+        refuses_loops = false;
       } ∷ [];
     })) }
 {}
@@ -199,12 +200,14 @@ pub fn a_table_of_two_lines_is_read()
         paths = codes "/admin" ∷ [];
         origin = None;
         policy = plain true;
+        refuses_loops = false;
       } ∷ record {
         hosts = OneHost (codes "x") ∷ [];
         methods = codes "GET" ∷ [];
         paths = codes "/" ∷ [];
         origin = Some (codes "127.0.0.1:8081");
         policy = plain true;
+        refuses_loops = false;
       } ∷ [];
     })) }
 {}
@@ -230,18 +233,21 @@ pub fn lines_without_cache_are_read()
         paths = codes "/live" ∷ [];
         origin = Some (codes "127.0.0.1:8081");
         policy = plain false;
+        refuses_loops = false;
       } ∷ record {
         hosts = Every ∷ [];
         methods = codes "GET" ∷ [];
         paths = codes "/shop" ∷ [];
         origin = Some (codes "127.0.0.1:8081");
         policy = plain true;
+        refuses_loops = false;
       } ∷ record {
         hosts = Every ∷ [];
         methods = codes "GET" ∷ [];
         paths = codes "/" ∷ [];
         origin = Some (codes "127.0.0.1:8081");
         policy = plain true;
+        refuses_loops = false;
       } ∷ [];
     })) }
 {}

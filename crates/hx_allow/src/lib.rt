@@ -21,6 +21,8 @@ mod line_words;
 mod lines;
 mod list_cases;
 mod list_laws;
+mod loop_cases;
+mod loop_laws;
 mod matching;
 mod origins;
 mod path_tails;
@@ -31,6 +33,7 @@ mod table_laws;
 mod tables;
 mod values;
 mod verdicts;
+mod via;
 mod worked_cases;
 
 pub use config::Config;
@@ -62,6 +65,11 @@ pub use list_cases::{
 pub use list_laws::{
     a_text_alone_is_a_list_of_one, hosts_below_one_end_with_it, lists_are_a_spelling,
     worked_hosts_below_others,
+};
+pub use loop_cases::{worked_lines_of_via, worked_loops_of_lines, worked_requests_that_loop};
+pub use loop_laws::{
+    a_line_of_via_is_read_as_it_is_written, a_loop_is_refused_where_its_line_says_so,
+    other_requests_are_judged_as_before,
 };
 pub use table_cases::{
     a_table_has_1_to_256_lines, faults_of_a_line_in_order, faults_of_a_store_bound,

@@ -25,7 +25,9 @@ use crate::addresses::address_of;
 use crate::config_faults::FoundFault;
 use crate::line_hosts::LineHost;
 use crate::line_paths::LinePath;
-use crate::line_words::{key_has_one_of_two, line_denies, line_takes_words, policy_of_line_table};
+use crate::line_words::{
+    key_has_one_of_two, line_denies, line_takes_words, policy_of_line_table, refuses_loops,
+};
 use crate::lines::{Line, is_never_allowed};
 use crate::origins::Origin;
 use crate::rows::{Kind, LINE_KEYS, LineKey, Place, Row};
@@ -409,6 +411,7 @@ fn line_read(alloc: Global, version: TableVersion, table: &Table) -> Result<Line
         paths: paths_of(alloc, &paths)?,
         origin: origin_rule(alloc, text_at(table, "origin"))?,
         policy: policy_of_line_table(version, table),
+        refuses_loops: refuses_loops(version, table),
     })
 }
 

@@ -5,7 +5,7 @@ ghost use Rattle.toml.specs.Data.{boolean, integer};
 ghost use Rattle.toml.specs.Parse.{parse_document};
 ghost use Rattle.hx_policy.specs.Policies.{plain};
 ghost use Rattle.hx_allow.specs.Examples.{denying_line_table_with, key_with_number, line_with_method, origin_8081};
-ghost use Rattle.hx_allow.specs.Examples.{key_with_text, line_table_with_keys, plain_of_four};
+ghost use Rattle.hx_allow.specs.Examples.{key_with_text, line_table_with_keys, line_of_four, plain_of_four};
 ghost use Rattle.hx_allow.specs.Keys.{word_key};
 ghost use Rattle.hx_allow.specs.LineTables.{line_fault, line_read};
 ghost use Rattle.hx_allow.specs.Tables.{judge_table};
@@ -350,7 +350,7 @@ pub fn a_table_with_a_lifetime_of_errors_is_read()
       max_body = 1000;
       max_stored = 1000;
       max_store = None;
-      lines = record (line_with_method None (codes "GET") (codes "/") origin_8081) {
+      lines = record line_of_four {
         policy = record plain_of_four { lifetime = Some 60; error_lifetime = Some 5 };
       } ∷ [];
     })) }

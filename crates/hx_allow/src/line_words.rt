@@ -4,7 +4,7 @@ ghost use Rattle.toml.specs.View.{table_view};
 ghost use Rattle.hx_allow.specs.LineWords.{key_has_one_of_two, key_has_text, line_denies, line_takes_words};
 ghost use Rattle.hx_allow.specs.LineWords.{says_second, word_of_error_lifetime};
 ghost use Rattle.hx_allow.specs.LineWords.{gives_lifetimes_to_cookies, leaves_conditions_to_origin};
-ghost use Rattle.hx_allow.specs.LineWords.{policy_of_line_table};
+ghost use Rattle.hx_allow.specs.LineWords.{refuses_loops, policy_of_line_table};
 ghost use Rattle.hx_allow.specs.Rows.{plain_row};
 
 use crate::config_faults::LineWord;
@@ -81,6 +81,14 @@ fn leaves_conditions_to_origin(version: TableVersion, table: &Table) -> bool
 {
     let row = LineWord::Conditions.row();
     !(row.is_known_in(version) && line_takes_words(table)) || says_second(row, table)
+}
+
+/// Whether requests that loop are refused.
+pub fn refuses_loops(version: TableVersion, table: &Table) -> bool
+    ensures { result ≡ refuses_loops version (table_view table.now) }
+{
+    let row = LineWord::Loops.row();
+    row.is_known_in(version) && !says_second(row, table)
 }
 
 /// What a line without fault says of caching, in a table of a version.

@@ -24,6 +24,8 @@ pub struct Line {
     pub origin: Option<Origin>,
     /// What it says of caching.
     pub policy: Policy,
+    /// Whether it refuses requests that loop.
+    pub refuses_loops: bool,
 }
 
 impl Model for Line {
@@ -37,6 +39,7 @@ impl Model for Line {
       paths = l.paths.items;
       origin = l.origin;
       policy = l.policy;
+      refuses_loops = l.refuses_loops;
     } };
 }
 

@@ -114,11 +114,12 @@ pub fn worked_lines_with_lists()
           paths = codes "/a" ∷ codes "/" ∷ [];
           origin = None;
           policy = plain true;
+          refuses_loops = true;
         } }
     ensures alone { line_read Four (line_table_of (string (codes "a")) (string (codes "/")))
-        ≡ line_with_method (Some (codes "a")) (codes "GET") (codes "/") None }
+        ≡ record (line_with_method (Some (codes "a")) (codes "GET") (codes "/") None) { refuses_loops = true } }
     ensures of_one { line_read Four (line_table_of (list_of_texts (codes "a" ∷ [])) (list_of_texts (codes "/" ∷ [])))
-        ≡ line_with_method (Some (codes "a")) (codes "GET") (codes "/") None }
+        ≡ record (line_with_method (Some (codes "a")) (codes "GET") (codes "/") None) { refuses_loops = true } }
 {}
 
 /// A line decides where one of its hosts and one of its paths match, and the first such line does.

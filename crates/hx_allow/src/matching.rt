@@ -1,7 +1,7 @@
 //! The first line of the table that matches.
 ghost use Rattle.std.specs.Prelude.{◌≡◌};
 ghost use Rattle.std.specs.Option.{option_copied};
-ghost use Rattle.hx_allow.specs.Matching.{line_of_number, verdict_of_line};
+ghost use Rattle.hx_allow.specs.Matching.{line_of_number, line_refuses_loops, verdict_of_line};
 ghost use Rattle.hx_allow.specs.Index.{verdict_among, verdict_above, verdict_where, can_match, hosts_above};
 ghost use Rattle.hx_allow.specs.Index.{IsHostIndexOf, HasNoLonger};
 
@@ -17,6 +17,16 @@ pub(crate) fn line_at(lines: &[Line], number: u16) -> Option<&Line>
         return None;
     }
     lines.get(usize::from(number) - 1)
+}
+
+/// Whether the line of a number, counted from 1, refuses requests that loop.
+pub(crate) fn line_refuses_loops(lines: &[Line], number: u16) -> bool
+    ensures { result ≡ line_refuses_loops lines.now number }
+{
+    match line_at(lines, number) {
+        Some(line) => line.refuses_loops,
+        None => false,
+    }
 }
 
 /// What a line of this number says where it decides.

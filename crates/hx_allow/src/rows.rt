@@ -89,7 +89,7 @@ pub(crate) const TOP_KEYS: [TopKey; 7] = [
 ];
 
 /// The keys of a line, in the order in which they are looked at.
-pub(crate) const LINE_KEYS: [LineKey; 16] = [
+pub(crate) const LINE_KEYS: [LineKey; 17] = [
     LineKey::Host,
     LineKey::Methods,
     LineKey::Path,
@@ -106,11 +106,12 @@ pub(crate) const LINE_KEYS: [LineKey; 16] = [
     LineKey::Word(LineWord::Wait),
     LineKey::Word(LineWord::Explain),
     LineKey::Word(LineWord::Conditions),
+    LineKey::Word(LineWord::Loops),
 ];
 
 /// What is told of a key that isn't known, with the keys that a version adds.
 pub(crate) const WORDS_OF_UNKNOWN_KEY: &str =
-    "a key isn't known where it stands; correct its spelling or delete it: behind [[line]] keys belong to that line; cache needs version = 2, 3 or 4, lifetime, stale-if-error, set-cookie, errors, request-directives, wait and explain need version = 3 or 4, and max_store, error-lifetime, lifetime-most, cookies and conditions need version = 4";
+    "a key isn't known where it stands; correct its spelling or delete it: behind [[line]] keys belong to that line; cache needs version = 2, 3 or 4, lifetime, stale-if-error, set-cookie, errors, request-directives, wait and explain need version = 3 or 4, and max_store, error-lifetime, lifetime-most, cookies, conditions and loops need version = 4";
 
 impl NumberKey {
     pub(crate) fn row(self) -> Row
@@ -195,6 +196,12 @@ impl LineWord {
                 Four,
                 OneOf("answered", "forwarded"),
             ),
+            LineWord::Loops => Row {
+                key: "loops",
+                since: Four,
+                kind: OneOf("refused", "forwarded"),
+                place: Place::AllowingLine,
+            },
         }
     }
 }

@@ -114,6 +114,7 @@ pub fn worked_lines()
           paths = codes "/" ∷ [];
           origin = None;
           policy = plain true;
+          refuses_loops = false;
         } }
 {}
 

@@ -11,6 +11,8 @@ pub enum Verdict {
     DeniedBy(u16),
     /// No line matches, which denies too.
     NoLine,
+    /// The first line that matches has an origin, and refuses requests that loop, as this one.
+    Looped(u16),
 }
 
 impl Verdict {
@@ -19,7 +21,9 @@ impl Verdict {
         ensures { result ≡ is_found_by number self }
     {
         match self {
-            Verdict::Allowed(line) | Verdict::DeniedBy(line) => line <= number,
+            Verdict::Allowed(line) | Verdict::DeniedBy(line) | Verdict::Looped(line) => {
+                line <= number
+            }
             Verdict::NoLine => false,
         }
     }

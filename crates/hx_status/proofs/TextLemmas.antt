@@ -13,7 +13,7 @@ use Rattle.hx_status.specs.declared.cause.FailKind.{FailKind}
 use Rattle.hx_status.specs.declared.cause.FailKind.TheVariants as kind
 use Rattle.hx_status.specs.Refusals.{CauseIsOfTheTable, frame_word, fail_kind_word, reuse_rule_text, refusal_status, target_word}
 use Rattle.hx_status.specs.declared.cause.Cause.{Cause}
-use Rattle.hx_status.specs.declared.cause.Cause.TheVariants.{Denied, NoLine, OnlyIfCached, Origin, Frame, Target}
+use Rattle.hx_status.specs.declared.cause.Cause.TheVariants.{Denied, NoLine, Looped, OnlyIfCached, Origin, Frame, Target}
 
 -- the rule that has this text
 named_by : List ℕ → Option ReuseRule
@@ -126,6 +126,7 @@ not_403 status other is = grind (arith, nat_tests)
 pub only_the_table_forbids : (cause : Cause) → refusal_status cause ≡ 403 → CauseIsOfTheTable cause
 only_the_table_forbids (Denied line) h = inl (line, refl)
 only_the_table_forbids NoLine h = inr refl
+only_the_table_forbids (Looped line) h = absurd (not_403 (refusal_status (Looped line)) refl h)
 only_the_table_forbids (OnlyIfCached rule) h = absurd (not_403 (refusal_status (OnlyIfCached rule)) refl h)
 only_the_table_forbids (Origin kind.Refused rule error) h = absurd (not_403 (refusal_status (Origin kind.Refused rule error)) refl h)
 only_the_table_forbids (Origin kind.TimedOut rule error) h = absurd (not_403 (refusal_status (Origin kind.TimedOut rule error)) refl h)
@@ -155,3 +156,36 @@ only_the_table_forbids (Target target.OutOfMemory) h = absurd (not_403 (refusal_
 pub the_table_forbids : (cause : Cause) → CauseIsOfTheTable cause → refusal_status cause ≡ 403
 the_table_forbids cause (inl (line, is)) = rw is refl
 the_table_forbids cause (inr is) = rw is refl
+
+not_508 : (status : ℕ) → (status == 508) ≡ false → status ≡ 508 → ⊥
+not_508 status other is = grind (arith, nat_tests)
+
+pub only_a_loop : (cause : Cause) → refusal_status cause ≡ 508 → (line : ℕ) × (cause ≡ Looped line)
+only_a_loop (Denied line) h = absurd (not_508 (refusal_status (Denied line)) refl h)
+only_a_loop NoLine h = absurd (not_508 (refusal_status NoLine) refl h)
+only_a_loop (Looped line) h = (line, refl)
+only_a_loop (OnlyIfCached rule) h = absurd (not_508 (refusal_status (OnlyIfCached rule)) refl h)
+only_a_loop (Origin kind.Refused rule error) h = absurd (not_508 (refusal_status (Origin kind.Refused rule error)) refl h)
+only_a_loop (Origin kind.TimedOut rule error) h = absurd (not_508 (refusal_status (Origin kind.TimedOut rule error)) refl h)
+only_a_loop (Origin kind.Closed rule error) h = absurd (not_508 (refusal_status (Origin kind.Closed rule error)) refl h)
+only_a_loop (Origin kind.BadAnswer rule error) h = absurd (not_508 (refusal_status (Origin kind.BadAnswer rule error)) refl h)
+only_a_loop (Origin kind.TooLarge rule error) h = absurd (not_508 (refusal_status (Origin kind.TooLarge rule error)) refl h)
+only_a_loop (Frame frame.Head) h = absurd (not_508 (refusal_status (Frame frame.Head)) refl h)
+only_a_loop (Frame frame.Version) h = absurd (not_508 (refusal_status (Frame frame.Version)) refl h)
+only_a_loop (Frame frame.BothLengths) h = absurd (not_508 (refusal_status (Frame frame.BothLengths)) refl h)
+only_a_loop (Frame frame.Length) h = absurd (not_508 (refusal_status (Frame frame.Length)) refl h)
+only_a_loop (Frame frame.Coding) h = absurd (not_508 (refusal_status (Frame frame.Coding)) refl h)
+only_a_loop (Frame frame.Chunk) h = absurd (not_508 (refusal_status (Frame frame.Chunk)) refl h)
+only_a_loop (Frame frame.TooLarge) h = absurd (not_508 (refusal_status (Frame frame.TooLarge)) refl h)
+only_a_loop (Frame frame.Expect) h = absurd (not_508 (refusal_status (Frame frame.Expect)) refl h)
+only_a_loop (Frame frame.Truncated) h = absurd (not_508 (refusal_status (Frame frame.Truncated)) refl h)
+only_a_loop (Frame frame.Status) h = absurd (not_508 (refusal_status (Frame frame.Status)) refl h)
+only_a_loop (Target target.Form) h = absurd (not_508 (refusal_status (Target target.Form)) refl h)
+only_a_loop (Target target.Scheme) h = absurd (not_508 (refusal_status (Target target.Scheme)) refl h)
+only_a_loop (Target target.Host) h = absurd (not_508 (refusal_status (Target target.Host)) refl h)
+only_a_loop (Target target.Port) h = absurd (not_508 (refusal_status (Target target.Port)) refl h)
+only_a_loop (Target target.Userinfo) h = absurd (not_508 (refusal_status (Target target.Userinfo)) refl h)
+only_a_loop (Target target.Escape) h = absurd (not_508 (refusal_status (Target target.Escape)) refl h)
+only_a_loop (Target target.DotSegment) h = absurd (not_508 (refusal_status (Target target.DotSegment)) refl h)
+only_a_loop (Target target.TooLong) h = absurd (not_508 (refusal_status (Target target.TooLong)) refl h)
+only_a_loop (Target target.OutOfMemory) h = absurd (not_508 (refusal_status (Target target.OutOfMemory)) refl h)

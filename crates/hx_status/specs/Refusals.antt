@@ -17,7 +17,8 @@ use Rattle.hx_status.specs.Member.{detail_word_text}
 use Rattle.hx_status.specs.declared.cause.FailKind.{FailKind}
 use Rattle.hx_status.specs.declared.cause.FailKind.TheVariants.{Refused, TimedOut, Closed, BadAnswer, TooLarge}
 use Rattle.hx_status.specs.declared.cause.Cause.{Cause}
-use Rattle.hx_status.specs.declared.cause.Cause.TheVariants.{Denied, NoLine, OnlyIfCached, Origin, Frame, Target}
+use Rattle.hx_status.specs.declared.cause.Cause.TheVariants.{Denied, NoLine, Looped, OnlyIfCached, Origin, Frame}
+use Rattle.hx_status.specs.declared.cause.Cause.TheVariants.{Target}
 
 -- reason and detail of a reuse rule, as in Cache-Status
 abbrev pub reuse_rule_text : ReuseRule → List ℕ
@@ -95,9 +96,11 @@ target_status target.DotSegment = 400
 target_status target.TooLong = 414
 target_status target.OutOfMemory = 400
 
+-- 508 Loop Detected (RFC 5842, section 7.2)
 abbrev pub refusal_status : Cause → ℕ
 refusal_status (Denied line) = 403
 refusal_status NoLine = 403
+refusal_status (Looped line) = 508
 refusal_status (OnlyIfCached rule) = 504
 refusal_status (Origin kind rule error) = origin_status kind
 refusal_status (Frame fault) = frame_status fault
@@ -106,6 +109,7 @@ refusal_status (Target fault) = target_status fault
 abbrev pub refusal_text : Cause → List ℕ
 refusal_text (Denied line) = codes "denied by line " ++ decimal line
 refusal_text NoLine = codes "no line allows it"
+refusal_text (Looped line) = codes "loop refused by line " ++ decimal line
 refusal_text (OnlyIfCached rule) = codes "only-if-cached" ++ reuse_rule_text rule
 refusal_text (Origin kind rule error) = origin_text kind rule error
 refusal_text (Frame fault) = codes "refused: " ++ frame_word fault
@@ -134,3 +138,7 @@ OnlyTheTableForbids = (cause : Cause) → refusal_status cause ≡ 403 → Cause
 
 abbrev pub TheTableForbids : Type 0
 TheTableForbids = (cause : Cause) → CauseIsOfTheTable cause → refusal_status cause ≡ 403
+
+-- 508 is the answer to a loop and to nothing else (RFC 5842, section 7.2)
+abbrev pub OnlyALoopHas508 : Type 0
+OnlyALoopHas508 = (cause : Cause) → refusal_status cause ≡ 508 → (line : ℕ) × (cause ≡ Looped line)

@@ -26,6 +26,8 @@ pub enum Cause {
     Denied(u16),
     /// No line of the table allows it.
     NoLine,
+    /// This line of the table refuses loops, and the request was here twice already (RFC 9110, section 7.6.3).
+    Looped(u16),
     /// It may not go forward, and this rule keeps it from being answered by a stored response (RFC
     /// 9111, section 5.2.1.7).
     OnlyIfCached(ReuseRule),

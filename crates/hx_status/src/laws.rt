@@ -1,6 +1,6 @@
 //! What the texts tell their reader.
 ghost use Rattle.hx_status.specs.Member.{NotStoredNamesTheRule};
-ghost use Rattle.hx_status.specs.Refusals.{FrameWordsDiffer, FailKindWordsDiffer, OnlyTheTableForbids};
+ghost use Rattle.hx_status.specs.Refusals.{FrameWordsDiffer, FailKindWordsDiffer, OnlyTheTableForbids, OnlyALoopHas508};
 ghost use Rattle.hx_status.specs.Refusals.{TargetWordsDiffer, TextsOfRulesDiffer, TheTableForbids};
 
 /// No two reuse rules are named by the same text, in a refusal as in Cache-Status.
@@ -15,9 +15,11 @@ pub fn words_name_the_fault()
     ensures kind { FailKindWordsDiffer }
 {}
 
-/// 403 is given exactly where the operator's table lets a request not through (RFC 9110, section 15.5.4).
+/// 403 is given exactly where no line of the operator's table allows a request (RFC 9110, section 15.5.4), and 508 to
+/// loops alone (RFC 5842, section 7.2).
 pub fn only_the_table_forbids()
     ensures only { OnlyTheTableForbids }
+    ensures loops { OnlyALoopHas508 }
     ensures every { TheTableForbids }
 {}
 

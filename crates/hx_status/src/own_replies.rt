@@ -79,6 +79,7 @@ fn refusal_status(cause: Cause) -> u16
 {
     match cause {
         Cause::Denied(_) | Cause::NoLine => 403,
+        Cause::Looped(_) => 508,
         Cause::OnlyIfCached(_) => 504,
         Cause::Origin(FailKind::TimedOut, _, _) => 504,
         Cause::Origin(FailKind::Refused, _, _) => 502,
@@ -122,6 +123,11 @@ fn refusal_text(alloc: Global, cause: Cause) -> Result<Bytes, AllocError>
             out.extend_from_slice(digits.as_str().as_bytes())?;
         }
         Cause::NoLine => out.extend_from_slice(b"no line allows it")?,
+        Cause::Looped(line) => {
+            let digits = line.to_string(alloc)?;
+            out.extend_from_slice(b"loop refused by line ")?;
+            out.extend_from_slice(digits.as_str().as_bytes())?;
+        }
         Cause::OnlyIfCached(rule) => {
             out.extend_from_slice(b"only-if-cached")?;
             push_rule(&mut out, rule)?;

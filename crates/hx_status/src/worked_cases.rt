@@ -7,7 +7,8 @@ ghost use Rattle.hx_reuse.specs.declared.rule.ReuseRule.TheVariants as rule;
 ghost use Rattle.hx_reuse.specs.declared.rule.ErrorRule.TheVariants as on_error;
 ghost use Rattle.hx_status.specs.declared.status.How.TheVariants.{Hit, Fwd};
 ghost use Rattle.hx_status.specs.declared.status.Detail.TheVariants.{StaleIfError, ReuseAfterError, ReuseAfter304};
-ghost use Rattle.hx_status.specs.declared.cause.Cause.TheVariants.{Denied, NoLine, OnlyIfCached, Origin, Frame, Target};
+ghost use Rattle.hx_status.specs.declared.cause.Cause.TheVariants.{Denied, NoLine, Looped, OnlyIfCached, Origin, Frame};
+ghost use Rattle.hx_status.specs.declared.cause.Cause.TheVariants.{Target};
 ghost use Rattle.hx_status.specs.declared.cause.FailKind.TheVariants.{Refused, TimedOut, Closed, BadAnswer, TooLarge};
 ghost use Rattle.hx_status.specs.Member.{member_text};
 ghost use Rattle.hx_status.specs.Refusals.{refusal_status, refusal_text};
@@ -33,6 +34,8 @@ pub fn worked_texts()
     ensures denied { refusal_text (Denied 1) ≡ codes "denied by line 1" }
     ensures no_line { refusal_text NoLine ≡ codes "no line allows it" }
     ensures forbidden { refusal_status NoLine ≡ 403 }
+    ensures looped { refusal_text (Looped 12) ≡ codes "loop refused by line 12" }
+    ensures status_of_a_loop { refusal_status (Looped 12) ≡ 508 }
 {}
 
 /// Content, a range, a precondition.

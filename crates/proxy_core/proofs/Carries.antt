@@ -8,7 +8,8 @@ use Rattle.hx_target.specs.Keys.{same_key}
 use Rattle.hx_framing.specs.declared.messages.Response.{Response}
 use Rattle.hx_hop.specs.declared.request_view.Asked.{Asked}
 use Rattle.hx_allow.specs.TableLines.{Table}
-use Rattle.hx_allow.specs.Matching.{verdict_of, policy_of}
+use Rattle.hx_allow.specs.Matching.{policy_of}
+use Rattle.proxy_core.specs.Allowing.{verdict_of_asked, exchanges_to_wait_for}
 use Rattle.hx_allow.specs.declared.verdicts.Verdict.{Verdict}
 use Rattle.hx_allow.specs.declared.verdicts.Verdict.TheVariants as verdict
 use Rattle.hx_store.specs.Stored.{Stored}
@@ -53,7 +54,7 @@ none_some (Some x) z h g = cc
 module _ (table : Table) (es : List Stored) (xs : List Exchange) (now : ℕ) (asked : Asked) where
   -- a rule stands against a stored response, and the request takes others too
   pub record IsSentOn (line : ℕ) : Type 0 where
-    pub line_allows : verdict_of table.lines asked.method asked.target ≡ verdict.Allowed line
+    pub line_allows : verdict_of_asked table asked ≡ verdict.Allowed line
     pub rule : ReuseRule
     pub against : Option ℕ
     pub decided : decision_of (policy_of table.lines line) es asked now ≡ decision.Forward rule against
@@ -65,11 +66,11 @@ module _ (table : Table) (es : List Stored) (xs : List Exchange) (now : ℕ) (as
   -- what a request that arrives does, where it isn't answered
   Goes : Outcome → Type 0
   Goes (Forward line bytes) = WentBy line bytes
-  Goes (Waits leader) = IsSentOn (line_of_verdict (verdict_of table.lines asked.method asked.target))
+  Goes (Waits leader) = IsSentOn (line_of_verdict (verdict_of_asked table asked))
   Goes (Reply r) = Unit {0}
   Goes Ended = Unit {0}
 
-  goes_by : (v : Verdict) → verdict_of table.lines asked.method asked.target ≡ v → Goes (outcome_of_arrival table es xs now asked v)
+  goes_by : (v : Verdict) → verdict_of_asked table asked ≡ v → Goes (outcome_of_arrival table es xs now asked v)
   unfolding Goes
   goes_by (verdict.Allowed n) v = by_decision (decision_of (policy_of table.lines n) es asked now) refl
     where
@@ -84,13 +85,14 @@ module _ (table : Table) (es : List Stored) (xs : List Exchange) (now : ℕ) (as
       unless : (rule : ReuseRule) (against : Option ℕ) (b : Bool) → decision_of (policy_of table.lines n) es asked now ≡ decision.Forward rule against →
           Goes (outcome_without_stored_response table es xs n now asked rule (condition_about_serial es against) b)
       unless rule against true d = tt
-      unless rule against false d = led rule against (leader_of_request (policy_of table.lines n) es xs asked rule) d
+      unless rule against false d = led rule against (leader_of_request (policy_of table.lines n) es (exchanges_to_wait_for table n asked xs) asked rule) d
 
       by_decision : (d : Decision) → decision_of (policy_of table.lines n) es asked now ≡ d → Goes (outcome_of_allowed_request table es xs n now asked d)
       by_decision (decision.Hit t) k = tt
       by_decision (decision.Forward rule against) k = unless rule against (is_only_if_cached asked) k
   goes_by (verdict.DeniedBy n) v = tt
   goes_by verdict.NoLine v = tt
+  goes_by (verdict.Looped n) v = tt
 
 -- ---- what goes forward behind an answer
 
@@ -332,7 +334,7 @@ module _ (table : Table) (start : StoreAtStart) (first : ℕ) where
   carried_first past g now id asked Ended x h free found = absurd (none_some _ x free found)
   carried_first past g now id asked (Waits leader) x on free found =
       let s = state_after_trace (initial_state table start first) past in
-      let line = line_of_verdict (verdict_of table.lines asked.method asked.target) in
+      let line = line_of_verdict (verdict_of_asked table asked) in
       let y = waiting_exchange table s.entries now id asked line leader in
       let here : y ≡ x = same_Some y x (sym (find-push id s.exchanges y free ∙ ap (λ b. cond b (Some y) (find_exchange id s.exchanges)) (eq-eqb id id refl)) ∙ found) in
       let held = entries_are_held table start first past g in
@@ -543,7 +545,7 @@ module _ (table : Table) (start : StoreAtStart) (first : ℕ) where
       at_arrival now asked e x_is found =
           carried_first past g.1 now id asked i.outcome x
           (subst (Goes table s.entries s.exchanges now asked) (sym (g.0.outcome_is ∙ ap (λ (v : Event). outcome_of table s.entries s.exchanges (find_exchange (exchange_id_of_event v) s.exchanges) s.next v) e))
-          (goes_by table s.entries s.exchanges now asked (verdict_of table.lines asked.method asked.target) refl)) x_is found
+          (goes_by table s.entries s.exchanges now asked (verdict_of_asked table asked) refl)) x_is found
 
       by_move : ((z : Exchange) → exchange id past ≡ Some z → Carried table start id past z) → (y : Option Exchange) → Move id (find_exchange (exchange_id_of_event i.event) s.exchanges) i.event i.outcome (exchange id past) y → y ≡ Some x → exchange id (i ∷ past) ≡ y →
           Carried table start id (i ∷ past) x

@@ -8,7 +8,8 @@ use Rattle.hx_directives.specs.Occurrences.{occurrences_of}
 use Rattle.hx_framing.specs.declared.messages.Response.{Response}
 use Rattle.hx_hop.specs.declared.request_view.Asked.{Asked}
 use Rattle.hx_allow.specs.TableLines.{Table}
-use Rattle.hx_allow.specs.Matching.{verdict_of, policy_of}
+use Rattle.hx_allow.specs.Matching.{policy_of}
+use Rattle.proxy_core.specs.Allowing.{verdict_of_asked, exchanges_to_wait_for}
 use Rattle.hx_allow.specs.declared.verdicts.Verdict.{Verdict}
 use Rattle.hx_allow.specs.declared.verdicts.Verdict.TheVariants as verdict
 use Rattle.hx_store.specs.Stored.{Stored}
@@ -102,28 +103,29 @@ module _ (table : Table) (start : StoreAtStart) (past : List Item) (distinct : D
   abbrev es : List Stored
   es = held_entries table start past
 
-  arrival_names : (xs : List Exchange) (x : Option Exchange) (now id : ℕ) (asked : Asked) → AnswerNamesFirstRule table start past next x (Arrive now id asked) (outcome_of_arrival table es xs now asked (verdict_of table.lines asked.method asked.target))
-  arrival_names xs x now id asked = by_verdict (verdict_of table.lines asked.method asked.target) refl
+  arrival_names : (xs : List Exchange) (x : Option Exchange) (now id : ℕ) (asked : Asked) → AnswerNamesFirstRule table start past next x (Arrive now id asked) (outcome_of_arrival table es xs now asked (verdict_of_asked table asked))
+  arrival_names xs x now id asked = by_verdict (verdict_of_asked table asked) refl
     where
       on : (line : ℕ) (condition : Option Condition) (leader : Option ℕ) → AnswerNamesFirstRule table start past next x (Arrive now id asked) (outcome_of_waiting_or_forwarding table line asked condition leader)
       on line condition None = tt
       on line condition (Some leader) = tt
 
-      unless : (line : ℕ) (rule : ReuseRule) (against : Option ℕ) (b : Bool) → verdict_of table.lines asked.method asked.target ≡ verdict.Allowed line →
+      unless : (line : ℕ) (rule : ReuseRule) (against : Option ℕ) (b : Bool) → verdict_of_asked table asked ≡ verdict.Allowed line →
           decision_of (policy_of table.lines line) es asked now ≡ decision.Forward rule against → is_only_if_cached asked ≡ b →
           AnswerNamesFirstRule table start past next x (Arrive now id asked) (outcome_without_stored_response table es xs line now asked rule (condition_about_serial es against) b)
-      unless line rule against true v d k = λ h. inr (inr (line, rule, v, k, (names_the_least (policy_of table.lines line) es asked now rule against d).0, refl))
-      unless line rule against false v d k = on line (condition_about_serial es against) (leader_of_request (policy_of table.lines line) es xs asked rule)
+      unless line rule against true v d k = λ h. inr (inr (inl (line, rule, v, k, (names_the_least (policy_of table.lines line) es asked now rule against d).0, refl)))
+      unless line rule against false v d k = on line (condition_about_serial es against) (leader_of_request (policy_of table.lines line) es (exchanges_to_wait_for table line asked xs) asked rule)
 
-      by_decision : (line : ℕ) (d : Decision) → verdict_of table.lines asked.method asked.target ≡ verdict.Allowed line → decision_of (policy_of table.lines line) es asked now ≡ d →
+      by_decision : (line : ℕ) (d : Decision) → verdict_of_asked table asked ≡ verdict.Allowed line → decision_of (policy_of table.lines line) es asked now ≡ d →
           AnswerNamesFirstRule table start past next x (Arrive now id asked) (outcome_of_allowed_request table es xs line now asked d)
       by_decision line (decision.Hit s) v k = λ h. absurd (false≢true h)
       by_decision line (decision.Forward rule against) v k = unless line rule against (is_only_if_cached asked) v k refl
 
-      by_verdict : (v : Verdict) → verdict_of table.lines asked.method asked.target ≡ v → AnswerNamesFirstRule table start past next x (Arrive now id asked) (outcome_of_arrival table es xs now asked v)
+      by_verdict : (v : Verdict) → verdict_of_asked table asked ≡ v → AnswerNamesFirstRule table start past next x (Arrive now id asked) (outcome_of_arrival table es xs now asked v)
       by_verdict (verdict.Allowed line) v = by_decision line (decision_of (policy_of table.lines line) es asked now) v refl
       by_verdict (verdict.DeniedBy line) v = λ h. inl (line, v, refl)
       by_verdict verdict.NoLine v = λ h. inr (inl (v, refl))
+      by_verdict (verdict.Looped line) v = λ h. inr (inr (inr (line, v, refl)))
 
   failure_names : (x : Exchange) (now id : ℕ) (kind : FailKind) (fallback : Fallback) → fallback_for (policy_of table.lines x.line) es x.asked now (decision_of (policy_of table.lines x.line) es x.asked now) ≡ fallback →
       AnswerNamesFirstRule table start past next (Some x) (Fail now id kind) (outcome_of_failure table es now x kind None fallback)

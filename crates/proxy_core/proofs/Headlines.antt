@@ -6,7 +6,8 @@ use Rattle.hx_fields.specs.declared.limits.TheConstants.{END_OF_TIME}
 use Rattle.hx_framing.specs.declared.messages.Response.{Response}
 use Rattle.hx_hop.specs.declared.request_view.Asked.{Asked}
 use Rattle.hx_allow.specs.TableLines.{Table}
-use Rattle.hx_allow.specs.Matching.{verdict_of, policy_of}
+use Rattle.hx_allow.specs.Matching.{policy_of}
+use Rattle.proxy_core.specs.Allowing.{verdict_of_asked, exchanges_to_wait_for}
 use Rattle.hx_allow.specs.declared.verdicts.Verdict.{Verdict}
 use Rattle.hx_allow.specs.declared.verdicts.Verdict.TheVariants as verdict
 use Rattle.hx_allow.specs.declared.verdicts.Verdict.TheVariants.{Allowed}
@@ -68,7 +69,7 @@ not_forward {P} o line bytes back h =
 -- the request of an event goes to a line that allows it, with the conditions of that moment
 abbrev Goes : Table → List Stored → List Item → ℕ → List ℕ → Event → Type 0
 Goes table es past line bytes event =
-    (asked : Asked) × (condition : Option Condition) × (request_after_event (exchange_id_of_event event) event (latest_request_of (exchange_id_of_event event) past) ≡ Some asked) × (verdict_of table.lines asked.method asked.target ≡ Allowed line)
+    (asked : Asked) × (condition : Option Condition) × (request_after_event (exchange_id_of_event event) event (latest_request_of (exchange_id_of_event event) past) ≡ Some asked) × (verdict_of_asked table asked ≡ Allowed line)
     × IsConditionOfEvent (policy_of table.lines line) es asked event condition × (bytes ≡ forward_text table line asked condition)
 
 abbrev bytes_in : Outcome → List ℕ
@@ -199,13 +200,14 @@ module _ (table : Table) (es : List Stored) where
 
       unless : (rule : ReuseRule) (condition : Option Condition) (b : Bool) → close_in asked.close (outcome_without_stored_response table es xs line now asked rule condition b) ≡ asked.close
       unless rule condition true = refl
-      unless rule condition false = on condition (leader_of_request (policy_of table.lines line) es xs asked rule)
+      unless rule condition false = on condition (leader_of_request (policy_of table.lines line) es (exchanges_to_wait_for table line asked xs) asked rule)
 
       by_decision : (d : Decision) → close_in asked.close (outcome_of_allowed_request table es xs line now asked d) ≡ asked.close
       by_decision (decision.Hit s) = refl
       by_decision (decision.Forward rule against) = unless rule (condition_about_serial es against) (is_only_if_cached asked)
   arrival_closes xs now asked (verdict.DeniedBy line) = refl
   arrival_closes xs now asked verdict.NoLine = refl
+  arrival_closes xs now asked (verdict.Looped line) = refl
 
   failed_closes : (now : ℕ) (x : Exchange) (kind : FailKind) (came : Option ℕ) (fallback : Fallback) → close_in x.asked.close (outcome_of_failure table es now x kind came fallback) ≡ x.asked.close
   failed_closes now x kind came (Sends serial detail) = refl
@@ -249,7 +251,7 @@ module _ (table : Table) (es : List Stored) where
   Closes x (Abandon id) o = o ≡ Ended
 
   closes_by : (xs : List Exchange) (x : Option Exchange) (next : Option ℕ) (event : Event) → fault_at_exchange x event ≡ None → Closes x event (outcome_of table es xs x next event)
-  closes_by xs x next (Arrive now id asked) h = arrival_closes xs now asked (verdict_of table.lines asked.method asked.target)
+  closes_by xs x next (Arrive now id asked) h = arrival_closes xs now asked (verdict_of_asked table asked)
   closes_by xs (Some x) next (Answer now id r) h = answer_closes now x r next (decision_of (policy_of table.lines x.line) es x.asked now)
   closes_by xs None next (Answer now id r) h = absurd (cc)
   closes_by xs (Some x) next (Fail now id kind) h = failed_closes now x kind None (fallback_for (policy_of table.lines x.line) es x.asked now (decision_of (policy_of table.lines x.line) es x.asked now))
@@ -273,7 +275,7 @@ module _ (table : Table) (start : StoreAtStart) (first : ℕ) where
       xs : List Exchange
       xs = open_exchanges table start past
 
-      by_arrival : (now id : ℕ) (asked : Asked) → verdict_of table.lines asked.method asked.target ≡ Allowed line → RequestReachesCacheOrOrigin table es xs now asked line item.outcome →
+      by_arrival : (now id : ℕ) (asked : Asked) → verdict_of_asked table asked ≡ Allowed line → RequestReachesCacheOrOrigin table es xs now asked line item.outcome →
           Goes table es past line bytes (Arrive now id asked)
       by_arrival now id asked v (inl (s, used)) = absurd (never_used s (sym (ap serial_used_by_outcome h) ∙ used))
         where

@@ -13,7 +13,8 @@ use Rattle.proxy_core.specs.declared.outcome.Outcome.TheVariants.{Reply, Forward
 use Rattle.proxy_core.specs.declared.event.Event.{Event}
 use Rattle.proxy_core.specs.declared.event.Event.TheVariants.{Arrive, Answer, Fail, Wake, Abandon}
 use Rattle.proxy_core.specs.Outcomes.{find_exchange, exchange_id_of_event, fault_at_exchange}
-use Rattle.hx_allow.specs.Matching.{verdict_of, policy_of}
+use Rattle.hx_allow.specs.Matching.{policy_of}
+use Rattle.proxy_core.specs.Allowing.{verdict_of_asked}
 use Rattle.hx_reuse.specs.Rules.{decision_of}
 use Rattle.proxy_core.specs.Validating.{condition_about_serial}
 use Rattle.proxy_core.specs.State.{overtaken_exchange, released_exchange, exchanges_after_end, exchanges_after_close, forwarded_exchange, waiting_exchange, line_of_verdict, rule_of_decision, serial_named_by_decision, exchange_forwarded_again, exchanges_after_wake, key_invalidated_by_response, open_exchanges_after}
@@ -227,7 +228,7 @@ in_order_step table es xs past (Arrive now id asked) o free h = by_outcome o (wa
         same_ids (ids-push xs (forwarded_exchange table es now id asked line)) (with_one i past (exchange_ids xs) refl (new_apart now id asked (Forward line bytes) xs f) h)
     by_outcome (Waits leader) f =
         let i : Item = record { event = Arrive now id asked; outcome = Waits leader } in
-        same_ids (ids-push xs (waiting_exchange table es now id asked (line_of_verdict (verdict_of table.lines asked.method asked.target)) leader)) (with_one i past (exchange_ids xs) refl (new_apart now id asked (Waits leader) xs f) h)
+        same_ids (ids-push xs (waiting_exchange table es now id asked (line_of_verdict (verdict_of_asked table asked)) leader)) (with_one i past (exchange_ids xs) refl (new_apart now id asked (Waits leader) xs f) h)
     by_outcome (Reply r) f = further (record { event = Arrive now id asked; outcome = Reply r }) past (exchange_ids xs) (new_apart now id asked (Reply r) xs f) h
     by_outcome Ended f = further (record { event = Arrive now id asked; outcome = Ended }) past (exchange_ids xs) (new_apart now id asked Ended xs f) h
 in_order_step table es xs past (Answer now id r) (Forward line bytes) free h =

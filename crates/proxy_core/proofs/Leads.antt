@@ -44,6 +44,11 @@ pub no_leader : (policy : Policy) (awaited : Awaited) (asked : Asked) (xs : List
 no_leader policy awaited asked [] n = refl
 no_leader policy awaited asked (x ∷ xs) n = ap (λ b. cond b (Some x.id) (leader policy awaited asked xs)) n.0 ∙ no_leader policy awaited asked xs n.1
 
+-- where nobody is open, nobody leads
+pub nobody_to_wait_for : (policy : Policy) (asked : Asked) (awaited : Option Awaited) → leader_if_awaited policy asked [] awaited ≡ None
+nobody_to_wait_for policy asked None = refl
+nobody_to_wait_for policy asked (Some awaited) = refl
+
 pub first_leads : (policy : Policy) (awaited : Awaited) (asked : Asked) (xs : List Exchange) (l : ℕ) → IsFirstLeader policy awaited asked xs l → leader policy awaited asked xs ≡ Some l
 first_leads policy awaited asked xs l first =
     ap (leader policy awaited asked) first.open_are ∙ first_is policy awaited asked first.before first.x first.behind first.it_leads first.none_before ∙ ap (λ n. Some n) first.id

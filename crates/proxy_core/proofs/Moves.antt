@@ -8,7 +8,8 @@ use Rattle.hx_target.specs.declared.keys.Key.{Key}
 use Rattle.hx_framing.specs.declared.messages.Response.{Response}
 use Rattle.hx_hop.specs.declared.request_view.Asked.{Asked}
 use Rattle.hx_allow.specs.TableLines.{Table}
-use Rattle.hx_allow.specs.Matching.{verdict_of, policy_of}
+use Rattle.hx_allow.specs.Matching.{policy_of}
+use Rattle.proxy_core.specs.Allowing.{verdict_of_asked}
 use Rattle.hx_store.specs.Stored.{Stored}
 use Rattle.hx_reuse.specs.Rules.{decision_of}
 use Rattle.hx_reuse.specs.declared.rule.ReuseRule.{ReuseRule}
@@ -87,7 +88,7 @@ pub data Move (id : ℕ) (w : Option Exchange) (event : Event) (o : Outcome) (x 
   apart : eqb (exchange_id_of_event event) id ≡ false → y ≡ changed_by (key_taken_by_step (asked_of w) event o) (ended_by event o) x → Move id w event o x y
   opens : (table : Table) (es : List Stored) (now : ℕ) (asked : Asked) (line : ℕ) → event ≡ Arrive now id asked → x ≡ None → outcome_goes_forward o ≡ true → y ≡ Some (forwarded_exchange table es now id asked line) → Move id w event o x y
   queues : (table : Table) (es : List Stored) (now : ℕ) (asked : Asked) (line leader : ℕ) → event ≡ Arrive now id asked → x ≡ None → o ≡ Waits leader →
-      line ≡ line_of_verdict (verdict_of table.lines asked.method asked.target) → y ≡ Some (waiting_exchange table es now id asked line leader) → Move id w event o x y
+      line ≡ line_of_verdict (verdict_of_asked table asked) → y ≡ Some (waiting_exchange table es now id asked line leader) → Move id w event o x y
   passes : eqb (exchange_id_of_event event) id ≡ true → is_arrival_event event ≡ true → x ≡ None → outcome_ends_exchange o ≡ true → y ≡ None → Move id w event o x y
   again : (z : Exchange) (now : ℕ) → eqb (exchange_id_of_event event) id ≡ true → is_arrival_event event ≡ false → x ≡ Some z → is_some z.condition ≡ true →
       outcome_goes_forward o ≡ true → y ≡ Some (out_again now z) → judges_a_request event ≡ false → is_forwarded z.stage ≡ true → Move id w event o x y
@@ -290,7 +291,7 @@ module _ (table : Table) (es : List Stored) (xs : List Exchange) (next : Option 
         | inr n ↦ apart n (p ∙ ap (λ b. cond b (Some (forwarded_exchange table es now i asked line)) (find_exchange id xs)) n)
       ]
   arrives now i asked (Waits leader) f =
-      let line : ℕ = line_of_verdict (verdict_of table.lines asked.method asked.target) in
+      let line : ℕ = line_of_verdict (verdict_of_asked table asked) in
       let p = find-push id xs (waiting_exchange table es now i asked line leader) f in
       elim (cases_Bool (eqb i id)) [
         | inl t ↦ (

@@ -12,7 +12,8 @@ use Rattle.hx_framing.specs.declared.messages.Response.{Response}
 use Rattle.hx_hop.specs.declared.request_view.Asked.{Asked}
 use Rattle.hx_hop.specs.Moments.{date_text_of}
 use Rattle.hx_allow.specs.TableLines.{Table}
-use Rattle.hx_allow.specs.Matching.{verdict_of, policy_of}
+use Rattle.hx_allow.specs.Matching.{policy_of}
+use Rattle.proxy_core.specs.Allowing.{verdict_of_asked, exchanges_to_wait_for}
 use Rattle.hx_allow.specs.declared.verdicts.Verdict.{Verdict}
 use Rattle.hx_allow.specs.declared.verdicts.Verdict.TheVariants as verdict
 use Rattle.hx_store.specs.Stored.{Stored}
@@ -30,7 +31,7 @@ use Rattle.hx_reuse.proofs.OnErrorLemmas.{named_on_error}
 use Rattle.hx_status.specs.declared.status.Detail.{Detail}
 use Rattle.hx_status.specs.declared.cause.FailKind.{FailKind}
 use Rattle.hx_status.specs.declared.cause.FailKind.TheVariants.{BadAnswer}
-use Rattle.hx_status.specs.declared.cause.Cause.TheVariants.{Denied, OnlyIfCached, Origin}
+use Rattle.hx_status.specs.declared.cause.Cause.TheVariants.{Denied, Looped, OnlyIfCached, Origin}
 use Rattle.proxy_core.specs.declared.open.exchange.Exchange.{Exchange}
 use Rattle.proxy_core.specs.declared.replies.stored_reply.CacheStatusInfo.{CacheStatusInfo}
 use Rattle.proxy_core.specs.declared.core_fault.CoreFault.TheVariants.{MomentTooLate, NotForwarded, NotReady}
@@ -120,16 +121,24 @@ module _ (table : Table) (es : List Stored) (distinct : Distinct (serials es)) (
       let same : verdict.DeniedBy line ≡ verdict.DeniedBy other = sym v ∙ w in
       let lines : line ≡ other = cc in
       m ∙ ap (λ l. outcome_of_refusal now (Denied l) asked) lines ∙ sym n
-  turned_same o p (inl (line, v, m)) (inr (w, n)) = let no : verdict.DeniedBy line ≡ verdict.NoLine = sym v ∙ w in absurd (cc)
-  turned_same o p (inr (v, m)) (inl (other, w, n)) = let no : verdict.NoLine ≡ verdict.DeniedBy other = sym v ∙ w in absurd (cc)
-  turned_same o p (inr (v, m)) (inr (w, n)) = m ∙ sym n
+  turned_same o p (inl (line, v, m)) (inr (inl (w, n))) = let no : verdict.DeniedBy line ≡ verdict.NoLine = sym v ∙ w in absurd (cc)
+  turned_same o p (inl (line, v, m)) (inr (inr (other, w, n))) = let no : verdict.DeniedBy line ≡ verdict.Looped other = sym v ∙ w in absurd (cc)
+  turned_same o p (inr (inl (v, m))) (inl (other, w, n)) = let no : verdict.NoLine ≡ verdict.DeniedBy other = sym v ∙ w in absurd (cc)
+  turned_same o p (inr (inl (v, m))) (inr (inl (w, n))) = m ∙ sym n
+  turned_same o p (inr (inl (v, m))) (inr (inr (other, w, n))) = let no : verdict.NoLine ≡ verdict.Looped other = sym v ∙ w in absurd (cc)
+  turned_same o p (inr (inr (line, v, m))) (inl (other, w, n)) = let no : verdict.Looped line ≡ verdict.DeniedBy other = sym v ∙ w in absurd (cc)
+  turned_same o p (inr (inr (line, v, m))) (inr (inl (w, n))) = let no : verdict.Looped line ≡ verdict.NoLine = sym v ∙ w in absurd (cc)
+  turned_same o p (inr (inr (line, v, m))) (inr (inr (other, w, n))) =
+      let same : verdict.Looped line ≡ verdict.Looped other = sym v ∙ w in
+      let lines : line ≡ other = cc in
+      m ∙ ap (λ l. outcome_of_refusal now (Looped l) asked) lines ∙ sym n
 
   module _ (line : ℕ) (o p : Outcome) (unused : serial_used_by_outcome o ≡ None) (other_unused : serial_used_by_outcome p ≡ None) where
-    meets : (rule : ReuseRule) → IsLeastReuseRule (policy_of table.lines line) es asked now rule → NoLeaderIsOpen (policy_of table.lines line) es xs asked now → RequestWaitsForTheFirst table es xs now asked line p → {P : Type 0} → P
+    meets : (rule : ReuseRule) → IsLeastReuseRule (policy_of table.lines line) es asked now rule → NoLeaderIsOpen (policy_of table.lines line) es (exchanges_to_wait_for table line asked xs) asked now → RequestWaitsForTheFirst table es xs now asked line p → {P : Type 0} → P
     meets rule least nobody w =
         never_one w.leader
-        (sym (leads_for_none (policy_of table.lines line) es distinct xs asked now rule least nobody)
-        ∙ leads_for (policy_of table.lines line) es distinct xs asked now rule least w.awaited w.leader w.awaits w.first_leads)
+        (sym (leads_for_none (policy_of table.lines line) es distinct (exchanges_to_wait_for table line asked xs) asked now rule least nobody)
+        ∙ leads_for (policy_of table.lines line) es distinct (exchanges_to_wait_for table line asked xs) asked now rule least w.awaited w.leader w.awaits w.first_leads)
 
   reached_same : (line : ℕ) (o p : Outcome) → serial_used_by_outcome o ≡ None → serial_used_by_outcome p ≡ None → RequestReachesCacheOrOrigin table es xs now asked line o → RequestReachesCacheOrOrigin table es xs now asked line p → o ≡ p
   reached_same line o p u v (inl (s, used)) h = never_one s (sym u ∙ used)
@@ -140,8 +149,8 @@ module _ (table : Table) (es : List Stored) (distinct : Distinct (serials es)) (
   reached_same line o p u v (inr (inr (inl w))) (inr (inl (b, n, others, nobody))) = meets line p o v u b n.is_least nobody w
   reached_same line o p u v (inr (inr (inl w))) (inr (inr (inl z))) =
       let same : Some w.leader ≡ Some z.leader =
-      sym (leads_for (policy_of table.lines line) es distinct xs asked now w.awaits.rule w.awaits.is_least w.awaited w.leader w.awaits w.first_leads)
-      ∙ leads_for (policy_of table.lines line) es distinct xs asked now w.awaits.rule w.awaits.is_least z.awaited z.leader z.awaits z.first_leads
+      sym (leads_for (policy_of table.lines line) es distinct (exchanges_to_wait_for table line asked xs) asked now w.awaits.rule w.awaits.is_least w.awaited w.leader w.awaits w.first_leads)
+      ∙ leads_for (policy_of table.lines line) es distinct (exchanges_to_wait_for table line asked xs) asked now w.awaits.rule w.awaits.is_least z.awaited z.leader z.awaits z.first_leads
       in
       w.outcome_is ∙ ap (λ l. Waits l) (same_Some w.leader z.leader same) ∙ sym z.outcome_is
   reached_same line o p u v (inr (inr (inl w))) (inr (inr (inr (b, only, least, is)))) = no_true (sym w.takes_others ∙ only)
@@ -296,16 +305,17 @@ module _ (table : Table) (start : StoreAtStart) (first : ℕ) (past : List Item)
 
   module _ (o p : Outcome) (unused : serial_used_by_outcome o ≡ None) (other_unused : serial_used_by_outcome p ≡ None) where
     arrival_same : (x : Option Exchange) (now id : ℕ) (asked : Asked) → Fits table start first past x (Arrive now id asked) o → Fits table start first past x (Arrive now id asked) p → o ≡ p
-    arrival_same x now id asked a b = by_verdict (verdict_of table.lines asked.method asked.target) refl
+    arrival_same x now id asked a b = by_verdict (verdict_of_asked table asked) refl
       where
-        turned : ((line : ℕ) → verdict_of table.lines asked.method asked.target ≢ verdict.Allowed line) → o ≡ p
+        turned : ((line : ℕ) → verdict_of_asked table asked ≢ verdict.Allowed line) → o ≡ p
         turned none = turned_same table es distinct (open_exchanges table start past) now asked o p ((a.reaches now id asked refl).1 none) ((b.reaches now id asked refl).1 none)
 
-        by_verdict : (v : Verdict) → verdict_of table.lines asked.method asked.target ≡ v → o ≡ p
+        by_verdict : (v : Verdict) → verdict_of_asked table asked ≡ v → o ≡ p
         by_verdict (verdict.Allowed line) v =
             reached_same table es distinct (open_exchanges table start past) now asked line o p unused other_unused ((a.reaches now id asked refl).0 line v) ((b.reaches now id asked refl).0 line v)
         by_verdict (verdict.DeniedBy n) v = turned (λ line h. let no : verdict.DeniedBy n ≡ verdict.Allowed line = sym v ∙ h in absurd (cc))
         by_verdict verdict.NoLine v = turned (λ line h. let no : verdict.NoLine ≡ verdict.Allowed line = sym v ∙ h in absurd (cc))
+        by_verdict (verdict.Looped n) v = turned (λ line h. let no : verdict.Looped n ≡ verdict.Allowed line = sym v ∙ h in absurd (cc))
 
     answer_same : (now id : ℕ) (x : Exchange) (r : Response) (a : Fits table start first past (Some x) (Answer now id r) o) (b : Fits table start first past (Some x) (Answer now id r) p) →
         AnswerHasFinalStatus (record { event = Answer now id r; outcome = o }) past → AnswerHasFinalStatus (record { event = Answer now id r; outcome = p }) past → o ≡ p

@@ -5,7 +5,8 @@ use Rattle.hx_target.specs.declared.keys.Key.{Key}
 use Rattle.hx_target.specs.Keys.{same_key}
 use Rattle.hx_hop.specs.declared.request_view.Asked.{Asked}
 use Rattle.hx_allow.specs.TableLines.{Table}
-use Rattle.hx_allow.specs.Matching.{verdict_of, policy_of}
+use Rattle.hx_allow.specs.Matching.{policy_of}
+use Rattle.proxy_core.specs.Allowing.{verdict_of_asked}
 use Rattle.hx_store.specs.Stored.{Stored}
 use Rattle.hx_reuse.specs.Rules.{decision_of}
 use Rattle.hx_reuse.specs.declared.rule.ReuseRule.{ReuseRule}
@@ -201,7 +202,7 @@ rule_first table es xs now id asked (Forward line bytes) f =
     in
     subst (HasRule rule) (sym here) refl
 rule_first table es xs now id asked (Waits leader) f =
-    let line : ℕ = line_of_verdict (verdict_of table.lines asked.method asked.target) in
+    let line : ℕ = line_of_verdict (verdict_of_asked table asked) in
     subst (HasRule (rule_for table es asked now)) (sym (find-push id xs (waiting_exchange table es now id asked line leader) f ∙ ap (λ b. cond b (Some (waiting_exchange table es now id asked line leader)) (find_exchange id xs)) (eq-eqb id id refl))) refl
 rule_first table es xs now id asked (Reply r) f = subst (HasRule (rule_for table es asked now)) (sym f) tt
 rule_first table es xs now id asked Ended f = subst (HasRule (rule_for table es asked now)) (sym f) tt

@@ -1,7 +1,8 @@
 -- A request that is allowed and that no stored response answers opens an exchange, which waits or goes forward.
 use Rattle.std.proofs.Common.{◌≡◌, ℕ, Bool, false, Option, None, Some, [], ◌∷◌, ◌++◌, sym, ◌∙◌, ap, Result, Ok, Err, IfOk, OnOk}
 use Rattle.hx_hop.specs.declared.request_view.Asked.{Asked}
-use Rattle.hx_allow.specs.Matching.{verdict_of, policy_of}
+use Rattle.hx_allow.specs.Matching.{policy_of}
+use Rattle.proxy_core.specs.Allowing.{verdict_of_asked}
 use Rattle.hx_allow.specs.declared.verdicts.Verdict.{Verdict}
 use Rattle.hx_allow.specs.declared.verdicts.Verdict.TheVariants as verdict
 use Rattle.hx_reuse.specs.Rules.{decision_of}
@@ -37,7 +38,7 @@ form s now id asked line stage d = record {
 abbrev with_one_more : State → Exchange → State
 with_one_more s x = record s { exchanges = s.exchanges ++ x ∷ [] }
 
-pub opens_of : (s : State) (now id line : ℕ) (asked : Asked) (rule : ReuseRule) (against o : Option ℕ) → verdict_of s.table.lines asked.method asked.target ≡ verdict.Allowed line →
+pub opens_of : (s : State) (now id line : ℕ) (asked : Asked) (rule : ReuseRule) (against o : Option ℕ) → verdict_of_asked s.table asked ≡ verdict.Allowed line →
     decision_of (policy_of s.table.lines line) s.entries asked now ≡ decision.Forward rule against →
     record s { exchanges = s.exchanges ++ exchange_with_leader o (form s now id asked line Forwarded (decision.Forward rule against)) ∷ [] }
     ≡ state_after s (Arrive now id asked) (outcome_of_waiting_or_forwarding s.table line asked (condition_about_serial s.entries against) o)
@@ -53,7 +54,7 @@ both s event t u a (Err e) is leaves m = tt
 
 -- the same of what the parts of the exchange are known to be
 pub opens_by : (s : State) (now id line : ℕ) (asked other : Asked) (rule : ReuseRule) (against o : Option ℕ) (condition : Option Condition) (no_store : Bool) →
-    verdict_of s.table.lines asked.method asked.target ≡ verdict.Allowed line → decision_of (policy_of s.table.lines line) s.entries asked now ≡ decision.Forward rule against →
+    verdict_of_asked s.table asked ≡ verdict.Allowed line → decision_of (policy_of s.table.lines line) s.entries asked now ≡ decision.Forward rule against →
     other ≡ asked → condition ≡ condition_about_serial s.entries against → no_store ≡ has_no_store asked →
     record s {
       exchanges = s.exchanges ++ exchange_with_leader o (record { id = id; asked = other; line = line; rule = rule; named = against; request_time = now; condition = condition; overtaken = false; no_store = no_store; stage = Forwarded }) ∷ [];

@@ -5,7 +5,8 @@ use Rattle.std.proofs.lemmas.Bool.{eq-eqb, false≢true}
 use Rattle.std.proofs.lemmas.Bool.Decides.{nat_tests}
 use Rattle.std.proofs.lemmas.Option.{same_Some}
 use Rattle.hx_hop.specs.declared.request_view.Asked.{Asked}
-use Rattle.hx_allow.specs.Matching.{verdict_of, policy_of}
+use Rattle.hx_allow.specs.Matching.{policy_of}
+use Rattle.proxy_core.specs.Allowing.{verdict_of_asked}
 use Rattle.hx_allow.specs.declared.verdicts.Verdict.TheVariants.{Allowed}
 use Rattle.hx_store.specs.Recency.{is_that_serial}
 use Rattle.hx_reuse.specs.ChosenAndNamed.{RuleNamesTheResponse}
@@ -133,7 +134,7 @@ module _ (past : List Item) (now id line : ℕ) (asked : Asked) (bytes : List �
   pub refuse_bytes : (test : List ℕ → Bool) → test bytes ≡ true → test (forward_text edge_table line asked (condition_about_serial (held_entries edge_table (empty_store 2) past) against)) ≡ false → GoingForwardIsWrong past (Arrive now id asked) (Forward line bytes)
   refuse_bytes test passes fails h = by_parts (h line bytes refl)
     where
-      by_parts : (q : Asked) × (condition : Option Condition) × (latest_request_of id (item_of (Arrive now id asked) (Forward line bytes) ∷ past) ≡ Some q) × (verdict_of edge_table.lines q.method q.target ≡ Allowed line)
+      by_parts : (q : Asked) × (condition : Option Condition) × (latest_request_of id (item_of (Arrive now id asked) (Forward line bytes) ∷ past) ≡ Some q) × (verdict_of_asked edge_table q ≡ Allowed line)
           × IsConditionOfEvent (policy_of edge_table.lines line) (held_entries edge_table (empty_store 2) past) q (Arrive now id asked) condition × (bytes ≡ forward_text edge_table line q condition) → ⊥
       by_parts (q, condition, is, allowed, carries, text) =
           let own : asked ≡ q = same_Some asked q (sym (ap (λ b. cond b (Some asked) (latest_request_of id past)) (eq-eqb id id refl)) ∙ is) in
@@ -142,8 +143,8 @@ module _ (past : List Item) (now id line : ℕ) (asked : Asked) (bytes : List �
           (sym fails ∙ ap (λ c. test (forward_text edge_table line asked c)) (sym carried) ∙ ap (λ z. test (forward_text edge_table line z condition)) own ∙ sym (ap test text) ∙ passes)
 
 -- the line isn't the one that allows it
-pub refuse_line : (now id line : ℕ) (asked : Asked) (bytes : List ℕ) → (verdict_of edge_table.lines asked.method asked.target ≡ Allowed line → ⊥) → GoingForwardIsWrong [] (Arrive now id asked) (Forward line bytes)
+pub refuse_line : (now id line : ℕ) (asked : Asked) (bytes : List ℕ) → (verdict_of_asked edge_table asked ≡ Allowed line → ⊥) → GoingForwardIsWrong [] (Arrive now id asked) (Forward line bytes)
 refuse_line now id line asked bytes never h =
     let parts = h line bytes refl in
     let own : asked ≡ parts.0 = same_Some asked parts.0 (sym (ap (λ b. cond b (Some asked) None) (eq-eqb id id refl)) ∙ parts.2) in
-    never (ap (λ z. verdict_of edge_table.lines z.method z.target) own ∙ parts.3)
+    never (ap (λ z. verdict_of_asked edge_table z) own ∙ parts.3)

@@ -8,7 +8,8 @@ use Rattle.hx_directives.specs.Occurrences.{occurrences_of}
 use Rattle.hx_framing.specs.declared.messages.Response.{Response}
 use Rattle.hx_hop.specs.declared.request_view.Asked.{Asked}
 use Rattle.hx_allow.specs.TableLines.{Table}
-use Rattle.hx_allow.specs.Matching.{verdict_of, policy_of}
+use Rattle.hx_allow.specs.Matching.{policy_of}
+use Rattle.proxy_core.specs.Allowing.{verdict_of_asked, exchanges_to_wait_for}
 use Rattle.hx_allow.specs.declared.verdicts.Verdict.{Verdict}
 use Rattle.hx_allow.specs.declared.verdicts.Verdict.TheVariants as verdict
 use Rattle.hx_store.specs.Stored.{Stored}
@@ -223,8 +224,8 @@ module _ (table : Table) (es : List Stored) (distinct : Distinct (serials es)) (
   used_failed now x kind came s (Refuses rule error) k h = absurd (never_one s h)
 
   -- an arrival
-  used_arrived : (now : ℕ) (asked : Asked) (s : ℕ) (v : Verdict) → verdict_of table.lines asked.method asked.target ≡ v → serial_used_by_outcome (outcome_of_arrival table es xs now asked v) ≡ Some s →
-      (line : ℕ) × (verdict_of table.lines asked.method asked.target ≡ verdict.Allowed line) × StoredResponseIsReusable (policy_of table.lines line) es asked now s
+  used_arrived : (now : ℕ) (asked : Asked) (s : ℕ) (v : Verdict) → verdict_of_asked table asked ≡ v → serial_used_by_outcome (outcome_of_arrival table es xs now asked v) ≡ Some s →
+      (line : ℕ) × (verdict_of_asked table asked ≡ verdict.Allowed line) × StoredResponseIsReusable (policy_of table.lines line) es asked now s
   used_arrived now asked s (verdict.Allowed line) v h = (line, v, by_decision (decision_of (policy_of table.lines line) es asked now) refl h)
     where
       on : (condition : Option Condition) (leader : Option ℕ) → serial_used_by_outcome (outcome_of_waiting_or_forwarding table line asked condition leader) ≡ Some s → ⊥
@@ -233,13 +234,14 @@ module _ (table : Table) (es : List Stored) (distinct : Distinct (serials es)) (
 
       unless : (rule : ReuseRule) (condition : Option Condition) (b : Bool) → serial_used_by_outcome (outcome_without_stored_response table es xs line now asked rule condition b) ≡ Some s → ⊥
       unless rule condition true h = never_one s h
-      unless rule condition false h = on condition (leader_of_request (policy_of table.lines line) es xs asked rule) h
+      unless rule condition false h = on condition (leader_of_request (policy_of table.lines line) es (exchanges_to_wait_for table line asked xs) asked rule) h
 
       by_decision : (d : Decision) → decision_of (policy_of table.lines line) es asked now ≡ d → serial_used_by_outcome (outcome_of_allowed_request table es xs line now asked d) ≡ Some s → StoredResponseIsReusable (policy_of table.lines line) es asked now s
       by_decision (decision.Hit t) k h = subst (λ n. StoredResponseIsReusable (policy_of table.lines line) es asked now n) (same_Some t s h) (reused_is_allowed (policy_of table.lines line) es asked now t k)
       by_decision (decision.Forward rule against) k h = absurd (unless rule (condition_about_serial es against) (is_only_if_cached asked) h)
   used_arrived now asked s (verdict.DeniedBy line) v h = absurd (never_one s h)
   used_arrived now asked s verdict.NoLine v h = absurd (never_one s h)
+  used_arrived now asked s (verdict.Looped line) v h = absurd (never_one s h)
 
   module _ (x : Exchange) (now id : ℕ) (r : Response) (next : Option ℕ) (s : ℕ) where
     abbrev IsUsed : Outcome → Type 0
@@ -334,7 +336,7 @@ module _ (table : Table) (es : List Stored) (distinct : Distinct (serials es)) (
   may_be_used x next (Abandon id) s may = absurd may
 
   used_may_be : (x : Option Exchange) (next : Option ℕ) (event : Event) (s : ℕ) → serial_used_by_outcome (outcome_of table es xs x next event) ≡ Some s → StoredResponseMayBeSentAt table es x event s
-  used_may_be x next (Arrive now id asked) s h = used_arrived now asked s (verdict_of table.lines asked.method asked.target) refl h
+  used_may_be x next (Arrive now id asked) s h = used_arrived now asked s (verdict_of_asked table asked) refl h
   used_may_be (Some x) next (Answer now id r) s h = used_answered x now id r next s h
   used_may_be None next (Answer now id r) s h = absurd (never_one s h)
   used_may_be (Some x) next (Fail now id kind) s h = used_failed now x kind None s (fallback_for (policy_of table.lines x.line) es x.asked now (decision_of (policy_of table.lines x.line) es x.asked now)) refl h
@@ -358,7 +360,7 @@ sends_nothing_else table start first s item past g h =
 -- ---- going forward
 
 pub arrival_is : (table : Table) (start : StoreAtStart) (first now id : ℕ) (asked : Asked) (item : Item) (past : List Item) → IsGoodHistory table start first (item ∷ past) → item.event ≡ Arrive now id asked →
-    item.outcome ≡ outcome_of_arrival table (held_entries table start past) (open_exchanges table start past) now asked (verdict_of table.lines asked.method asked.target)
+    item.outcome ≡ outcome_of_arrival table (held_entries table start past) (open_exchanges table start past) now asked (verdict_of_asked table asked)
 arrival_is table start first now id asked item past g e =
     g.0.outcome_is ∙ ap (λ (v : Event). outcome_of_event table (held_entries table start past) (open_exchanges table start past) (next_serial first past) v) e
 
@@ -372,20 +374,20 @@ forwards_where_allowed table start first now id line asked rule item past g e v 
           ∙ ap (λ (v : Verdict). outcome_of_arrival table es xs now asked v) v
           ∙ ap (λ (d : Decision). outcome_of_allowed_request table es xs line now asked d) d.1
           ∙ ap (λ b. outcome_without_stored_response table es xs line now asked rule (condition_about_serial es d.0) b) other
-          ∙ ap (λ (leader : Option ℕ). outcome_of_waiting_or_forwarding table line asked (condition_about_serial es d.0) leader) (leads_for_none (policy_of table.lines line) es (held_distinct table start first past g.1) xs asked now rule least none),
+          ∙ ap (λ (leader : Option ℕ). outcome_of_waiting_or_forwarding table line asked (condition_about_serial es d.0) leader) (leads_for_none (policy_of table.lines line) es (held_distinct table start first past g.1) (exchanges_to_wait_for table line asked xs) asked now rule least none),
     )
 
 -- what is known of a request that goes forward at its arrival
 abbrev GoesOn : Table → List Stored → List Exchange → ℕ → ℕ → Asked → Type 0
 GoesOn table es xs now line asked =
-    (verdict_of table.lines asked.method asked.target ≡ verdict.Allowed line)
-    × ((rule : ReuseRule) × IsLeastReuseRule (policy_of table.lines line) es asked now rule × NoLeaderIsOpen (policy_of table.lines line) es xs asked now) × (is_only_if_cached asked ≡ false)
+    (verdict_of_asked table asked ≡ verdict.Allowed line)
+    × ((rule : ReuseRule) × IsLeastReuseRule (policy_of table.lines line) es asked now rule × NoLeaderIsOpen (policy_of table.lines line) es (exchanges_to_wait_for table line asked xs) asked now) × (is_only_if_cached asked ≡ false)
 
-forward_parts : (table : Table) (es : List Stored) (distinct : Distinct (serials es)) (xs : List Exchange) (now line : ℕ) (asked : Asked) (bytes : List ℕ) (v : Verdict) → verdict_of table.lines asked.method asked.target ≡ v →
+forward_parts : (table : Table) (es : List Stored) (distinct : Distinct (serials es)) (xs : List Exchange) (now line : ℕ) (asked : Asked) (bytes : List ℕ) (v : Verdict) → verdict_of_asked table asked ≡ v →
     outcome_of_arrival table es xs now asked v ≡ Forward line bytes → GoesOn table es xs now line asked
 forward_parts table es distinct xs now line asked bytes (verdict.Allowed n) v h = by_decision (decision_of (policy_of table.lines n) es asked now) refl h
   where
-    on : (rule : ReuseRule) (against leader : Option ℕ) → leader_of_request (policy_of table.lines n) es xs asked rule ≡ leader → is_only_if_cached asked ≡ false →
+    on : (rule : ReuseRule) (against leader : Option ℕ) → leader_of_request (policy_of table.lines n) es (exchanges_to_wait_for table n asked xs) asked rule ≡ leader → is_only_if_cached asked ≡ false →
         decision_of (policy_of table.lines n) es asked now ≡ decision.Forward rule against → outcome_of_waiting_or_forwarding table n asked (condition_about_serial es against) leader ≡ Forward line bytes → GoesOn table es xs now line asked
     on rule against (Some leader) l k d h = absurd (cc)
     on rule against None l k d h =
@@ -394,8 +396,8 @@ forward_parts table es distinct xs now line asked bytes (verdict.Allowed n) v h 
           (
             rule,
             subst (λ m. IsLeastReuseRule (policy_of table.lines m) es asked now rule) same (names_the_least (policy_of table.lines n) es asked now rule against d).0,
-            subst (λ m. NoLeaderIsOpen (policy_of table.lines m) es xs asked now) same
-                (nobody_leads (policy_of table.lines n) es distinct xs asked now rule (names_the_least (policy_of table.lines n) es asked now rule against d).0 l),
+            subst (λ m. NoLeaderIsOpen (policy_of table.lines m) es (exchanges_to_wait_for table m asked xs) asked now) same
+                (nobody_leads (policy_of table.lines n) es distinct (exchanges_to_wait_for table n asked xs) asked now rule (names_the_least (policy_of table.lines n) es asked now rule against d).0 l),
           ),
           k,
         )
@@ -403,53 +405,55 @@ forward_parts table es distinct xs now line asked bytes (verdict.Allowed n) v h 
     unless : (rule : ReuseRule) (against : Option ℕ) (b : Bool) → is_only_if_cached asked ≡ b → decision_of (policy_of table.lines n) es asked now ≡ decision.Forward rule against →
         outcome_without_stored_response table es xs n now asked rule (condition_about_serial es against) b ≡ Forward line bytes → GoesOn table es xs now line asked
     unless rule against true k d h = absurd (cc)
-    unless rule against false k d h = on rule against (leader_of_request (policy_of table.lines n) es xs asked rule) refl k d h
+    unless rule against false k d h = on rule against (leader_of_request (policy_of table.lines n) es (exchanges_to_wait_for table n asked xs) asked rule) refl k d h
 
     by_decision : (d : Decision) → decision_of (policy_of table.lines n) es asked now ≡ d → outcome_of_allowed_request table es xs n now asked d ≡ Forward line bytes → GoesOn table es xs now line asked
     by_decision (decision.Hit t) k h = absurd (cc)
     by_decision (decision.Forward rule against) k h = unless rule against (is_only_if_cached asked) refl k h
 forward_parts table es distinct xs now line asked bytes (verdict.DeniedBy n) v h = absurd (cc)
 forward_parts table es distinct xs now line asked bytes verdict.NoLine v h = absurd (cc)
+forward_parts table es distinct xs now line asked bytes (verdict.Looped n) v h = absurd (cc)
 
 pub forwards_nothing_else : RequestIsForwardedNowhereElse
 forwards_nothing_else table start first now id line asked bytes item past g e h =
-    forward_parts table (held_entries table start past) (held_distinct table start first past g.1) (open_exchanges table start past) now line asked bytes (verdict_of table.lines asked.method asked.target) refl
+    forward_parts table (held_entries table start past) (held_distinct table start first past g.1) (open_exchanges table start past) now line asked bytes (verdict_of_asked table asked) refl
     (sym (arrival_is table start first now id asked item past g e) ∙ h)
 
 -- ---- reaching cache or origin
 
 module _ (table : Table) (es : List Stored) (distinct : Distinct (serials es)) (xs : List Exchange) (now : ℕ) (asked : Asked) where
-  reach_on : (line : ℕ) (rule : ReuseRule) (against leader : Option ℕ) → is_only_if_cached asked ≡ false → leader_of_request (policy_of table.lines line) es xs asked rule ≡ leader →
+  reach_on : (line : ℕ) (rule : ReuseRule) (against leader : Option ℕ) → is_only_if_cached asked ≡ false → leader_of_request (policy_of table.lines line) es (exchanges_to_wait_for table line asked xs) asked rule ≡ leader →
       decision_of (policy_of table.lines line) es asked now ≡ decision.Forward rule against → RequestReachesCacheOrOrigin table es xs now asked line (outcome_of_waiting_or_forwarding table line asked (condition_about_serial es against) leader)
   reach_on line rule against None k l d =
       let named = names_the_least (policy_of table.lines line) es asked now rule against d in
-      inr (inl (rule, record { is_least = named.0; against = against; names = named.1; outcome_is = refl }, k, nobody_leads (policy_of table.lines line) es distinct xs asked now rule named.0 l))
+      inr (inl (rule, record { is_least = named.0; against = against; names = named.1; outcome_is = refl }, k, nobody_leads (policy_of table.lines line) es distinct (exchanges_to_wait_for table line asked xs) asked now rule named.0 l))
   reach_on line rule against (Some leader) k l d =
       let named = names_the_least (policy_of table.lines line) es asked now rule against d in
-      let led = is_led (policy_of table.lines line) es distinct xs asked now rule named.0 leader l in
+      let led = is_led (policy_of table.lines line) es distinct (exchanges_to_wait_for table line asked xs) asked now rule named.0 leader l in
       inr (inr (inl (record {
         leader = leader;
         takes_others = k;
         awaited = led.0;
         awaits = led.1;
-        first_leads = led_by (policy_of table.lines line) led.0 asked xs leader led.2;
+        first_leads = led_by (policy_of table.lines line) led.0 asked (exchanges_to_wait_for table line asked xs) leader led.2;
         outcome_is = refl;
       })))
 
   reach_unless : (line : ℕ) (rule : ReuseRule) (against : Option ℕ) (b : Bool) → is_only_if_cached asked ≡ b → decision_of (policy_of table.lines line) es asked now ≡ decision.Forward rule against →
       RequestReachesCacheOrOrigin table es xs now asked line (outcome_without_stored_response table es xs line now asked rule (condition_about_serial es against) b)
   reach_unless line rule against true k d = inr (inr (inr (rule, k, (names_the_least (policy_of table.lines line) es asked now rule against d).0, refl)))
-  reach_unless line rule against false k d = reach_on line rule against (leader_of_request (policy_of table.lines line) es xs asked rule) k refl d
+  reach_unless line rule against false k d = reach_on line rule against (leader_of_request (policy_of table.lines line) es (exchanges_to_wait_for table line asked xs) asked rule) k refl d
 
   reach : (line : ℕ) (d : Decision) → decision_of (policy_of table.lines line) es asked now ≡ d → RequestReachesCacheOrOrigin table es xs now asked line (outcome_of_allowed_request table es xs line now asked d)
   reach line (decision.Hit s) d = inl (s, refl)
   reach line (decision.Forward rule against) d = reach_unless line rule against (is_only_if_cached asked) refl d
 
-  refuse : (v : Verdict) → verdict_of table.lines asked.method asked.target ≡ v → ((line : ℕ) → verdict_of table.lines asked.method asked.target ≢ verdict.Allowed line) →
+  refuse : (v : Verdict) → verdict_of_asked table asked ≡ v → ((line : ℕ) → verdict_of_asked table asked ≢ verdict.Allowed line) →
       RequestIsTurnedAway table now asked (outcome_of_arrival table es xs now asked v)
   refuse (verdict.Allowed line) v n = absurd (n line v)
   refuse (verdict.DeniedBy line) v n = inl (line, v, refl)
-  refuse verdict.NoLine v n = inr (v, refl)
+  refuse verdict.NoLine v n = inr (inl (v, refl))
+  refuse (verdict.Looped line) v n = inr (inr (line, v, refl))
 
 pub reaches_where_allowed : AllowedRequestReachesCacheOrOrigin
 reaches_where_allowed table start first now id line asked item past g e v =
@@ -464,4 +468,4 @@ refuses_where_not_allowed table start first now id asked item past g e n =
     let es = held_entries table start past in
     let xs = open_exchanges table start past in
     subst (RequestIsTurnedAway table now asked) (sym (arrival_is table start first now id asked item past g e))
-    (refuse table es (held_distinct table start first past g.1) xs now asked (verdict_of table.lines asked.method asked.target) refl n)
+    (refuse table es (held_distinct table start first past g.1) xs now asked (verdict_of_asked table asked) refl n)

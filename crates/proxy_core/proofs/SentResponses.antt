@@ -7,7 +7,8 @@ use Rattle.hx_policy.specs.declared.words.Policy.{Policy}
 use Rattle.hx_framing.specs.declared.messages.Response.{Response}
 use Rattle.hx_hop.specs.declared.request_view.Asked.{Asked}
 use Rattle.hx_allow.specs.TableLines.{Table}
-use Rattle.hx_allow.specs.Matching.{verdict_of, policy_of}
+use Rattle.hx_allow.specs.Matching.{policy_of}
+use Rattle.proxy_core.specs.Allowing.{verdict_of_asked, exchanges_to_wait_for}
 use Rattle.hx_allow.specs.declared.verdicts.Verdict.{Verdict}
 use Rattle.hx_allow.specs.declared.verdicts.Verdict.TheVariants as verdict
 use Rattle.hx_store.specs.Stored.{Stored}
@@ -121,7 +122,7 @@ module _ (table : Table) (es : List Stored) (distinct : Distinct (serials es)) w
   as_arrived None now id asked e = refl
   as_arrived (Some x) now id asked e = refl
 
-  arrival_sends : (xs : List Exchange) (x : Option Exchange) (now id : ℕ) (asked : Asked) (s : ℕ) (v : Verdict) → verdict_of table.lines asked.method asked.target ≡ v → serial_used_by_outcome (outcome_of_arrival table es xs now asked v) ≡ Some s →
+  arrival_sends : (xs : List Exchange) (x : Option Exchange) (now id : ℕ) (asked : Asked) (s : ℕ) (v : Verdict) → verdict_of_asked table asked ≡ v → serial_used_by_outcome (outcome_of_arrival table es xs now asked v) ≡ Some s →
       ReplyIsThatStoredResponse table es x (Arrive now id asked) (outcome_of_arrival table es xs now asked v) s
   arrival_sends xs x now id asked s (verdict.Allowed line) v h = by_decision (decision_of (policy_of table.lines line) es asked now) refl h
     where
@@ -133,7 +134,7 @@ module _ (table : Table) (es : List Stored) (distinct : Distinct (serials es)) w
       unless : (rule : ReuseRule) (condition : Option Condition) (b : Bool) → serial_used_by_outcome (outcome_without_stored_response table es xs line now asked rule condition b) ≡ Some s →
           ReplyIsThatStoredResponse table es x (Arrive now id asked) (outcome_without_stored_response table es xs line now asked rule condition b) s
       unless rule condition true h = absurd (never_one s h)
-      unless rule condition false h = on condition (leader_of_request (policy_of table.lines line) es xs asked rule) h
+      unless rule condition false h = on condition (leader_of_request (policy_of table.lines line) es (exchanges_to_wait_for table line asked xs) asked rule) h
 
       by_decision : (d : Decision) → decision_of (policy_of table.lines line) es asked now ≡ d → serial_used_by_outcome (outcome_of_allowed_request table es xs line now asked d) ≡ Some s →
           ReplyIsThatStoredResponse table es x (Arrive now id asked) (outcome_of_allowed_request table es xs line now asked d) s
@@ -144,6 +145,7 @@ module _ (table : Table) (es : List Stored) (distinct : Distinct (serials es)) w
       by_decision (decision.Forward rule against) k h = unless rule (condition_about_serial es against) (is_only_if_cached asked) h
   arrival_sends xs x now id asked s (verdict.DeniedBy line) v h = absurd (never_one s h)
   arrival_sends xs x now id asked s verdict.NoLine v h = absurd (never_one s h)
+  arrival_sends xs x now id asked s (verdict.Looped line) v h = absurd (never_one s h)
 
   -- after an error
   fallback_sends : (x : Exchange) (event : Event) (now : ℕ) (kind : FailKind) (came : Option ℕ) (s : ℕ) (fallback : Fallback) →
@@ -239,7 +241,7 @@ module _ (table : Table) (es : List Stored) (distinct : Distinct (serials es)) w
 
   sends_by_event : (xs : List Exchange) (x : Option Exchange) (next : Option ℕ) (event : Event) (s : ℕ) → serial_used_by_outcome (outcome_of table es xs x next event) ≡ Some s →
       ReplyIsThatStoredResponse table es x event (outcome_of table es xs x next event) s
-  sends_by_event xs x next (Arrive now id asked) s h = arrival_sends xs x now id asked s (verdict_of table.lines asked.method asked.target) refl h
+  sends_by_event xs x next (Arrive now id asked) s h = arrival_sends xs x now id asked s (verdict_of_asked table asked) refl h
   sends_by_event xs (Some x) next (Answer now id r) s h = answer_sends x now id r next s h
   sends_by_event xs None next (Answer now id r) s h = absurd (never_one s h)
   sends_by_event xs (Some x) next (Fail now id kind) s h =

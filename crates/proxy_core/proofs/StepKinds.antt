@@ -6,7 +6,8 @@ use Rattle.hx_policy.specs.declared.words.Policy.{Policy}
 use Rattle.hx_framing.specs.declared.messages.Response.{Response}
 use Rattle.hx_hop.specs.declared.request_view.Asked.{Asked}
 use Rattle.hx_allow.specs.TableLines.{Table}
-use Rattle.hx_allow.specs.Matching.{verdict_of, policy_of}
+use Rattle.hx_allow.specs.Matching.{policy_of}
+use Rattle.proxy_core.specs.Allowing.{verdict_of_asked, exchanges_to_wait_for}
 use Rattle.hx_allow.specs.declared.verdicts.Verdict.{Verdict}
 use Rattle.hx_allow.specs.declared.verdicts.Verdict.TheVariants as verdict
 use Rattle.hx_store.specs.Stored.{Stored}
@@ -108,7 +109,7 @@ module _ (table : Table) (es : List Stored) (x : Option Exchange) (event : Event
   kind_unanswered : (xs : List Exchange) (line now : ℕ) (asked : Asked) (rule : ReuseRule) (condition : Option Condition) (b : Bool) → KindOf es x event next (outcome_without_stored_response table es xs line now asked rule condition b)
   unfolding KindOf
   kind_unanswered xs line now asked rule condition true = idle refl refl
-  kind_unanswered xs line now asked rule condition false = kind_sent_on line asked condition (leader_of_request (policy_of table.lines line) es xs asked rule)
+  kind_unanswered xs line now asked rule condition false = kind_sent_on line asked condition (leader_of_request (policy_of table.lines line) es (exchanges_to_wait_for table line asked xs) asked rule)
 
   kind_allowed : (xs : List Exchange) (line now : ℕ) (asked : Asked) (d : Decision) → ((s : ℕ) → d ≡ decision.Hit s → IsFound es s) → KindOf es x event next (outcome_of_allowed_request table es xs line now asked d)
   unfolding KindOf
@@ -120,6 +121,7 @@ module _ (table : Table) (es : List Stored) (x : Option Exchange) (event : Event
   kind_arrived xs now asked (verdict.Allowed line) = kind_allowed xs line now asked (decision_of (policy_of table.lines line) es asked now) (λ s h. hit_found (policy_of table.lines line) es asked now s h)
   kind_arrived xs now asked (verdict.DeniedBy line) = idle refl refl
   kind_arrived xs now asked verdict.NoLine = idle refl refl
+  kind_arrived xs now asked (verdict.Looped line) = idle refl refl
 
   kind_woken : (now : ℕ) (z : Exchange) (d : Decision) → ((s : ℕ) → d ≡ decision.Hit s → IsFound es s) → KindOf es x event next (outcome_of_wake table es now z d)
   unfolding KindOf
@@ -197,7 +199,7 @@ module _ (table : Table) (es : List Stored) (now id : ℕ) (x : Exchange) (r : R
 kind_of : (table : Table) (es : List Stored) (xs : List Exchange) (x : Option Exchange) (event : Event) (next : Option ℕ) → NoSerialIsHeldFrom next es →
     KindOf es x event next (outcome_of table es xs x next event)
 unfolding KindOf
-kind_of table es xs x (Arrive now id asked) next h = kind_arrived table es x (Arrive now id asked) next xs now asked (verdict_of table.lines asked.method asked.target)
+kind_of table es xs x (Arrive now id asked) next h = kind_arrived table es x (Arrive now id asked) next xs now asked (verdict_of_asked table asked)
 kind_of table es xs (Some x) (Answer now id r) next h = kind_answered table es now id x r next h
 kind_of table es xs None (Answer now id r) next h = idle refl refl
 kind_of table es xs (Some x) (Fail now id kind) next h =

@@ -7,7 +7,8 @@ use Rattle.hx_framing.specs.declared.messages.Response.{Response}
 use Rattle.hx_target.specs.declared.keys.Key.{Key}
 use Rattle.hx_hop.specs.declared.request_view.Asked.{Asked}
 use Rattle.hx_allow.specs.TableLines.{Table}
-use Rattle.hx_allow.specs.Matching.{verdict_of, policy_of}
+use Rattle.hx_allow.specs.Matching.{policy_of}
+use Rattle.proxy_core.specs.Allowing.{verdict_of_asked}
 use Rattle.hx_allow.specs.declared.verdicts.Verdict.{Verdict}
 use Rattle.hx_store.specs.Stored.{Stored}
 use Rattle.hx_store.specs.Serials.{serial_is_in}
@@ -62,7 +63,7 @@ st table limit es xs next = record { table = table; limit = limit; entries = es;
 
 module _ (s : State) (now id : ℕ) (early : moment_too_late_fault now ≡ None) where
   -- a request that arrived
-  pub arrive_done : (asked : Asked) (v : Verdict) (o : Outcome) (t : State) → find_exchange id s.exchanges ≡ None → v ≡ verdict_of s.table.lines asked.method asked.target
+  pub arrive_done : (asked : Asked) (v : Verdict) (o : Outcome) (t : State) → find_exchange id s.exchanges ≡ None → v ≡ verdict_of_asked s.table asked
       → o ≡ outcome_of_arrival s.table s.entries s.exchanges now asked v → t ≡ state_after s (Arrive now id asked) o → StepIsAccepted s (Arrive now id asked) o t
   arrive_done asked v o t free judged is leaves = record {
     allowed = ap (λ (x : Option Exchange). fault_at_exchange x (Arrive now id asked)) free ∙ early;

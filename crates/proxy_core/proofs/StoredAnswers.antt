@@ -7,7 +7,8 @@ use Rattle.hx_target.specs.declared.keys.Key.{Key}
 use Rattle.hx_framing.specs.declared.messages.Response.{Response}
 use Rattle.hx_hop.specs.Answering.{answered_of}
 use Rattle.hx_allow.specs.TableLines.{Table}
-use Rattle.hx_allow.specs.Matching.{policy_of, verdict_of}
+use Rattle.hx_allow.specs.Matching.{policy_of}
+use Rattle.proxy_core.specs.Allowing.{verdict_of_asked, exchanges_to_wait_for}
 use Rattle.hx_allow.specs.declared.verdicts.Verdict.{Verdict}
 use Rattle.hx_allow.specs.declared.verdicts.Verdict.TheVariants as verdict
 use Rattle.hx_vary.specs.Vary.{is_star}
@@ -418,7 +419,7 @@ StatusIsShown table es next x = (now : ℕ) (r : Response) →
 module _ (table : Table) (es : List Stored) (xs : List Exchange) (next : Option ℕ) where
   goes_by_event : (x : Option Exchange) (event : Event) → ((z : Exchange) → x ≡ Some z → StatusIsShown table es next z) →
       serials_removed_by_outcome (outcome_of table es xs x next event) ≡ serials_removed_at table es x event (outcome_of table es xs x next event)
-  goes_by_event x (Arrive now id asked) shown = by_verdict (verdict_of table.lines asked.method asked.target)
+  goes_by_event x (Arrive now id asked) shown = by_verdict (verdict_of_asked table asked)
     where
       on : (line : ℕ) (condition : Option Condition) (leader : Option ℕ) → serials_removed_by_outcome (outcome_of_waiting_or_forwarding table line asked condition leader) ≡ []
       on line condition None = refl
@@ -426,7 +427,7 @@ module _ (table : Table) (es : List Stored) (xs : List Exchange) (next : Option 
 
       unless : (line : ℕ) (rule : ReuseRule) (condition : Option Condition) (b : Bool) → serials_removed_by_outcome (outcome_without_stored_response table es xs line now asked rule condition b) ≡ []
       unless line rule condition true = refl
-      unless line rule condition false = on line condition (leader_of_request (policy_of table.lines line) es xs asked rule)
+      unless line rule condition false = on line condition (leader_of_request (policy_of table.lines line) es (exchanges_to_wait_for table line asked xs) asked rule)
 
       by_decision : (line : ℕ) (d : Decision) → serials_removed_by_outcome (outcome_of_allowed_request table es xs line now asked d) ≡ []
       by_decision line (decision.Hit s) = refl
@@ -436,6 +437,7 @@ module _ (table : Table) (es : List Stored) (xs : List Exchange) (next : Option 
       by_verdict (verdict.Allowed line) = by_decision line (decision_of (policy_of table.lines line) es asked now)
       by_verdict (verdict.DeniedBy line) = refl
       by_verdict verdict.NoLine = refl
+      by_verdict (verdict.Looped line) = refl
   goes_by_event (Some x) (Answer now id r) shown =
       let o = outcome_of_answer table es now x r next (decision_of (policy_of table.lines x.line) es x.asked now) in
       answer_goes table es now x r next (decision_of (policy_of table.lines x.line) es x.asked now) ∙ ap (λ (key : Option Key). removed_with table es now x r next key o) (sym (shown x refl now r))

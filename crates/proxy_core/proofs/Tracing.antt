@@ -3,9 +3,9 @@ use Rattle.std.proofs.Common.{◌≡◌, ◌≢◌, inl, inr, ℕ, ◌<◌, Opti
 use Rattle.std.specs.Prelude.{slice_get, unwrap_or}
 use Rattle.std.proofs.lemmas.Option.{same_Some, slice_get_read}
 use Rattle.hx_allow.specs.TableLines.{Table}
-use Rattle.hx_allow.specs.Matching.{verdict_of}
+use Rattle.proxy_core.specs.Allowing.{verdict_of_asked}
 use Rattle.hx_allow.specs.declared.verdicts.Verdict.{Verdict}
-use Rattle.hx_allow.specs.declared.verdicts.Verdict.TheVariants.{Allowed, DeniedBy, NoLine}
+use Rattle.hx_allow.specs.declared.verdicts.Verdict.TheVariants.{Allowed, DeniedBy, NoLine, Looped}
 use Rattle.hx_hop.specs.declared.request_view.Asked.{Asked}
 use Rattle.hx_store.specs.Stored.{Stored}
 use Rattle.proxy_core.specs.declared.outcome.Outcome.{Outcome}
@@ -75,9 +75,10 @@ denied_by : (table : Table) (es : List Stored) (xs : List Exchange) (now : ℕ) 
 denied_by table es xs now asked (Allowed line) n = absurd (n line refl)
 denied_by table es xs now asked (DeniedBy line) n = (refl, refl, refl)
 denied_by table es xs now asked NoLine n = (refl, refl, refl)
+denied_by table es xs now asked (Looped line) n = (refl, refl, refl)
 
 denied_item : (table : Table) (s : State) (event : Event) (outcome : Outcome) → ItemIsAccepted table s.entries s.exchanges s.next (record { event = event; outcome = outcome }) → ArrivalIsDenied table event → OutcomeLeavesNoTrace outcome
-denied_item table s (Arrive now id asked) outcome a d = subst OutcomeLeavesNoTrace (sym a.outcome_is) (denied_by table s.entries s.exchanges now asked (verdict_of table.lines asked.method asked.target) d)
+denied_item table s (Arrive now id asked) outcome a d = subst OutcomeLeavesNoTrace (sym a.outcome_is) (denied_by table s.entries s.exchanges now asked (verdict_of_asked table asked) d)
 denied_item table s (Answer now id r) outcome a d = absurd d
 denied_item table s (Fail now id kind) outcome a d = absurd d
 denied_item table s (Wake now id) outcome a d = absurd d

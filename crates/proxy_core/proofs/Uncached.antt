@@ -15,6 +15,7 @@ use Rattle.hx_reuse.specs.declared.rule.ReuseRule.TheVariants.{Operator}
 use Rattle.hx_reuse.specs.declared.decision.Decision.{Decision}
 use Rattle.hx_reuse.specs.declared.decision.Decision.TheVariants as decision
 use Rattle.hx_reuse.proofs.RuleLemmas.{by_operator}
+use Rattle.proxy_core.specs.Allowing.{exchanges_to_wait_for}
 use Rattle.proxy_core.specs.declared.steps.condition.Condition.{Condition}
 use Rattle.proxy_core.specs.declared.open.exchange.Exchange.{Exchange}
 use Rattle.proxy_core.specs.declared.event.Event.{Event}
@@ -124,6 +125,6 @@ goes_forward_over_it table start first now id line asked item past g e v off =
     by_word false k is = inl (
       k,
       is
-          ∙ ap (λ (o : Option Awaited). outcome_of_waiting_or_forwarding table line asked None (leader_if_awaited (policy_of table.lines line) asked (open_exchanges table start past) o))
+          ∙ ap (λ (o : Option Awaited). outcome_of_waiting_or_forwarding table line asked None (leader_if_awaited (policy_of table.lines line) asked (exchanges_to_wait_for table line asked (open_exchanges table start past)) o))
           (operator_awaits_nothing (policy_of table.lines line) (held_entries table start past) asked),
     )

@@ -12,7 +12,8 @@ use Rattle.hx_framing.specs.declared.messages.Response.{Response}
 use Rattle.hx_hop.specs.Answering.{answered_of}
 use Rattle.hx_hop.specs.declared.request_view.Asked.{Asked}
 use Rattle.hx_allow.specs.TableLines.{Table}
-use Rattle.hx_allow.specs.Matching.{verdict_of, policy_of}
+use Rattle.hx_allow.specs.Matching.{policy_of}
+use Rattle.proxy_core.specs.Allowing.{verdict_of_asked, exchanges_to_wait_for}
 use Rattle.hx_allow.specs.declared.verdicts.Verdict.{Verdict}
 use Rattle.hx_allow.specs.declared.verdicts.Verdict.TheVariants as verdict
 use Rattle.hx_store.specs.Stored.{Stored}
@@ -117,13 +118,14 @@ stored_arrival table es xs now asked (verdict.Allowed line) s h = by_decision (d
 
     unless : (rule : ReuseRule) (condition : Option Condition) (b : Bool) → serial_stored_by_outcome (outcome_without_stored_response table es xs line now asked rule condition b) ≡ Some s → ⊥
     unless rule condition true h = none_stored s h
-    unless rule condition false h = on condition (leader_of_request (policy_of table.lines line) es xs asked rule) h
+    unless rule condition false h = on condition (leader_of_request (policy_of table.lines line) es (exchanges_to_wait_for table line asked xs) asked rule) h
 
     by_decision : (d : Decision) → serial_stored_by_outcome (outcome_of_allowed_request table es xs line now asked d) ≡ Some s → ⊥
     by_decision (decision.Hit t) h = none_stored s h
     by_decision (decision.Forward rule against) h = unless rule (condition_about_serial es against) (is_only_if_cached asked) h
 stored_arrival table es xs now asked (verdict.DeniedBy line) s h = none_stored s h
 stored_arrival table es xs now asked verdict.NoLine s h = none_stored s h
+stored_arrival table es xs now asked (verdict.Looped line) s h = none_stored s h
 
 stored_failure : (table : Table) (es : List Stored) (now : ℕ) (x : Exchange) (kind : FailKind) (came : Option ℕ) (fallback : Fallback) (s : ℕ) → serial_stored_by_outcome (outcome_of_failure table es now x kind came fallback) ≡ Some s → ⊥
 stored_failure table es now x kind came (Sends serial detail) s h = none_stored s h
@@ -160,7 +162,7 @@ module _ (table : Table) (es : List Stored) (now i : ℕ) (x : Exchange) (r : Re
 
 pub storing_of : (table : Table) (es : List Stored) (xs : List Exchange) (w : Option Exchange) (next : Option ℕ) (event : Event) (s : ℕ) →
     serial_stored_by_outcome (outcome_of table es xs w next event) ≡ Some s → Storing table w event next s
-storing_of table es xs w next (Arrive now i asked) s h = absurd (stored_arrival table es xs now asked (verdict_of table.lines asked.method asked.target) s h)
+storing_of table es xs w next (Arrive now i asked) s h = absurd (stored_arrival table es xs now asked (verdict_of_asked table asked) s h)
 storing_of table es xs None next (Answer now i r) s h = absurd (none_stored s h)
 storing_of table es xs (Some z) next (Answer now i r) s h = stored_answer table es now i z r next s (decision_of (policy_of table.lines z.line) es z.asked now) h
 storing_of table es xs None next (Fail now i kind) s h = absurd (none_stored s h)

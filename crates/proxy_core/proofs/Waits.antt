@@ -9,7 +9,8 @@ use Rattle.hx_target.specs.declared.keys.Key.{Key}
 use Rattle.hx_target.specs.Keys.{same_key}
 use Rattle.hx_hop.specs.declared.request_view.Asked.{Asked}
 use Rattle.hx_allow.specs.TableLines.{Table}
-use Rattle.hx_allow.specs.Matching.{verdict_of, policy_of}
+use Rattle.hx_allow.specs.Matching.{policy_of}
+use Rattle.proxy_core.specs.Allowing.{verdict_of_asked, exchanges_to_wait_for}
 use Rattle.hx_allow.specs.declared.verdicts.Verdict.{Verdict}
 use Rattle.hx_allow.specs.declared.verdicts.Verdict.TheVariants as verdict
 use Rattle.hx_store.specs.Stored.{Stored}
@@ -80,7 +81,7 @@ some_leads policy awaited asked id (x ∷ xs) z f h = by_test (λ g. some_leads 
 
 -- what becomes of a GET that may wait, where one leads
 waits_for_it : (table : Table) (start : StoreAtStart) (first now id line l : ℕ) (asked : Asked) (awaited : Awaited) (item : Item) (past : List Item) → IsGoodHistory table start first (item ∷ past) →
-    item.event ≡ Arrive now id asked → RequestCouldWait table start past now line asked awaited → leader (policy_of table.lines line) awaited asked (open_exchanges table start past) ≡ Some l → item.outcome ≡ Waits l
+    item.event ≡ Arrive now id asked → RequestCouldWait table start past now line asked awaited → leader (policy_of table.lines line) awaited asked (exchanges_to_wait_for table line asked (open_exchanges table start past)) ≡ Some l → item.outcome ≡ Waits l
 waits_for_it table start first now id line l asked awaited item past g e could led =
     let es = held_entries table start past in
     let xs = open_exchanges table start past in
@@ -91,40 +92,41 @@ waits_for_it table start first now id line l asked awaited item past g e could l
     ∙ (ap (λ (v : Verdict). outcome_of_arrival table es xs now asked v) could.line_allows
     ∙ (ap (λ (d : Decision). outcome_of_allowed_request table es xs line now asked d) d.1
     ∙ (ap (λ b. outcome_without_stored_response table es xs line now asked rule (condition_about_serial es d.0) b) could.takes_others
-    ∙ ap (λ (o : Option ℕ). outcome_of_waiting_or_forwarding table line asked (condition_about_serial es d.0) o) (led_for (policy_of table.lines line) es (held_distinct table start first past g.1) xs asked now rule least awaited l could.awaits led))))
+    ∙ ap (λ (o : Option ℕ). outcome_of_waiting_or_forwarding table line asked (condition_about_serial es d.0) o) (led_for (policy_of table.lines line) es (held_distinct table start first past g.1) (exchanges_to_wait_for table line asked xs) asked now rule least awaited l could.awaits led))))
 
 pub waits_where_one_leads : RequestWaitsWhereOneLeads
 waits_where_one_leads table start first now id line l asked awaited item past g e could f =
     waits_for_it table start first now id line l asked awaited item past g e could
-    (first_leads (policy_of table.lines line) awaited asked (open_exchanges table start past) l f)
+    (first_leads (policy_of table.lines line) awaited asked (exchanges_to_wait_for table line asked (open_exchanges table start past)) l f)
 
 -- what is known of a request that waits
 abbrev WaitsBy : Table → List Stored → List Exchange → ℕ → ℕ → Asked → Type 0
 WaitsBy table es xs now l asked =
-    (line : ℕ) × (verdict_of table.lines asked.method asked.target ≡ verdict.Allowed line) × (is_only_if_cached asked ≡ false)
-    × ((awaited : Awaited) × RequestAwaits (policy_of table.lines line) es asked now awaited × (leader (policy_of table.lines line) awaited asked xs ≡ Some l))
+    (line : ℕ) × (verdict_of_asked table asked ≡ verdict.Allowed line) × (is_only_if_cached asked ≡ false)
+    × ((awaited : Awaited) × RequestAwaits (policy_of table.lines line) es asked now awaited × (leader (policy_of table.lines line) awaited asked (exchanges_to_wait_for table line asked xs) ≡ Some l))
 
-wait_parts : (table : Table) (es : List Stored) (distinct : Distinct (serials es)) (xs : List Exchange) (now l : ℕ) (asked : Asked) (v : Verdict) → verdict_of table.lines asked.method asked.target ≡ v →
+wait_parts : (table : Table) (es : List Stored) (distinct : Distinct (serials es)) (xs : List Exchange) (now l : ℕ) (asked : Asked) (v : Verdict) → verdict_of_asked table asked ≡ v →
     outcome_of_arrival table es xs now asked v ≡ Waits l → WaitsBy table es xs now l asked
 wait_parts table es distinct xs now l asked (verdict.Allowed line) v h = by_decision (decision_of (policy_of table.lines line) es asked now) refl h
   where
-    by_leader : (rule : ReuseRule) (against o : Option ℕ) → leader_of_request (policy_of table.lines line) es xs asked rule ≡ o → is_only_if_cached asked ≡ false →
+    by_leader : (rule : ReuseRule) (against o : Option ℕ) → leader_of_request (policy_of table.lines line) es (exchanges_to_wait_for table line asked xs) asked rule ≡ o → is_only_if_cached asked ≡ false →
         decision_of (policy_of table.lines line) es asked now ≡ decision.Forward rule against → outcome_of_waiting_or_forwarding table line asked (condition_about_serial es against) o ≡ Waits l → WaitsBy table es xs now l asked
     by_leader rule against None k c d h = absurd (cc)
     by_leader rule against (Some m) k c d h =
         let same : m ≡ l = cc in
-        (line, v, c, is_led (policy_of table.lines line) es distinct xs asked now rule (names_the_least (policy_of table.lines line) es asked now rule against d).0 l (k ∙ ap (λ n. Some n) same))
+        (line, v, c, is_led (policy_of table.lines line) es distinct (exchanges_to_wait_for table line asked xs) asked now rule (names_the_least (policy_of table.lines line) es asked now rule against d).0 l (k ∙ ap (λ n. Some n) same))
 
     unless : (rule : ReuseRule) (against : Option ℕ) (b : Bool) → is_only_if_cached asked ≡ b → decision_of (policy_of table.lines line) es asked now ≡ decision.Forward rule against →
         outcome_without_stored_response table es xs line now asked rule (condition_about_serial es against) b ≡ Waits l → WaitsBy table es xs now l asked
     unless rule against true k d h = absurd (cc)
-    unless rule against false k d h = by_leader rule against (leader_of_request (policy_of table.lines line) es xs asked rule) refl k d h
+    unless rule against false k d h = by_leader rule against (leader_of_request (policy_of table.lines line) es (exchanges_to_wait_for table line asked xs) asked rule) refl k d h
 
     by_decision : (d : Decision) → decision_of (policy_of table.lines line) es asked now ≡ d → outcome_of_allowed_request table es xs line now asked d ≡ Waits l → WaitsBy table es xs now l asked
     by_decision (decision.Hit t) k h = absurd (cc)
     by_decision (decision.Forward rule against) k h = unless rule against (is_only_if_cached asked) refl k h
 wait_parts table es distinct xs now l asked (verdict.DeniedBy line) v h = absurd (cc)
 wait_parts table es distinct xs now l asked verdict.NoLine v h = absurd (cc)
+wait_parts table es distinct xs now l asked (verdict.Looped line) v h = absurd (cc)
 
 -- none but a request that arrives waits
 abbrev pub is_wait : Outcome → Bool
@@ -177,7 +179,7 @@ waits_nowhere_else table start first l item past g h = by_event item.event refl
 
     by_event : (event : Event) → item.event ≡ event → RequestIsToWait table start l item past
     by_event (Arrive now id asked) e =
-        let p = wait_parts table (held_entries table start past) (held_distinct table start first past g.1) (open_exchanges table start past) now l asked (verdict_of table.lines asked.method asked.target) refl (sym (arrival_is table start first now id asked item past g e) ∙ h) in
+        let p = wait_parts table (held_entries table start past) (held_distinct table start first past g.1) (open_exchanges table start past) now l asked (verdict_of_asked table asked) refl (sym (arrival_is table start first now id asked item past g e) ∙ h) in
         record {
           now = now;
           id = id;
@@ -186,7 +188,7 @@ waits_nowhere_else table start first l item past g h = by_event item.event refl
           arrives = e;
           awaited = p.3.0;
           could = record { line_allows = p.1; takes_others = p.2; awaits = p.3.1 };
-          first_leads = led_by (policy_of table.lines p.0) p.3.0 asked (open_exchanges table start past) l p.3.2;
+          first_leads = led_by (policy_of table.lines p.0) p.3.0 asked (exchanges_to_wait_for table p.0 asked (open_exchanges table start past)) l p.3.2;
         }
     by_event (Answer now id r) e = late (ap is_arrival_event e)
     by_event (Fail now id kind) e = late (ap is_arrival_event e)
@@ -621,7 +623,7 @@ asks_for_it Missing rule named x r n h = ap is_uri_miss r ∙ h
 asks_for_it (Expired serial) rule named x r n h = ap (λ m. names_serial m serial) n ∙ h
 
 pub one_goes_forward : OnlyOneGoesForwardForKey
-one_goes_forward table start first line awaited rule named bytes now id asked later earlier between before g arrives forward awaits e gets same went serves =
+one_goes_forward table start first line awaited rule named bytes now id asked later earlier between before g arrives forward stays awaits e gets same went serves =
     ap (λ (v : Event). exchange_has_closed (exchange_id_of_event v) between) e.arrives
     ∙ by_fate (origin table start first e.now e.id rule named e.asked before earlier.outcome between p
     (at_the_arrival table start first e.now e.id e.line rule named e.asked e.bytes before earlier.outcome e.forward (part (initial_state table start first) between (item ∷ before) p) e.is_least e.names))
@@ -662,7 +664,8 @@ one_goes_forward table start first line awaited rule named bytes now id asked la
         let went = forwards_nothing_else table start first now id line asked bytes later past g arrives forward in
         let waits : later.outcome ≡ Waits led.0 =
         waits_for_it table start first now id line led.0 asked awaited later past g arrives
-        (record { line_allows = went.0; takes_others = went.2; awaits = awaits }) led.1 in
+        (record { line_allows = went.0; takes_others = went.2; awaits = awaits })
+        (ap (λ b. leader policy awaited asked (cond b [] (open_exchanges table start past))) stays ∙ led.1) in
         let no : Forward line bytes ≡ Waits led.0 = sym forward ∙ waits in
         absurd (cc)
 

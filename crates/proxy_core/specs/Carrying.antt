@@ -11,7 +11,8 @@ use Rattle.std.specs.Prelude.{◌≡◌, ◌⊎◌, ℕ, ◌==◌, ◌&&◌, Boo
 use Rattle.std.specs.List.{AllByRecursion}
 use Rattle.hx_framing.specs.declared.messages.Response.{Response}
 use Rattle.hx_allow.specs.TableLines.{Table}
-use Rattle.hx_allow.specs.Matching.{verdict_of, policy_of}
+use Rattle.hx_allow.specs.Matching.{policy_of}
+use Rattle.proxy_core.specs.Allowing.{verdict_of_asked}
 use Rattle.hx_allow.specs.declared.verdicts.Verdict.TheVariants.{Allowed}
 use Rattle.hx_reuse.specs.ChosenAndNamed.{IsLeastReuseRule, RuleNamesTheResponse}
 use Rattle.proxy_core.specs.declared.open.stage.Stage.TheVariants.{Forwarded, Waiting, Released}
@@ -95,7 +96,7 @@ pub record ExchangeWasJudged (table : Table) (start : StoreAtStart) (x : Exchang
   pub past_is : past ≡ since ++ item ∷ before
   pub judged : IsEventThatJudges item.event now x
   pub none_since : NoRequestIsJudged x.id since
-  pub line_allows : verdict_of table.lines x.asked.method x.asked.target ≡ Allowed x.line
+  pub line_allows : verdict_of_asked table x.asked ≡ Allowed x.line
   pub rule_is_least : IsLeastReuseRule (policy_of table.lines x.line)
       (held_entries table start before) x.asked now x.rule
   pub went : WentForwardOnce table start x since before now item.outcome

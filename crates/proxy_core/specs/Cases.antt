@@ -46,6 +46,7 @@ line_with_no_cache = record {
   paths = codes "/" ∷ [];
   origin = Some (codes "127.0.0.1:8081");
   policy = plain true;
+  refuses_loops = false;
 }
 
 abbrev pub table : Table

@@ -15,7 +15,8 @@ use Rattle.hx_framing.specs.declared.messages.Response.{Response}
 use Rattle.hx_hop.specs.Answering.{answered_of}
 use Rattle.hx_hop.specs.declared.request_view.Asked.{Asked}
 use Rattle.hx_allow.specs.TableLines.{Table}
-use Rattle.hx_allow.specs.Matching.{verdict_of, policy_of}
+use Rattle.hx_allow.specs.Matching.{policy_of}
+use Rattle.proxy_core.specs.Allowing.{verdict_of_asked}
 use Rattle.hx_allow.specs.declared.verdicts.Verdict.TheVariants.{Allowed}
 use Rattle.hx_storable.specs.Storable.{StatusIsFinal}
 use Rattle.proxy_core.specs.declared.steps.condition.Condition.{Condition}
@@ -47,14 +48,15 @@ EventComesWhereItMay table start item past =
     EventMayCome (find_exchange (exchange_id_of_event item.event) (open_exchanges table start past)) item.event
 
 -- A request reaches the cache or the origin of its line exactly where the table's first line that
--- matches allows it; any other is turned away by the line, or because none matches.
+-- matches allows it; any other is turned away by the line, which denies it or refuses its loop, or
+-- because none matches.
 abbrev pub RequestReachesExactlyWhereAllowed : Table → StoreAtStart → Item → List Item → Type 0
 RequestReachesExactlyWhereAllowed table start item past = (now id : ℕ) (asked : Asked) → item.event
     ≡ Arrive now id asked →
-    ((line : ℕ) → verdict_of table.lines asked.method asked.target ≡ Allowed line
+    ((line : ℕ) → verdict_of_asked table asked ≡ Allowed line
     → RequestReachesCacheOrOrigin table (held_entries table start past)
     (open_exchanges table start past) now asked line item.outcome)
-    × (((line : ℕ) → verdict_of table.lines asked.method asked.target ≢ Allowed line)
+    × (((line : ℕ) → verdict_of_asked table asked ≢ Allowed line)
     → RequestIsTurnedAway table now asked item.outcome)
 
 -- Whatever goes forward, at an arrival, a wake or a second time, goes to the origin of the line
@@ -63,7 +65,7 @@ abbrev pub RequestGoesForwardWhereAllowed : Table → StoreAtStart → Item → 
 RequestGoesForwardWhereAllowed table start item past = (line : ℕ) (bytes : List ℕ) → item.outcome ≡ Forward line bytes →
     (asked : Asked) ×
     (condition : Option Condition) × (latest_request_of (exchange_id_of_event item.event) (item ∷ past) ≡ Some asked)
-    × (verdict_of table.lines asked.method asked.target ≡ Allowed line)
+    × (verdict_of_asked table asked ≡ Allowed line)
     × IsConditionOfEvent (policy_of table.lines line) (held_entries table start past) asked item.event condition
     × (bytes ≡ forward_text table line asked condition)
 

@@ -1,7 +1,8 @@
 -- What an answer names that isn't a stored response: the first rule against one (RFC 9111, section
 -- 4; RFC 5861, section 4; RFC 9211).
 --
--- AnswerAtArrivalNames: the line of the table that denies, that none allows, or the rule where only-if-cached stands
+-- AnswerAtArrivalNames: the line of the table that denies, that none allows, the rule where only-if-cached stands, or
+-- the line that refuses a loop
 -- AnswerAfterFailureNames: why nothing is sent in place of an error
 -- PassedAnswerNamesItsRule: of an answer that is passed on, the one it has kept
 -- AnswerNamesFirstRule: of an item
@@ -13,8 +14,10 @@ use Rattle.hx_framing.specs.declared.messages.Response.{Response}
 use Rattle.hx_hop.specs.declared.request_view.Asked.{Asked}
 use Rattle.hx_hop.specs.Moments.{date_text_of}
 use Rattle.hx_allow.specs.TableLines.{Table}
-use Rattle.hx_allow.specs.Matching.{verdict_of, policy_of}
+use Rattle.hx_allow.specs.Matching.{policy_of}
+use Rattle.proxy_core.specs.Allowing.{verdict_of_asked}
 use Rattle.hx_allow.specs.declared.verdicts.Verdict.TheVariants.{Allowed, DeniedBy, NoLine as Unmatched}
+use Rattle.hx_allow.specs.declared.verdicts.Verdict.TheVariants as verdict
 use Rattle.hx_store.specs.Stored.{Stored}
 use Rattle.hx_reuse.specs.Chosen.{chosen_of}
 use Rattle.hx_reuse.specs.Rules.{names_chosen}
@@ -24,7 +27,7 @@ use Rattle.hx_reuse.specs.declared.rule.ReuseRule.{ReuseRule}
 use Rattle.hx_reuse.specs.declared.rule.ErrorRule.{ErrorRule}
 use Rattle.hx_status.specs.declared.cause.FailKind.{FailKind}
 use Rattle.hx_status.specs.declared.cause.FailKind.TheVariants.{BadAnswer}
-use Rattle.hx_status.specs.declared.cause.Cause.TheVariants.{Denied, NoLine, OnlyIfCached, Origin}
+use Rattle.hx_status.specs.declared.cause.Cause.TheVariants.{Denied, NoLine, Looped, OnlyIfCached, Origin}
 use Rattle.proxy_core.specs.declared.open.exchange.Exchange.{Exchange}
 use Rattle.proxy_core.specs.declared.outcome.Outcome.{Outcome}
 use Rattle.proxy_core.specs.declared.outcome.Outcome.TheVariants.{Reply, Forward, Waits, Ended}
@@ -40,17 +43,19 @@ use Rattle.proxy_core.specs.Carrying.{RuleWasLeastWhenJudged}
 use Rattle.proxy_core.specs.Starts.{StoreAtStart}
 
 -- To a request that arrives the proxy answers by itself alone: the line of the table that denies
--- it; that none matches; or the least reuse rule that stands, where the request takes no response
--- but a stored one.
+-- it; that none matches; the least reuse rule that stands, where the request takes no response
+-- but a stored one; or the line that refuses its loop.
 abbrev pub AnswerAtArrivalNames : Table → List Stored → ℕ → Asked → List ℕ → Type 0
 AnswerAtArrivalNames table held now asked bytes =
-    ((line : ℕ) × (verdict_of table.lines asked.method asked.target ≡ DeniedBy line)
+    ((line : ℕ) × (verdict_of_asked table asked ≡ DeniedBy line)
     × (bytes ≡ refusal_reply_text (date_text_of now) (Denied line) asked.close (is_head asked)))
-    ⊎ (((verdict_of table.lines asked.method asked.target ≡ Unmatched)
+    ⊎ (((verdict_of_asked table asked ≡ Unmatched)
     × (bytes ≡ refusal_reply_text (date_text_of now) NoLine asked.close (is_head asked)))
-    ⊎ ((line : ℕ) × (rule : ReuseRule) × (verdict_of table.lines asked.method asked.target ≡ Allowed line)
+    ⊎ (((line : ℕ) × (rule : ReuseRule) × (verdict_of_asked table asked ≡ Allowed line)
     × (is_only_if_cached asked ≡ true) × IsLeastReuseRule (policy_of table.lines line) held asked now rule
-    × (bytes ≡ refusal_reply_text (date_text_of now) (OnlyIfCached rule) asked.close (is_head asked))))
+    × (bytes ≡ refusal_reply_text (date_text_of now) (OnlyIfCached rule) asked.close (is_head asked)))
+    ⊎ ((line : ℕ) × (verdict_of_asked table asked ≡ verdict.Looped line)
+    × (bytes ≡ refusal_reply_text (date_text_of now) (Looped line) asked.close (is_head asked)))))
 
 -- beside a reuse rule against the chosen response: the least rule against sending it in place of an error
 abbrev pub AnswerNamesErrorRule : Policy → List Stored → ℕ → Asked → ReuseRule → Option ErrorRule → Type 0

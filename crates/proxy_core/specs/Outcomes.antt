@@ -16,7 +16,8 @@ use Rattle.hx_hop.specs.declared.request_view.Asked.{Asked}
 use Rattle.hx_hop.specs.Forwarding.{forwarded_of}
 use Rattle.hx_hop.specs.Moments.{date_text_of}
 use Rattle.hx_allow.specs.TableLines.{Table}
-use Rattle.hx_allow.specs.Matching.{verdict_of, policy_of}
+use Rattle.hx_allow.specs.Matching.{policy_of}
+use Rattle.proxy_core.specs.Allowing.{verdict_of_asked, exchanges_to_wait_for}
 use Rattle.hx_allow.specs.declared.verdicts.Verdict.{Verdict}
 use Rattle.hx_allow.specs.declared.verdicts.Verdict.TheVariants as verdict
 use Rattle.hx_store.specs.Stored.{Stored}
@@ -35,7 +36,7 @@ use Rattle.hx_status.specs.declared.status.Detail.TheVariants.{StaleIfError, Reu
 use Rattle.hx_status.specs.declared.cause.FailKind.{FailKind}
 use Rattle.hx_status.specs.declared.cause.FailKind.TheVariants.{BadAnswer}
 use Rattle.hx_status.specs.declared.cause.Cause.{Cause}
-use Rattle.hx_status.specs.declared.cause.Cause.TheVariants.{Denied, NoLine, OnlyIfCached, Origin}
+use Rattle.hx_status.specs.declared.cause.Cause.TheVariants.{Denied, NoLine, Looped, OnlyIfCached, Origin}
 use Rattle.proxy_core.specs.declared.steps.condition.Condition.{Condition}
 use Rattle.proxy_core.specs.declared.open.stage.Stage.{Stage}
 use Rattle.proxy_core.specs.declared.open.exchange.Exchange.{Exchange}
@@ -111,7 +112,7 @@ outcome_without_stored_response table es xs line now asked rule condition true =
     (OnlyIfCached rule) asked
 outcome_without_stored_response table es xs line now asked rule condition false =
     outcome_of_waiting_or_forwarding table line asked
-    condition (leader_of_request (policy_of table.lines line) es xs asked rule)
+    condition (leader_of_request (policy_of table.lines line) es (exchanges_to_wait_for table line asked xs) asked rule)
 
 abbrev pub hit_status_info : Policy → CacheStatusInfo
 hit_status_info policy = record { policy = policy; how = Hit; came = None; detail = None; collapsed = false }
@@ -129,6 +130,7 @@ outcome_of_arrival table es xs now asked (verdict.Allowed line) =
     outcome_of_allowed_request table es xs line now asked (decision_of (policy_of table.lines line) es asked now)
 outcome_of_arrival table es xs now asked (verdict.DeniedBy line) = outcome_of_refusal now (Denied line) asked
 outcome_of_arrival table es xs now asked verdict.NoLine = outcome_of_refusal now NoLine asked
+outcome_of_arrival table es xs now asked (verdict.Looped line) = outcome_of_refusal now (Looped line) asked
 
 -- what is told of a stored response that is sent after going forward: the rule at arrival, the status of an answer
 -- that came, and the word of the step
@@ -270,7 +272,7 @@ outcome_of_wake table es now x (decision.Forward rule against) =
 -- the outcome of an event, by cases; x is the open exchange of its id
 abbrev pub outcome_of : Table → List Stored → List Exchange → Option Exchange → Option ℕ → Event → Outcome
 outcome_of table es xs x next (Arrive now id asked) =
-    outcome_of_arrival table es xs now asked (verdict_of table.lines asked.method asked.target)
+    outcome_of_arrival table es xs now asked (verdict_of_asked table asked)
 outcome_of table es xs (Some x) next (Answer now id r) =
     outcome_of_answer table es now x r next (decision_of (policy_of table.lines x.line) es x.asked now)
 outcome_of table es xs None next (Answer now id r) = Ended

@@ -14,8 +14,10 @@ use Rattle.hx_directives.specs.Occurrences.{occurrences_of}
 use Rattle.hx_framing.specs.declared.messages.Response.{Response}
 use Rattle.hx_hop.specs.declared.request_view.Asked.{Asked}
 use Rattle.hx_allow.specs.TableLines.{Table}
-use Rattle.hx_allow.specs.Matching.{verdict_of, policy_of}
+use Rattle.hx_allow.specs.Matching.{policy_of}
+use Rattle.proxy_core.specs.Allowing.{verdict_of_asked, exchanges_to_wait_for}
 use Rattle.hx_allow.specs.declared.verdicts.Verdict.TheVariants.{Allowed, DeniedBy, NoLine as Unmatched}
+use Rattle.hx_allow.specs.declared.verdicts.Verdict.TheVariants as verdict
 use Rattle.hx_store.specs.Stored.{Stored}
 use Rattle.hx_store.specs.Shelf.{find_entry}
 use Rattle.hx_reuse.specs.Rules.{reuse_rule_applies, names_chosen}
@@ -23,7 +25,7 @@ use Rattle.hx_reuse.specs.ChosenAndNamed.{ResponseIsChosen, IsLeastReuseRule, Ru
 use Rattle.hx_reuse.specs.Reusable.{ResponseMayBeReused}
 use Rattle.hx_reuse.specs.OnError.{ResponseMayBeSentOnError}
 use Rattle.hx_reuse.specs.declared.rule.ReuseRule.{ReuseRule}
-use Rattle.hx_status.specs.declared.cause.Cause.TheVariants.{Denied, NoLine, OnlyIfCached}
+use Rattle.hx_status.specs.declared.cause.Cause.TheVariants.{Denied, NoLine, Looped, OnlyIfCached}
 use Rattle.hx_status.specs.declared.status.Detail.{Detail}
 use Rattle.hx_status.specs.declared.status.Detail.TheVariants.{StaleIfError, ReuseAfterError, ReuseAfter304}
 use Rattle.proxy_core.specs.declared.open.exchange.Exchange.{Exchange}
@@ -75,7 +77,7 @@ IsStoredFallback policy held asked now s =
 -- and at a failure; and to a request that waited, when it is woken.
 abbrev pub StoredResponseMayBeSentAt : Table → List Stored → Option Exchange → Event → ℕ → Type 0
 StoredResponseMayBeSentAt table held x (Arrive now id asked) s =
-    (line : ℕ) × (verdict_of table.lines asked.method asked.target ≡ Allowed line)
+    (line : ℕ) × (verdict_of_asked table asked ≡ Allowed line)
     × StoredResponseIsReusable (policy_of table.lines line) held asked now s
 StoredResponseMayBeSentAt table held (Some x) (Answer now id r) s =
     ((is_validation x r ≡ true) × ((e : Stored) × (stored_response_validated held x r now ≡ Some e) × (e.serial ≡ s)))
@@ -120,7 +122,8 @@ pub record RequestWaitsForTheFirst (table : Table) (held : List Stored) (xs : Li
   pub takes_others : is_only_if_cached asked ≡ false
   pub awaited : Awaited
   pub awaits : RequestAwaits (policy_of table.lines line) held asked now awaited
-  pub first_leads : IsFirstLeader (policy_of table.lines line) awaited asked xs leader
+  pub first_leads : IsFirstLeader (policy_of table.lines line) awaited asked (exchanges_to_wait_for table line asked xs)
+      leader
   pub outcome_is : outcome ≡ Waits leader
 
 -- A request that is allowed reaches the cache, which sends a stored response, or the origin of that
@@ -131,18 +134,20 @@ RequestReachesCacheOrOrigin table held xs now asked line outcome =
     ((s : ℕ) × (serial_used_by_outcome outcome ≡ Some s))
     ⊎ (((rule : ReuseRule)
     × RequestGoesForward table held asked now line rule outcome × (is_only_if_cached asked ≡ false)
-    × NoLeaderIsOpen (policy_of table.lines line) held xs asked now)
+    × NoLeaderIsOpen (policy_of table.lines line) held (exchanges_to_wait_for table line asked xs) asked now)
     ⊎ (RequestWaitsForTheFirst table held xs now asked line outcome
     ⊎ ((rule : ReuseRule) × (is_only_if_cached asked ≡ true) × IsLeastReuseRule
     (policy_of table.lines line) held asked now rule
     × (outcome ≡ outcome_of_refusal now (OnlyIfCached rule) asked))))
 
--- any other is turned away, by the line that denies it or because none matches
+-- any other is turned away, by the line that denies it, because none matches, or by the line that refuses its loop
 abbrev pub RequestIsTurnedAway : Table → ℕ → Asked → Outcome → Type 0
 RequestIsTurnedAway table now asked outcome =
-    ((line : ℕ) × (verdict_of table.lines asked.method asked.target ≡ DeniedBy line)
+    ((line : ℕ) × (verdict_of_asked table asked ≡ DeniedBy line)
     × (outcome ≡ outcome_of_refusal now (Denied line) asked))
-    ⊎ ((verdict_of table.lines asked.method asked.target ≡ Unmatched) × (outcome ≡ outcome_of_refusal now NoLine asked))
+    ⊎ (((verdict_of_asked table asked ≡ Unmatched) × (outcome ≡ outcome_of_refusal now NoLine asked))
+    ⊎ ((line : ℕ) × (verdict_of_asked table asked ≡ verdict.Looped line)
+    × (outcome ≡ outcome_of_refusal now (Looped line) asked)))
 
 -- The word of one that is sent in place of an error: it may be sent anyway, or in that place alone.
 abbrev pub DetailWordAfterError : Policy → List Stored → Asked → ℕ → ℕ → Option Detail → Type 0
@@ -162,7 +167,7 @@ DetailWordAtAnswer policy held x now r s detail =
 -- forward, what came, and the word of the step
 abbrev pub CacheStatusShowsHow : Table → List Stored → Option Exchange → Event → ℕ → CacheStatusInfo → Type 0
 CacheStatusShowsHow table held x (Arrive now id asked) s h = (line : ℕ)
-    × (verdict_of table.lines asked.method asked.target ≡ Allowed line) ×
+    × (verdict_of_asked table asked ≡ Allowed line) ×
     (h ≡ hit_status_info (policy_of table.lines line))
 CacheStatusShowsHow table held (Some x) (Answer now id r) s h = (detail : Option Detail)
     × (h ≡ forwarded_status_info (policy_of table.lines x.line) x (Some r.status) detail)
@@ -227,10 +232,11 @@ RequestIsForwardedWhereAllowed =
     (table : Table) (start : StoreAtStart) (first now id line : ℕ) (asked : Asked) (rule : ReuseRule) (item : Item)
     (past : List Item) →
     IsGoodHistory table start first (item ∷ past) → item.event ≡ Arrive now id asked →
-    verdict_of table.lines asked.method asked.target ≡ Allowed line
+    verdict_of_asked table asked ≡ Allowed line
     → IsLeastReuseRule (policy_of table.lines line) (held_entries table start past) asked now rule
     → is_only_if_cached asked ≡ false →
-    NoLeaderIsOpen (policy_of table.lines line) (held_entries table start past) (open_exchanges table start past)
+    NoLeaderIsOpen (policy_of table.lines line) (held_entries table start past)
+    (exchanges_to_wait_for table line asked (open_exchanges table start past))
     asked now →
     (bytes : List ℕ) × (item.outcome ≡ Forward line bytes)
 
@@ -240,9 +246,10 @@ RequestIsForwardedNowhereElse =
     (past : List Item) →
     IsGoodHistory table start first (item ∷ past) → item.event ≡ Arrive now id asked
     → item.outcome ≡ Forward line bytes →
-    (verdict_of table.lines asked.method asked.target ≡ Allowed line)
+    (verdict_of_asked table asked ≡ Allowed line)
     × ((rule : ReuseRule) × IsLeastReuseRule (policy_of table.lines line) (held_entries table start past) asked now rule
-    × NoLeaderIsOpen (policy_of table.lines line) (held_entries table start past) (open_exchanges table start past)
+    × NoLeaderIsOpen (policy_of table.lines line) (held_entries table start past)
+    (exchanges_to_wait_for table line asked (open_exchanges table start past))
     asked now)
     × (is_only_if_cached asked ≡ false)
 
@@ -254,16 +261,16 @@ AllowedRequestReachesCacheOrOrigin = (table : Table) (start : StoreAtStart) (fir
     (item : Item)
     (past : List Item) →
     IsGoodHistory table start first (item ∷ past) → item.event ≡ Arrive now id asked →
-    verdict_of table.lines asked.method asked.target ≡ Allowed line
+    verdict_of_asked table asked ≡ Allowed line
     → RequestReachesCacheOrOrigin table (held_entries table start past)
     (open_exchanges table start past) now asked line item.outcome
 
--- Any other is refused, by the line that denies it or because none matches.
+-- Any other is refused, by the line that denies it, because none matches, or by the line that refuses its loop.
 abbrev pub OtherRequestIsRefused : Type 0
 OtherRequestIsRefused = (table : Table) (start : StoreAtStart) (first now id : ℕ) (asked : Asked) (item : Item)
     (past : List Item) →
     IsGoodHistory table start first (item ∷ past) → item.event ≡ Arrive now id asked →
-    ((line : ℕ) → verdict_of table.lines asked.method asked.target ≢ Allowed line)
+    ((line : ℕ) → verdict_of_asked table asked ≢ Allowed line)
     → RequestIsTurnedAway table now asked item.outcome
 
 -- and what is sent is that response

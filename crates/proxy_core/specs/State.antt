@@ -12,7 +12,8 @@ use Rattle.hx_target.specs.Keys.{same_key}
 use Rattle.hx_framing.specs.declared.messages.Response.{Response}
 use Rattle.hx_hop.specs.declared.request_view.Asked.{Asked}
 use Rattle.hx_allow.specs.TableLines.{Table}
-use Rattle.hx_allow.specs.Matching.{verdict_of, policy_of}
+use Rattle.hx_allow.specs.Matching.{policy_of}
+use Rattle.proxy_core.specs.Allowing.{verdict_of_asked}
 use Rattle.hx_allow.specs.declared.verdicts.Verdict.{Verdict}
 use Rattle.hx_allow.specs.declared.verdicts.Verdict.TheVariants as verdict
 use Rattle.hx_store.specs.Stored.{Stored}
@@ -170,6 +171,7 @@ abbrev pub line_of_verdict : Verdict → ℕ
 line_of_verdict (verdict.Allowed line) = line
 line_of_verdict (verdict.DeniedBy line) = line
 line_of_verdict verdict.NoLine = 0
+line_of_verdict (verdict.Looped line) = line
 
 -- the same of a request that waits for another's answer
 abbrev pub waiting_exchange : Table → List Stored → ℕ → ℕ → Asked → ℕ → ℕ → Exchange
@@ -218,7 +220,7 @@ open_exchanges_after table es xs (Arrive now id asked)
     (Forward line bytes) = xs ++ forwarded_exchange table es now id asked line ∷ []
 open_exchanges_after table es xs (Arrive now id asked) (Waits leader) =
     xs ++ waiting_exchange table es now id asked
-    (line_of_verdict (verdict_of table.lines asked.method asked.target)) leader ∷ []
+    (line_of_verdict (verdict_of_asked table asked)) leader ∷ []
 open_exchanges_after table es xs (Arrive now id asked) (Reply r) = xs
 open_exchanges_after table es xs (Arrive now id asked) Ended = xs
 open_exchanges_after table es xs (Answer now id r) (Forward line bytes) = map (exchange_forwarded_again id now) xs

@@ -6,7 +6,8 @@
 use Rattle.std.specs.Prelude.{◌≡◌, ◌⊎◌, ℕ, true, false, List, ◌∷◌, Option, Some, None}
 use Rattle.hx_hop.specs.declared.request_view.Asked.{Asked}
 use Rattle.hx_allow.specs.TableLines.{Table}
-use Rattle.hx_allow.specs.Matching.{verdict_of, policy_of}
+use Rattle.hx_allow.specs.Matching.{policy_of}
+use Rattle.proxy_core.specs.Allowing.{verdict_of_asked}
 use Rattle.hx_allow.specs.declared.verdicts.Verdict.TheVariants.{Allowed}
 use Rattle.hx_reuse.specs.declared.rule.ReuseRule.TheVariants.{Operator}
 use Rattle.hx_status.specs.declared.cause.Cause.TheVariants.{OnlyIfCached}
@@ -24,7 +25,7 @@ use Rattle.proxy_core.specs.Histories.{open_exchanges, IsGoodHistory}
 
 -- the event is of a request that goes over this line: the table allows it by that line, or its exchange is open
 abbrev pub EventGoesOverLine : Table → Option Exchange → Event → ℕ → Type 0
-EventGoesOverLine table x (Arrive now id asked) line = verdict_of table.lines asked.method asked.target ≡ Allowed line
+EventGoesOverLine table x (Arrive now id asked) line = verdict_of_asked table asked ≡ Allowed line
 EventGoesOverLine table (Some x) (Answer now id r) line = x.line ≡ line
 EventGoesOverLine table (Some x) (Fail now id kind) line = x.line ≡ line
 EventGoesOverLine table (Some x) (Wake now id) line = x.line ≡ line
@@ -69,6 +70,6 @@ RequestGoesForwardOverUncachedLine = (table : Table) (start : StoreAtStart) (fir
     (item : Item)
     (past : List Item)
     → IsGoodHistory table start first (item ∷ past) →
-    item.event ≡ Arrive now id asked → verdict_of table.lines asked.method asked.target ≡ Allowed line
+    item.event ≡ Arrive now id asked → verdict_of_asked table asked ≡ Allowed line
     → (policy_of table.lines line).caches ≡ false →
     RequestIsAnsweredByTheOperator table now asked line item.outcome

@@ -13,7 +13,8 @@ use Rattle.std.specs.List.{AllByRecursion}
 use Rattle.hx_target.specs.Keys.{same_key}
 use Rattle.hx_hop.specs.declared.request_view.Asked.{Asked}
 use Rattle.hx_allow.specs.TableLines.{Table}
-use Rattle.hx_allow.specs.Matching.{verdict_of, policy_of}
+use Rattle.hx_allow.specs.Matching.{policy_of}
+use Rattle.proxy_core.specs.Allowing.{verdict_of_asked, came_back, exchanges_to_wait_for}
 use Rattle.hx_allow.specs.declared.verdicts.Verdict.TheVariants.{Allowed}
 use Rattle.hx_store.specs.Serials.{serial_is_in}
 use Rattle.hx_store.specs.Stored.{Stored}
@@ -48,7 +49,7 @@ use Rattle.proxy_core.specs.Sending.{StoredResponseIsReusable}
 -- to another.
 pub record RequestCouldWait (table : Table) (start : StoreAtStart) (past : List Item) (now line : ℕ) (asked : Asked)
     (awaited : Awaited) : Type 0 where
-  pub line_allows : verdict_of table.lines asked.method asked.target ≡ Allowed line
+  pub line_allows : verdict_of_asked table asked ≡ Allowed line
   pub takes_others : is_only_if_cached asked ≡ false
   pub awaits : RequestAwaits (policy_of table.lines line) (held_entries table start past) asked now awaited
 
@@ -59,7 +60,8 @@ RequestWaitsWhereOneLeads = (table : Table) (start : StoreAtStart) (first now id
     (item : Item) (past : List Item) →
     IsGoodHistory table start first (item ∷ past) → item.event ≡ Arrive now id asked
     → RequestCouldWait table start past now line asked awaited →
-    IsFirstLeader (policy_of table.lines line) awaited asked (open_exchanges table start past) leader
+    IsFirstLeader (policy_of table.lines line) awaited asked
+    (exchanges_to_wait_for table line asked (open_exchanges table start past)) leader
     → item.outcome ≡ Waits leader
 
 -- Whoever waits has just arrived, could wait, and waits for the first that leads.
@@ -72,7 +74,8 @@ pub record RequestIsToWait (table : Table) (start : StoreAtStart) (leader : ℕ)
   pub arrives : item.event ≡ Arrive now id asked
   pub awaited : Awaited
   pub could : RequestCouldWait table start past now line asked awaited
-  pub first_leads : IsFirstLeader (policy_of table.lines line) awaited asked (open_exchanges table start past) leader
+  pub first_leads : IsFirstLeader (policy_of table.lines line) awaited asked
+      (exchanges_to_wait_for table line asked (open_exchanges table start past)) leader
 
 abbrev pub RequestWaitsNowhereElse : Type 0
 RequestWaitsNowhereElse = (table : Table) (start : StoreAtStart) (first leader : ℕ) (item : Item) (past : List Item)
@@ -112,15 +115,15 @@ AnswerMayServe policy asked x =
     policy.waits_for_stale ≡ true → IfSome x (λ (x : Exchange). may_serve policy asked x ≡ true)
 
 -- Of the GETs that arrive for a key while one of them is at the origin none goes there too for what
--- that one's answer could bring it: before a later one does the earlier has ended. Over a line with
--- the word this is so while that answer may be for the later one.
+-- that one's answer could bring it, unless it came back: before a later one does the earlier has
+-- ended. Over a line with the word this is so while that answer may be for the later one.
 abbrev pub OnlyOneGoesForwardForKey : Type 0
 OnlyOneGoesForwardForKey = (table : Table) (start : StoreAtStart) (first line : ℕ) (awaited : Awaited)
     (rule : ReuseRule)
     (named : Option ℕ) (bytes : List ℕ) (now id : ℕ) (asked : Asked) (later earlier : Item)
     (between before : List Item) →
     IsGoodHistory table start first (later ∷ (between ++ earlier ∷ before))
-    → later.event ≡ Arrive now id asked → later.outcome ≡ Forward line bytes
+    → later.event ≡ Arrive now id asked → later.outcome ≡ Forward line bytes → came_back table line asked ≡ false
     → RequestAwaits (policy_of table.lines line) (held_entries table start (between ++ earlier ∷ before)) asked now
     awaited
     → (went : RequestGoesOutBy table start rule named earlier before)

@@ -13,3 +13,4 @@ pub mod HeldHeads
 pub mod SentHeads
 pub mod SentRoom
 pub mod LeftStores
+pub mod ComingBack

@@ -23,7 +23,7 @@ use Rattle.hx_hop.specs.Answering.{answered_of, dated_of}
 use Rattle.hx_hop.specs.Stripping.{is_hop_line, stripped}
 use Rattle.hx_hop.specs.Moments.{date_text_of}
 use Rattle.hx_status.specs.declared.cause.Cause.{Cause}
-use Rattle.hx_status.specs.declared.cause.Cause.TheVariants.{Denied, NoLine, OnlyIfCached, Origin, Frame, Target}
+use Rattle.hx_status.specs.declared.cause.Cause.TheVariants.{Denied, NoLine, Looped, OnlyIfCached, Origin, Frame, Target}
 use Rattle.hx_status.specs.declared.cause.FailKind.{FailKind}
 use Rattle.hx_status.specs.declared.cause.FailKind.TheVariants.{Refused}
 use Rattle.hx_status.specs.Member.{member_text}
@@ -192,6 +192,7 @@ target_is _ = record { low = omega arith; high = omega arith; has_content = refl
 own_status : (cause : Cause) → IsOwnStatus (refusal_status cause)
 own_status (Denied line) = record { low = omega arith; high = omega arith; has_content = refl }
 own_status NoLine = record { low = omega arith; high = omega arith; has_content = refl }
+own_status (Looped line) = record { low = omega arith; high = omega arith; has_content = refl }
 own_status (OnlyIfCached rule) = record { low = omega arith; high = omega arith; has_content = refl }
 own_status (Origin kind rule error) = kind_status kind
 own_status (Frame fault) = frame_is fault

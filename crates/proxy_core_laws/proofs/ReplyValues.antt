@@ -17,7 +17,7 @@ use Rattle.hx_reuse.specs.declared.rule.ErrorRule.{ErrorRule}
 use Rattle.hx_reuse.specs.declared.rule.ErrorRule.TheVariants as on_error
 use Rattle.hx_reuse.specs.RuleNames.{reuse_rule_detail, error_rule_word, reuse_rule_reason}
 use Rattle.hx_status.specs.declared.cause.Cause.{Cause}
-use Rattle.hx_status.specs.declared.cause.Cause.TheVariants.{Denied, NoLine, OnlyIfCached, Origin, Frame, Target}
+use Rattle.hx_status.specs.declared.cause.Cause.TheVariants.{Denied, NoLine, Looped, OnlyIfCached, Origin, Frame, Target}
 use Rattle.hx_status.specs.declared.cause.FailKind.{FailKind}
 use Rattle.hx_status.specs.declared.cause.FailKind.TheVariants.{Refused}
 use Rattle.hx_status.specs.declared.status.Detail.{Detail}
@@ -234,6 +234,7 @@ origin_value kind rule error =
 
 pub text_value : (cause : Cause) → IsFieldValue (refusal_text cause)
 text_value (Denied line) = fronted 100 (codes "enied by line ") (decimal line) refl refl (some_decimal line) (decimal_visible line)
+text_value (Looped line) = fronted 108 (codes "oop refused by line ") (decimal line) refl refl (some_decimal line) (decimal_visible line)
 text_value NoLine = fronted 110 (codes "o line allows ") (codes "it") refl refl (omega arith) (word (codes "it") refl)
 text_value (OnlyIfCached rule) = visible_field_value (codes "only-if-cached" ++ reuse_rule_text rule) (joined (codes "only-if-cached") (reuse_rule_text rule) (word (codes "only-if-cached") refl) (rule_visible rule))
 text_value (Origin kind rule error) = origin_value kind rule error

@@ -15,7 +15,8 @@ use Rattle.hx_framing.specs.WrittenResponse.{response_as_read_back, sent_respons
 use Rattle.hx_framing.proofs.RequestOnce.{read_once_lem as request_read_once}
 use Rattle.hx_framing.proofs.ResponseOnce.{read_once_lem as response_read_once}
 use Rattle.hx_allow.specs.TableLines.{Table}
-use Rattle.hx_allow.specs.Matching.{policy_of, verdict_of}
+use Rattle.hx_allow.specs.Matching.{policy_of}
+use Rattle.proxy_core.specs.Allowing.{verdict_of_asked, exchanges_to_wait_for}
 use Rattle.hx_allow.specs.declared.verdicts.Verdict.{Verdict}
 use Rattle.hx_allow.specs.declared.verdicts.Verdict.TheVariants as verdict
 use Rattle.hx_hop.specs.declared.request_view.Asked.{Asked}
@@ -30,7 +31,7 @@ use Rattle.hx_reuse.specs.declared.rule.ReuseRule.{ReuseRule}
 use Rattle.hx_reuse.specs.declared.decision.Decision.{Decision}
 use Rattle.hx_reuse.specs.declared.decision.Decision.TheVariants as decision
 use Rattle.hx_status.specs.declared.cause.Cause.{Cause}
-use Rattle.hx_status.specs.declared.cause.Cause.TheVariants.{Denied, NoLine, OnlyIfCached, Origin}
+use Rattle.hx_status.specs.declared.cause.Cause.TheVariants.{Denied, NoLine, Looped, OnlyIfCached, Origin}
 use Rattle.hx_status.specs.declared.cause.FailKind.{FailKind}
 use Rattle.hx_status.specs.declared.cause.FailKind.TheVariants.{BadAnswer}
 use Rattle.hx_status.specs.Refusals.{refusal_text}
@@ -130,7 +131,7 @@ module _ (table : Table) (es : List Stored) (token : IsToken table.name) (fit : 
 
     unanswered_one : (xs : List Exchange) (line : ℕ) (rule : ReuseRule) (against : Option ℕ) (b : Bool) → OutcomeIsOneMessage table.name (is_head asked) (outcome_without_stored_response table es xs line now asked rule (condition_about_serial es against) b)
     unanswered_one xs line rule against true = refused_one (OnlyIfCached rule)
-    unanswered_one xs line rule against false = sent_on_one line (condition_about_serial es against) (leader_of_request (policy_of table.lines line) es xs asked rule) (fit against)
+    unanswered_one xs line rule against false = sent_on_one line (condition_about_serial es against) (leader_of_request (policy_of table.lines line) es (exchanges_to_wait_for table line asked xs) asked rule) (fit against)
 
     allowed_one : (xs : List Exchange) (line : ℕ) (d : Decision) → serial_used_by_outcome (outcome_of_allowed_request table es xs line now asked d) ≡ None → OutcomeIsOneMessage table.name (is_head asked) (outcome_of_allowed_request table es xs line now asked d)
     allowed_one xs line (decision.Hit serial) unused = never serial unused
@@ -140,6 +141,7 @@ module _ (table : Table) (es : List Stored) (token : IsToken table.name) (fit : 
     arrived_one xs (verdict.Allowed line) unused = allowed_one xs line (decision_of (policy_of table.lines line) es asked now) unused
     arrived_one xs (verdict.DeniedBy line) unused = refused_one (Denied line)
     arrived_one xs verdict.NoLine unused = refused_one NoLine
+    arrived_one xs (verdict.Looped line) unused = refused_one (Looped line)
 
   module _ (now : ℕ) (early : now < END_OF_TIME) (x : Exchange) (is : RequestWasRead x.asked) where
     woken_one : (d : Decision) → serial_used_by_outcome (outcome_of_wake table es now x d) ≡ None → OutcomeIsOneMessage table.name (is_head x.asked) (outcome_of_wake table es now x d)
@@ -188,7 +190,7 @@ module _ (table : Table) (es : List Stored) (token : IsToken table.name) (fit : 
   unsent_one : (xs : List Exchange) (x : Option Exchange) (next : Option ℕ) (event : Event) → fault_at_exchange x event ≡ None → EventWasRead event → ((z : Exchange) → x ≡ Some z → RequestWasRead z.asked)
       → serial_used_by_outcome (outcome_of table es xs x next event) ≡ None → OutcomeIsOneMessage table.name (event_is_to_head x event) (outcome_of table es xs x next event)
   unsent_one xs (Some x) next (Arrive now id asked) free is open_read unused = absurd cc
-  unsent_one xs None next (Arrive now id asked) free is open_read unused = arrived_one now (in_time now free) asked is xs (verdict_of table.lines asked.method asked.target) unused
+  unsent_one xs None next (Arrive now id asked) free is open_read unused = arrived_one now (in_time now free) asked is xs (verdict_of_asked table asked) unused
   unsent_one xs (Some x) next (Answer now id r) free is open_read unused =
       answered_one now (in_time now (first_none (moment_too_late_fault now) (fault_if_not_forwarded x.stage) free)) x (open_read x refl) r is next (decision_of (policy_of table.lines x.line) es x.asked now) unused
   unsent_one xs None next (Answer now id r) free is open_read unused = tt

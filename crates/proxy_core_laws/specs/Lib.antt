@@ -4,3 +4,4 @@ pub mod StoredReplies
 pub mod SentMessages
 pub mod HeldHeads
 pub mod LeftStores
+pub mod ComingBack

@@ -3,6 +3,7 @@
 #![tactic(auto)]
 
 mod answer_laws;
+mod loop_laws;
 mod message_laws;
 
 pub use crate::answer_laws::{
@@ -10,4 +11,5 @@ pub use crate::answer_laws::{
     a_stored_response_is_sent_as_one, what_is_left_can_be_sent_again,
     what_leaves_room_is_sent_as_one,
 };
+pub use crate::loop_laws::a_request_that_comes_back_is_known;
 pub use crate::message_laws::{a_core_sends_one_message_each_time, what_was_read_can_be_sent};

@@ -19,7 +19,7 @@ use Rattle.proxy_core.specs.declared.outcome.Outcome.TheVariants as outcomes
 use Rattle.proxy_core.specs.Outcomes.{find_exchange}
 use Rattle.proxy_core.specs.Replies.{is_head}
 use Rattle.proxy_core.specs.State.{State as CoreState, StepIsAccepted, exchanges_after_close, exchanges_after_end, forwarded_exchange as opened_exchange, waiting_exchange as queued_exchange, line_of_verdict}
-use Rattle.hx_allow.specs.Matching.{verdict_of}
+use Rattle.proxy_core.specs.Allowing.{verdict_of_asked}
 use Rattle.proxy_core.specs.Leading.{is_forwarded}
 use Rattle.proxy_core.specs.Waiting.{ExchangeMayBeWoken}
 use Rattle.proxy_core.proofs.Waits.{ready_by}
@@ -532,7 +532,7 @@ arrived_order s now i m asked o core to_head emitted after h inside unshut unclo
         (orderly behind (subst (λ (xs : List Exchange). Order behind.connections behind.links xs) (sym more) (opened_order cs s.links s.core.exchanges x i core.table.max_body to_head inside_now none_now unclosed_now refl refl passed)))
         (refl, tt)
     by_outcome (outcomes.Waits leader) steps emitted_is after_is =
-        let x = queued_exchange s.core.table s.core.entries now (i + 1) asked (line_of_verdict (verdict_of s.core.table.lines asked.method asked.target)) leader in
+        let x = queued_exchange s.core.table s.core.entries now (i + 1) asked (line_of_verdict (verdict_of_asked s.core.table asked)) leader in
         let more : core.exchanges ≡ s.core.exchanges ++ x ∷ [] = ap (λ (k : CoreState). k.exchanges) steps.leaves in
         let behind = model_after_outcome i to_head (outcome_by_table s.core.table (outcomes.Waits leader)) base in
         both_moved s behind after emitted [] after_is emitted_is

@@ -15,7 +15,7 @@ use Rattle.proxy_core.specs.declared.open.stage.Stage.TheVariants as stages
 use Rattle.std.specs.Prelude.{filter, option_map}
 use Rattle.hx_framing.specs.declared.messages.Response.{Response}
 use Rattle.hx_status.specs.declared.cause.FailKind.{FailKind}
-use Rattle.hx_allow.specs.Matching.{verdict_of}
+use Rattle.proxy_core.specs.Allowing.{verdict_of_asked}
 use Rattle.proxy_core.specs.declared.core_fault.CoreFault.{CoreFault}
 use Rattle.proxy_core.specs.declared.core_fault.CoreFault.TheVariants.{MomentTooLate, OutOfMemory, NotForwarded, NotReady}
 use Rattle.hx_hop.specs.declared.request_view.Asked.{Asked}
@@ -447,7 +447,7 @@ paired_arrived table cs cs1 cs2 ks ks2 held xs now i asked (Forward line bytes) 
     paired_same _ _ _ _ ys (links ∙ (ap (λ (ds : List Activity). set ds i (Forwarded (length ks))) same ∙ ap (λ n. set (activities_of cs) i (Forwarded n)) (sym size))) owners opens
 paired_arrived table cs cs1 cs2 ks ks2 held xs now i asked (Waits leader) inside same free links owners h =
     let pairing : length (activities_of cs) ≡ length cs = length-map cs activity_of in
-    let x = waiting_exchange table held now (i + 1) asked (line_of_verdict (verdict_of table.lines asked.method asked.target)) leader in
+    let x = waiting_exchange table held now (i + 1) asked (line_of_verdict (verdict_of_asked table asked)) leader in
     paired_same _ _ _ _ (xs ++ x ∷ []) (links ∙ ap (λ (ds : List Activity). set ds i Waiting) same) owners
     (paired_queued (activities_of cs) (owners_of ks) xs x i (omega (arith, inside, pairing)) free refl refl h)
 paired_arrived table cs cs1 cs2 ks ks2 held xs now i asked Ended inside same free links owners h = paired_same _ _ _ _ xs (links ∙ same) owners h

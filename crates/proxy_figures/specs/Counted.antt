@@ -49,7 +49,7 @@ abbrev pub ReplyPlacesAreWithin : Type 0
 ReplyPlacesAreWithin = (reason : Reason) (detail : Detail) → reply_place reason detail < 176
 
 abbrev pub CausePlacesAreWithin : Type 0
-CausePlacesAreWithin = (cause : Cause) → cause_place cause < 24
+CausePlacesAreWithin = (cause : Cause) → cause_place cause < 25
 
 abbrev pub StoringRulePlacesAreWithin : Type 0
 StoringRulePlacesAreWithin = (rule : StoreRule) → storing_rule_place rule < 19

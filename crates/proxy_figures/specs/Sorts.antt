@@ -74,6 +74,7 @@ detail_of_word word =
 abbrev pub cause_name : Cause → List ℕ
 cause_name cause.Denied = codes "denied"
 cause_name cause.NoLine = codes "no-line"
+cause_name cause.Loop = codes "loop"
 cause_name cause.OnlyIfCached = codes "only-if-cached"
 cause_name cause.OriginRefused = codes "origin-" ++ fail_kind_word Refused
 cause_name cause.OriginTimedOut = codes "origin-" ++ fail_kind_word TimedOut

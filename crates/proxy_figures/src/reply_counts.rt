@@ -35,7 +35,7 @@ pub struct ReplyTimes {
 pub struct ReplyCounts {
     /// By reason, and in a row of each by detail.
     reasons: [u64; 176],
-    causes: [u64; 24],
+    causes: [u64; 25],
     /// Answers that weren't stored, by storing rule.
     not_stored: [u64; 19],
     statuses: [u64; 400],
@@ -95,7 +95,7 @@ impl ReplyTimes {
 impl ReplyCounts {
     pub fn new() -> ReplyCounts
         ensures reasons { result.reasons ≡ replicate 176 0 }
-        ensures causes { result.causes ≡ replicate 24 0 }
+        ensures causes { result.causes ≡ replicate 25 0 }
         ensures not_stored { result.not_stored ≡ replicate 19 0 }
         ensures statuses { result.statuses ≡ replicate 400 0 }
         ensures words { (result.stored ≡ 0) × (result.collapsed ≡ 0) }
@@ -105,7 +105,7 @@ impl ReplyCounts {
     {
         ReplyCounts {
             reasons: [0; 176],
-            causes: [0; 24],
+            causes: [0; 25],
             not_stored: [0; 19],
             statuses: [0; 400],
             stored: 0,

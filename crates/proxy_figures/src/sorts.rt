@@ -53,6 +53,7 @@ pub enum Detail {
 pub enum Cause {
     Denied,
     NoLine,
+    Loop,
     OnlyIfCached,
     OriginRefused,
     OriginTimedOut,
@@ -113,9 +114,10 @@ pub(crate) const ALL_DETAILS: [Detail; 16] = [
     Detail::Other,
 ];
 
-pub(crate) const ALL_CAUSES: [Cause; 24] = [
+pub(crate) const ALL_CAUSES: [Cause; 25] = [
     Cause::Denied,
     Cause::NoLine,
+    Cause::Loop,
     Cause::OnlyIfCached,
     Cause::OriginRefused,
     Cause::OriginTimedOut,
@@ -269,6 +271,7 @@ impl Cause {
         match self {
             Cause::Denied => "denied",
             Cause::NoLine => "no-line",
+            Cause::Loop => "loop",
             Cause::OnlyIfCached => "only-if-cached",
             Cause::OriginRefused => "origin-refused",
             Cause::OriginTimedOut => "origin-timed-out",
@@ -461,6 +464,9 @@ fn refused(text: &[u8]) -> Option<ReplySort> {
     }
     if text.starts_with(b"no line allows it") {
         return Some(ReplySort::of_own_answer(Reason::Denied, Cause::NoLine));
+    }
+    if text.starts_with(b"loop refused by line ") {
+        return Some(ReplySort::of_own_answer(Reason::Denied, Cause::Loop));
     }
     if text.starts_with(b"only-if-cached") {
         return Some(ReplySort::of_own_answer(Reason::OnlyIfCached, Cause::OnlyIfCached));

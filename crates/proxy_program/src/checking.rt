@@ -58,6 +58,14 @@ fn print_policy<R: Print>(rt: &R, policy: Policy) -> io::Result<()> {
     Ok(())
 }
 
+/// Tells where a line refuses requests that loop.
+fn print_loops<R: Print>(rt: &R, config: &Config, line: u16) -> io::Result<()> {
+    if config.refuses_loops(line) {
+        println!(rt; "    loops = \"refused\"")?;
+    }
+    Ok(())
+}
+
 /// Tells which line decides on a request, and what it says.
 fn print_verdict<R: Print>(
     rt: &R,
@@ -66,16 +74,18 @@ fn print_verdict<R: Print>(
     method: &Method,
     target: &Target,
 ) -> io::Result<()> {
-    match config.judge(method, target) {
+    match config.judge_target(method, target) {
         Verdict::Allowed(line) => {
             println!(rt;
                 "{text} is allowed by line {line}, origin {}",
                 config.origin(line)
             )?;
-            print_policy(rt, config.policy(line))
+            print_policy(rt, config.policy(line))?;
+            print_loops(rt, config, line)
         }
         Verdict::DeniedBy(line) => println!(rt; "{text} is denied by line {line}"),
         Verdict::NoLine => println!(rt; "{text} is denied: no line allows it"),
+        Verdict::Looped(line) => println!(rt; "{text} is refused by line {line} as a loop"),
     }
 }
 

@@ -31,6 +31,7 @@ fn way_of(config: &Config, met: Met) -> Way {
         },
         Met::DeniedBy(_) => Way::Denied,
         Met::NoLine => Way::Denied,
+        Met::Looped(_) => Way::Denied,
         Met::Refused => Way::Refused,
     }
 }

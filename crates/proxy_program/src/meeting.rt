@@ -72,6 +72,8 @@ pub(crate) enum Met {
     DeniedBy(u16),
     /// No line allows it.
     NoLine,
+    /// This line refuses it, since it loops.
+    Looped(u16),
     /// It is refused before the table is asked.
     Refused,
 }
@@ -85,6 +87,7 @@ impl Met {
             Verdict::Allowed(line) => Met::Allowed(line),
             Verdict::DeniedBy(line) => Met::DeniedBy(line),
             Verdict::NoLine => Met::NoLine,
+            Verdict::Looped(line) => Met::Looped(line),
         }
     }
 }
@@ -95,6 +98,7 @@ impl fmt::Display for Met {
             Met::Allowed(line) => write!(f, "allowed by line {line}"),
             Met::DeniedBy(line) => write!(f, "denied by line {line}"),
             Met::NoLine => write!(f, "denied: no line allows it"),
+            Met::Looped(line) => write!(f, "refused by line {line} as a loop"),
             Met::Refused => write!(f, "refused before the table is asked"),
         }
     }
@@ -110,7 +114,7 @@ pub(crate) fn met_in(
         return Ok(Met::Refused);
     };
     match target_of(alloc, question) {
-        Ok(target) => Ok(Met::by(config.judge(&method, &target))),
+        Ok(target) => Ok(Met::by(config.judge_target(&method, &target))),
         Err(TargetFault::OutOfMemory) => Err(Fault::NoMemory),
         Err(_) => Ok(Met::Refused),
     }

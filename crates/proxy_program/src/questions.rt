@@ -47,6 +47,7 @@ impl Expected {
             (Expected::Line(n), Met::Allowed(line)) => n == line,
             (Expected::Denied, Met::DeniedBy(_)) => true,
             (Expected::Denied, Met::NoLine) => true,
+            (Expected::Denied, Met::Looped(_)) => true,
             (Expected::DeniedBy(n), Met::DeniedBy(line)) => n == line,
             (Expected::NoLine, Met::NoLine) => true,
             (Expected::Refused, Met::Refused) => true,

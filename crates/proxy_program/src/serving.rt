@@ -133,8 +133,13 @@ fn warn_of_loops<R: Eprint>(rt: &R, config: &Config, address: SocketAddr) {
             .origin_address(line)
             .is_some_and(|it| comes_back(it, address))
         {
+            let end = if config.refuses_loops(line) {
+                "twice, and are refused then"
+            } else {
+                "until connections run out"
+            };
             let _ = eprintln!(rt;
-                "warning: the origin of line {line} is this server itself: its requests come back until connections run out"
+                "warning: the origin of line {line} is this server itself: its requests come back {end}"
             );
         }
     }

@@ -4,7 +4,8 @@ use Rattle.std.specs.Prelude.{option_map}
 use Rattle.std.proofs.lemmas.Bool.{cases_Bool, eqb-true, eq-eqb, false≢true}
 use Rattle.std.proofs.lemmas.Bool.Decides.{nat_tests}
 use Rattle.hx_allow.specs.TableLines.{Table}
-use Rattle.hx_allow.specs.Matching.{verdict_of, policy_of}
+use Rattle.hx_allow.specs.Matching.{policy_of}
+use Rattle.proxy_core.specs.Allowing.{verdict_of_asked, exchanges_to_wait_for}
 use Rattle.hx_allow.specs.declared.verdicts.Verdict.{Verdict}
 use Rattle.hx_allow.specs.declared.verdicts.Verdict.TheVariants as verdict
 use Rattle.hx_framing.specs.declared.messages.Request.{Request}
@@ -113,13 +114,14 @@ arrival_tells table es xs now asked (verdict.Allowed line) = by_decision (decisi
 
     by_only : (rule : ReuseRule) (condition : Option Condition) (only : Bool) → is_end (outcome_without_stored_response table es xs line now asked rule condition only) ≡ false
     by_only rule condition true = refl
-    by_only rule condition false = by_leader condition (leader_of_request (policy_of table.lines line) es xs asked rule)
+    by_only rule condition false = by_leader condition (leader_of_request (policy_of table.lines line) es (exchanges_to_wait_for table line asked xs) asked rule)
 
     by_decision : (d : Decision) → is_end (outcome_of_allowed_request table es xs line now asked d) ≡ false
     by_decision (decision.Hit serial) = refl
     by_decision (decision.Forward rule against) = by_only rule (condition_about_serial es against) (is_only_if_cached asked)
 arrival_tells table es xs now asked (verdict.DeniedBy line) = refl
 arrival_tells table es xs now asked verdict.NoLine = refl
+arrival_tells table es xs now asked (verdict.Looped line) = refl
 
 either_tells : (o : Outcome) → is_either o ≡ true → is_end o ≡ false
 either_tells (outcomes.Reply r) h = refl
@@ -417,7 +419,7 @@ module _ (i : ℕ) where
       event = events.Arrive now (p + 1) asked
 
       tells : is_end d.outcome ≡ false
-      tells = ap is_end d.steps.outcome_is ∙ arrival_tells s.core.table s.core.entries s.core.exchanges now asked (verdict_of s.core.table.lines asked.method asked.target)
+      tells = ap is_end d.steps.outcome_is ∙ arrival_tells s.core.table s.core.entries s.core.exchanges now asked (verdict_of_asked s.core.table asked)
 
       by_place : ((p == i) ≡ true) ⊎ ((p == i) ≡ false) → Here G ((replies_to (i + 1) emitted ++ cond (p == i) (RequestCame (next.Message r) ∷ []) []) ++ said) (open_at t)
       by_place (inl test) =

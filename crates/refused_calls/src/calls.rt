@@ -106,7 +106,9 @@ fn core(alloc: Global, asked: &Asked) -> Result<Core<ListShelf>, Stop> {
 }
 
 fn call_core(core: &mut Core<ListShelf>, asked: &Asked) -> Result<(), Stop> {
-    let verdict = core.config().judge(&asked.method, &asked.target);
+    let verdict = core
+        .config()
+        .judge(&asked.method, &asked.target, &asked.fields);
     expect_that(verdict == Verdict::Allowed(1))?;
     expect_that(matches!(core.abandon(1), Ok(Outcome::Ended)))?;
     expect_that(matches!(core.abandon(1), Err(CoreFault::UnknownId)))

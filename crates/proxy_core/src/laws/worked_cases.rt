@@ -15,7 +15,7 @@ ghost use Rattle.hx_reuse.specs.declared.rule.ReuseRule.TheVariants.{StaleMaxAge
 ghost use Rattle.hx_reuse.specs.declared.rule.ErrorRule.TheVariants as on_error;
 ghost use Rattle.hx_status.specs.declared.status.Detail.TheVariants.{StaleIfError, ReuseAfterError};
 ghost use Rattle.hx_status.specs.declared.cause.FailKind.TheVariants.{BadAnswer, Refused};
-ghost use Rattle.hx_status.specs.declared.cause.Cause.TheVariants.{Denied, NoLine, OnlyIfCached, Origin};
+ghost use Rattle.hx_status.specs.declared.cause.Cause.TheVariants.{Denied, NoLine, Looped, OnlyIfCached, Origin};
 ghost use Rattle.proxy_core.specs.declared.steps.fallback.Fallback.TheVariants.{Sends, Refuses};
 ghost use Rattle.proxy_core.specs.declared.event.Event.TheVariants.{Arrive, Answer, Fail, Wake, Abandon};
 ghost use Rattle.proxy_core.specs.declared.outcome.Outcome.TheVariants.{Forward, Waits, Ended};
@@ -492,6 +492,8 @@ pub fn what_an_arrival_gives()
         ≡ outcome_of_refusal 130 (Denied 3) (get_a_with []) }
     ensures unmatched { outcome_of_arrival table (first_stored ∷ []) [] 130 (get_a_with []) verdict.NoLine
         ≡ outcome_of_refusal 130 NoLine (get_a_with []) }
+    ensures looped { outcome_of_arrival table (first_stored ∷ []) [] 130 (get_a_with []) (verdict.Looped 3)
+        ≡ outcome_of_refusal 130 (Looped 3) (get_a_with []) }
     ensures hit { serial_used_by_outcome (outcome_of_arrival table (first_stored ∷ []) [] 130 (get_a_with [])
         (verdict.Allowed 1)) ≡ Some 1 }
     ensures stays { serials_removed_by_outcome (outcome_of_arrival table (first_stored ∷ []) [] 130 (get_a_with [])
@@ -549,7 +551,7 @@ pub fn what_an_answer_gives()
 /// What a step leaves of the open exchanges: an end releases those that waited for it, an
 /// invalidation overtakes those of its key (RFC 9111, section 4.4), what arrives stands behind the
 /// others, and what goes forward has the moment and the rule of that.
-#[tactic(auto, unfolding(hx_reuse::specs::Rules::decision_of, hx_reuse::specs::Rules::reuse_rule_of, hx_allow::specs::Matching::policy_of, hx_allow::specs::Matching::verdict_of, hx_allow::specs::Matching::matches_line, httpdate::proofs::OnLiterals::httpdate_on_literals))]
+#[tactic(auto, unfolding(hx_reuse::specs::Rules::decision_of, hx_reuse::specs::Rules::reuse_rule_of, hx_allow::specs::Matching::policy_of, hx_allow::specs::Matching::verdict_of, hx_allow::specs::Matching::verdict_of_request, hx_allow::specs::Matching::matches_line, httpdate::proofs::OnLiterals::httpdate_on_literals))]
 pub fn what_a_step_leaves_open()
     ensures gone { open_exchanges_after table [] (forwarded_on_miss (get_a_with []) ∷ waiting
         ∷ record waiting { id = 3; stage = Waiting 9 } ∷ [])

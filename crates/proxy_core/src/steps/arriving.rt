@@ -1,7 +1,8 @@
 //! A request arrives.
 ghost use Rattle.std.specs.Prelude.{◌≡◌, ◌<◌, ◌++◌, ◌∷◌, [], None, IfOk, IfErr, OnOk, OnErr};
 ghost use Rattle.hx_directives.specs.Occurrences.{occurrences_of};
-ghost use Rattle.hx_allow.specs.Matching.{policy_of, verdict_of};
+ghost use Rattle.hx_allow.specs.Matching.{policy_of};
+ghost use Rattle.proxy_core.specs.Allowing.{verdict_of_asked, exchanges_to_wait_for};
 ghost use Rattle.hx_allow.specs.declared.verdicts.Verdict.TheVariants.{Allowed};
 ghost use Rattle.hx_reuse.specs.Rules.{decision_of};
 ghost use Rattle.hx_reuse.specs.declared.decision.Decision.TheVariants as decision;
@@ -94,10 +95,14 @@ impl<S: Shelf> Core<S> {
             None => {}
             Some(fault) => return Err(fault),
         }
-        match self.config.judge(&asked.method, &asked.target) {
+        let verdict = self
+            .config
+            .judge(&asked.method, &asked.target, &asked.fields);
+        match verdict {
             Verdict::Allowed(line) => Ok(self.serve_allowed(alloc, now, id, asked, line)?),
             Verdict::DeniedBy(line) => deny_request(alloc, now, Cause::Denied(line), asked),
             Verdict::NoLine => deny_request(alloc, now, Cause::NoLine, asked),
+            Verdict::Looped(line) => deny_request(alloc, now, Cause::Looped(line), asked),
         }
     }
 
@@ -112,7 +117,7 @@ impl<S: Shelf> Core<S> {
     ) -> Result<Outcome, AllocError>
         requires early { now < 253_402_300_800 }
         requires free { find_exchange id self.old.exchanges ≡ None }
-        requires line { verdict_of self.old.table.lines asked.now.method asked.now.target ≡ Allowed line }
+        requires line { verdict_of_asked self.old.table asked.now ≡ Allowed line }
         ensures outcome { IfOk result
             (λ outcome. outcome ≡ outcome_of_allowed_request self.old.table self.old.entries self.old.exchanges
             line now asked.now (decision_of (policy_of self.old.table.lines line) self.old.entries asked.now now)) }
@@ -177,11 +182,29 @@ impl<S: Shelf> Core<S> {
         awaited_of(alloc, judged.policy, asked, directives, judged.rule, chosen)
     }
 
-    /// The open exchange for whose answer a request waits.
-    fn leader_for(&self, policy: Policy, awaited: Option<Awaited>, asked: &Asked) -> Option<u64>
+    /// The first of the open exchanges that has asked for what a request could be sent.
+    fn leader_among(&self, policy: Policy, awaited: Option<Awaited>, asked: &Asked) -> Option<u64>
         ensures { result ≡ leader_if_awaited policy asked.now self.now.exchanges awaited }
     {
         self.exchanges.leader(policy, awaited?, asked)
+    }
+
+    /// The open exchange for whose answer a request waits over this line. One that came back waits for none.
+    fn leader_for(
+        &self,
+        policy: Policy,
+        awaited: Option<Awaited>,
+        asked: &Asked,
+        line: u16,
+    ) -> Option<u64>
+        ensures { result ≡ leader_if_awaited policy asked.now
+            (exchanges_to_wait_for self.now.table line asked.now self.now.exchanges) awaited }
+    {
+        if self.config.came_back(line, &asked.fields) {
+            None
+        } else {
+            self.leader_among(policy, awaited, asked)
+        }
     }
 
     /// The exchange of a request opens, which waits or goes forward.
@@ -196,15 +219,18 @@ impl<S: Shelf> Core<S> {
         requires stage { exchange.stage ≡ Forwarded }
         ensures outcome { IfOk result
             (λ outcome. outcome ≡ outcome_of_waiting_or_forwarding self.old.table exchange.line exchange.asked
-            exchange.condition (leader_if_awaited policy exchange.asked self.old.exchanges awaited)) }
+            exchange.condition (leader_if_awaited policy exchange.asked
+            (exchanges_to_wait_for self.old.table exchange.line exchange.asked self.old.exchanges) awaited)) }
         ensures after { OnOk result (self.new ≡ record self.old {
           exchanges = self.old.exchanges
               ++ exchange_with_leader
-              (leader_if_awaited policy exchange.asked self.old.exchanges awaited) exchange ∷ [];
+              (leader_if_awaited policy exchange.asked
+              (exchanges_to_wait_for self.old.table exchange.line exchange.asked self.old.exchanges) awaited)
+              exchange ∷ [];
         }) }
         ensures unchanged { OnErr result (self.new ≡ self.old) }
     {
-        match self.leader_for(policy, awaited, &exchange.asked) {
+        match self.leader_for(policy, awaited, &exchange.asked, exchange.line) {
             Some(leader) => {
                 let mut waiting = exchange;
                 waiting.stage = Stage::Waiting(leader);

@@ -17,3 +17,7 @@ returns-clause-over c = refl
 pub returns-clause-denied : goal.returns-clause-denied
 unfolding digits
 returns-clause-denied c = refl
+
+pub returns-clause-looped : goal.returns-clause-looped
+unfolding digits
+returns-clause-looped c = refl

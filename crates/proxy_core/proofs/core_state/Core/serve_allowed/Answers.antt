@@ -2,6 +2,7 @@ use Rattle.std.proofs.Common.{rules, false, sym, subst, ◌≡◌, ◌∷◌, []
 use Rattle.hx_allow.specs.Matching.{policy_of}
 use Rattle.hx_reuse.specs.Rules.{decision_of}
 use Rattle.hx_reuse.specs.declared.decision.Decision.TheVariants as decision
+use Rattle.proxy_core.specs.Allowing.{exchanges_to_wait_for}
 use Rattle.proxy_core.specs.declared.event.Event.TheVariants.{Arrive}
 use Rattle.proxy_core.specs.declared.open.stage.Stage.TheVariants.{Forwarded}
 use Rattle.proxy_core.specs.declared.open.exchange.Exchange.{Exchange}
@@ -25,10 +26,10 @@ returns-clause-after g c =
     let rule = c.in-Forward.rule in
     let named = c.in-Forward.named in
     let x : Exchange = record { id = c.args.id; asked = c.in_ok-copy-in-Forward.field-0; line = c.args.line; rule = rule; named = named; request_time = c.args.now; condition = c.in_ok-condition_about_serial-in-Forward.field-0; overtaken = false; no_store = c.has_no_store.result; stage = Forwarded } in
-    let outcome : IfOk c.wait_or_forward.result (λ (o : Outcome). o ≡ outcome_of_waiting_or_forwarding s.table x.line x.asked x.condition (leader_if_awaited c.policy-policy.result x.asked s.exchanges c.in_ok-awaited-in-Forward.awaited)) = c.wait_or_forward.ensures.outcome in
-    let leaves : OnOk c.wait_or_forward.result (c.wait_or_forward.new.self ≡ record s { exchanges = s.exchanges ++ exchange_with_leader (leader_if_awaited c.policy-policy.result x.asked s.exchanges c.in_ok-awaited-in-Forward.awaited) x ∷ [] }) = c.wait_or_forward.ensures.after in
+    let outcome : IfOk c.wait_or_forward.result (λ (o : Outcome). o ≡ outcome_of_waiting_or_forwarding s.table x.line x.asked x.condition (leader_if_awaited c.policy-policy.result x.asked (exchanges_to_wait_for s.table x.line x.asked s.exchanges) c.in_ok-awaited-in-Forward.awaited)) = c.wait_or_forward.ensures.outcome in
+    let leaves : OnOk c.wait_or_forward.result (c.wait_or_forward.new.self ≡ record s { exchanges = s.exchanges ++ exchange_with_leader (leader_if_awaited c.policy-policy.result x.asked (exchanges_to_wait_for s.table x.line x.asked s.exchanges) c.in_ok-awaited-in-Forward.awaited) x ∷ [] }) = c.wait_or_forward.ensures.after in
     let decided : decision_of (policy_of s.table.lines c.args.line) s.entries c.args.asked.now c.args.now ≡ decision.Forward rule named = search rules in
     let asks : x.condition ≡ condition_about_serial s.entries named = search rules in
     both s (Arrive c.args.now c.args.id c.args.asked.now) c.wait_or_forward.new.self _ _ c.wait_or_forward.result outcome leaves
-    (opens_by s c.args.now c.args.id c.args.line c.args.asked.now x.asked rule named (leader_if_awaited c.policy-policy.result x.asked s.exchanges c.in_ok-awaited-in-Forward.awaited) x.condition x.no_store c.requires.line decided
+    (opens_by s c.args.now c.args.id c.args.line c.args.asked.now x.asked rule named (leader_if_awaited c.policy-policy.result x.asked (exchanges_to_wait_for s.table x.line x.asked s.exchanges) c.in_ok-awaited-in-Forward.awaited) x.condition x.no_store c.requires.line decided
     c.in_ok-copy-in-Forward.ensures asks c.has_no_store.ensures)

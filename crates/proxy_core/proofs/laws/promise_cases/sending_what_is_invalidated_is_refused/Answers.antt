@@ -4,7 +4,7 @@ use Rattle.std.specs.Fmt.{digits}
 use Rattle.httpdate.proofs.OnLiterals.{httpdate_on_literals}
 use Rattle.hx_hop.specs.Forwarding.{forwarded_of}
 use Rattle.hx_hop.specs.Moments.{part_holding_day}
-use Rattle.hx_allow.specs.Matching.{policy_of, matches_line, verdict_of}
+use Rattle.hx_allow.specs.Matching.{verdict_of, verdict_of_request, policy_of, matches_line}
 use Rattle.hx_reuse.specs.ErrorRules.{error_rule_on}
 use Rattle.hx_reuse.specs.Rules.{decision_of, reuse_rule_of}
 use Rattle.hx_storable.specs.Rules.{storage_rule_of}
@@ -15,31 +15,31 @@ use Rattle.proxy_core.specs.WrongTraces.{fresh_for_a_minute, get_a, delete_a, re
 use Rattle.proxy_core.proofs.laws.promise_cases.sending_what_is_invalidated_is_refused.Goals as goal
 
 pub returns-clause-since_stored : goal.returns-clause-since_stored
-unfolding digits httpdate_on_literals matches_line verdict_of policy_of decision_of reuse_rule_of storage_rule_of forwarded_of part_holding_day freshened_of error_rule_on
+unfolding digits httpdate_on_literals matches_line verdict_of verdict_of_request policy_of decision_of reuse_rule_of storage_rule_of forwarded_of part_holding_day freshened_of error_rule_on
 returns-clause-since_stored c = λ h.
     let none = h [] (item_of (Answer 111 2 (response_with 200 [])) (reply_without_store []) ∷ item_of (Arrive 110 2 post_a) forward_over_line_3 ∷ []) [] [] (item_of (Arrive 120 3 get_a) (reply_that_sends_stored 1 [])) (item_of (Answer 101 1 fresh_for_a_minute) (reply_that_stores [] (Some 1) [])) (item_of (Arrive 100 1 get_a) forward_over_line_3) 1 get_a refl refl refl refl refl refl refl in
     false≢true (sym none.0.0)
 
 pub returns-clause-on_its_way : goal.returns-clause-on_its_way
-unfolding digits httpdate_on_literals matches_line verdict_of policy_of decision_of reuse_rule_of storage_rule_of forwarded_of part_holding_day freshened_of error_rule_on
+unfolding digits httpdate_on_literals matches_line verdict_of verdict_of_request policy_of decision_of reuse_rule_of storage_rule_of forwarded_of part_holding_day freshened_of error_rule_on
 returns-clause-on_its_way c = λ h.
     let none = h [] [] (item_of (Answer 111 2 (response_with 200 [])) (reply_without_store []) ∷ item_of (Arrive 110 2 post_a) forward_over_line_3 ∷ []) [] (item_of (Arrive 120 3 get_a) (reply_that_sends_stored 1 [])) (item_of (Answer 112 1 fresh_for_a_minute) (reply_that_stores [] (Some 1) [])) (item_of (Arrive 100 1 get_a) forward_over_line_3) 1 get_a refl refl refl refl refl refl refl in
     false≢true (sym none.1.1.0)
 
 pub returns-clause-behind_a_304 : goal.returns-clause-behind_a_304
-unfolding digits httpdate_on_literals matches_line verdict_of policy_of decision_of reuse_rule_of storage_rule_of forwarded_of part_holding_day freshened_of error_rule_on
+unfolding digits httpdate_on_literals matches_line verdict_of verdict_of_request policy_of decision_of reuse_rule_of storage_rule_of forwarded_of part_holding_day freshened_of error_rule_on
 returns-clause-behind_a_304 c = λ h.
     let none = h [] (item_of (Answer 111 2 (response_304 [])) (reply_without_store []) ∷ item_of (Arrive 110 2 delete_a) forward_over_line_3 ∷ []) [] [] (item_of (Arrive 120 3 get_a) (reply_that_sends_stored 1 [])) (item_of (Answer 101 1 fresh_for_a_minute) (reply_that_stores [] (Some 1) [])) (item_of (Arrive 100 1 get_a) forward_over_line_3) 1 get_a refl refl refl refl refl refl refl in
     false≢true (sym none.0.0)
 
 pub returns-clause-behind_a_redirect : goal.returns-clause-behind_a_redirect
-unfolding digits httpdate_on_literals matches_line verdict_of policy_of decision_of reuse_rule_of storage_rule_of forwarded_of part_holding_day freshened_of error_rule_on
+unfolding digits httpdate_on_literals matches_line verdict_of verdict_of_request policy_of decision_of reuse_rule_of storage_rule_of forwarded_of part_holding_day freshened_of error_rule_on
 returns-clause-behind_a_redirect c = λ h.
     let none = h [] (item_of (Answer 111 2 (response_with 303 [])) (reply_without_store []) ∷ item_of (Arrive 110 2 delete_a) forward_over_line_3 ∷ []) [] [] (item_of (Arrive 120 3 get_a) (reply_that_sends_stored 1 [])) (item_of (Answer 101 1 fresh_for_a_minute) (reply_that_stores [] (Some 1) [])) (item_of (Arrive 100 1 get_a) forward_over_line_3) 1 get_a refl refl refl refl refl refl refl in
     false≢true (sym none.0.0)
 
 pub returns-clause-since_the_start : goal.returns-clause-since_the_start
-unfolding digits httpdate_on_literals matches_line verdict_of policy_of decision_of reuse_rule_of storage_rule_of forwarded_of part_holding_day freshened_of error_rule_on
+unfolding digits httpdate_on_literals matches_line verdict_of verdict_of_request policy_of decision_of reuse_rule_of storage_rule_of forwarded_of part_holding_day freshened_of error_rule_on
 returns-clause-since_the_start c = λ h.
     let none = h [] (item_of (Answer 111 2 (response_with 200 [])) (reply_without_store []) ∷ item_of (Arrive 110 2 post_a) forward_over_line_3 ∷ []) (item_of (Arrive 120 3 get_a) (reply_that_sends_stored 1 [])) 1 (stored_with 1 []) refl refl refl in
     false≢true (sym none.0)

@@ -6,7 +6,7 @@ use Rattle.std.specs.Fmt.{digits}
 use Rattle.httpdate.proofs.OnLiterals.{httpdate_on_literals}
 use Rattle.hx_hop.specs.Forwarding.{forwarded_of}
 use Rattle.hx_hop.specs.Moments.{part_holding_day}
-use Rattle.hx_allow.specs.Matching.{policy_of, matches_line, verdict_of}
+use Rattle.hx_allow.specs.Matching.{verdict_of, verdict_of_request, policy_of, matches_line}
 use Rattle.hx_reuse.specs.ErrorRules.{error_rule_on}
 use Rattle.hx_reuse.specs.Rules.{decision_of, reuse_rule_of}
 use Rattle.hx_storable.specs.Rules.{storage_rule_of}
@@ -20,31 +20,31 @@ use Rattle.proxy_core.proofs.Refusals.{refuse_bytes, refuse_line}
 use Rattle.proxy_core.proofs.laws.promise_cases.what_goes_forward_is_the_request.Goals as goal
 
 pub returns-clause-another_target : goal.returns-clause-another_target
-unfolding digits httpdate_on_literals matches_line verdict_of policy_of decision_of reuse_rule_of storage_rule_of forwarded_of part_holding_day freshened_of error_rule_on
+unfolding digits httpdate_on_literals matches_line verdict_of verdict_of_request policy_of decision_of reuse_rule_of storage_rule_of forwarded_of part_holding_day freshened_of error_rule_on
 returns-clause-another_target c = refuse_bytes [] 100 1 3 get_a (forward_text edge_table 3 get_admin None) rules.UriMiss None refl (λ z. bytes_eq z (forward_text edge_table 3 get_admin None)) refl refl
 
 pub returns-clause-another_line : goal.returns-clause-another_line
-unfolding digits httpdate_on_literals matches_line verdict_of policy_of decision_of reuse_rule_of storage_rule_of forwarded_of part_holding_day freshened_of error_rule_on
+unfolding digits httpdate_on_literals matches_line verdict_of verdict_of_request policy_of decision_of reuse_rule_of storage_rule_of forwarded_of part_holding_day freshened_of error_rule_on
 returns-clause-another_line c = refuse_line 100 1 2 get_a (forward_text edge_table 2 get_a None) (λ h. let never : Allowed 3 ≡ Allowed 2 = h in absurd (cc))
 
 pub returns-clause-denied : goal.returns-clause-denied
-unfolding digits httpdate_on_literals matches_line verdict_of policy_of decision_of reuse_rule_of storage_rule_of forwarded_of part_holding_day freshened_of error_rule_on
+unfolding digits httpdate_on_literals matches_line verdict_of verdict_of_request policy_of decision_of reuse_rule_of storage_rule_of forwarded_of part_holding_day freshened_of error_rule_on
 returns-clause-denied c = refuse_line 100 1 1 get_admin (forward_text edge_table 1 get_admin None) (λ h. let never : DeniedBy 1 ≡ Allowed 1 = h in absurd (cc))
 
 pub returns-clause-conditions_of_nothing : goal.returns-clause-conditions_of_nothing
-unfolding digits httpdate_on_literals matches_line verdict_of policy_of decision_of reuse_rule_of storage_rule_of forwarded_of part_holding_day freshened_of error_rule_on
+unfolding digits httpdate_on_literals matches_line verdict_of verdict_of_request policy_of decision_of reuse_rule_of storage_rule_of forwarded_of part_holding_day freshened_of error_rule_on
 returns-clause-conditions_of_nothing c = refuse_bytes [] 100 1 3 get_a (forward_text edge_table 3 get_a condition_about_v) rules.UriMiss None refl (λ z. bytes_eq z (forward_text edge_table 3 get_a condition_about_v)) refl refl
 
 pub returns-clause-without_conditions : goal.returns-clause-without_conditions
-unfolding digits httpdate_on_literals matches_line verdict_of policy_of decision_of reuse_rule_of storage_rule_of forwarded_of part_holding_day freshened_of error_rule_on
+unfolding digits httpdate_on_literals matches_line verdict_of verdict_of_request policy_of decision_of reuse_rule_of storage_rule_of forwarded_of part_holding_day freshened_of error_rule_on
 returns-clause-without_conditions c = refuse_bytes (trace_of_good_events events_that_store_a) 200 2 3 get_a (forward_text edge_table 3 get_a None) rules.NoMaxStale (Some 1) refl (λ z. bytes_eq z (forward_text edge_table 3 get_a None)) refl refl
 
 pub returns-clause-by_a_failure : goal.returns-clause-by_a_failure
-unfolding digits httpdate_on_literals matches_line verdict_of policy_of decision_of reuse_rule_of storage_rule_of forwarded_of part_holding_day freshened_of error_rule_on
+unfolding digits httpdate_on_literals matches_line verdict_of verdict_of_request policy_of decision_of reuse_rule_of storage_rule_of forwarded_of part_holding_day freshened_of error_rule_on
 returns-clause-by_a_failure c = λ h. (h 3 (forward_text edge_table 3 get_a None) refl).4
 
 pub returns-clause-conditions_a_second_time : goal.returns-clause-conditions_a_second_time
-unfolding digits httpdate_on_literals matches_line verdict_of policy_of decision_of reuse_rule_of storage_rule_of forwarded_of part_holding_day freshened_of error_rule_on
+unfolding digits httpdate_on_literals matches_line verdict_of verdict_of_request policy_of decision_of reuse_rule_of storage_rule_of forwarded_of part_holding_day freshened_of error_rule_on
 returns-clause-conditions_a_second_time c = λ h.
     let parts = h 3 (forward_text edge_table 3 get_a condition_about_v) refl in
     let own : get_a ≡ parts.0 = same_Some get_a parts.0 parts.2 in
@@ -52,7 +52,7 @@ returns-clause-conditions_a_second_time c = λ h.
     false≢true (sym (ap (λ z. bytes_eq z (forward_text edge_table 3 get_a condition_about_v)) text))
 
 pub returns-clause-of_nobody : goal.returns-clause-of_nobody
-unfolding digits httpdate_on_literals matches_line verdict_of policy_of decision_of reuse_rule_of storage_rule_of forwarded_of part_holding_day freshened_of error_rule_on
+unfolding digits httpdate_on_literals matches_line verdict_of verdict_of_request policy_of decision_of reuse_rule_of storage_rule_of forwarded_of part_holding_day freshened_of error_rule_on
 returns-clause-of_nobody c = λ h.
     let parts = h 3 (forward_text edge_table 3 get_a None) refl in
     let never : None ≡ Some parts.0 = parts.2 in

@@ -3,7 +3,7 @@ use Rattle.hx_allow.specs.TableLines.{Line, Table}
 use Rattle.hx_allow.specs.Matching.{VerdictNamesAnOrigin, is_never_allowed}
 use Rattle.hx_allow.specs.Index.{can_match, verdict_where}
 use Rattle.hx_allow.proofs.HostIndices.{decides, none_of_never, names_an_origin}
-use Rattle.hx_allow.proofs.config.Config.judge.Goals as goal
+use Rattle.hx_allow.proofs.config.Config.judge_target.Goals as goal
 
 pub returns-then-is_never_allowed-clause-verdict : goal.returns-then-is_never_allowed-clause-verdict
 returns-then-is_never_allowed-clause-verdict c =

@@ -1,0 +1,179 @@
+//! How often the Via of a request names a proxy. No function here takes memory.
+ghost use Rattle.std.specs.Prelude.{◌≡◌, ◌≤◌, ◌<◌, ◌+◌, ◌^◌, length, nat_le, if◌then◌else◌};
+ghost use Rattle.std.specs.List.{prefix_len};
+ghost use Rattle.hx_fields.specs.Names.{is_blank};
+ghost use Rattle.hx_allow.specs.Via.{via_place_after, is_comma_of_list, is_word_byte, without_blanks, received_by};
+ghost use Rattle.hx_allow.specs.Via.{comments_around, names_proxy, times_named_in, times_named, request_loops};
+
+use hx_fields::{Field, is_same_name};
+
+/// Where a byte of a line of Via stands.
+#[derive(Clone, Copy, PartialEq, Eq)]
+pub(crate) enum ViaPlace {
+    Outside,
+    Quoted,
+    /// In quotes, behind a backslash.
+    QuotedPair,
+    /// In a comment that is in so many others.
+    Comment(usize),
+    /// There, behind a backslash.
+    CommentPair(usize),
+}
+
+fn place_in_comment(around: usize, b: u8) -> ViaPlace
+    requires { around + 1 < 2 ^ 64 }
+    ensures { result ≡ via_place_after (ViaPlace.Comment around) b }
+{
+    match b {
+        b'(' => ViaPlace::Comment(around + 1),
+        b')' if around == 0 => ViaPlace::Outside,
+        b')' => ViaPlace::Comment(around - 1),
+        b'\\' => ViaPlace::CommentPair(around),
+        _ => ViaPlace::Comment(around),
+    }
+}
+
+/// Where the byte behind this one stands.
+fn via_place_after(place: ViaPlace, b: u8) -> ViaPlace
+    requires { comments_around place + 1 < 2 ^ 64 }
+    ensures { result ≡ via_place_after place b }
+{
+    match place {
+        ViaPlace::Outside => match b {
+            b'"' => ViaPlace::Quoted,
+            b'(' => ViaPlace::Comment(0),
+            _ => ViaPlace::Outside,
+        },
+        ViaPlace::Quoted => match b {
+            b'"' => ViaPlace::Outside,
+            b'\\' => ViaPlace::QuotedPair,
+            _ => ViaPlace::Quoted,
+        },
+        ViaPlace::QuotedPair => ViaPlace::Quoted,
+        ViaPlace::Comment(around) => place_in_comment(around, b),
+        ViaPlace::CommentPair(around) => ViaPlace::Comment(around),
+    }
+}
+
+fn is_comma_of_list(place: ViaPlace, b: u8) -> bool
+    ensures { result ≡ is_comma_of_list place b }
+{
+    match place {
+        ViaPlace::Outside => b == b',',
+        _ => false,
+    }
+}
+
+fn is_blank(b: u8) -> bool
+    ensures { result ≡ is_blank b }
+{
+    b == b' ' || b == b'\t'
+}
+
+fn is_word_byte(b: u8) -> bool
+    ensures { result ≡ is_word_byte b }
+{
+    !(is_blank(b) || b == b'(')
+}
+
+fn leading_blanks(text: &[u8]) -> usize
+    ensures count { result ≡ prefix_len is_blank text.now }
+    ensures bound { result ≤ length text.now }
+{
+    let mut n = 0;
+    while n < text.len() && is_blank(text[n]) {
+        n += 1;
+    }
+    n
+}
+
+fn word_len(text: &[u8]) -> usize
+    ensures count { result ≡ prefix_len is_word_byte text.now }
+    ensures bound { result ≤ length text.now }
+{
+    let mut n = 0;
+    while n < text.len() && is_word_byte(text[n]) {
+        n += 1;
+    }
+    n
+}
+
+fn without_blanks(text: &[u8]) -> &[u8]
+    ensures { result.now ≡ without_blanks text.now }
+{
+    &text[leading_blanks(text)..]
+}
+
+/// By whom a member says that the request was received.
+fn received_by(member: &[u8]) -> &[u8]
+    ensures { result.now ≡ received_by member.now }
+{
+    let protocol = without_blanks(member);
+    let rest = without_blanks(&protocol[word_len(protocol)..]);
+    &rest[..word_len(rest)]
+}
+
+fn names_proxy(name: &[u8], member: &[u8]) -> bool
+    ensures { result ≡ names_proxy name.now member.now }
+{
+    is_same_name(received_by(member), name)
+}
+
+fn one_if_named(name: &[u8], member: &[u8]) -> usize
+    ensures times { result ≡ (if names_proxy name.now member.now then 1 else 0) }
+    ensures bound { result ≤ 1 }
+{
+    if names_proxy(name, member) { 1 } else { 0 }
+}
+
+/// How many members of a line name a proxy.
+fn times_named_in(name: &[u8], value: &[u8]) -> usize
+    ensures times { result ≡ times_named_in name.now value.now }
+    ensures bound { result ≤ length value.now + 1 }
+{
+    let mut place = ViaPlace::Outside;
+    let mut start = 0;
+    let mut found = 0;
+    let mut i = 0;
+    while i < value.len() {
+        let b = value[i];
+        if is_comma_of_list(place, b) {
+            found += one_if_named(name, &value[start..i]);
+            start = i + 1;
+        }
+        place = via_place_after(place, b);
+        i += 1;
+    }
+    found + one_if_named(name, &value[start..])
+}
+
+/// Whether these lines name a proxy so often, once or twice.
+fn is_named(name: &[u8], fields: &[Field], least: usize) -> bool
+    requires { (1 ≤ least) × (least ≤ 2) }
+    ensures { result ≡ nat_le least (times_named name.now fields.now) }
+{
+    let mut found = 0;
+    for line in fields {
+        if is_same_name(line.name.as_slice(), b"Via") {
+            found += times_named_in(name, line.value.as_slice());
+            if found >= least {
+                return true;
+            }
+        }
+    }
+    false
+}
+
+/// Whether a request with these lines was here twice already.
+pub(crate) fn request_loops(name: &[u8], fields: &[Field]) -> bool
+    ensures { result ≡ request_loops name.now fields.now }
+{
+    is_named(name, fields, 2)
+}
+
+/// Whether a request with these lines was here already.
+pub(crate) fn was_here(name: &[u8], fields: &[Field]) -> bool
+    ensures { result ≡ nat_le 1 (times_named name.now fields.now) }
+{
+    is_named(name, fields, 1)
+}
