@@ -104,7 +104,7 @@ pub earlier_as_before : (t : Members) (table : Table) (method : List ℕ) (targe
     verdict_of_request table method target fields ≡ verdict_of table.lines method target
 earlier_as_before t table method target fields before e =
     let each : All LineIsOfThree table.lines = each_is_of_three t table before e in
-    forwarded_as_before table method target fields (λ n is. none_refuses table.lines (λ i d within. (each i d within).2) n)
+    forwarded_as_before table method target fields (λ n is. none_refuses table.lines (λ i d within. (each i d within).4) n)
 
 -- lines of Via count together
 pub times_together : (name : List ℕ) (fields more : List Field) → times_named name (fields ++ more) ≡ times_named name fields + times_named name more
