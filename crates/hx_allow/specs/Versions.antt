@@ -41,8 +41,8 @@ abbrev pub LineHasNoCachingWord : Members → Type 0
 LineHasNoCachingWord ms = (word : LineWord) → (word_row word).place ≡ CachingLine → get_member (word_key word) ms ≡ None
 
 -- what a line of the third version says: errors have the lifetime of all others, each stated lifetime counts as it is,
--- requests with a cookie are given the lifetimes of all others, the conditions of clients are the origin's to judge, and
--- requests that loop go on
+-- requests with a cookie are given the lifetimes of all others, the conditions of clients are the origin's to judge,
+-- and requests that loop go on
 abbrev pub LineIsOfThree : Line → Type 0
 LineIsOfThree line =
     (line.policy.error_lifetime ≡ line.policy.lifetime) × (line.policy.lifetime_most ≡ None)

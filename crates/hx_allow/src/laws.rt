@@ -94,9 +94,9 @@ pub fn version_two_reads_as_before()
 /// before; and for a word of the fourth, of which none of its lines has one, so that errors have the
 /// lifetime of all others, each stated lifetime counts as it is, requests with a cookie are given the
 /// lifetimes of all others, the conditions of clients go to the origin, and requests that loop go on,
-/// as before. Nor is it refused for a method in lower case or a `*` in a path. Each of its lines has one path, and one host or every
-/// one. A line without such a word, such a spelling, a list and `*.` and a host is read alike in the
-/// fourth; what the third reads has neither of the last two.
+/// as before. Nor is it refused for a method in lower case or a `*` in a path. Each of its lines has
+/// one path, and one host or every one. A line without such a word, such a spelling, a list and `*.`
+/// and a host is read alike in the fourth; what the third reads has neither of the last two.
 pub fn version_three_reads_as_before()
     ensures never { (t : Members) → has_keys_of (version_of t) Four ≡ false
         → ¬ (judge_table t ≡ Err (Fault.BadNumber MaxStore)) }
