@@ -122,4 +122,4 @@ def a_check_shows_words_of_version_four(stage):
         with open(file, "w", encoding="utf-8") as it:
             it.write(table_of([("/", ["*"], "127.0.0.1:1", {key: value})], version=4))
         status, out, err = run(stage, "check", file)
-        expect(f"of {key}", (2, f"config fault 12 line 1 key {key}\\n", True), (status, err, said in out))
+        expect(f"of {key}", (2, f"config fault 12 line 1 key {key}\n", True), (status, err, said in out))
