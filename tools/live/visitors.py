@@ -117,7 +117,7 @@ def a_check_shows_words_of_version_four(stage):
             it.write(table_of([("/", ["*"], "127.0.0.1:1", words)], version=4))
         _, out, _ = run(stage, "check", file, "--ask", "GET http://h.example/")
         shown = [it.strip() for it in out.splitlines() if it.startswith("    ")]
-        expect(f"of {words}", ['cache = "on"', *told, 'conditions = "answered"', "key h.example:80/"], shown)
+        expect(f"of {words}", ['cache = "on"', *told, 'conditions = "answered"', 'loops = "refused"', "key h.example:80/"], shown)
     for key, value, said in (("cookies", "ignored", '"private" or "shared"'), ("lifetime-most", 0, "from 1 to 2147483648")):
         with open(file, "w", encoding="utf-8") as it:
             it.write(table_of([("/", ["*"], "127.0.0.1:1", {key: value})], version=4))
