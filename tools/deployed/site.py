@@ -30,7 +30,7 @@ class Site:
 
     def __init__(self, stand):
         bare, second = whole(200, content=b"hello"), whole(200, "Cache-Control: max-age=1", content=b"hello")
-        of_pages = {"/": bare, "/news": bare, "/old": second, "/login": with_a_cookie(), "/account/me": with_a_cookie(), "/orders": of_the_visitor()}
+        of_pages = {"/": bare, "/news": bare, "/old": second, "/welcome": with_a_cookie(), "/account/me": with_a_cookie(), "/orders": of_the_visitor()}
         of_api = {
             "/api/public/list": bare,
             "/api/public/old": second,
@@ -77,7 +77,7 @@ def what_is_denied(site):
 def what_one_visitor_sees(site):
     """Never stored, whatever it says; a cookie that a page sets keeps it out, and so does one that asked for it. Assets are for all."""
     site.expect(site.pages, 2, "/account/me", *[(200, "edge;fwd=bypass;detail=operator")] * 2)
-    site.expect(site.pages, 2, "/login", *[(200, "edge;fwd=uri-miss;detail=not-stored-set-cookie")] * 2)
+    site.expect(site.pages, 2, "/welcome", *[(200, "edge;fwd=uri-miss;detail=not-stored-set-cookie")] * 2)
     for it in ("session=alice", "session=bob"):
         answer = curl(site.cache.port, URL("/orders"), "--header", f"Cookie: {it}")
         expect_from(answer, 200, "edge;fwd=uri-miss;detail=not-stored-request-cookie")
