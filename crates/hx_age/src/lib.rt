@@ -6,15 +6,11 @@
 
 mod ages;
 mod dates;
-mod laws;
+pub mod laws;
 mod lifetimes;
 mod moments;
 
 pub use ages::{current_age, is_fresh, staleness, ttl};
 pub use dates::single_date;
-pub use laws::{
-    age_sums, lifetime_ends_by_expires, moment_goes_backwards, moments_are_read,
-    nothing_is_above_the_cap, repeated_and_bad_seconds, seconds_are_capped,
-};
 pub use lifetimes::Lifetime;
 pub use moments::Times;

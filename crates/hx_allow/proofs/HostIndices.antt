@@ -17,7 +17,7 @@ use Rattle.hx_allow.specs.TableLines.{Line}
 use Rattle.hx_allow.specs.declared.host_index.HostIndex.{HostIndex}
 use Rattle.hx_allow.specs.Index.{hosts_above, is_one, is_below, is_every, has_host, can_match, numbers_of_hosts, line_numbers_from, line_numbers_of, Numbers, numbers_for, HasNoLonger, IsHostIndexOf, with_number, IsEntered, matches_beside_host, verdict_of_line_or_later, is_found_by, verdict_among, verdict_above, verdict_where}
 use Rattle.hx_allow.specs.LineHosts.{is_below_host, any_host_matches}
-use Rattle.hx_allow.specs.Matching.{is_never_allowed, is_star_or_same, any_path_matches, matches_line, verdict_of_line, verdict_from, verdict_of, line_of_number, VerdictNamesAnOrigin}
+use Rattle.hx_allow.specs.Matching.{is_never_allowed, is_star_or_same, any_path_matches, matches_line, over_line, verdict_of_line, verdict_from, verdict_of, line_of_number, VerdictNamesAnOrigin}
 use Rattle.hx_allow.specs.declared.line_hosts.LineHost.{LineHost}
 use Rattle.hx_allow.specs.declared.line_hosts.LineHost.TheVariants.{Every, One, Below}
 use Rattle.hx_allow.specs.declared.verdicts.Verdict.{Verdict}
@@ -170,14 +170,14 @@ slice_get-at all rest line i at =
 found_at : (n k : ℕ) (line : Line) → k ≤ n → is_found_by n (verdict_of_line k line) ≡ true
 found_at n k line le = by_origin (is_some line.origin)
   where
-    by_origin : (b : Bool) → is_found_by n (cond b (Allowed k) (DeniedBy k)) ≡ true
+    by_origin : (b : Bool) → is_found_by n (cond b (Allowed (over_line k)) (DeniedBy k)) ≡ true
     by_origin true = grind (arith, nat_tests)
     by_origin false = grind (arith, nat_tests)
 
 not_found_at : (n k : ℕ) (line : Line) → n < k → is_found_by n (verdict_of_line k line) ≡ false
 not_found_at n k line lt = by_origin (is_some line.origin)
   where
-    by_origin : (b : Bool) → is_found_by n (cond b (Allowed k) (DeniedBy k)) ≡ false
+    by_origin : (b : Bool) → is_found_by n (cond b (Allowed (over_line k)) (DeniedBy k)) ≡ false
     by_origin true = grind (arith, nat_tests)
     by_origin false = grind (arith, nat_tests)
 
@@ -430,7 +430,7 @@ names_where all test method path i (line ∷ rest) at =
     first : 1 ≤ i + 1
     first = omega arith
 
-    by_origin : (b : Bool) → is_some line.origin ≡ b → VerdictNamesAnOrigin all (cond b (Allowed (i + 1)) (DeniedBy (i + 1)))
+    by_origin : (b : Bool) → is_some line.origin ≡ b → VerdictNamesAnOrigin all (cond b (Allowed (over_line (i + 1))) (DeniedBy (i + 1)))
     by_origin true e = (first, ap (λ (o : Option Line). is_some (option_and_then (λ (one : Line). one.origin) o)) stands ∙ e)
     by_origin false e = tt
 

@@ -12,7 +12,7 @@ use Rattle.hx_allow.specs.LineWords.{key_has_text, word_of_error_lifetime, line_
 use Rattle.hx_allow.specs.Keys.{word_key}
 use Rattle.hx_allow.specs.Rows.{line_keys, word_row, has_keys_of}
 use Rattle.hx_allow.specs.Versions.{LineHasNoCachingWord}
-use Rattle.hx_allow.specs.declared.config_faults.LineWord.TheVariants.{Lifetime, ErrorLifetime, LifetimeMost, StaleIfError, SetCookie, Cookies, Errors, RequestDirectives, Wait, Explain, Conditions, Loops}
+use Rattle.hx_allow.specs.declared.config_faults.LineWord.TheVariants.{Lifetime, ErrorLifetime, LifetimeMost, StaleIfError, SetCookie, Cookies, SessionCookies, Errors, RequestDirectives, Wait, Explain, Conditions, Loops, StaleWhileRevalidate, Vary, OriginTimeout}
 use Rattle.hx_allow.specs.declared.rows.LineKey.{LineKey}
 use Rattle.hx_allow.specs.declared.rows.LineKey.TheVariants.{Host, Methods, Path, Origin, Cache, Word}
 use Rattle.hx_allow.specs.declared.values.TableVersion.{TableVersion}
@@ -33,12 +33,16 @@ listed P all (Word LifetimeMost) = all 7 Host (omega arith)
 listed P all (Word StaleIfError) = all 8 Host (omega arith)
 listed P all (Word SetCookie) = all 9 Host (omega arith)
 listed P all (Word Cookies) = all 10 Host (omega arith)
-listed P all (Word Errors) = all 11 Host (omega arith)
-listed P all (Word RequestDirectives) = all 12 Host (omega arith)
-listed P all (Word Wait) = all 13 Host (omega arith)
-listed P all (Word Explain) = all 14 Host (omega arith)
-listed P all (Word Conditions) = all 15 Host (omega arith)
-listed P all (Word Loops) = all 16 Host (omega arith)
+listed P all (Word SessionCookies) = all 11 Host (omega arith)
+listed P all (Word Errors) = all 12 Host (omega arith)
+listed P all (Word RequestDirectives) = all 13 Host (omega arith)
+listed P all (Word Wait) = all 14 Host (omega arith)
+listed P all (Word Explain) = all 15 Host (omega arith)
+listed P all (Word Conditions) = all 16 Host (omega arith)
+listed P all (Word Loops) = all 17 Host (omega arith)
+listed P all (Word StaleWhileRevalidate) = all 18 Host (omega arith)
+listed P all (Word Vary) = all 19 Host (omega arith)
+listed P all (Word OriginTimeout) = all 20 Host (omega arith)
 
 -- where no word on caching stands, the policy is that of the versions before the third, in a version before the fourth,
 -- or where the line takes none
@@ -54,6 +58,7 @@ plain_policy version ms none older =
     let lifetime : get_member (codes "lifetime") ms ≡ None = none Lifetime refl in
     let lifetime_most : get_member (codes "lifetime-most") ms ≡ None = none LifetimeMost refl in
     let stale_if_error : get_member (codes "stale-if-error") ms ≡ None = none StaleIfError refl in
+    let stale_while_revalidate : get_member (codes "stale-while-revalidate") ms ≡ None = none StaleWhileRevalidate refl in
     let set_cookie : get_member (codes "set-cookie") ms ≡ None = none SetCookie refl in
     let errors : get_member (codes "errors") ms ≡ None = none Errors refl in
     let request_directives : get_member (codes "request-directives") ms ≡ None = none RequestDirectives refl in
@@ -61,7 +66,7 @@ plain_policy version ms none older =
     let explain : get_member (codes "explain") ms ≡ None = none Explain refl in
     let cookies : gives_lifetimes_to_cookies version ms ≡ true = rw older refl in
     let conditions : leaves_conditions_to_origin version ms ≡ true = rw older refl in
-    rw cookies (rw conditions (rw error_lifetime (rw lifetime (rw lifetime_most (rw stale_if_error (rw set_cookie (rw errors (rw request_directives (rw wait (rw explain refl))))))))))
+    rw cookies (rw conditions (rw error_lifetime (rw lifetime (rw lifetime_most (rw stale_if_error (rw stale_while_revalidate (rw set_cookie (rw errors (rw request_directives (rw wait (rw explain refl)))))))))))
 
 -- ---- what a test of the list tells of each
 

@@ -10,6 +10,8 @@ pub mod TablePaths
 pub mod Versions
 pub mod ViaPieces
 pub mod ViaWritten
+pub mod CookieLines
+pub mod Sessions
 pub mod Loops
 pub mod WordsRead
 pub mod PathTails

@@ -12,7 +12,7 @@ use Rattle.hx_fields.specs.declared.field_line.Field.{Field}
 use Rattle.hx_fields.specs.FieldLines.{is_named, values_of}
 use Rattle.hx_target.specs.declared.targets.Target.{Target}
 use Rattle.hx_allow.specs.TableLines.{Line, Table}
-use Rattle.hx_allow.specs.Matching.{matches_line, verdict_of_line, verdict_from, verdict_of, line_of_number, line_refuses_loops, verdict_on_loops, verdict_of_request}
+use Rattle.hx_allow.specs.Matching.{matches_line, over_line, verdict_of_line, verdict_from, verdict_of, line_of_number, line_refuses_loops, verdict_on_loops, session_cookies_of, verdict_on_cookies, verdict_of_request}
 use Rattle.hx_allow.specs.Rows.{has_keys_of}
 use Rattle.hx_allow.specs.Tables.{version_of, judge_table}
 use Rattle.hx_allow.specs.Versions.{LineIsOfThree}
@@ -20,6 +20,8 @@ use Rattle.hx_allow.specs.Via.{times_named, times_named_in, request_loops}
 use Rattle.hx_allow.specs.declared.verdicts.Verdict.{Verdict}
 use Rattle.hx_allow.specs.declared.verdicts.Verdict.TheVariants.{Allowed, DeniedBy, NoLine, Looped}
 use Rattle.hx_allow.specs.declared.values.TableVersion.TheVariants.{Four}
+use Rattle.hx_allow.specs.declared.verdicts.Route.{Route}
+use Rattle.hx_allow.proofs.CookieLines.{none_past}
 use Rattle.hx_allow.proofs.Versions.{each_is_of_three}
 
 and_none : (b : Bool) → (b && false) ≡ false
@@ -31,7 +33,7 @@ never_looped : (n k : ℕ) (lines : List Line) (method : List ℕ) (target : Tar
 never_looped n k [] method target e = cc
 never_looped n k (line ∷ lines) method target e = by_tests (matches_line line method target) (is_some line.origin) (never_looped n (k + 1) lines method target) e
   where
-    by_tests : (matches allows : Bool) → (verdict_from (k + 1) lines method target ≡ Looped n → ⊥) → cond matches (cond allows (Allowed k) (DeniedBy k)) (verdict_from (k + 1) lines method target) ≡ Looped n → ⊥
+    by_tests : (matches allows : Bool) → (verdict_from (k + 1) lines method target ≡ Looped n → ⊥) → cond matches (cond allows (Allowed (over_line k)) (DeniedBy k)) (verdict_from (k + 1) lines method target) ≡ Looped n → ⊥
     by_tests true true later e = cc
     by_tests true false later e = cc
     by_tests false allows later e = later e
@@ -43,45 +45,46 @@ module _ (table : Table) (method : List ℕ) (target : Target) (fields : List Fi
   abbrev loops : Bool
   loops = request_loops table.name fields
 
-  pub loop_is_refused : (n : ℕ) → told ≡ Allowed n → line_refuses_loops table.lines n ≡ true → 2 ≤ times_named table.name fields → verdict_of_request table method target fields ≡ Looped n
+  pub loop_is_refused : (route : Route) → told ≡ Allowed route → line_refuses_loops table.lines route.number ≡ true → 2 ≤ times_named table.name fields → verdict_of_request table method target fields ≡ Looped route.number
   unfolding verdict_of_request
-  loop_is_refused n is refuses twice =
+  loop_is_refused route is refuses twice =
       let looped : loops ≡ true = le-leb 2 (times_named table.name fields) twice in
-      ap (verdict_on_loops table.lines loops) is ∙ rw refuses (rw looped refl)
+      ap (λ v. verdict_on_cookies table.lines fields (verdict_on_loops table.lines loops v)) is ∙ rw refuses (rw looped refl)
 
-  pub looped_is_a_loop : (n : ℕ) → verdict_of_request table method target fields ≡ Looped n → (told ≡ Allowed n) × (line_refuses_loops table.lines n ≡ true) × (2 ≤ times_named table.name fields)
+  pub looped_is_a_loop : (n : ℕ) → verdict_of_request table method target fields ≡ Looped n
+      → (route : Route) × (told ≡ Allowed route) × (route.number ≡ n) × (line_refuses_loops table.lines n ≡ true) × (2 ≤ times_named table.name fields)
   unfolding verdict_of_request verdict_of
   looped_is_a_loop n e = by_verdict told refl e
     where
       Parts : Type 0
-      Parts = (told ≡ Allowed n) × (line_refuses_loops table.lines n ≡ true) × (2 ≤ times_named table.name fields)
+      Parts = (route : Route) × (told ≡ Allowed route) × (route.number ≡ n) × (line_refuses_loops table.lines n ≡ true) × (2 ≤ times_named table.name fields)
 
-      by_tests : (k : ℕ) → told ≡ Allowed k → (refuses : Bool) → line_refuses_loops table.lines k ≡ refuses → (l : Bool) → loops ≡ l → cond (refuses && l) (Looped k) (Allowed k) ≡ Looped n → Parts
-      by_tests k is true r true l e = let same : k ≡ n = cc in (is ∙ ap Allowed same, subst (λ j. line_refuses_loops table.lines j ≡ true) same r, leb-true 2 (times_named table.name fields) l)
+      by_tests : (k : Route) → told ≡ Allowed k → (refuses : Bool) → line_refuses_loops table.lines k.number ≡ refuses → (l : Bool) → loops ≡ l → verdict_on_cookies table.lines fields (cond (refuses && l) (Looped k.number) (Allowed k)) ≡ Looped n → Parts
+      by_tests k is true r true l e = let same : k.number ≡ n = cc in (k, is, same, subst (λ j. line_refuses_loops table.lines j ≡ true) same r, leb-true 2 (times_named table.name fields) l)
       by_tests k is true r false l e = cc
       by_tests k is false r l also e = cc
 
-      by_verdict : (v : Verdict) → told ≡ v → verdict_on_loops table.lines loops v ≡ Looped n → Parts
-      by_verdict (Allowed k) is e = by_tests k is (line_refuses_loops table.lines k) refl loops refl e
+      by_verdict : (v : Verdict) → told ≡ v → verdict_on_cookies table.lines fields (verdict_on_loops table.lines loops v) ≡ Looped n → Parts
+      by_verdict (Allowed k) is e = by_tests k is (line_refuses_loops table.lines k.number) refl loops refl e
       by_verdict (DeniedBy k) is e = cc
       by_verdict NoLine is e = cc
       by_verdict (Looped k) is e = absurd (never_looped k 1 table.lines method target is)
 
-  others : (v : Verdict) → ((n : ℕ) → v ≡ Allowed n → (line_refuses_loops table.lines n && loops) ≡ false) → verdict_on_loops table.lines loops v ≡ v
-  others (Allowed n) goes = rw (goes n refl) refl
+  others : (v : Verdict) → ((route : Route) → v ≡ Allowed route → (line_refuses_loops table.lines route.number && loops) ≡ false) → verdict_on_loops table.lines loops v ≡ v
+  others (Allowed route) goes = rw (goes route refl) refl
   others (DeniedBy n) goes = refl
   others NoLine goes = refl
   others (Looped n) goes = refl
 
-  pub seldom_as_before : times_named table.name fields ≤ 1 → verdict_of_request table method target fields ≡ told
+  pub seldom_as_before : times_named table.name fields ≤ 1 → verdict_of_request table method target fields ≡ verdict_on_cookies table.lines fields told
   unfolding verdict_of_request
   seldom_as_before seldom =
       let once : loops ≡ false = lt-leb 2 (times_named table.name fields) (omega arith) in
-      others told (λ n is. rw once (and_none (line_refuses_loops table.lines n)))
+      ap (verdict_on_cookies table.lines fields) (others told (λ route is. rw once (and_none (line_refuses_loops table.lines route.number))))
 
-  pub forwarded_as_before : ((n : ℕ) → told ≡ Allowed n → line_refuses_loops table.lines n ≡ false) → verdict_of_request table method target fields ≡ told
+  pub forwarded_as_before : ((route : Route) → told ≡ Allowed route → line_refuses_loops table.lines route.number ≡ false) → verdict_of_request table method target fields ≡ verdict_on_cookies table.lines fields told
   unfolding verdict_of_request
-  forwarded_as_before goes = others told (λ n is. rw (goes n is) refl)
+  forwarded_as_before goes = ap (verdict_on_cookies table.lines fields) (others told (λ route is. rw (goes route is) refl))
 
 -- where each line lets loops go on, the one of any number does
 none_refuses : (lines : List Line) → All (λ (line : Line). line.refuses_loops ≡ false) lines → (n : ℕ) → line_refuses_loops lines n ≡ false
@@ -100,11 +103,29 @@ none_refuses lines all n = by_number (n == 0)
     by_number true = refl
     by_number false = by_place
 
+-- and where no line names a cookie, that of any number doesn't
+none_named : (lines : List Line) → All (λ (line : Line). line.session_cookies ≡ []) lines → (n : ℕ) → session_cookies_of lines n ≡ []
+none_named lines all n = by_number (n == 0)
+  where
+    naming : Option Line → List (List ℕ)
+    naming o = unwrap_or (option_map (λ (line : Line). line.session_cookies) o) []
+
+    by_place : naming (slice_get lines (n - 1)) ≡ []
+    by_place = elim (slice_get_cases lines (n - 1)).1 [
+      | inl (line, within, is, also) ↦ ap naming is ∙ subst (λ (one : Line). one.session_cookies ≡ []) also (all (n - 1) line within)
+      | inr (past, is) ↦ ap naming is
+    ]
+
+    by_number : (none : Bool) → naming (cond none None (slice_get lines (n - 1))) ≡ []
+    by_number true = refl
+    by_number false = by_place
+
 pub earlier_as_before : (t : Members) (table : Table) (method : List ℕ) (target : Target) (fields : List Field) → has_keys_of (version_of t) Four ≡ false → judge_table t ≡ Ok table →
     verdict_of_request table method target fields ≡ verdict_of table.lines method target
 earlier_as_before t table method target fields before e =
     let each : All LineIsOfThree table.lines = each_is_of_three t table before e in
-    forwarded_as_before table method target fields (λ n is. none_refuses table.lines (λ i d within. (each i d within).4) n)
+    forwarded_as_before table method target fields (λ route is. none_refuses table.lines (λ i d within. (each i d within).6) route.number)
+    ∙ none_past table.lines method target fields (λ n. none_named table.lines (λ i d within. (each i d within).7) n)
 
 -- lines of Via count together
 pub times_together : (name : List ℕ) (fields more : List Field) → times_named name (fields ++ more) ≡ times_named name fields + times_named name more

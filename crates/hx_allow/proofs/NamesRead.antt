@@ -14,7 +14,7 @@ use Rattle.hx_target.specs.Paths.{table_path_of}
 use Rattle.hx_allow.specs.LineHosts.{begins_with_star_dot, is_for_hosts_below, line_host_of}
 use Rattle.hx_allow.specs.LineWords.{line_denies, line_takes_words}
 use Rattle.hx_allow.specs.LineTables.{is_host_in_lower_case, names_hosts_below, is_line_host, is_line_path, is_text_of, are_texts_of, is_text_or_list, is_of_kind, is_good_at, is_good, first_bad_key, line_fault, line_read, first_fault_or_later, spelling_fault}
-use Rattle.hx_allow.specs.Rows.{Kind, a_number, some_seconds, a_store_bound, a_version, one_of, a_name, some_lines, a_host, some_methods, a_path, an_origin, Row, line_row, word_row, fault_of_line_key, has_keys_of}
+use Rattle.hx_allow.specs.Rows.{Kind, a_number, some_seconds, a_store_bound, a_version, one_of, some_names, a_name, some_lines, a_host, some_methods, a_path, an_origin, Row, line_row, word_row, fault_of_line_key, has_keys_of}
 use Rattle.hx_allow.specs.TableLines.{Line as PlainLine, Table}
 use Rattle.hx_allow.specs.Tables.{version_of, judge_table}
 use Rattle.hx_allow.specs.Values.{first_unknown, is_some_and, text_at, items_at, texts_or_one}
@@ -71,6 +71,7 @@ kind_before version (some_seconds low high) key ms before = refl
 kind_before version (a_store_bound low high) key ms before = refl
 kind_before version a_version key ms before = refl
 kind_before version (one_of first second) key ms before = refl
+kind_before version (some_names most) key ms before = refl
 kind_before version a_name key ms before = refl
 kind_before version some_lines key ms before = refl
 kind_before version a_host key ms before =
@@ -88,6 +89,7 @@ kind_in_four (some_seconds low high) key ms other = refl
 kind_in_four (a_store_bound low high) key ms other = refl
 kind_in_four a_version key ms other = refl
 kind_in_four (one_of first second) key ms other = refl
+kind_in_four (some_names most) key ms other = refl
 kind_in_four a_name key ms other = refl
 kind_in_four some_lines key ms other = refl
 kind_in_four a_host key ms other = cc

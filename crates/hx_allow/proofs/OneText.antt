@@ -1,8 +1,9 @@
 -- A text alone reads as a list of one.
 use Rattle.std.proofs.Common.{◌≡◌, ℕ, Bool, true, false, ◌&&◌, ◌||◌, List, Option, Some, refl, ap, sym, ◌∙◌}
+use Rattle.std.specs.Prelude.{nat_le}
 use Rattle.std.specs.Option.{option_and_then}
 use Rattle.toml.specs.Data.{Data, string, array, no_items, item, Members, get_member, as_str, as_array}
-use Rattle.hx_allow.specs.LineTables.{is_text_of, are_texts_of, is_text_or_list}
+use Rattle.hx_allow.specs.LineTables.{is_text_of, are_texts_of, is_text_or_list, most_texts}
 use Rattle.hx_allow.specs.Rows.{Kind}
 use Rattle.hx_allow.specs.Values.{is_some_and, texts_at, texts_or_one}
 use Rattle.hx_allow.specs.declared.values.TableVersion.TheVariants.{Four}
@@ -25,5 +26,6 @@ one_of_them : (b : Bool) → (b && true) ≡ (b || false)
 one_of_them true = refl
 one_of_them false = refl
 
-pub same_good : (kind : Kind) (key text : List ℕ) (alone list : Members) → get_member key alone ≡ Some (string text) → get_member key list ≡ Some (one_text text) → is_text_or_list Four kind key list ≡ is_text_or_list Four kind key alone
-same_good kind key text alone list is also = ap (good_in kind) also ∙ one_of_them (is_text_of Four kind text) ∙ sym (ap (good_in kind) is)
+pub same_good : (kind : Kind) (key text : List ℕ) (alone list : Members) → nat_le 1 (most_texts kind) ≡ true → get_member key alone ≡ Some (string text) → get_member key list ≡ Some (one_text text) → is_text_or_list Four kind key list ≡ is_text_or_list Four kind key alone
+same_good kind key text alone list few is also =
+    ap (good_in kind) also ∙ (ap (λ (b : Bool). b && (is_text_of Four kind text && true)) few ∙ (one_of_them (is_text_of Four kind text) ∙ sym (ap (good_in kind) is)))

@@ -5,7 +5,7 @@ use Rattle.std.specs.List.{position_from}
 use Rattle.toml.specs.Data.{Members}
 use Rattle.hx_target.specs.declared.targets.Target.{Target}
 use Rattle.hx_allow.specs.TableLines.{Line, Table}
-use Rattle.hx_allow.specs.Matching.{matches_line, verdict_of_line, verdict_from, verdict_of, line_number}
+use Rattle.hx_allow.specs.Matching.{matches_line, over_line, verdict_of_line, verdict_from, verdict_of, line_number}
 use Rattle.hx_allow.specs.Tables.{judge_table, fault_or_table_read, table_fault, table_read, BytesReadAs}
 use Rattle.hx_allow.specs.Tables.{SomeTextIsToml, TableWasRead}
 use Rattle.hx_allow.specs.declared.verdicts.Verdict.TheVariants.{Allowed, DeniedBy}
@@ -25,7 +25,7 @@ pub said_by_a_text : (t : Members) (table : Table) → SomeTextIsToml t → tabl
 unfolding judge_table
 said_by_a_text t table (text, is) none same = (text, inl (t, is, ap Ok same ∙ sym (ap (λ fault. fault_or_table_read fault t) none)))
 
-number_by : (t : Bool) (k : ℕ) → line_number (cond t (Allowed k) (DeniedBy k)) ≡ Some k
+number_by : (t : Bool) (k : ℕ) → line_number (cond t (Allowed (over_line k)) (DeniedBy k)) ≡ Some k
 number_by true k = refl
 number_by false k = refl
 

@@ -23,7 +23,7 @@ use Rattle.hx_allow.specs.Versions.{LineHasNoWord, LineHasNoWordOfFour, LineIsSp
 use Rattle.hx_allow.specs.declared.config_faults.ConfigFault.{ConfigFault}
 use Rattle.hx_allow.specs.declared.config_faults.ConfigFault.TheVariants.{UnknownKey, BadNumber, BadCache, BadWord, MethodInLowerCase, StarInPath}
 use Rattle.hx_allow.specs.declared.config_faults.LineWord.{LineWord}
-use Rattle.hx_allow.specs.declared.config_faults.LineWord.TheVariants.{Lifetime, ErrorLifetime, LifetimeMost, StaleIfError, SetCookie, Cookies, Errors, RequestDirectives, Wait, Explain, Conditions, Loops}
+use Rattle.hx_allow.specs.declared.config_faults.LineWord.TheVariants.{Lifetime, ErrorLifetime, LifetimeMost, StaleIfError, SetCookie, Cookies, SessionCookies, Errors, RequestDirectives, Wait, Explain, Conditions, Loops, StaleWhileRevalidate, Vary, OriginTimeout}
 use Rattle.hx_allow.specs.declared.config_faults.NumberKey.TheVariants.{Version, Capacity, MaxBody, MaxStored, MaxStore}
 use Rattle.hx_allow.specs.declared.rows.LineKey.{LineKey}
 use Rattle.hx_allow.specs.declared.rows.LineKey.TheVariants.{Host, Methods, Path, Origin, Cache, Word}
@@ -157,12 +157,16 @@ known_in_four key other = any_alike (λ known. is_key_of Four key (line_row know
     alike (Word StaleIfError) = refl
     alike (Word SetCookie) = refl
     alike (Word Cookies) = other Cookies refl
+    alike (Word SessionCookies) = other SessionCookies refl
     alike (Word Errors) = refl
     alike (Word RequestDirectives) = refl
     alike (Word Wait) = refl
     alike (Word Explain) = refl
     alike (Word Conditions) = other Conditions refl
     alike (Word Loops) = other Loops refl
+    alike (Word StaleWhileRevalidate) = other StaleWhileRevalidate refl
+    alike (Word Vary) = other Vary refl
+    alike (Word OriginTimeout) = other OriginTimeout refl
 
 same_unknown_of_four : (ms : Members) → LineHasNoWordOfFour ms → first_unknown (Line Four) ms ≡ first_unknown (Line Three) ms
 same_unknown_of_four no_members none = refl
@@ -371,12 +375,16 @@ unknown_word_of_four Three LifetimeMost since before = refl
 unknown_word_of_four Three StaleIfError since before = cc
 unknown_word_of_four Three SetCookie since before = cc
 unknown_word_of_four Three Cookies since before = refl
+unknown_word_of_four Three SessionCookies since before = refl
 unknown_word_of_four Three Errors since before = cc
 unknown_word_of_four Three RequestDirectives since before = cc
 unknown_word_of_four Three Wait since before = cc
 unknown_word_of_four Three Explain since before = cc
 unknown_word_of_four Three Conditions since before = refl
 unknown_word_of_four Three Loops since before = refl
+unknown_word_of_four Three StaleWhileRevalidate since before = refl
+unknown_word_of_four Three Vary since before = refl
+unknown_word_of_four Three OriginTimeout since before = refl
 unknown_word_of_four Four word since before = cc
 
 never_of_new_words : (version : TableVersion) (line : ℕ) (word : LineWord) (n : ℕ) (ms : Members) (key : LineKey) → (word_row word).since ≡ Four → has_keys_of version Four ≡ false → first_unknown (Line version) ms ≡ None → is_good version ms key ≡ false → ¬ (fault_of_line_key n key ≡ BadWord line word)
@@ -593,7 +601,15 @@ unfolding line_read
 is_line_of_three version n ms before none =
     let known = all_keys_known version n ms none in
     let most : get_member (codes "lifetime-most") ms ≡ None = not_among_known (Line version) (codes "lifetime-most") ms (unknown_word_of_four version LifetimeMost refl before) known in
-    (rw before refl, rw most refl, rw before refl, rw before refl, rw before refl)
+    let stale : get_member (codes "stale-while-revalidate") ms ≡ None = not_among_known (Line version) (codes "stale-while-revalidate") ms (unknown_word_of_four version StaleWhileRevalidate refl before) known in
+    let cookies : get_member (codes "session-cookies") ms ≡ None = not_among_known (Line version) (codes "session-cookies") ms (unknown_word_of_four version SessionCookies refl before) known in
+    let vary : get_member (codes "vary") ms ≡ None = not_among_known (Line version) (codes "vary") ms (unknown_word_of_four version Vary refl before) known in
+    let timeout : get_member (codes "origin-timeout") ms ≡ None = not_among_known (Line version) (codes "origin-timeout") ms (unknown_word_of_four version OriginTimeout refl before) known in
+    (rw before refl, rw most refl, rw before refl, rw before refl, rw stale refl, and_none (key_has_text (codes "wait") (codes "missing-or-stale") ms) before, rw before refl, rw cookies refl, rw vary refl, rw timeout refl)
+  where
+    and_none : {b : Bool} (a : Bool) → b ≡ false → (a && b) ≡ false
+    and_none true e = e
+    and_none false e = refl
 
 pub each_is_cached : (t : Members) (table : Table) → version_of t ≡ One → judge_table t ≡ Ok table → All (λ (line : PlainLine). line.policy ≡ plain true) table.lines
 each_is_cached t table one e =

@@ -16,7 +16,7 @@ use Rattle.hx_allow.proofs.ViaPieces.{naming, naming_of_more, none_in_front}
 
 -- ---- bytes of words
 
-other_byte : (p : ℕ → Bool) (k b : ℕ) → p k ≡ false → p b ≡ true → (b == k) ≡ false
+pub other_byte : (p : ℕ → Bool) (k b : ℕ) → p k ≡ false → p b ≡ true → (b == k) ≡ false
 other_byte p k b unlike like = by_test (b == k) refl
   where
     by_test : (t : Bool) → (b == k) ≡ t → t ≡ false
@@ -38,13 +38,13 @@ blank_is_other k b unlike h = other_byte is_blank k b unlike h
 -- ---- words of a member
 
 module _ (p : ℕ → Bool) where
-  run_len : (run rest : List ℕ) → list_all p run ≡ true → prefix_len p rest ≡ 0 → prefix_len p (run ++ rest) ≡ length run
+  pub run_len : (run rest : List ℕ) → list_all p run ≡ true → prefix_len p rest ≡ 0 → prefix_len p (run ++ rest) ≡ length run
   run_len [] rest all stops = stops
   run_len (b ∷ run) rest all stops =
       let parts = and_parts (p b) (list_all p run) all in
       rw parts.0 (rw (run_len run rest parts.1 stops) (omega arith))
 
-  run_taken : (run rest : List ℕ) → list_all p run ≡ true → prefix_len p rest ≡ 0 → take (prefix_len p (run ++ rest)) (run ++ rest) ≡ run
+  pub run_taken : (run rest : List ℕ) → list_all p run ≡ true → prefix_len p rest ≡ 0 → take (prefix_len p (run ++ rest)) (run ++ rest) ≡ run
   run_taken run rest all stops = ap (λ n. take n (run ++ rest)) (run_len run rest all stops) ∙ take-append_seam run rest
 
   run_dropped : (run rest : List ℕ) → list_all p run ≡ true → prefix_len p rest ≡ 0 → drop (prefix_len p (run ++ rest)) (run ++ rest) ≡ rest
@@ -56,7 +56,7 @@ stops_at p q other [] rest some all = cc
 stops_at p q other (b ∷ run) rest some all = rw (other b (and_parts (q b) (list_all q run) all).0) refl
 
 -- what holds of each byte of a kind holds of each of a narrower one
-all_of_kind : (p q : ℕ → Bool) → ((b : ℕ) → q b ≡ true → p b ≡ true) → (run : List ℕ) → list_all q run ≡ true → list_all p run ≡ true
+pub all_of_kind : (p q : ℕ → Bool) → ((b : ℕ) → q b ≡ true → p b ≡ true) → (run : List ℕ) → list_all q run ≡ true → list_all p run ≡ true
 all_of_kind p q kind [] all = refl
 all_of_kind p q kind (b ∷ run) all =
     let parts = and_parts (q b) (list_all q run) all in

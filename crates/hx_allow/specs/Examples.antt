@@ -97,6 +97,9 @@ line_with_method host name path origin = record {
   origin = origin;
   policy = plain true;
   refuses_loops = false;
+  session_cookies = [];
+  vary = [];
+  origin_timeout = None;
 }
 
 -- one for each method, with these hosts and paths
@@ -108,6 +111,9 @@ line_with_lists hosts paths origin = record {
   origin = origin;
   policy = plain true;
   refuses_loops = false;
+  session_cookies = [];
+  vary = [];
+  origin_timeout = None;
 }
 
 -- what a line without words says in a table of version 4: requests with a cookie are given no lifetime, and the
@@ -154,6 +160,42 @@ looping_table = record {
   lines = line_with_method (Some (codes "x")) (codes "*") (codes "/p") None
       ∷ record (line_with_method None (codes "GET") (codes "/") origin_8081) { refuses_loops = true }
       ∷ line_with_method (Some (codes "x")) (codes "POST") (codes "/") origin_8081 ∷ [];
+}
+
+-- a table of this name whose first line names two cookies and refuses loops, and whose second does neither
+abbrev pub session_table : Table
+session_table = record looping_table {
+  lines = record (line_with_method None (codes "GET") (codes "/shop") origin_8081) {
+    refuses_loops = true;
+    session_cookies = codes "sid" ∷ codes "login" ∷ [];
+  }
+      ∷ line_with_method None (codes "GET") (codes "/") origin_8081 ∷ [];
+}
+
+-- a line whose origin is given 5 seconds, one that says nothing of it, and one that gives 7
+abbrev pub lines_with_timeouts : List Line
+lines_with_timeouts =
+    record line_of_four { origin_timeout = Some 5 } ∷ line_of_four
+    ∷ record line_of_four { origin_timeout = Some 7 } ∷ []
+
+-- as many names as `session-cookies` has
+abbrev pub sixteen_names : List (List ℕ)
+sixteen_names =
+    codes "a" ∷ codes "b" ∷ codes "c" ∷ codes "d" ∷ codes "e" ∷ codes "f" ∷ codes "g" ∷ codes "h" ∷ codes "i" ∷ codes "j"
+    ∷ codes "k" ∷ codes "l" ∷ codes "m" ∷ codes "n" ∷ codes "o" ∷ codes "p" ∷ []
+
+-- as many as `vary` has
+abbrev pub eight_names : List (List ℕ)
+eight_names =
+    codes "a" ∷ codes "b" ∷ codes "c" ∷ codes "d" ∷ codes "e" ∷ codes "f" ∷ codes "g" ∷ codes "X-Forwarded-Proto" ∷ []
+
+-- a table whose first line names two fields, and whose second names none
+abbrev pub varying_table : Table
+varying_table = record looping_table {
+  lines = record (line_with_method None (codes "GET") (codes "/shop") origin_8081) {
+    vary = codes "X-Forwarded-Proto" ∷ codes "X-Device" ∷ [];
+  }
+      ∷ line_with_method None (codes "GET") (codes "/") origin_8081 ∷ [];
 }
 
 -- a line that denies two paths of two hosts and of those below one, one for the hosts below it, and one for every host

@@ -12,6 +12,7 @@ use Rattle.hx_allow.specs.declared.rows.Place.{Place}
 use Rattle.hx_allow.specs.declared.rows.TopKey.TheVariants.{Name}
 use Rattle.hx_allow.specs.declared.rows.Place.TheVariants.{Needed, Optional, AllowingLine, CachingLine}
 use Rattle.hx_allow.specs.Rows.{Kind, a_number, some_seconds, a_store_bound, a_version, one_of, a_name, some_lines}
+use Rattle.hx_allow.specs.Rows.{some_names}
 use Rattle.hx_allow.specs.Rows.{a_host, some_methods, a_path, an_origin}
 use Rattle.hx_allow.specs.Rows.{Row, number_row, top_row, word_row, line_row, words_of_unknown_key}
 
@@ -40,6 +41,8 @@ words_of_kind (a_store_bound low high) =
     ++ (decimal low ++ (codes " to " ++ (decimal high ++ codes ", without quotes, and no less than max_stored")))
 words_of_kind a_version = codes "be 1, 2, 3 or 4, without quotes"
 words_of_kind (one_of first second) = codes "be \"" ++ (first ++ (codes "\" or \"" ++ (second ++ codes "\"")))
+words_of_kind (some_names most) =
+    codes "be a list of 1 to " ++ (decimal most ++ codes " names, each of letters, digits and !#$%&'*+-.^_`|~, but not \"*\"")
 words_of_kind a_name = codes "be a lower-case letter and at most 31 of a-z, 0-9 and -, in quotes"
 words_of_kind some_lines = []
 words_of_kind a_host = codes "be \"*\" or one host in lower case, without a port, an IPv6 address in brackets; in version 4 also \"*.\" and a name for the hosts below it, or a list of 1 to 32 of these"

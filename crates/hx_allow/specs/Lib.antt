@@ -1,4 +1,5 @@
 pub mod Addresses
+pub mod Cookies
 pub mod FaultTexts
 pub mod Index
 pub mod Keys

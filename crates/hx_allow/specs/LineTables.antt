@@ -14,9 +14,10 @@ use Rattle.hx_allow.specs.Addresses.{is_address, address_text}
 use Rattle.hx_allow.specs.LineHosts.{begins_with_star_dot, line_host_of}
 use Rattle.hx_allow.specs.TableLines.{Line as PlainLine}
 use Rattle.hx_allow.specs.LineWords.{key_has_one_of_two, line_denies, line_takes_words, policy_of_line_table}
-use Rattle.hx_allow.specs.LineWords.{refuses_loops}
+use Rattle.hx_allow.specs.LineWords.{refuses_loops, seconds_for_origin}
 use Rattle.hx_allow.specs.Matching.{is_never_allowed}
 use Rattle.hx_allow.specs.Rows.{Kind, a_number, some_seconds, one_of, a_host, some_methods, a_path, an_origin, Row}
+use Rattle.hx_allow.specs.Rows.{some_names}
 use Rattle.hx_allow.specs.Rows.{line_row, has_keys_of}
 use Rattle.hx_allow.specs.Rows.{line_keys, fault_of_line_key}
 use Rattle.hx_allow.specs.Values.{first_unknown, text_at, number_between, is_some_and, has_one_to_most, all_items}
@@ -72,18 +73,29 @@ is_line_path text =
 abbrev pub is_line_origin : List ℕ → Bool
 is_line_origin text = bytes_eq text (codes "deny") || is_address text
 
+-- a token
+-- own: no `*` alone, which an operator could take for every name
+abbrev pub is_listed_name : List ℕ → Bool
+is_listed_name text = is_token text && not (bytes_eq text (codes "*"))
+
 -- a text is one of these, in a table of this version
 abbrev pub is_text_of : TableVersion → Kind → List ℕ → Bool
 is_text_of version a_host text = is_line_host version text
 is_text_of version some_methods text = is_line_method text
 is_text_of version a_path text = is_line_path text
 is_text_of version an_origin text = is_line_origin text
+is_text_of version (some_names most) text = is_listed_name text
 is_text_of version _ text = false
 
--- 1 to 32 of these
+-- the most texts of a list
+abbrev pub most_texts : Kind → ℕ
+most_texts (some_names most) = most
+most_texts _ = 32
+
+-- 1 to so many of these
 abbrev pub are_texts_of : TableVersion → Kind → Items → Bool
 are_texts_of version kind ds =
-    has_one_to_most 32 ds && all_items (λ d. is_some_and (is_text_of version kind) (as_str d)) ds
+    has_one_to_most (most_texts kind) ds && all_items (λ d. is_some_and (is_text_of version kind) (as_str d)) ds
 
 -- one of these, or in the fourth version a list of 1 to 32
 abbrev pub is_text_or_list : TableVersion → Kind → List ℕ → Members → Bool
@@ -100,6 +112,7 @@ is_of_kind version a_host key ms = is_text_or_list version a_host key ms
 is_of_kind version some_methods key ms = is_some_and (are_texts_of version some_methods) (items_at key ms)
 is_of_kind version a_path key ms = is_text_or_list version a_path key ms
 is_of_kind version an_origin key ms = is_some_and is_line_origin (text_at key ms)
+is_of_kind version (some_names most) key ms = is_some_and (are_texts_of version (some_names most)) (items_at key ms)
 is_of_kind version _ key ms = false
 
 -- a row's key has a good value in a line that takes it, or needn't stand and doesn't
@@ -167,6 +180,9 @@ line_read version ms = record {
   origin = option_and_then address_text (text_at (codes "origin") ms);
   policy = policy_of_line_table version ms;
   refuses_loops = refuses_loops version ms;
+  session_cookies = texts_of (unwrap_or (items_at (codes "session-cookies") ms) no_items);
+  vary = texts_of (unwrap_or (items_at (codes "vary") ms) no_items);
+  origin_timeout = seconds_for_origin ms;
 }
 
 abbrev pub fault_of_line_item : TableVersion → ℕ → Option Members → Option ConfigFault

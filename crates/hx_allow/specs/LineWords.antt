@@ -5,8 +5,10 @@
 -- gives_lifetimes_to_cookies: the line gives its lifetimes to requests with a cookie, too
 -- leaves_conditions_to_origin: the conditions of clients are the origin's to judge
 -- refuses_loops: requests that loop are refused
+-- seconds_for_origin: for how long the origin may send no byte
+-- sends_while_revalidating: what is stale is sent while it is validated
 -- policy_of_line_table: what a line without fault says
-use Rattle.std.specs.Prelude.{ℕ, Bool, false, not, ◌&&◌, ◌||◌, if◌then◌else◌, List, codes, bytes_eq}
+use Rattle.std.specs.Prelude.{ℕ, Bool, false, not, ◌&&◌, ◌||◌, if◌then◌else◌, List, codes, bytes_eq, Option}
 use Rattle.toml.specs.Data.{Members}
 use Rattle.hx_policy.specs.declared.words.Policy.{Policy}
 use Rattle.hx_allow.specs.Rows.{Kind, one_of, Row, word_row, line_row, has_keys_of}
@@ -15,6 +17,7 @@ use Rattle.hx_allow.specs.declared.config_faults.LineWord.{LineWord}
 use Rattle.hx_allow.specs.declared.config_faults.LineWord.TheVariants.{Lifetime, ErrorLifetime, StaleIfError, SetCookie}
 use Rattle.hx_allow.specs.declared.config_faults.LineWord.TheVariants.{Errors, RequestDirectives, Wait, Explain}
 use Rattle.hx_allow.specs.declared.config_faults.LineWord.TheVariants.{LifetimeMost, Cookies, Conditions, Loops}
+use Rattle.hx_allow.specs.declared.config_faults.LineWord.TheVariants.{StaleWhileRevalidate, OriginTimeout}
 use Rattle.hx_allow.specs.declared.rows.LineKey.TheVariants.{Cache}
 use Rattle.hx_allow.specs.declared.values.TableVersion.{TableVersion}
 
@@ -66,6 +69,16 @@ leaves_conditions_to_origin version ms =
 abbrev pub refuses_loops : TableVersion → Members → Bool
 refuses_loops version ms = has_keys_of version (word_row Loops).since && not (says_second (word_row Loops) ms)
 
+-- own: for how long the origin may send no byte, where the line says so ("A line has a time-out of its own")
+abbrev pub seconds_for_origin : Members → Option ℕ
+seconds_for_origin ms = number_in (word_row OriginTimeout) ms
+
+-- own: from the fourth version on what is stale is sent while it is validated, over a line that lets others wait for it
+-- ("Stale at once, while one asks")
+abbrev pub sends_while_revalidating : TableVersion → Members → Bool
+sends_while_revalidating version ms =
+    says_second (word_row Wait) ms && has_keys_of version (word_row StaleWhileRevalidate).since
+
 -- own: what a line of a table of a version says of caching, by the operator's words; each key that doesn't stand is as
 -- in the versions before
 abbrev pub policy_of_line_table : TableVersion → Members → Policy
@@ -75,11 +88,13 @@ policy_of_line_table version ms = record {
   error_lifetime = number_in (word_row (word_of_error_lifetime version)) ms;
   lifetime_most = number_in (word_row LifetimeMost) ms;
   stale_if_error = number_in (word_row StaleIfError) ms;
+  stale_while_revalidate = number_in (word_row StaleWhileRevalidate) ms;
   stores_cookies = not (says_second (word_row SetCookie) ms);
   gives_to_cookies = gives_lifetimes_to_cookies version ms;
   stores_errors = not (says_second (word_row Errors) ms);
   heeds_requests = not (says_second (word_row RequestDirectives) ms);
   waits_for_stale = says_second (word_row Wait) ms;
+  sends_while_revalidating = sends_while_revalidating version ms;
   explains_storing = says_second (word_row Explain) ms;
   forwards_conditions = leaves_conditions_to_origin version ms;
 }

@@ -3,7 +3,8 @@
 -- matches_line: one of a line's hosts, one of its methods and one of its paths match
 -- verdict_of: the first line that matches
 -- verdict_of_request: what the whole table says of a whole request
--- origin_of, origin_address_of, policy_of: what the line of a number says
+-- origin_of, origin_address_of, line_policy: what the line of a number says
+-- policy_of: what counts for a request, by its way over a line
 use Rattle.std.specs.Prelude.{◌≤◌, IsSome, ℕ, ◌+◌, ◌-◌, ◌==◌, nat_lt, nat_le, Bool, false, not, ◌&&◌, ◌||◌}
 use Rattle.std.specs.Prelude.{if◌then◌else◌}
 use Rattle.std.specs.Prelude.{List, [], ◌∷◌, length, take, slice_index, slice_get, codes, bytes_eq, Option}
@@ -17,7 +18,9 @@ use Rattle.hx_policy.specs.declared.words.Policy.{Policy}
 use Rattle.hx_policy.specs.Policies.{plain}
 use Rattle.hx_allow.specs.Addresses.{address_of}
 use Rattle.hx_allow.specs.LineHosts.{any_host_matches}
+use Rattle.hx_allow.specs.Cookies.{has_cookie_of}
 use Rattle.hx_allow.specs.TableLines.{Line, Table}
+use Rattle.hx_allow.specs.declared.verdicts.Route.{Route}
 use Rattle.hx_allow.specs.Via.{times_named, request_loops}
 use Rattle.hx_allow.specs.declared.verdicts.Verdict.{Verdict}
 use Rattle.hx_allow.specs.declared.verdicts.Verdict.TheVariants.{Allowed, DeniedBy, NoLine, Looped}
@@ -52,9 +55,13 @@ matches_line line method target =
     any_host_matches line.hosts target.key.host && matches_method line.methods method
     && any_path_matches line.paths target.table_path
 
+-- the way over the line of a number for a request that doesn't go past the store
+abbrev pub over_line : ℕ → Route
+over_line n = record { number = n; past_store = false }
+
 -- what a line of this number says where it decides
 abbrev pub verdict_of_line : ℕ → Line → Verdict
-verdict_of_line n line = if is_some line.origin then Allowed n else DeniedBy n
+verdict_of_line n line = if is_some line.origin then Allowed (over_line n) else DeniedBy n
 
 -- the first line that matches, where the first of the list has this number
 abbrev pub verdict_from : ℕ → List Line → List ℕ → Target → Verdict
@@ -79,8 +86,12 @@ abbrev pub origin_address_of : List Line → ℕ → Option SocketAddrV4
 origin_address_of lines n = option_and_then address_of (origin_of lines n)
 
 -- what the line with this number says of caching; what no line says anything of isn't kept
-unfoldable pub policy_of : List Line → ℕ → Policy
-policy_of lines n = unwrap_or (option_map (λ (line : Line). line.policy) (line_of_number lines n)) (plain false)
+abbrev pub line_policy : List Line → ℕ → Policy
+line_policy lines n = unwrap_or (option_map (λ (line : Line). line.policy) (line_of_number lines n)) (plain false)
+
+-- what counts for a request that goes this way; past the store it is what a line without cache says
+unfoldable pub policy_of : List Line → Route → Policy
+policy_of lines route = if route.past_store then plain false else line_policy lines route.number
 
 -- a line of this number stands and has an origin
 abbrev pub LineAllows : List Line → ℕ → Type 0
@@ -88,14 +99,14 @@ LineAllows lines n = (1 ≤ n) × IsSome (origin_of lines n)
 
 -- where the verdict allows, its line stands and has an origin
 abbrev pub VerdictNamesAnOrigin : List Line → Verdict → Type 0
-VerdictNamesAnOrigin lines (Allowed n) = LineAllows lines n
+VerdictNamesAnOrigin lines (Allowed route) = LineAllows lines route.number
 VerdictNamesAnOrigin lines (DeniedBy n) = Unit {0}
 VerdictNamesAnOrigin lines NoLine = Unit {0}
 VerdictNamesAnOrigin lines (Looped n) = Unit {0}
 
 -- the number of the line that decided
 abbrev pub line_number : Verdict → Option ℕ
-line_number (Allowed n) = Some n
+line_number (Allowed route) = Some route.number
 line_number (DeniedBy n) = Some n
 line_number NoLine = None
 line_number (Looped n) = Some n
@@ -105,19 +116,47 @@ abbrev pub line_refuses_loops : List Line → ℕ → Bool
 line_refuses_loops lines n =
     unwrap_or (option_map (λ (line : Line). line.refuses_loops) (line_of_number lines n)) false
 
--- over a line of this number that refuses loops a request was here before
-abbrev pub request_came_back : Table → ℕ → List Field → Bool
-request_came_back table n fields = line_refuses_loops table.lines n && nat_le 1 (times_named table.name fields)
+-- over a line that refuses loops a request was here before
+abbrev pub request_came_back : Table → Route → List Field → Bool
+request_came_back table route fields =
+    line_refuses_loops table.lines route.number && nat_le 1 (times_named table.name fields)
 
 -- what is said of a request that a line allows, by whether it loops
 abbrev pub verdict_on_loops : List Line → Bool → Verdict → Verdict
-verdict_on_loops lines loops (Allowed n) = if line_refuses_loops lines n && loops then Looped n else Allowed n
+verdict_on_loops lines loops (Allowed route) =
+    if line_refuses_loops lines route.number && loops then Looped route.number else Allowed route
 verdict_on_loops lines loops (DeniedBy n) = DeniedBy n
 verdict_on_loops lines loops NoLine = NoLine
 verdict_on_loops lines loops (Looped n) = Looped n
 
+-- the names of the cookies whose requests go past the store, over the line of this number
+abbrev pub session_cookies_of : List Line → ℕ → List (List ℕ)
+session_cookies_of lines n = unwrap_or (option_map (λ (line : Line). line.session_cookies) (line_of_number lines n)) []
+
+-- the fields that count as if the Vary of an answer named them, over the line of this number
+abbrev pub vary_of : List Line → ℕ → List (List ℕ)
+vary_of lines n = unwrap_or (option_map (λ (line : Line). line.vary) (line_of_number lines n)) []
+
+-- for how many seconds without a byte its origin is waited for, where the line of this number says so
+abbrev pub origin_timeout_of : List Line → ℕ → Option ℕ
+origin_timeout_of lines n = option_and_then (λ (line : Line). line.origin_timeout) (line_of_number lines n)
+
+-- over this line a request goes past the store, since it has such a cookie
+abbrev pub goes_past_store : List Line → ℕ → List Field → Bool
+goes_past_store lines n fields = has_cookie_of (session_cookies_of lines n) fields
+
+-- by which way a request goes that is allowed
+abbrev pub verdict_on_cookies : List Line → List Field → Verdict → Verdict
+verdict_on_cookies lines fields (Allowed route) =
+    Allowed (record { number = route.number; past_store = goes_past_store lines route.number fields })
+verdict_on_cookies lines fields (DeniedBy n) = DeniedBy n
+verdict_on_cookies lines fields NoLine = NoLine
+verdict_on_cookies lines fields (Looped n) = Looped n
+
 -- What the table says of a request, of which it knows method, target and fields: what the first line says that matches,
--- but that one which refuses loops doesn't allow a request that was here twice already.
+-- but that one which refuses loops doesn't allow a request that was here twice already, and that a request goes past
+-- the store where it has one of the cookies that the line names.
 unfoldable pub verdict_of_request : Table → List ℕ → Target → List Field → Verdict
 verdict_of_request table method target fields =
-    verdict_on_loops table.lines (request_loops table.name fields) (verdict_of table.lines method target)
+    verdict_on_cookies table.lines fields
+    (verdict_on_loops table.lines (request_loops table.name fields) (verdict_of table.lines method target))

@@ -13,6 +13,8 @@ use Rattle.hx_allow.specs.declared.config_faults.LineWord.{LineWord}
 use Rattle.hx_allow.specs.declared.config_faults.LineWord.TheVariants.{Lifetime, ErrorLifetime, StaleIfError, SetCookie}
 use Rattle.hx_allow.specs.declared.config_faults.LineWord.TheVariants.{Errors, RequestDirectives, Wait, Explain}
 use Rattle.hx_allow.specs.declared.config_faults.LineWord.TheVariants.{LifetimeMost, Cookies, Conditions, Loops}
+use Rattle.hx_allow.specs.declared.config_faults.LineWord.TheVariants.{SessionCookies, StaleWhileRevalidate, Vary}
+use Rattle.hx_allow.specs.declared.config_faults.LineWord.TheVariants.{OriginTimeout}
 use Rattle.hx_allow.specs.declared.config_faults.NumberKey.{NumberKey}
 use Rattle.hx_allow.specs.declared.config_faults.NumberKey.TheVariants.{Version, Capacity, MaxBody, MaxStored}
 use Rattle.hx_allow.specs.declared.config_faults.NumberKey.TheVariants.{MaxStore}
@@ -39,6 +41,8 @@ pub data Kind : Type 0 where
   a_version : Kind
   -- one of two texts; where the key doesn't stand it is as with the first
   one_of : List ℕ → List ℕ → Kind
+  -- a list of 1 to so many tokens, of which none is `*`
+  some_names : ℕ → Kind
   a_name : Kind
   some_lines : Kind
   a_host : Kind
@@ -95,6 +99,10 @@ fault_of_top_key Lines = NoLines
 abbrev pub most_seconds : ℕ
 most_seconds = 2147483648
 
+-- the most seconds that an origin may be given to send a byte: a day
+abbrev pub most_timeout_seconds : ℕ
+most_timeout_seconds = 86400
+
 abbrev pub word_row : LineWord → Row
 word_row Lifetime = row_for_caching_lines (codes "lifetime") Three (some_seconds 1 most_seconds)
 word_row ErrorLifetime = row_for_caching_lines (codes "error-lifetime") Four (some_seconds 1 most_seconds)
@@ -102,22 +110,27 @@ word_row LifetimeMost = row_for_caching_lines (codes "lifetime-most") Four (some
 word_row StaleIfError = row_for_caching_lines (codes "stale-if-error") Three (some_seconds 0 most_seconds)
 word_row SetCookie = row_for_caching_lines (codes "set-cookie") Three (one_of (codes "stored") (codes "not-stored"))
 word_row Cookies = row_for_caching_lines (codes "cookies") Four (one_of (codes "private") (codes "shared"))
+word_row SessionCookies = row_for_caching_lines (codes "session-cookies") Four (some_names 16)
 word_row Errors = row_for_caching_lines (codes "errors") Three (one_of (codes "stored") (codes "not-stored"))
 word_row RequestDirectives = row_for_caching_lines (codes "request-directives") Three (one_of (codes "heeded") (codes "ignored"))
 word_row Wait = row_for_caching_lines (codes "wait") Three (one_of (codes "missing") (codes "missing-or-stale"))
 word_row Explain = row_for_caching_lines (codes "explain") Three (one_of (codes "reuse") (codes "storing"))
 word_row Conditions = row_for_caching_lines (codes "conditions") Four (one_of (codes "answered") (codes "forwarded"))
 word_row Loops = row_for_allowing_lines (codes "loops") Four (one_of (codes "refused") (codes "forwarded"))
+word_row StaleWhileRevalidate = row_for_caching_lines (codes "stale-while-revalidate") Four (some_seconds 0 most_seconds)
+word_row Vary = row_for_caching_lines (codes "vary") Four (some_names 8)
+word_row OriginTimeout = row_for_allowing_lines (codes "origin-timeout") Four (some_seconds 1 most_timeout_seconds)
 
 -- the words of a line, in the order in which they are looked at
 abbrev pub line_words : List LineWord
 line_words =
-    Lifetime ∷ ErrorLifetime ∷ LifetimeMost ∷ StaleIfError ∷ SetCookie ∷ Cookies ∷ Errors ∷ RequestDirectives ∷ Wait
-    ∷ Explain ∷ Conditions ∷ Loops ∷ []
+    Lifetime ∷ ErrorLifetime ∷ LifetimeMost ∷ StaleIfError ∷ SetCookie ∷ Cookies ∷ SessionCookies ∷ Errors
+    ∷ RequestDirectives ∷ Wait ∷ Explain ∷ Conditions ∷ Loops ∷ StaleWhileRevalidate ∷ Vary
+    ∷ OriginTimeout ∷ []
 
 -- what is told of a key that isn't known, with the keys that a version adds
 abbrev pub words_of_unknown_key : List ℕ
-words_of_unknown_key = codes "a key isn't known where it stands; correct its spelling or delete it: behind [[line]] keys belong to that line; cache needs version = 2, 3 or 4, lifetime, stale-if-error, set-cookie, errors, request-directives, wait and explain need version = 3 or 4, and max_store, error-lifetime, lifetime-most, cookies, conditions and loops need version = 4"
+words_of_unknown_key = codes "a key isn't known where it stands; correct its spelling or delete it: behind [[line]] keys belong to that line; cache needs version = 2, 3 or 4, lifetime, stale-if-error, set-cookie, errors, request-directives, wait and explain need version = 3 or 4, and max_store, error-lifetime, lifetime-most, cookies, session-cookies, conditions, loops, stale-while-revalidate, vary and origin-timeout need version = 4"
 
 abbrev pub line_row : LineKey → Row
 line_row Host = required_row (codes "host") a_host
@@ -177,6 +190,7 @@ plain_kind (source.Seconds low high) = some_seconds low high
 plain_kind (source.StoreBound low high) = a_store_bound low high
 plain_kind source.Version = a_version
 plain_kind (source.OneOf first second) = one_of first.now second.now
+plain_kind (source.Names most) = some_names most
 plain_kind source.Name = a_name
 plain_kind source.Lines = some_lines
 plain_kind source.Host = a_host

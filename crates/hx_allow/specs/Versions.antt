@@ -1,5 +1,5 @@
 -- Lines that say nothing new, and which lines may.
-use Rattle.std.specs.Prelude.{◌≡◌, ◌⊎◌, true, false, None, is_some, codes, length}
+use Rattle.std.specs.Prelude.{◌≡◌, ◌⊎◌, true, false, [], None, is_some, codes, length}
 use Rattle.std.specs.List.{list_any}
 use Rattle.toml.specs.Data.{Members, get_member}
 use Rattle.hx_policy.specs.Policies.{plain}
@@ -42,12 +42,15 @@ LineHasNoCachingWord ms = (word : LineWord) → (word_row word).place ≡ Cachin
 
 -- what a line of the third version says: errors have the lifetime of all others, each stated lifetime counts as it is,
 -- requests with a cookie are given the lifetimes of all others, the conditions of clients are the origin's to judge,
--- and requests that loop go on
+-- nothing stale is sent while it is validated, requests that loop go on, no request goes past the store for its
+-- cookies, Vary alone nominates, and no origin has a time-out of its own
 abbrev pub LineIsOfThree : Line → Type 0
 LineIsOfThree line =
     (line.policy.error_lifetime ≡ line.policy.lifetime) × (line.policy.lifetime_most ≡ None)
     × (line.policy.gives_to_cookies ≡ true) × (line.policy.forwards_conditions ≡ true)
-    × (line.refuses_loops ≡ false)
+    × (line.policy.stale_while_revalidate ≡ None) × (line.policy.sends_while_revalidating ≡ false)
+    × (line.refuses_loops ≡ false) × (line.session_cookies ≡ []) × (line.vary ≡ [])
+    × (line.origin_timeout ≡ None)
 
 -- a line says nothing of caching but whether it caches, or it allows and has its cache on
 abbrev pub LineTakesItsWords : Line → Type 0

@@ -2,20 +2,23 @@
 ghost use Rattle.std.specs.Prelude.{◌≡◌, ◌≤◌, [], length, Err, IfSome, unwrap_or};
 ghost use Rattle.std.specs.Option.{option_copied, option_map};
 ghost use Rattle.std.specs.Net.Text.{socket_v4_text};
-ghost use Rattle.hx_allow.specs.Matching.{verdict_of, verdict_of_request, origin_of, origin_address_of, policy_of};
+ghost use Rattle.hx_allow.specs.Matching.{verdict_of, verdict_of_request, origin_of, origin_address_of, line_policy};
 ghost use Rattle.hx_allow.specs.Matching.{line_refuses_loops, request_came_back, VerdictNamesAnOrigin};
+ghost use Rattle.hx_allow.specs.Matching.{policy_of, session_cookies_of, goes_past_store, vary_of};
+ghost use Rattle.hx_allow.specs.Matching.{origin_timeout_of};
 ghost use Rattle.hx_allow.specs.NeverReached.{first_line_taking};
 ghost use Rattle.hx_allow.specs.Tables.{BytesReadAs, TableWasRead};
 
+use crate::cookies::has_cookie_of;
 use crate::host_index::HostIndex;
 use crate::lines::{Line, is_never_allowed};
 use crate::matching::{line_at, line_refuses_loops, verdict_for_host};
 use crate::origins::Origin;
 use crate::shadows::first_taking;
 use crate::via::{request_loops, was_here};
-use crate::{ConfigFault, Verdict, config_reading};
+use crate::{ConfigFault, Route, Verdict, config_reading};
 use http::Method;
-use hx_fields::Fields;
+use hx_fields::{Bytes, Fields};
 use hx_policy::Policy;
 use hx_target::Target;
 use std::alloc::Global;
@@ -101,7 +104,8 @@ impl Config {
     }
 
     /// What the table says of a request: the first line decides whose host, a method and path match. Over a line that
-    /// refuses loops a request isn't allowed whose Via names this proxy twice (RFC 9110, section 7.6.3).
+    /// refuses loops a request isn't allowed whose Via names this proxy twice (RFC 9110, section 7.6.3); where it is
+    /// allowed it goes past the store if it has one of the cookies that the line names (RFC 6265, section 4.2.1).
     #[tactic(auto, unfolding(crate::specs::Matching::verdict_of_request))]
     pub fn judge(&self, method: &Method, target: &Target, fields: &Fields) -> Verdict
         ensures verdict { result ≡ verdict_of_request self.now method.now target.now fields.now }
@@ -109,13 +113,16 @@ impl Config {
     {
         let verdict = self.judge_target(method, target);
         match verdict {
-            Verdict::Allowed(line) => {
+            Verdict::Allowed(route) => {
+                let line = route.number;
                 let name = self.name.as_bytes();
                 if self.refuses_loops(line) && request_loops(name, fields.as_slice()) {
-                    Verdict::Looped(line)
-                } else {
-                    verdict
+                    return Verdict::Looped(line);
                 }
+                Verdict::Allowed(Route {
+                    number: line,
+                    past_store: self.goes_past_store(line, fields),
+                })
             }
             _ => verdict,
         }
@@ -164,14 +171,61 @@ impl Config {
     /// What a line, counted from 1, says of caching. A line that the table doesn't have caches
     /// nothing; one that denies has the policy of a line without words, though its requests reach
     /// no store.
-    #[tactic(auto, unfolding(crate::specs::Matching::policy_of))]
-    pub fn policy(&self, line: u16) -> Policy
-        ensures { result ≡ policy_of self.now.lines line }
+    pub fn line_policy(&self, line: u16) -> Policy
+        ensures { result ≡ line_policy self.now.lines line }
     {
         match line_at(&self.lines, line) {
             Some(line) => line.policy,
             None => Policy::plain(false),
         }
+    }
+
+    /// What counts for a request that goes this way: past the store it is what a line without cache says.
+    #[tactic(auto, unfolding(crate::specs::Matching::policy_of))]
+    pub fn policy(&self, route: Route) -> Policy
+        ensures { result ≡ policy_of self.now.lines route }
+    {
+        if route.past_store {
+            Policy::plain(false)
+        } else {
+            self.line_policy(route.number)
+        }
+    }
+
+    /// The names of the cookies whose requests go past the store over a line, counted from 1. There are none where the
+    /// line doesn't say so.
+    pub fn session_cookies(&self, line: u16) -> &[Bytes]
+        ensures { result.now ≡ session_cookies_of self.now.lines line }
+    {
+        match line_at(&self.lines, line) {
+            Some(line) => line.session_cookies.as_slice(),
+            None => &[],
+        }
+    }
+
+    /// The fields that count as if the Vary of each answer over a line, counted from 1, named them (RFC 9111, section
+    /// 4.1). There are none where the line doesn't say so.
+    pub fn vary(&self, line: u16) -> &[Bytes]
+        ensures { result.now ≡ vary_of self.now.lines line }
+    {
+        match line_at(&self.lines, line) {
+            Some(line) => line.vary.as_slice(),
+            None => &[],
+        }
+    }
+
+    fn goes_past_store(&self, line: u16, fields: &Fields) -> bool
+        ensures { result ≡ goes_past_store self.now.lines line fields.now }
+    {
+        has_cookie_of(self.session_cookies(line), fields.as_slice())
+    }
+
+    /// The seconds for which the origin of a line, counted from 1, may send no byte, 1 to 86,400, where the line says
+    /// so.
+    pub fn origin_timeout(&self, line: u16) -> Option<u32>
+        ensures { result ≡ origin_timeout_of self.now.lines line }
+    {
+        line_at(&self.lines, line)?.origin_timeout
     }
 
     /// Whether a line, counted from 1, refuses requests that loop.
@@ -182,10 +236,10 @@ impl Config {
     }
 
     /// Whether the Via of a request names this proxy, over a line that refuses loops.
-    pub fn came_back(&self, line: u16, fields: &Fields) -> bool
-        ensures { result ≡ request_came_back self.now line fields.now }
+    pub fn came_back(&self, route: Route, fields: &Fields) -> bool
+        ensures { result ≡ request_came_back self.now route fields.now }
     {
-        self.refuses_loops(line) && was_here(self.name.as_bytes(), fields.as_slice())
+        self.refuses_loops(route.number) && was_here(self.name.as_bytes(), fields.as_slice())
     }
 
     /// The first line in front of one, both counted from 1, that takes all that this could match,

@@ -31,7 +31,7 @@ impl NumberKey {
     }
 }
 
-/// A key of a line of version 3 or 4 that says more of caching, or of loops, in the table's order.
+/// A key of a line of version 3 or 4 that says more of caching, of loops, or of time-outs, in the table's order.
 #[derive(Clone, Copy, Debug, PartialEq, Eq, Hash)]
 pub enum LineWord {
     /// The lifetime of what states none, 1 to 2,147,483,648 seconds (RFC 9111, section 4.2.2). In
@@ -49,11 +49,13 @@ pub enum LineWord {
     /// Whether the line gives its lifetimes to the response to a request with Cookie or Authorization, too. It needs
     /// version 4.
     Cookies,
+    /// The cookies whose requests go past the store, 1 to 16 names (RFC 6265, section 4.2.1). It needs version 4.
+    SessionCookies,
     /// Whether a response with a status of an error is stored.
     Errors,
     /// Whether a request's no-cache, max-age and min-fresh count (RFC 9111, section 5.2.1).
     RequestDirectives,
-    /// Whether a GET waits for another that goes forward since what is held is stale (RFC 9111, section 4).
+    /// Whether GETs for an expired response wait for the answer to the first of them (RFC 9111, section 4).
     Wait,
     /// Whether an answer that isn't stored tells why (RFC 9211, section 2.8).
     Explain,
@@ -62,6 +64,14 @@ pub enum LineWord {
     Conditions,
     /// Whether a request whose Via names this proxy twice is refused (RFC 9110, section 7.6.3). It needs version 4.
     Loops,
+    /// The staleness in which a stored response is sent while a GET is at the origin for it, 0 to 2,147,483,648 seconds
+    /// (RFC 5861, section 3), where `wait` is `"missing-or-stale"`. It needs version 4.
+    StaleWhileRevalidate,
+    /// The fields that count as if the Vary of each answer named them, 1 to 8 names (RFC 9111, section 4.1). It needs
+    /// version 4.
+    Vary,
+    /// For how long the origin may send no byte, 1 to 86,400 seconds. It needs version 4.
+    OriginTimeout,
 }
 
 impl LineWord {

@@ -11,13 +11,16 @@ ghost use Rattle.hx_allow.specs.declared.config_faults.LineWord.TheVariants.{Lif
 ghost use Rattle.hx_allow.specs.declared.config_faults.LineWord.TheVariants.{SetCookie, Errors, RequestDirectives};
 ghost use Rattle.hx_allow.specs.declared.config_faults.LineWord.TheVariants.{Wait, Explain, Conditions};
 ghost use Rattle.hx_allow.specs.declared.config_faults.LineWord.TheVariants.{LifetimeMost, Cookies, Loops};
+ghost use Rattle.hx_allow.specs.declared.config_faults.LineWord.TheVariants.{SessionCookies, StaleWhileRevalidate};
+ghost use Rattle.hx_allow.specs.declared.config_faults.LineWord.TheVariants.{Vary};
+ghost use Rattle.hx_allow.specs.declared.config_faults.LineWord.TheVariants.{OriginTimeout};
 ghost use Rattle.hx_allow.specs.declared.config_faults.NumberKey.TheVariants.{Version, Capacity, MaxBody, MaxStored};
 ghost use Rattle.hx_allow.specs.declared.config_faults.NumberKey.TheVariants.{MaxStore};
 
 /// What has to stand at the top of a table.
 pub fn worked_words_of_the_top()
     ensures not_toml { expected_words NotToml ≡ codes "the table is no TOML, has a key twice, or has more than 1048576 bytes; look for a quote or bracket that is missing" }
-    ensures unknown_key { (key : List ℕ) → expected_words (UnknownKey key) ≡ codes "a key isn't known where it stands; correct its spelling or delete it: behind [[line]] keys belong to that line; cache needs version = 2, 3 or 4, lifetime, stale-if-error, set-cookie, errors, request-directives, wait and explain need version = 3 or 4, and max_store, error-lifetime, lifetime-most, cookies, conditions and loops need version = 4" }
+    ensures unknown_key { (key : List ℕ) → expected_words (UnknownKey key) ≡ codes "a key isn't known where it stands; correct its spelling or delete it: behind [[line]] keys belong to that line; cache needs version = 2, 3 or 4, lifetime, stale-if-error, set-cookie, errors, request-directives, wait and explain need version = 3 or 4, and max_store, error-lifetime, lifetime-most, cookies, session-cookies, conditions, loops, stale-while-revalidate, vary and origin-timeout need version = 4" }
     ensures bad_name { expected_words BadName ≡ codes "name has to be a lower-case letter and at most 31 of a-z, 0-9 and -, in quotes" }
     ensures no_lines { expected_words NoLines ≡ codes "a table has 1 to 256 lines, or 1 to 4096 in version 4, each of which begins with [[line]]" }
     ensures out_of_memory { expected_words OutOfMemory ≡ codes "no memory is left for the table" }
@@ -47,11 +50,15 @@ pub fn worked_words_of_words()
     ensures stale_if_error { (line : ℕ) → expected_words (BadWord line StaleIfError) ≡ codes "stale-if-error has to be a whole number of seconds from 0 to 2147483648, without quotes, in a line that has an origin and its cache on" }
     ensures set_cookie { (line : ℕ) → expected_words (BadWord line SetCookie) ≡ codes "set-cookie has to be \"stored\" or \"not-stored\", in a line that has an origin and its cache on" }
     ensures cookies { (line : ℕ) → expected_words (BadWord line Cookies) ≡ codes "cookies has to be \"private\" or \"shared\", in a line that has an origin and its cache on" }
+    ensures session_cookies { (line : ℕ) → expected_words (BadWord line SessionCookies) ≡ codes "session-cookies has to be a list of 1 to 16 names, each of letters, digits and !#$%&'*+-.^_`|~, but not \"*\", in a line that has an origin and its cache on" }
     ensures errors { (line : ℕ) → expected_words (BadWord line Errors) ≡ codes "errors has to be \"stored\" or \"not-stored\", in a line that has an origin and its cache on" }
     ensures request_directives { (line : ℕ) → expected_words (BadWord line RequestDirectives) ≡ codes "request-directives has to be \"heeded\" or \"ignored\", in a line that has an origin and its cache on" }
     ensures wait { (line : ℕ) → expected_words (BadWord line Wait) ≡ codes "wait has to be \"missing\" or \"missing-or-stale\", in a line that has an origin and its cache on" }
     ensures explain { (line : ℕ) → expected_words (BadWord line Explain) ≡ codes "explain has to be \"reuse\" or \"storing\", in a line that has an origin and its cache on" }
     ensures conditions { (line : ℕ) → expected_words (BadWord line Conditions) ≡ codes "conditions has to be \"answered\" or \"forwarded\", in a line that has an origin and its cache on" }
+    ensures stale_while_revalidate { (line : ℕ) → expected_words (BadWord line StaleWhileRevalidate) ≡ codes "stale-while-revalidate has to be a whole number of seconds from 0 to 2147483648, without quotes, in a line that has an origin and its cache on" }
+    ensures vary { (line : ℕ) → expected_words (BadWord line Vary) ≡ codes "vary has to be a list of 1 to 8 names, each of letters, digits and !#$%&'*+-.^_`|~, but not \"*\", in a line that has an origin and its cache on" }
+    ensures origin_timeout { (line : ℕ) → expected_words (BadWord line OriginTimeout) ≡ codes "origin-timeout has to be a whole number of seconds from 1 to 86400, without quotes, and not to stand in a line that denies" }
     ensures loops { (line : ℕ) → expected_words (BadWord line Loops) ≡ codes "loops has to be \"refused\" or \"forwarded\", and not to stand in a line that denies" }
 {}
 

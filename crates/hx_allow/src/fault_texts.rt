@@ -84,6 +84,10 @@ impl fmt::Display for Kind {
             ),
             Kind::Version => f.write_str("be 1, 2, 3 or 4, without quotes"),
             Kind::OneOf(first, second) => write!(f, "be \"{first}\" or \"{second}\""),
+            Kind::Names(most) => write!(
+                f,
+                "be a list of 1 to {most} names, each of letters, digits and !#$%&'*+-.^_`|~, but not \"*\""
+            ),
             Kind::Name => f.write_str(
                 "be a lower-case letter and at most 31 of a-z, 0-9 and -, in quotes",
             ),

@@ -26,7 +26,60 @@ ghost use Rattle.hx_allow.specs.declared.config_faults.NumberKey.TheVariants.{Ve
 ghost use Rattle.hx_allow.specs.declared.values.TableVersion.{TableVersion};
 ghost use Rattle.hx_allow.specs.declared.values.TableVersion.TheVariants.{One, Two, Three, Four};
 
-use hx_target::normalising_twice_is_once;
+pub use crate::cookie_cases::{
+    worked_lines_of_cookie, worked_names_of_session_cookies, worked_requests_past_the_store,
+    worked_session_cookies_of_lines,
+};
+pub use crate::cookie_laws::{
+    a_line_of_cookie_is_read_as_it_is_written, a_request_goes_past_the_store_by_its_cookies,
+};
+pub use crate::fault_text_cases::{
+    worked_places_of_faults, worked_words_of_lines, worked_words_of_the_top, worked_words_of_words,
+};
+pub use crate::line_word_cases::{
+    a_table_with_a_lifetime_of_errors_is_read, a_table_with_words_is_read,
+    worked_conditions_of_versions, worked_cookies_of_versions, worked_keys_of_words,
+    worked_lifetimes_of_versions, worked_places_of_words, worked_policies_of_words,
+    worked_seconds_of_a_line, worked_staleness_meanwhile_of_versions, worked_texts_of_a_line,
+};
+pub use crate::list_cases::{
+    faults_of_lists, hosts_of_each_version, lines_with_lists_decide, worked_lines_with_lists,
+    worked_lists_never_reached, worked_texts_of_hosts,
+};
+pub use crate::list_laws::{
+    a_text_alone_is_a_list_of_one, hosts_below_one_end_with_it, lists_are_a_spelling,
+    worked_hosts_below_others,
+};
+pub use crate::loop_cases::{
+    worked_lines_of_via, worked_loops_of_lines, worked_requests_that_loop,
+};
+pub use crate::loop_laws::{
+    a_line_of_via_is_read_as_it_is_written, a_loop_is_refused_where_its_line_says_so,
+    other_requests_are_judged_as_before,
+};
+pub use crate::table_cases::{
+    a_table_has_1_to_256_lines, faults_of_a_line_in_order, faults_of_a_store_bound,
+    faults_of_a_table_in_order, lines_in_their_order, missing_keys_of_a_line,
+    which_faults_take_memory, worked_cache_of_a_line, worked_faults_of_texts, worked_lines,
+    worked_spellings_of_lines, worked_store_bounds, worked_tables, worked_versions_of_tables,
+};
+pub use crate::table_laws::{
+    a_table_is_toml_within_the_limit, fewer_lines_decide_alike, the_least_unknown_key_is_named,
+};
+pub use crate::timeout_cases::{worked_timeouts_of_line_numbers, worked_timeouts_of_lines};
+pub use crate::vary_cases::{worked_names_of_vary, worked_vary_of_lines};
+pub use crate::worked_cases::{
+    a_line_has_1_to_32_methods, bounds_of_the_numbers, faults_have_these_numbers,
+    lines_of_a_host_decide, numbers_are_whole_and_within_bounds, several_lines_decide,
+    texts_are_strings, the_first_line_denies, worked_addresses_of_origins,
+    worked_addresses_that_are_read, worked_hosts_of_lines, worked_hosts_that_match,
+    worked_keys_at_the_top, worked_keys_of_a_line, worked_keys_of_numbers,
+    worked_lines_never_reached, worked_lines_with_cache, worked_methods_of_lines,
+    worked_methods_that_match, worked_names_of_proxies, worked_numbers_in_addresses,
+    worked_origins_of_line_numbers, worked_origins_of_lines, worked_paths_of_lines,
+    worked_paths_that_match, worked_tails_of_paths,
+};
+use hx_target::laws::normalising_twice_is_once;
 
 /// A text is read in one way.
 pub fn a_table_is_read_in_one_way()
@@ -89,13 +142,13 @@ pub fn version_two_reads_as_before()
         → line_fault Three n members ≡ line_fault Two n members }
 {}
 
-/// A table of the first three versions is never refused for what the fourth adds: for the bound of
-/// the store's bytes, of which it has none, so that what is stored is bounded by its number alone, as
-/// before; and for a word of the fourth, of which none of its lines has one, so that errors have the
-/// lifetime of all others, each stated lifetime counts as it is, requests with a cookie are given the
-/// lifetimes of all others, the conditions of clients go to the origin, and requests that loop go on,
-/// as before. Nor is it refused for a method in lower case or a `*` in a path. Each of its lines has
-/// one path, and one host or every one. A line without such a word, such a spelling, a list and `*.`
+/// A table of the first three versions is never refused for what the fourth adds: for the bound of the store's
+/// bytes, of which it has none, so that what is stored is bounded by its number alone, as before; and for a word of
+/// the fourth, of which none of its lines has one, so that errors have the lifetime of all others, each stated
+/// lifetime counts as it is, requests with a cookie are given the lifetimes of all others, the conditions of
+/// clients go to the origin, nothing stale is sent while it is validated, requests that loop go on, and no origin
+/// has a time-out of its own, as before. Nor is it refused for a method in lower case or a `*` in a path. Each of
+/// its lines has one path, and one host or every one. A line without such a word, such a spelling, a list and `*.`
 /// and a host is read alike in the fourth; what the third reads has neither of the last two.
 pub fn version_three_reads_as_before()
     ensures never { (t : Members) → has_keys_of (version_of t) Four ≡ false
@@ -181,6 +234,9 @@ pub fn a_whole_table_is_read()
         origin = Some (codes "127.0.0.1:8081");
         policy = plain true;
         refuses_loops = false;
+        session_cookies = [];
+        vary = [];
+        origin_timeout = None;
       } ∷ [];
     })) }
 {}
@@ -201,6 +257,9 @@ pub fn a_table_of_two_lines_is_read()
         origin = None;
         policy = plain true;
         refuses_loops = false;
+        session_cookies = [];
+        vary = [];
+        origin_timeout = None;
       } ∷ record {
         hosts = OneHost (codes "x") ∷ [];
         methods = codes "GET" ∷ [];
@@ -208,6 +267,9 @@ pub fn a_table_of_two_lines_is_read()
         origin = Some (codes "127.0.0.1:8081");
         policy = plain true;
         refuses_loops = false;
+        session_cookies = [];
+        vary = [];
+        origin_timeout = None;
       } ∷ [];
     })) }
 {}
@@ -234,6 +296,9 @@ pub fn lines_without_cache_are_read()
         origin = Some (codes "127.0.0.1:8081");
         policy = plain false;
         refuses_loops = false;
+        session_cookies = [];
+        vary = [];
+        origin_timeout = None;
       } ∷ record {
         hosts = Every ∷ [];
         methods = codes "GET" ∷ [];
@@ -241,6 +306,9 @@ pub fn lines_without_cache_are_read()
         origin = Some (codes "127.0.0.1:8081");
         policy = plain true;
         refuses_loops = false;
+        session_cookies = [];
+        vary = [];
+        origin_timeout = None;
       } ∷ record {
         hosts = Every ∷ [];
         methods = codes "GET" ∷ [];
@@ -248,6 +316,9 @@ pub fn lines_without_cache_are_read()
         origin = Some (codes "127.0.0.1:8081");
         policy = plain true;
         refuses_loops = false;
+        session_cookies = [];
+        vary = [];
+        origin_timeout = None;
       } ∷ [];
     })) }
 {}

@@ -10,7 +10,8 @@ ghost use Rattle.hx_allow.specs.Addresses.{address_text};
 ghost use Rattle.hx_allow.specs.LineHosts.{line_host_of};
 ghost use Rattle.hx_allow.specs.Values.{is_some_and, items_at, texts_at, texts_of, number_between, all_items};
 ghost use Rattle.hx_allow.specs.LineTables.{is_host_in_lower_case, names_hosts_below, is_line_host, is_line_method};
-ghost use Rattle.hx_allow.specs.LineTables.{is_text_of, are_texts_of, is_text_or_list, is_path_byte};
+ghost use Rattle.hx_allow.specs.LineTables.{is_listed_name};
+ghost use Rattle.hx_allow.specs.LineTables.{is_text_of, most_texts, are_texts_of, is_text_or_list, is_path_byte};
 ghost use Rattle.hx_allow.specs.LineTables.{does_not_end_with_slash};
 ghost use Rattle.hx_allow.specs.LineTables.{is_line_path, is_line_origin, is_of_kind, is_good_at, first_bad_key};
 ghost use Rattle.hx_allow.specs.Rows.{plain_kind, plain_row};
@@ -27,6 +28,7 @@ use crate::line_hosts::LineHost;
 use crate::line_paths::LinePath;
 use crate::line_words::{
     key_has_one_of_two, line_denies, line_takes_words, policy_of_line_table, refuses_loops,
+    seconds_for_origin,
 };
 use crate::lines::{Line, is_never_allowed};
 use crate::origins::Origin;
@@ -118,6 +120,13 @@ fn is_line_origin(text: &[u8]) -> bool
     text == b"deny".as_slice() || address_of(text).is_some()
 }
 
+/// Whether a text may stand in a list of names.
+fn is_listed_name(text: &[u8]) -> bool
+    ensures { result ≡ is_listed_name text.now }
+{
+    is_token(text) && text != b"*".as_slice()
+}
+
 /// Whether a text is one of a kind, in a table of a version.
 fn is_text_of(version: TableVersion, kind: Kind, text: &[u8]) -> bool
     ensures { result ≡ is_text_of version (plain_kind kind) text.now }
@@ -127,6 +136,7 @@ fn is_text_of(version: TableVersion, kind: Kind, text: &[u8]) -> bool
         Kind::Methods => is_line_method(text),
         Kind::Path => is_line_path(text),
         Kind::Origin => is_line_origin(text),
+        Kind::Names(_) => is_listed_name(text),
         _ => false,
     }
 }
@@ -140,11 +150,21 @@ fn is_good_text(version: TableVersion, kind: Kind, text: Option<&str>) -> bool
     }
 }
 
-/// Whether there are 1 to 32 texts of a kind, and nothing else.
+/// The most texts of a list.
+fn most_texts(kind: Kind) -> usize
+    ensures { result ≡ most_texts (plain_kind kind) }
+{
+    match kind {
+        Kind::Names(most) => usize::from(most),
+        _ => 32,
+    }
+}
+
+/// Whether there are 1 to as many texts of a kind as a list has, and nothing else.
 fn are_texts_of(version: TableVersion, kind: Kind, values: &[Value]) -> bool
     ensures { result ≡ are_texts_of version (plain_kind kind) (items_view values.now) }
 {
-    if !has_one_to_most(32, values) {
+    if !has_one_to_most(most_texts(kind), values) {
         return false;
     }
     for value in values {
@@ -191,6 +211,7 @@ fn is_of_kind(version: TableVersion, kind: Kind, key: &str, table: &Table) -> bo
         Kind::Methods => is_good_list(version, kind, array_at(table, key)),
         Kind::Path => is_text_or_list(version, kind, key, table),
         Kind::Origin => is_good_text(version, kind, text_at(table, key)),
+        Kind::Names(_) => is_good_list(version, kind, array_at(table, key)),
         _ => false,
     }
 }
@@ -353,11 +374,12 @@ fn copy_texts(alloc: Global, values: &[Value]) -> Result<Vec<Bytes>, AllocError>
     Ok(texts)
 }
 
-fn method_texts(alloc: Global, table: &Table) -> Result<Vec<Bytes>, AllocError>
+/// The texts of a list, where the key has one.
+fn texts_in_list(alloc: Global, table: &Table, key: &str) -> Result<Vec<Bytes>, AllocError>
     ensures { IfOk result (λ texts. texts.items
-        ≡ texts_of (unwrap_or (items_at (codes "methods") (table_view table.now)) no_items)) }
+        ≡ texts_of (unwrap_or (items_at key.now (table_view table.now)) no_items)) }
 {
-    match array_at(table, "methods") {
+    match array_at(table, key) {
         Some(values) => copy_texts(alloc, values),
         None => Ok(Vec::new(alloc)),
     }
@@ -407,11 +429,14 @@ fn line_read(alloc: Global, version: TableVersion, table: &Table) -> Result<Line
     let paths = texts_at(alloc, table, "path")?;
     Ok(Line {
         hosts: hosts_of(alloc, &hosts)?,
-        methods: method_texts(alloc, table)?,
+        methods: texts_in_list(alloc, table, "methods")?,
         paths: paths_of(alloc, &paths)?,
         origin: origin_rule(alloc, text_at(table, "origin"))?,
         policy: policy_of_line_table(version, table),
         refuses_loops: refuses_loops(version, table),
+        session_cookies: texts_in_list(alloc, table, "session-cookies")?,
+        vary: texts_in_list(alloc, table, "vary")?,
+        origin_timeout: seconds_for_origin(table),
     })
 }
 

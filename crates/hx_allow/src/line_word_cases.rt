@@ -15,6 +15,7 @@ ghost use Rattle.hx_allow.specs.declared.config_faults.LineWord.TheVariants.{Lif
 ghost use Rattle.hx_allow.specs.declared.config_faults.LineWord.TheVariants.{SetCookie, Errors, RequestDirectives};
 ghost use Rattle.hx_allow.specs.declared.config_faults.LineWord.TheVariants.{Wait, Explain, Conditions};
 ghost use Rattle.hx_allow.specs.declared.config_faults.LineWord.TheVariants.{LifetimeMost, Cookies};
+ghost use Rattle.hx_allow.specs.declared.config_faults.LineWord.TheVariants.{StaleWhileRevalidate};
 ghost use Rattle.hx_allow.specs.declared.values.Scope.TheVariants.{Top, Line};
 ghost use Rattle.hx_allow.specs.declared.values.TableVersion.TheVariants.{One, Two, Three, Four};
 
@@ -60,6 +61,10 @@ pub fn worked_keys_of_words()
     ensures cookies_of_three { is_known (Line Three) (codes "cookies") ≡ false }
     ensures cookies_at_the_top { is_known (Top Four) (codes "cookies") ≡ false }
     ensures text_of_cookies { word_key Cookies ≡ codes "cookies" }
+    ensures stale_while_revalidate { is_known (Line Four) (word_key StaleWhileRevalidate) ≡ true }
+    ensures stale_while_revalidate_of_three { is_known (Line Three) (codes "stale-while-revalidate") ≡ false }
+    ensures stale_while_revalidate_at_the_top { is_known (Top Four) (codes "stale-while-revalidate") ≡ false }
+    ensures text_of_stale_while_revalidate { word_key StaleWhileRevalidate ≡ codes "stale-while-revalidate" }
 {}
 
 /// Seconds of a line: whole numbers within their bounds, and no text.
@@ -106,6 +111,19 @@ pub fn worked_seconds_of_a_line()
         (line_table_with_keys (key_with_text (codes "lifetime-most") (codes "1d") ∷ [])) ≡ Some (BadWord 1 LifetimeMost) }
     ensures most_of_three { line_fault Three 1
         (line_table_with_keys (key_with_number (codes "lifetime-most") 60 ∷ [])) ≡ Some (UnknownKey (codes "lifetime-most")) }
+    ensures no_staleness_meanwhile { line_fault Four 1
+        (line_table_with_keys (key_with_number (codes "stale-while-revalidate") 0 ∷ [])) ≡ None }
+    ensures most_staleness_meanwhile { line_fault Four 1
+        (line_table_with_keys (key_with_number (codes "stale-while-revalidate") 2147483648 ∷ [])) ≡ None }
+    ensures above_staleness_meanwhile { line_fault Four 1
+        (line_table_with_keys (key_with_number (codes "stale-while-revalidate") 2147483649 ∷ []))
+        ≡ Some (BadWord 1 StaleWhileRevalidate) }
+    ensures a_text_of_staleness_meanwhile { line_fault Four 1
+        (line_table_with_keys (key_with_text (codes "stale-while-revalidate") (codes "60") ∷ []))
+        ≡ Some (BadWord 1 StaleWhileRevalidate) }
+    ensures staleness_meanwhile_of_three { line_fault Three 1
+        (line_table_with_keys (key_with_number (codes "stale-while-revalidate") 60 ∷ []))
+        ≡ Some (UnknownKey (codes "stale-while-revalidate")) }
 {}
 
 /// Texts of a line: two words each, in lower case.
@@ -223,6 +241,16 @@ pub fn worked_places_of_words()
         ∷ key_with_text (codes "explain") (codes "x") ∷ [])) ≡ Some (BadWord 2 Explain) }
     ensures conditions_last { line_fault Four 2 (line_table_with_keys (key_with_text (codes "conditions") (codes "x") ∷ []))
         ≡ Some (BadWord 2 Conditions) }
+    ensures conditions_before_staleness { line_fault Four 2
+        (line_table_with_keys (key_with_text (codes "stale-while-revalidate") (codes "x")
+        ∷ key_with_text (codes "conditions") (codes "x") ∷ [])) ≡ Some (BadWord 2 Conditions) }
+    ensures staleness_last { line_fault Four 2 (line_table_with_keys (key_with_text (codes "stale-while-revalidate") (codes "x")
+        ∷ [])) ≡ Some (BadWord 2 StaleWhileRevalidate) }
+    ensures staleness_without_cache { line_fault Four 2 (line_table_with_keys (key_with_text (codes "cache") (codes "off")
+        ∷ key_with_number (codes "stale-while-revalidate") 60 ∷ [])) ≡ Some (BadWord 2 StaleWhileRevalidate) }
+    ensures staleness_denying { line_fault Four 2
+        (denying_line_table_with (key_with_number (codes "stale-while-revalidate") 60 ∷ []))
+        ≡ Some (BadWord 2 StaleWhileRevalidate) }
     ensures conditions_denying { line_fault Four 2 (denying_line_table_with (key_with_text (codes "conditions") (codes "answered")
         ∷ [])) ≡ Some (BadWord 2 Conditions) }
 {}
@@ -313,6 +341,30 @@ pub fn worked_cookies_of_versions()
     ensures denying { (line_read Four (denying_line_table_with [])).policy ≡ plain true }
 {}
 
+/// In the fourth version a line that lets others wait for what is stale sends it while it is validated, for as long as
+/// it or the line says; in the third it doesn't.
+#[tactic(auto, unfolding(crate::specs::LineTables::line_read))]
+pub fn worked_staleness_meanwhile_of_versions()
+    ensures of_three { (line_read Three (line_table_with_keys (key_with_text (codes "wait") (codes "missing-or-stale")
+        ∷ []))).policy.sends_while_revalidating ≡ false }
+    ensures of_four { (line_read Four (line_table_with_keys (key_with_text (codes "wait") (codes "missing-or-stale") ∷ []))).policy
+        ≡ record plain_of_four { waits_for_stale = true; sends_while_revalidating = true } }
+    ensures with_the_word { (line_read Four (line_table_with_keys (key_with_text (codes "wait") (codes "missing-or-stale")
+        ∷ key_with_number (codes "stale-while-revalidate") 60 ∷ []))).policy
+        ≡ record plain_of_four {
+          waits_for_stale = true;
+          sends_while_revalidating = true;
+          stale_while_revalidate = Some 60;
+        } }
+    ensures the_word_alone { (line_read Four (line_table_with_keys (key_with_number (codes "stale-while-revalidate") 60
+        ∷ []))).policy ≡ record plain_of_four { stale_while_revalidate = Some 60 } }
+    ensures where_missing { (line_read Four (line_table_with_keys (key_with_text (codes "wait") (codes "missing") ∷ []))).policy
+        ≡ plain_of_four }
+    ensures beside_stale_if_error { (line_read Four (line_table_with_keys (key_with_number (codes "stale-if-error") 600
+        ∷ key_with_number (codes "stale-while-revalidate") 60 ∷ []))).policy
+        ≡ record plain_of_four { stale_if_error = Some 600; stale_while_revalidate = Some 60 } }
+{}
+
 /// A whole table of version 3.
 #[tactic(auto, unfolding(toml::proofs::OnLiterals::toml_on_literals, crate::specs::Tables::judge_table, crate::specs::Tables::table_fault, crate::specs::Tables::table_read, crate::specs::Tables::is_name, crate::specs::LineTables::line_fault, crate::specs::LineTables::line_read, crate::specs::LineTables::is_line_host, crate::specs::LineTables::is_line_method, crate::specs::LineTables::is_line_path, crate::specs::Addresses::address_of, hx_target::specs::Hosts::is_host, hx_target::specs::Hosts::short_number, hx_target::specs::Paths::has_dot_segment))]
 pub fn a_table_with_words_is_read()
@@ -329,11 +381,13 @@ pub fn a_table_with_words_is_read()
           error_lifetime = Some 60;
           lifetime_most = None;
           stale_if_error = Some 600;
+          stale_while_revalidate = None;
           stores_cookies = false;
           gives_to_cookies = true;
           stores_errors = false;
           heeds_requests = false;
           waits_for_stale = true;
+          sends_while_revalidating = false;
           explains_storing = true;
           forwards_conditions = true;
         };

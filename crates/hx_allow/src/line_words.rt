@@ -4,8 +4,12 @@ ghost use Rattle.toml.specs.View.{table_view};
 ghost use Rattle.hx_allow.specs.LineWords.{key_has_one_of_two, key_has_text, line_denies, line_takes_words};
 ghost use Rattle.hx_allow.specs.LineWords.{says_second, word_of_error_lifetime};
 ghost use Rattle.hx_allow.specs.LineWords.{gives_lifetimes_to_cookies, leaves_conditions_to_origin};
-ghost use Rattle.hx_allow.specs.LineWords.{refuses_loops, policy_of_line_table};
-ghost use Rattle.hx_allow.specs.Rows.{plain_row};
+ghost use Rattle.hx_allow.specs.LineWords.{refuses_loops, sends_while_revalidating, policy_of_line_table};
+ghost use Rattle.hx_allow.specs.LineWords.{seconds_for_origin};
+ghost use Rattle.hx_allow.specs.Rows.{plain_row, word_row};
+ghost use Rattle.hx_allow.specs.Values.{number_in};
+ghost use Rattle.hx_allow.specs.declared.config_faults.LineWord.TheVariants.{Lifetime, LifetimeMost, StaleIfError};
+ghost use Rattle.hx_allow.specs.declared.config_faults.LineWord.TheVariants.{StaleWhileRevalidate};
 
 use crate::config_faults::LineWord;
 use crate::rows::{Kind, LineKey, Row};
@@ -91,22 +95,60 @@ pub fn refuses_loops(version: TableVersion, table: &Table) -> bool
     row.is_known_in(version) && !says_second(row, table)
 }
 
-/// What a line without fault says of caching, in a table of a version.
-pub fn policy_of_line_table(version: TableVersion, table: &Table) -> Policy
-    ensures { result ≡ policy_of_line_table version (table_view table.now) }
+/// For how many seconds the origin may send no byte, where a line without fault says so.
+pub fn seconds_for_origin(table: &Table) -> Option<u32>
+    ensures { result ≡ seconds_for_origin (table_view table.now) }
+{
+    seconds_in(LineWord::OriginTimeout.row(), table)
+}
+
+/// Whether what is stale is sent while it is validated.
+fn sends_while_revalidating(version: TableVersion, table: &Table) -> bool
+    ensures { result ≡ sends_while_revalidating version (table_view table.now) }
+{
+    says_second(LineWord::Wait.row(), table)
+        && LineWord::StaleWhileRevalidate.row().is_known_in(version)
+}
+
+/// The same policy with the seconds that a line has.
+fn with_seconds_of_line(policy: Policy, version: TableVersion, table: &Table) -> Policy
+    ensures { result ≡ record policy {
+      lifetime = number_in (word_row Lifetime) (table_view table.now);
+      error_lifetime = number_in (word_row (word_of_error_lifetime version)) (table_view table.now);
+      lifetime_most = number_in (word_row LifetimeMost) (table_view table.now);
+      stale_if_error = number_in (word_row StaleIfError) (table_view table.now);
+      stale_while_revalidate = number_in (word_row StaleWhileRevalidate) (table_view table.now);
+    } }
 {
     Policy {
-        caches: !says_second(LineKey::Cache.row(), table),
         lifetime: seconds_in(LineWord::Lifetime.row(), table),
         error_lifetime: seconds_in(word_of_error_lifetime(version).row(), table),
         lifetime_most: seconds_in(LineWord::LifetimeMost.row(), table),
         stale_if_error: seconds_in(LineWord::StaleIfError.row(), table),
+        stale_while_revalidate: seconds_in(LineWord::StaleWhileRevalidate.row(), table),
+        ..policy
+    }
+}
+
+/// What a line without fault says of caching, in a table of a version.
+pub fn policy_of_line_table(version: TableVersion, table: &Table) -> Policy
+    ensures { result ≡ policy_of_line_table version (table_view table.now) }
+{
+    let words = Policy {
+        caches: !says_second(LineKey::Cache.row(), table),
+        lifetime: None,
+        error_lifetime: None,
+        lifetime_most: None,
+        stale_if_error: None,
+        stale_while_revalidate: None,
         stores_cookies: !says_second(LineWord::SetCookie.row(), table),
         gives_to_cookies: gives_lifetimes_to_cookies(version, table),
         stores_errors: !says_second(LineWord::Errors.row(), table),
         heeds_requests: !says_second(LineWord::RequestDirectives.row(), table),
         waits_for_stale: says_second(LineWord::Wait.row(), table),
+        sends_while_revalidating: sends_while_revalidating(version, table),
         explains_storing: says_second(LineWord::Explain.row(), table),
         forwards_conditions: leaves_conditions_to_origin(version, table),
-    }
+    };
+    with_seconds_of_line(words, version, table)
 }

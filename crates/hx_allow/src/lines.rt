@@ -26,6 +26,12 @@ pub struct Line {
     pub policy: Policy,
     /// Whether it refuses requests that loop.
     pub refuses_loops: bool,
+    /// The names of the cookies whose requests go past the store.
+    pub session_cookies: Vec<Bytes>,
+    /// The fields that count as if the Vary of each answer named them.
+    pub vary: Vec<Bytes>,
+    /// The seconds for which its origin may send no byte, where it says so.
+    pub origin_timeout: Option<u32>,
 }
 
 impl Model for Line {
@@ -40,6 +46,9 @@ impl Model for Line {
       origin = l.origin;
       policy = l.policy;
       refuses_loops = l.refuses_loops;
+      session_cookies = l.session_cookies.items;
+      vary = l.vary.items;
+      origin_timeout = l.origin_timeout;
     } };
 }
 

@@ -10,7 +10,7 @@ ghost use Rattle.hx_allow.specs.Examples.{repeated_value, array_of_values, targe
 ghost use Rattle.hx_allow.specs.Index.{hosts_above, is_one, is_below, is_every, line_numbers_of};
 ghost use Rattle.hx_allow.specs.LineHosts.{line_host_of, matches_host};
 ghost use Rattle.hx_allow.specs.LineTables.{is_line_host, line_fault, line_read};
-ghost use Rattle.hx_allow.specs.Matching.{verdict_of};
+ghost use Rattle.hx_allow.specs.Matching.{verdict_of, over_line};
 ghost use Rattle.hx_allow.specs.NeverReached.{takes_each_request_of, first_line_taking};
 ghost use Rattle.hx_allow.specs.Tables.{judge_table};
 ghost use Rattle.hx_allow.specs.declared.config_faults.ConfigFault.TheVariants.{BadHost, BadPath};
@@ -115,6 +115,9 @@ pub fn worked_lines_with_lists()
           origin = None;
           policy = plain true;
           refuses_loops = true;
+          session_cookies = [];
+          vary = [];
+          origin_timeout = None;
         } }
     ensures alone { line_read Four (line_table_of (string (codes "a")) (string (codes "/")))
         ≡ record (line_with_method (Some (codes "a")) (codes "GET") (codes "/") None) { refuses_loops = true } }
@@ -131,13 +134,13 @@ pub fn lines_with_lists_decide()
     ensures below { verdict_of lines_with_lists (codes "GET") (target_for_path (codes "x.c") (codes "/q"))
         ≡ DeniedBy 1 }
     ensures further_below { verdict_of lines_with_lists (codes "GET") (target_for_path (codes "y.x.c") (codes "/"))
-        ≡ Allowed 2 }
+        ≡ Allowed (over_line 2) }
     ensures not_itself { verdict_of lines_with_lists (codes "GET") (target_for_path (codes "c") (codes "/p"))
-        ≡ Allowed 3 }
+        ≡ Allowed (over_line 3) }
     ensures other_path { verdict_of lines_with_lists (codes "GET") (target_for_path (codes "a") (codes "/r"))
-        ≡ Allowed 3 }
+        ≡ Allowed (over_line 3) }
     ensures other_host { verdict_of lines_with_lists (codes "GET") (target_for_path (codes "d") (codes "/p"))
-        ≡ Allowed 3 }
+        ≡ Allowed (over_line 3) }
     ensures connect { verdict_of lines_with_lists (codes "CONNECT") (target_for_path (codes "a") (codes "/p"))
         ≡ NoLine }
     ensures named { line_numbers_of (is_one (codes "b")) lines_with_lists ≡ 1 ∷ [] }

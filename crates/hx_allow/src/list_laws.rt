@@ -1,6 +1,7 @@
 //! What the definitions say of lists of hosts and paths, and of hosts below others: each function's
 //! contract is a law, or worked cases, and its body is empty.
 ghost use Rattle.std.specs.Prelude.{◌≡◌, ◌++◌, ◌∷◌, [], List, ℕ, Some, None, true, false, codes, option_map, map};
+ghost use Rattle.std.specs.Prelude.{nat_le};
 ghost use Rattle.std.specs.Option.{option_and_then};
 ghost use Rattle.std.specs.List.{list_any};
 ghost use Rattle.std.specs.Char.{is_ascii_lowercase};
@@ -10,7 +11,7 @@ ghost use Rattle.hx_allow.specs.Deciding.{deciding_line};
 ghost use Rattle.hx_allow.specs.LineHosts.{is_below_host, labels_of};
 ghost use Rattle.hx_allow.specs.Matching.{matches_line};
 ghost use Rattle.hx_allow.specs.OneByOne.{one_by_one, all_one_by_one, said_by};
-ghost use Rattle.hx_allow.specs.LineTables.{is_text_or_list};
+ghost use Rattle.hx_allow.specs.LineTables.{is_text_or_list, most_texts};
 ghost use Rattle.hx_allow.specs.Rows.{Kind, a_host, a_path};
 ghost use Rattle.hx_allow.specs.TableLines.{Line};
 ghost use Rattle.hx_allow.specs.Values.{texts_at};
@@ -31,11 +32,12 @@ pub fn lists_are_a_spelling()
         ≡ option_map said_by (deciding_line lines method target) }
 {}
 
-/// A text alone is a list of one: it has the same texts, and is good where that is.
+/// A text alone is a list of one: it has the same texts, and is good where that is, since a list may have one.
 pub fn a_text_alone_is_a_list_of_one()
     ensures texts { (key text : List ℕ) (alone list : Members) → get_member key alone ≡ Some (string text)
         → get_member key list ≡ Some (array (item (string text) no_items)) → texts_at key list ≡ texts_at key alone }
-    ensures good { (kind : Kind) (key text : List ℕ) (alone list : Members) → get_member key alone ≡ Some (string text)
+    ensures good { (kind : Kind) (key text : List ℕ) (alone list : Members) → nat_le 1 (most_texts kind) ≡ true
+        → get_member key alone ≡ Some (string text)
         → get_member key list ≡ Some (array (item (string text) no_items))
         → is_text_or_list Four kind key list ≡ is_text_or_list Four kind key alone }
 {}

@@ -5,7 +5,7 @@ ghost use Rattle.hx_allow.specs.Examples.{key_with_text, line_table_with_keys, d
 ghost use Rattle.hx_allow.specs.Examples.{looping_table, target_for_path};
 ghost use Rattle.hx_allow.specs.LineTables.{line_fault, line_read};
 ghost use Rattle.hx_allow.specs.Keys.{word_key};
-ghost use Rattle.hx_allow.specs.Matching.{verdict_of_request, request_came_back};
+ghost use Rattle.hx_allow.specs.Matching.{verdict_of_request, request_came_back, over_line};
 ghost use Rattle.hx_allow.specs.Values.{is_known};
 ghost use Rattle.hx_allow.specs.Via.{times_named_in, request_loops};
 ghost use Rattle.hx_allow.specs.declared.config_faults.ConfigFault.TheVariants.{BadWord, UnknownKey};
@@ -62,19 +62,22 @@ pub fn worked_requests_that_loop()
     ensures told_refused { verdict_of_request looping_table (codes "GET") (target_for_path (codes "x") (codes "/"))
         (line (codes "Via") (codes "1.1 edge, 1.1 edge") ∷ []) ≡ Looped 2 }
     ensures told_once { verdict_of_request looping_table (codes "GET") (target_for_path (codes "x") (codes "/"))
-        (line (codes "Via") (codes "1.1 edge") ∷ []) ≡ Allowed 2 }
+        (line (codes "Via") (codes "1.1 edge") ∷ []) ≡ Allowed (over_line 2) }
     ensures told_forwarded { verdict_of_request looping_table (codes "POST") (target_for_path (codes "x") (codes "/"))
-        (line (codes "Via") (codes "1.1 edge, 1.1 edge") ∷ []) ≡ Allowed 3 }
+        (line (codes "Via") (codes "1.1 edge, 1.1 edge") ∷ []) ≡ Allowed (over_line 3) }
     ensures told_denied { verdict_of_request looping_table (codes "GET") (target_for_path (codes "x") (codes "/p"))
         (line (codes "Via") (codes "1.1 edge, 1.1 edge") ∷ []) ≡ DeniedBy 1 }
     ensures told_unmatched { verdict_of_request looping_table (codes "POST") (target_for_path (codes "y") (codes "/"))
         (line (codes "Via") (codes "1.1 edge, 1.1 edge") ∷ []) ≡ NoLine }
-    ensures came_back_once { request_came_back looping_table 2 (line (codes "Via") (codes "1.0 core, 1.1 edge") ∷ []) ≡ true }
-    ensures came_back_twice { request_came_back looping_table 2 (line (codes "Via") (codes "1.1 edge, 1.1 edge") ∷ []) ≡ true }
-    ensures came_back_another { request_came_back looping_table 2 (line (codes "Via") (codes "1.0 core") ∷ []) ≡ false }
-    ensures came_back_without_via { request_came_back looping_table 2 [] ≡ false }
-    ensures came_back_forwarded { request_came_back looping_table 3 (line (codes "Via") (codes "1.1 edge") ∷ []) ≡ false }
-    ensures came_back_no_line { request_came_back looping_table 4 (line (codes "Via") (codes "1.1 edge") ∷ []) ≡ false }
+    ensures came_back_once { request_came_back looping_table (over_line 2) (line (codes "Via") (codes "1.0 core, 1.1 edge") ∷ []) ≡ true }
+    ensures came_back_twice { request_came_back looping_table (over_line 2) (line (codes "Via") (codes "1.1 edge, 1.1 edge") ∷ []) ≡ true }
+    ensures came_back_another { request_came_back looping_table (over_line 2) (line (codes "Via") (codes "1.0 core") ∷ [])
+        ≡ false }
+    ensures came_back_without_via { request_came_back looping_table (over_line 2) [] ≡ false }
+    ensures came_back_forwarded { request_came_back looping_table (over_line 3) (line (codes "Via") (codes "1.1 edge") ∷ [])
+        ≡ false }
+    ensures came_back_no_line { request_came_back looping_table (over_line 4) (line (codes "Via") (codes "1.1 edge") ∷ [])
+        ≡ false }
 {}
 
 /// The key `loops`: in version 4 alone, in each line that has an origin, and looked at last.

@@ -8,7 +8,8 @@ ghost use Rattle.hx_target.specs.declared.targets.Target.{Target};
 ghost use Rattle.hx_allow.specs.TableLines.{Table};
 ghost use Rattle.hx_allow.specs.LineTables.{line_read};
 ghost use Rattle.hx_allow.specs.LineWords.{key_has_text};
-ghost use Rattle.hx_allow.specs.Matching.{line_refuses_loops, verdict_of, verdict_of_request};
+ghost use Rattle.hx_allow.specs.Matching.{line_refuses_loops, verdict_of, verdict_on_cookies, verdict_of_request};
+ghost use Rattle.hx_allow.specs.declared.verdicts.Route.{Route};
 ghost use Rattle.hx_allow.specs.Rows.{has_keys_of};
 ghost use Rattle.hx_allow.specs.Tables.{version_of, judge_table};
 ghost use Rattle.hx_allow.specs.Via.{times_named, times_named_in, ViaMember, is_via_member, via_line_text};
@@ -29,27 +30,28 @@ pub fn a_line_of_via_is_read_as_it_is_written()
 /// refuses loops. One of version 4 does exactly where it doesn't say that they are forwarded.
 #[tactic(auto, unfolding(crate::specs::LineTables::line_read))]
 pub fn a_loop_is_refused_where_its_line_says_so()
-    ensures refused { (table : Table) (method : List ℕ) (target : Target) (fields : List Field) (line : ℕ)
-        → verdict_of table.lines method target ≡ Allowed line → line_refuses_loops table.lines line ≡ true
-        → 2 ≤ times_named table.name fields → verdict_of_request table method target fields ≡ Looped line }
+    ensures refused { (table : Table) (method : List ℕ) (target : Target) (fields : List Field) (route : Route)
+        → verdict_of table.lines method target ≡ Allowed route → line_refuses_loops table.lines route.number ≡ true
+        → 2 ≤ times_named table.name fields → verdict_of_request table method target fields ≡ Looped route.number }
     ensures nothing_else { (table : Table) (method : List ℕ) (target : Target) (fields : List Field) (line : ℕ)
         → verdict_of_request table method target fields ≡ Looped line
-        → (verdict_of table.lines method target ≡ Allowed line) × (line_refuses_loops table.lines line ≡ true)
-        × (2 ≤ times_named table.name fields) }
+        → (route : Route) × (verdict_of table.lines method target ≡ Allowed route) × (route.number ≡ line)
+        × (line_refuses_loops table.lines line ≡ true) × (2 ≤ times_named table.name fields) }
     ensures version_four { (members : Members) → (line_read Four members).refuses_loops
         ≡ not (key_has_text (codes "loops") (codes "forwarded") members) }
 {}
 
-/// A request whose Via doesn't name the proxy twice has the verdict on its method and target, and so has each request
-/// over a line that lets loops go on, as all lines of tables of the first three versions do.
+/// A request whose Via doesn't name the proxy twice has the verdict on its method and target, but for the store past
+/// which its cookies may bring it, and so has each request over a line that lets loops go on. All lines of tables of
+/// the first three versions do, and none of them looks at cookies.
 pub fn other_requests_are_judged_as_before()
     ensures seldom { (table : Table) (method : List ℕ) (target : Target) (fields : List Field)
-        → times_named table.name fields ≤ 1
-        → verdict_of_request table method target fields ≡ verdict_of table.lines method target }
+        → times_named table.name fields ≤ 1 → verdict_of_request table method target fields
+        ≡ verdict_on_cookies table.lines fields (verdict_of table.lines method target) }
     ensures forwarded { (table : Table) (method : List ℕ) (target : Target) (fields : List Field)
-        → ((line : ℕ) → verdict_of table.lines method target ≡ Allowed line
-        → line_refuses_loops table.lines line ≡ false)
-        → verdict_of_request table method target fields ≡ verdict_of table.lines method target }
+        → ((route : Route) → verdict_of table.lines method target ≡ Allowed route
+        → line_refuses_loops table.lines route.number ≡ false) → verdict_of_request table method target fields
+        ≡ verdict_on_cookies table.lines fields (verdict_of table.lines method target) }
     ensures earlier_versions { (t : Members) (table : Table) (method : List ℕ) (target : Target) (fields : List Field)
         → has_keys_of (version_of t) Four ≡ false → judge_table t ≡ Ok table
         → verdict_of_request table method target fields ≡ verdict_of table.lines method target }

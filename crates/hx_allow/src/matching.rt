@@ -5,9 +5,9 @@ ghost use Rattle.hx_allow.specs.Matching.{line_of_number, line_refuses_loops, ve
 ghost use Rattle.hx_allow.specs.Index.{verdict_among, verdict_above, verdict_where, can_match, hosts_above};
 ghost use Rattle.hx_allow.specs.Index.{IsHostIndexOf, HasNoLonger};
 
-use crate::Verdict;
 use crate::host_index::HostIndex;
 use crate::lines::Line;
+use crate::{Route, Verdict};
 
 /// The line of a number, counted from 1.
 pub(crate) fn line_at(lines: &[Line], number: u16) -> Option<&Line>
@@ -34,7 +34,7 @@ fn verdict_of_line(number: u16, line: &Line) -> Verdict
     ensures { result ≡ verdict_of_line number line.now }
 {
     if line.origin.is_some() {
-        Verdict::Allowed(number)
+        Verdict::Allowed(Route::over(number))
     } else {
         Verdict::DeniedBy(number)
     }

@@ -10,10 +10,13 @@ use crate::config_faults::{ConfigFault, LineWord, NumberKey};
 use crate::limits::MOST_STORE_BYTES;
 use crate::values::TableVersion;
 use crate::values::TableVersion::{Four, One, Three, Two};
-use Kind::{Number, OneOf, Seconds, StoreBound};
+use Kind::{Names, Number, OneOf, Seconds, StoreBound};
 
 /// The most seconds that a lifetime has (RFC 9111, section 1.2.2).
 const MOST_SECONDS: u32 = 2_147_483_648;
+
+/// The most seconds that an origin may be given to send a byte.
+const MOST_TIMEOUT_SECONDS: u32 = 86_400;
 
 /// What the value of a key has to be.
 #[derive(Clone, Copy)]
@@ -28,6 +31,8 @@ pub(crate) enum Kind {
     Version,
     /// One of two texts. Where the key doesn't stand it is as with the first.
     OneOf(&'static str, &'static str),
+    /// A list of 1 to so many tokens, of which none is `*`.
+    Names(u8),
     Name,
     Lines,
     Host,
@@ -89,7 +94,7 @@ pub(crate) const TOP_KEYS: [TopKey; 7] = [
 ];
 
 /// The keys of a line, in the order in which they are looked at.
-pub(crate) const LINE_KEYS: [LineKey; 17] = [
+pub(crate) const LINE_KEYS: [LineKey; 21] = [
     LineKey::Host,
     LineKey::Methods,
     LineKey::Path,
@@ -101,17 +106,21 @@ pub(crate) const LINE_KEYS: [LineKey; 17] = [
     LineKey::Word(LineWord::StaleIfError),
     LineKey::Word(LineWord::SetCookie),
     LineKey::Word(LineWord::Cookies),
+    LineKey::Word(LineWord::SessionCookies),
     LineKey::Word(LineWord::Errors),
     LineKey::Word(LineWord::RequestDirectives),
     LineKey::Word(LineWord::Wait),
     LineKey::Word(LineWord::Explain),
     LineKey::Word(LineWord::Conditions),
     LineKey::Word(LineWord::Loops),
+    LineKey::Word(LineWord::StaleWhileRevalidate),
+    LineKey::Word(LineWord::Vary),
+    LineKey::Word(LineWord::OriginTimeout),
 ];
 
 /// What is told of a key that isn't known, with the keys that a version adds.
 pub(crate) const WORDS_OF_UNKNOWN_KEY: &str =
-    "a key isn't known where it stands; correct its spelling or delete it: behind [[line]] keys belong to that line; cache needs version = 2, 3 or 4, lifetime, stale-if-error, set-cookie, errors, request-directives, wait and explain need version = 3 or 4, and max_store, error-lifetime, lifetime-most, cookies, conditions and loops need version = 4";
+    "a key isn't known where it stands; correct its spelling or delete it: behind [[line]] keys belong to that line; cache needs version = 2, 3 or 4, lifetime, stale-if-error, set-cookie, errors, request-directives, wait and explain need version = 3 or 4, and max_store, error-lifetime, lifetime-most, cookies, session-cookies, conditions, loops, stale-while-revalidate, vary and origin-timeout need version = 4";
 
 impl NumberKey {
     pub(crate) fn row(self) -> Row
@@ -183,6 +192,7 @@ impl LineWord {
                 OneOf("stored", "not-stored"),
             ),
             LineWord::Cookies => Row::of_caching("cookies", Four, OneOf("private", "shared")),
+            LineWord::SessionCookies => Row::of_caching("session-cookies", Four, Names(16)),
             LineWord::Errors => Row::of_caching("errors", Three, OneOf("stored", "not-stored")),
             LineWord::RequestDirectives => Row::of_caching(
                 "request-directives",
@@ -200,6 +210,18 @@ impl LineWord {
                 key: "loops",
                 since: Four,
                 kind: OneOf("refused", "forwarded"),
+                place: Place::AllowingLine,
+            },
+            LineWord::StaleWhileRevalidate => Row::of_caching(
+                "stale-while-revalidate",
+                Four,
+                Seconds(0, MOST_SECONDS),
+            ),
+            LineWord::Vary => Row::of_caching("vary", Four, Names(8)),
+            LineWord::OriginTimeout => Row {
+                key: "origin-timeout",
+                since: Four,
+                kind: Seconds(1, MOST_TIMEOUT_SECONDS),
                 place: Place::AllowingLine,
             },
         }

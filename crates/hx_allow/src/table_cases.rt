@@ -115,6 +115,9 @@ pub fn worked_lines()
           origin = None;
           policy = plain true;
           refuses_loops = false;
+          session_cookies = [];
+          vary = [];
+          origin_timeout = None;
         } }
 {}
 

@@ -1,12 +1,35 @@
 //! What the operator's table says of a request.
 ghost use Rattle.std.specs.Prelude.{◌≡◌};
 ghost use Rattle.hx_allow.specs.Index.{is_found_by};
+ghost use Rattle.hx_allow.specs.Matching.{over_line};
+
+/// Over which line of the table a request goes, and whether past the store.
+#[derive(Clone, Copy, Debug, PartialEq, Eq, Hash)]
+pub struct Route {
+    /// The number of the line, counted from 1.
+    pub number: u16,
+    /// The request has one of the cookies that the line names: nothing stored is sent for it, its answer isn't stored,
+    /// and it neither waits for another nor leads one.
+    pub past_store: bool,
+}
+
+impl Route {
+    /// The way over a line for a request without such a cookie.
+    pub fn over(number: u16) -> Route
+        ensures { result ≡ over_line number }
+    {
+        Route {
+            number,
+            past_store: false,
+        }
+    }
+}
 
 /// What the operator's table says of a request. Lines are counted from 1.
 #[derive(Clone, Copy, Debug, PartialEq, Eq, Hash)]
 pub enum Verdict {
     /// The first line that matches has an origin.
-    Allowed(u16),
+    Allowed(Route),
     /// The first line that matches denies.
     DeniedBy(u16),
     /// No line matches, which denies too.
@@ -21,9 +44,8 @@ impl Verdict {
         ensures { result ≡ is_found_by number self }
     {
         match self {
-            Verdict::Allowed(line) | Verdict::DeniedBy(line) | Verdict::Looped(line) => {
-                line <= number
-            }
+            Verdict::Allowed(route) => route.number <= number,
+            Verdict::DeniedBy(line) | Verdict::Looped(line) => line <= number,
             Verdict::NoLine => false,
         }
     }

@@ -13,7 +13,7 @@ ghost use Rattle.hx_allow.specs.Keys.{fault_number, key_text};
 ghost use Rattle.hx_allow.specs.LineHosts.{matches_host};
 ghost use Rattle.hx_allow.specs.LineTables.{are_texts_of, is_line_host, is_line_method, is_line_origin};
 ghost use Rattle.hx_allow.specs.LineTables.{is_line_path};
-ghost use Rattle.hx_allow.specs.Matching.{policy_of, matches_method, matches_path};
+ghost use Rattle.hx_allow.specs.Matching.{line_policy, over_line, matches_method, matches_path};
 ghost use Rattle.hx_allow.specs.Matching.{origin_of, origin_address_of, verdict_of};
 ghost use Rattle.hx_allow.specs.PathTails.{path_may_match_tail, path_tail_of};
 ghost use Rattle.hx_allow.specs.NeverReached.{first_line_taking, takes_each_request_of};
@@ -337,7 +337,8 @@ pub fn worked_paths_that_match()
 pub fn the_first_line_denies()
     ensures escaped { verdict_of first_line_denies (codes "GET") (target_for_path (codes "h") (codes "/%61dmin")) ≡ DeniedBy 1 }
     ensures head { verdict_of first_line_denies (codes "HEAD") (target_for_path (codes "h") (codes "/%61dmin")) ≡ DeniedBy 1 }
-    ensures other_path { verdict_of first_line_denies (codes "GET") (target_for_path (codes "h") (codes "/admins")) ≡ Allowed 2 }
+    ensures other_path { verdict_of first_line_denies (codes "GET") (target_for_path (codes "h") (codes "/admins"))
+        ≡ Allowed (over_line 2) }
     ensures other_method { verdict_of first_line_denies (codes "POST") (target_for_path (codes "h") (codes "/x")) ≡ NoLine }
     ensures connect { verdict_of first_line_denies (codes "CONNECT") (target_for_path (codes "h") (codes "/admin")) ≡ NoLine }
     ensures no_lines { verdict_of [] (codes "GET") (target_for_path (codes "h") (codes "/x")) ≡ NoLine }
@@ -347,40 +348,45 @@ pub fn the_first_line_denies()
 #[tactic(auto, unfolding(crate::specs::Matching::verdict_of, crate::specs::Matching::matches_line))]
 pub fn several_lines_decide()
     ensures denied { verdict_of several_lines (codes "GET") (target_for_path (codes "h") (codes "/admin/x")) ≡ DeniedBy 1 }
-    ensures allowed { verdict_of several_lines (codes "GET") (target_for_path (codes "x") (codes "/admins")) ≡ Allowed 2 }
+    ensures allowed { verdict_of several_lines (codes "GET") (target_for_path (codes "x") (codes "/admins"))
+        ≡ Allowed (over_line 2) }
     ensures no_line { verdict_of several_lines (codes "GET") (target_for_path (codes "h") (codes "/b")) ≡ NoLine }
     ensures other_port { verdict_of several_lines (codes "GET") (record (target_for_path (codes "x") (codes "/b")) {
       key = record { host = codes "x"; port = 8080; path_query = codes "/b?q" };
-    }) ≡ Allowed 2 }
+    }) ≡ Allowed (over_line 2) }
 {}
 
 /// Lines of one host around one for every host: those that a host can match, and which of them decides.
 #[tactic(auto, unfolding(crate::specs::Matching::verdict_of, crate::specs::Matching::matches_line))]
 pub fn lines_of_a_host_decide()
     ensures denied { verdict_of indexed_lines (codes "GET") (target_for_path (codes "x") (codes "/p/q")) ≡ DeniedBy 1 }
-    ensures for_every_host { verdict_of indexed_lines (codes "GET") (target_for_path (codes "x") (codes "/")) ≡ Allowed 2 }
-    ensures behind_it { verdict_of indexed_lines (codes "POST") (target_for_path (codes "x") (codes "/")) ≡ Allowed 3 }
+    ensures for_every_host { verdict_of indexed_lines (codes "GET") (target_for_path (codes "x") (codes "/"))
+        ≡ Allowed (over_line 2) }
+    ensures behind_it { verdict_of indexed_lines (codes "POST") (target_for_path (codes "x") (codes "/"))
+        ≡ Allowed (over_line 3) }
     ensures other_host { verdict_of indexed_lines (codes "POST") (target_for_path (codes "y") (codes "/")) ≡ NoLine }
     ensures numbers { line_numbers_of (is_one (codes "x")) indexed_lines ≡ 1 ∷ 3 ∷ [] }
     ensures numbers_of_others { line_numbers_of (is_one (codes "y")) indexed_lines ≡ [] }
     ensures numbers_for_every_host { line_numbers_of is_every indexed_lines ≡ 2 ∷ [] }
-    ensures among { verdict_among indexed_lines (1 ∷ 2 ∷ 3 ∷ []) (codes "POST") (codes "/") NoLine ≡ Allowed 3 }
+    ensures among { verdict_among indexed_lines (1 ∷ 2 ∷ 3 ∷ []) (codes "POST") (codes "/") NoLine ≡ Allowed (over_line 3) }
     ensures among_others { verdict_among indexed_lines (2 ∷ []) (codes "POST") (codes "/") NoLine ≡ NoLine }
     ensures among_none { verdict_among indexed_lines (0 ∷ 4 ∷ []) (codes "GET") (codes "/") NoLine ≡ NoLine }
-    ensures behind_a_missing_one { verdict_among indexed_lines (4 ∷ 2 ∷ []) (codes "GET") (codes "/") NoLine ≡ Allowed 2 }
+    ensures behind_a_missing_one { verdict_among indexed_lines (4 ∷ 2 ∷ []) (codes "GET") (codes "/") NoLine
+        ≡ Allowed (over_line 2) }
     ensures among_denied { verdict_among indexed_lines (1 ∷ 2 ∷ []) (codes "GET") (codes "/p/q") NoLine ≡ DeniedBy 1 }
-    ensures in_front { verdict_among indexed_lines (2 ∷ []) (codes "GET") (codes "/") (Allowed 3) ≡ Allowed 2 }
+    ensures in_front { verdict_among indexed_lines (2 ∷ []) (codes "GET") (codes "/") (Allowed (over_line 3))
+        ≡ Allowed (over_line 2) }
     ensures found_in_front { verdict_among indexed_lines (2 ∷ []) (codes "GET") (codes "/") (DeniedBy 1) ≡ DeniedBy 1 }
-    ensures found_alone { verdict_among indexed_lines (2 ∷ []) (codes "POST") (codes "/") (Allowed 3) ≡ Allowed 3 }
+    ensures found_alone { verdict_among indexed_lines (2 ∷ []) (codes "POST") (codes "/") (Allowed (over_line 3))
+        ≡ Allowed (over_line 3) }
 {}
 
 /// Which lines are cached, and which say nothing.
-#[tactic(auto, unfolding(crate::specs::Matching::policy_of))]
 pub fn worked_lines_with_cache()
-    ensures off { policy_of line_without_cache 1 ≡ plain false }
-    ensures on { policy_of line_without_cache 2 ≡ plain true }
-    ensures behind_the_last { policy_of line_without_cache 3 ≡ plain false }
-    ensures none { policy_of first_line_denies 0 ≡ plain false }
+    ensures off { line_policy line_without_cache 1 ≡ plain false }
+    ensures on { line_policy line_without_cache 2 ≡ plain true }
+    ensures behind_the_last { line_policy line_without_cache 3 ≡ plain false }
+    ensures none { line_policy first_line_denies 0 ≡ plain false }
 {}
 
 /// The origin of a line.

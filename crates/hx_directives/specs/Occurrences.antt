@@ -8,18 +8,20 @@ use Rattle.hx_fields.specs.FieldLines.{members_of}
 use Rattle.hx_fields.specs.declared.field_line.Field.{Field}
 use Rattle.hx_directives.specs.declared.names.Directive.{Directive}
 use Rattle.hx_directives.specs.declared.names.Directive.TheVariants.{MaxAge, SMaxage, MaxStale, MinFresh, StaleIfError}
+use Rattle.hx_directives.specs.declared.names.Directive.TheVariants.{StaleWhileRevalidate}
 use Rattle.hx_directives.specs.declared.names.Directive.TheVariants.{NoCache, NoStore, OnlyIfCached, MustRevalidate}
 use Rattle.hx_directives.specs.declared.names.Directive.TheVariants.{ProxyRevalidate, MustUnderstand, Private, Public}
 use Rattle.hx_directives.specs.declared.occurrences.Occurrence.{Occurrence}
 use Rattle.hx_directives.specs.Arguments.{seconds_of_argument}
 
--- the name of each directive that a rule reads (RFC 9111, sections 5.2.1 and 5.2.2; RFC 5861, section 4)
+-- the name of each directive that a rule reads (RFC 9111, sections 5.2.1 and 5.2.2; RFC 5861, sections 3 and 4)
 abbrev pub directive_name : Directive → List ℕ
 directive_name MaxAge = codes "max-age"
 directive_name SMaxage = codes "s-maxage"
 directive_name MaxStale = codes "max-stale"
 directive_name MinFresh = codes "min-fresh"
 directive_name StaleIfError = codes "stale-if-error"
+directive_name StaleWhileRevalidate = codes "stale-while-revalidate"
 directive_name NoCache = codes "no-cache"
 directive_name NoStore = codes "no-store"
 directive_name OnlyIfCached = codes "only-if-cached"
@@ -32,7 +34,7 @@ directive_name Public = codes "public"
 abbrev pub all_directives : List Directive
 all_directives =
     MaxAge ∷ SMaxage ∷ MaxStale ∷ MinFresh ∷ StaleIfError ∷ NoCache ∷ NoStore ∷ OnlyIfCached ∷ MustRevalidate
-    ∷ ProxyRevalidate ∷ MustUnderstand ∷ Private ∷ Public ∷ []
+    ∷ ProxyRevalidate ∷ MustUnderstand ∷ Private ∷ Public ∷ StaleWhileRevalidate ∷ []
 
 -- the directive that a name spells, without case
 abbrev pub directive_of : List ℕ → Option Directive

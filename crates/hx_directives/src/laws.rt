@@ -67,13 +67,14 @@ pub fn each_directive_is_read_by_its_name()
     ensures { (d : Read) → directive_of (directive_name d) ≡ Some d }
 {}
 
-/// The names, in any case (RFC 9111, sections 5.2.1 and 5.2.2; RFC 5861, section 4), and one that no rule reads.
+/// The names, in any case (RFC 9111, sections 5.2.1 and 5.2.2; RFC 5861, sections 3 and 4), and one that no rule reads.
 pub fn names_of_directives()
     ensures max_age { directive_of (codes "max-age") ≡ Some directive.MaxAge }
     ensures s_maxage { directive_of (codes "s-maxage") ≡ Some directive.SMaxage }
     ensures max_stale { directive_of (codes "max-stale") ≡ Some directive.MaxStale }
     ensures min_fresh { directive_of (codes "min-fresh") ≡ Some directive.MinFresh }
     ensures stale_if_error { directive_of (codes "stale-if-error") ≡ Some directive.StaleIfError }
+    ensures stale_while_revalidate { directive_of (codes "stale-while-revalidate") ≡ Some directive.StaleWhileRevalidate }
     ensures no_cache { directive_of (codes "no-cache") ≡ Some directive.NoCache }
     ensures no_store { directive_of (codes "no-store") ≡ Some directive.NoStore }
     ensures only_if_cached { directive_of (codes "only-if-cached") ≡ Some directive.OnlyIfCached }

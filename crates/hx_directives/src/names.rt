@@ -7,7 +7,7 @@ ghost use Rattle.hx_directives.specs.Occurrences.{directive_of};
 
 use hx_fields::is_same_name;
 
-/// A directive of a request or a response (RFC 9111, sections 5.2.1 and 5.2.2; RFC 5861, section 4).
+/// A directive of a request or a response (RFC 9111, sections 5.2.1 and 5.2.2; RFC 5861).
 #[derive(Clone, Copy, Debug, PartialEq, Eq)]
 pub enum Directive {
     MaxAge,
@@ -15,6 +15,7 @@ pub enum Directive {
     MaxStale,
     MinFresh,
     StaleIfError,
+    StaleWhileRevalidate,
     NoCache,
     NoStore,
     OnlyIfCached,
@@ -39,6 +40,8 @@ pub fn directive_of(name: &[u8]) -> Option<Directive>
         Some(Directive::MinFresh)
     } else if is_same_name(name, b"stale-if-error") {
         Some(Directive::StaleIfError)
+    } else if is_same_name(name, b"stale-while-revalidate") {
+        Some(Directive::StaleWhileRevalidate)
     } else if is_same_name(name, b"no-cache") {
         Some(Directive::NoCache)
     } else if is_same_name(name, b"no-store") {

@@ -12,7 +12,7 @@ mod digits;
 mod field_line;
 mod field_lines;
 mod folded_names;
-mod laws;
+pub mod laws;
 mod limits;
 mod member_list;
 mod tokens;
@@ -23,10 +23,6 @@ pub use crate::digits::{digit_value, number_up_to};
 pub use crate::field_line::Field;
 pub use crate::field_lines::Fields;
 pub use crate::folded_names::FoldedName;
-pub use crate::laws::{
-    a_text_is_cut_at_the_first_of_a_byte, members_are_cut_outside_quotes,
-    one_line_has_the_only_value, values_are_joined,
-};
 pub use crate::limits::END_OF_TIME;
 pub use crate::member_list::Members;
 pub use crate::tokens::is_token;

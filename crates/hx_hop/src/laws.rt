@@ -24,7 +24,7 @@ ghost use Rattle.hx_hop.specs.PassedOnFields.{OtherPortsAreWritten, KeptConditio
 ghost use Rattle.hx_hop.specs.PassedOnFields.{ViaShowsTheVersion, ConnectionClosesWhereAsked, ConnectionStaysOpen};
 ghost use Rattle.hx_hop.specs.PassedOnFields.{StatusIsKept};
 
-use hx_target::a_target_is_judged_in_one_way;
+use hx_target::laws::a_target_is_judged_in_one_way;
 
 /// A request is asked in one way.
 pub fn a_request_is_asked_in_one_way()

@@ -14,11 +14,13 @@ plain caches = record {
   error_lifetime = None;
   lifetime_most = None;
   stale_if_error = None;
+  stale_while_revalidate = None;
   stores_cookies = true;
   gives_to_cookies = true;
   stores_errors = true;
   heeds_requests = true;
   waits_for_stale = false;
+  sends_while_revalidating = false;
   explains_storing = false;
   forwards_conditions = true;
 }

@@ -5,8 +5,8 @@ ghost use Rattle.hx_policy.specs.Policies.{plain, is_heuristic, given_lifetime};
 ghost use Rattle.hx_policy.specs.declared.words.Policy.{Policy as Words};
 
 /// A line that has no word gives no lifetime and no stale-if-error, takes each stated lifetime as it is, stores and
-/// heeds what the written rules say, lets nobody wait for what is stale, tells no storing rule, and leaves the
-/// conditions of clients to the origin.
+/// heeds what the written rules say, lets nobody wait for what is stale nor be sent it meanwhile, tells no storing
+/// rule, and leaves the conditions of clients to the origin.
 pub fn a_plain_policy_has_no_words()
     ensures caches { (caches : Bool) → (plain caches).caches ≡ caches }
     ensures lifetime { (caches : Bool) (status : ℕ) → given_lifetime (plain caches) status ≡ None }
@@ -17,6 +17,8 @@ pub fn a_plain_policy_has_no_words()
     ensures errors { (caches : Bool) → (plain caches).stores_errors ≡ true }
     ensures requests { (caches : Bool) → (plain caches).heeds_requests ≡ true }
     ensures waiting { (caches : Bool) → (plain caches).waits_for_stale ≡ false }
+    ensures revalidating { (caches : Bool) → (plain caches).sends_while_revalidating ≡ false }
+    ensures while_revalidating { (caches : Bool) → (plain caches).stale_while_revalidate ≡ None }
     ensures storing { (caches : Bool) → (plain caches).explains_storing ≡ false }
     ensures conditions { (caches : Bool) → (plain caches).forwards_conditions ≡ true }
 {}

@@ -5,13 +5,8 @@
 #![tactic(auto)]
 
 mod heuristics;
-mod laws;
+pub mod laws;
 mod words;
 
 pub use crate::heuristics::is_heuristic;
-pub use crate::laws::{
-    a_lifetime_is_given_to_heuristic_statuses_alone, a_plain_policy_has_no_words,
-    other_statuses_are_not, statuses_are_heuristically_cacheable,
-    without_a_word_of_errors_all_are_given_one_lifetime, worked_lifetimes_of_statuses,
-};
 pub use crate::words::Policy;

@@ -5,7 +5,7 @@ ghost use Rattle.hx_policy.specs.Policies.{plain, given_lifetime};
 use crate::heuristics::{is_error, is_heuristic};
 
 /// What a line says of caching. Each word but the first needs version 3 of the table, those of errors, of the most
-/// seconds, of the cookies of requests and of conditions version 4.
+/// seconds, of the cookies of requests, of conditions, and of what is sent while it is validated version 4.
 #[derive(Clone, Copy, Debug, PartialEq, Eq)]
 pub struct Policy {
     /// Requests may be answered from the store, and their responses stored.
@@ -21,6 +21,9 @@ pub struct Policy {
     /// The stale-if-error of a response, in seconds, where neither the response nor the request has that directive (RFC
     /// 5861, section 4).
     pub stale_if_error: Option<u32>,
+    /// The stale-while-revalidate of a response, in seconds, where it doesn't have that directive (RFC 5861, section
+    /// 3).
+    pub stale_while_revalidate: Option<u32>,
     /// A response with Set-Cookie is stored though it has no public (RFC 9111, section 7.3).
     pub stores_cookies: bool,
     /// The lifetimes of the line are also given to the response to a request with Cookie or Authorization. Else such a
@@ -34,6 +37,9 @@ pub struct Policy {
     /// which nothing is held does; and a request whose own answer may not be stored leads nobody
     /// (RFC 9111, section 4).
     pub waits_for_stale: bool,
+    /// While a GET is at the origin for a stale response, others that would wait for it are sent that response, for as
+    /// long as it or the line says (RFC 5861, section 3).
+    pub sends_while_revalidating: bool,
     /// An answer that is passed on, isn't stored and tells no other detail tells the first storing
     /// rule against it (RFC 9211, section 2.8).
     pub explains_storing: bool,
@@ -53,11 +59,13 @@ impl Policy {
             error_lifetime: None,
             lifetime_most: None,
             stale_if_error: None,
+            stale_while_revalidate: None,
             stores_cookies: true,
             gives_to_cookies: true,
             stores_errors: true,
             heeds_requests: true,
             waits_for_stale: false,
+            sends_while_revalidating: false,
             explains_storing: false,
             forwards_conditions: true,
         }

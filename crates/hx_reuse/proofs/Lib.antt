@@ -10,5 +10,6 @@ pub mod OnErrorLemmas
 pub mod PromiseLemmas
 pub mod WordLemmas
 pub mod LineLemmas
+pub mod WhileRevalidatingLemmas
 pub mod TableLemmas
 pub mod KeptConditions

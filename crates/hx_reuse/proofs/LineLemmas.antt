@@ -269,7 +269,7 @@ module _ (policy : Policy) (held : List Stored) (asked other : Asked) (now : ℕ
 -- ---- a staleness after an error
 
 -- a directive that doesn't occur has no argument
-none_occurs : (found : List Occurrence) (d : Directive) → directive_occurs found d ≡ false → filter (λ o. is_same_directive o.directive d) found ≡ []
+pub none_occurs : (found : List Occurrence) (d : Directive) → directive_occurs found d ≡ false → filter (λ o. is_same_directive o.directive d) found ≡ []
 none_occurs [] d h = refl
 none_occurs (o ∷ more) d h = at (is_same_directive o.directive d) h (none_occurs more d)
   where

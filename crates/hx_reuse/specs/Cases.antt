@@ -115,6 +115,13 @@ stale_if_error_policy n = record (plain true) { stale_if_error = Some n }
 abbrev pub ignore_directives_policy : Policy
 ignore_directives_policy = record (plain true) { heeds_requests = false }
 
+-- one that sends what is stale while it is validated, without a limit of its own and with one
+abbrev pub revalidating_policy : Policy
+revalidating_policy = record (plain true) { waits_for_stale = true; sends_while_revalidating = true }
+
+abbrev pub stale_while_revalidate_policy : ℕ → Policy
+stale_while_revalidate_policy n = record revalidating_policy { stale_while_revalidate = Some n }
+
 -- and one that keeps the conditions of clients
 abbrev pub keep_conditions_policy : Policy
 keep_conditions_policy = record (plain true) { forwards_conditions = false }

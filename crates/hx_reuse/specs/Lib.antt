@@ -7,6 +7,7 @@ pub mod ChosenAndNamed
 pub mod Reusable
 pub mod OnError
 pub mod Promises
+pub mod WhileRevalidating
 pub mod PlainLines
 pub mod LineWordsInReuse
 pub mod RuleTables

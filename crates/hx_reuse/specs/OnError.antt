@@ -76,12 +76,12 @@ abbrev pub NothingElseIsSentOnError : Type 0
 NothingElseIsSentOnError = (policy : Policy) (response : Stored) (request : List Occurrence) (now : ℕ) →
     error_rule_on policy response request now ≡ None → ResponseMayBeSentOnError policy response request now
 
-abbrev pub LeastErrorRuleIsNamed : Type 0
-LeastErrorRuleIsNamed = (policy : Policy) (response : Stored) (request : List Occurrence) (now : ℕ)
+abbrev pub NamedErrorRuleIsLeast : Type 0
+NamedErrorRuleIsLeast = (policy : Policy) (response : Stored) (request : List Occurrence) (now : ℕ)
     (least : ErrorRule) →
     error_rule_on policy response request now ≡ Some least → IsLeastErrorRule policy response request now least
 
-abbrev pub NamedErrorRuleApplies : Type 0
-NamedErrorRuleApplies =
+abbrev pub LeastErrorRuleIsNamed : Type 0
+LeastErrorRuleIsNamed =
     (policy : Policy) (response : Stored) (request : List Occurrence) (now : ℕ) (least : ErrorRule) →
     IsLeastErrorRule policy response request now least → error_rule_on policy response request now ≡ Some least

@@ -1,5 +1,5 @@
-//! What the definitions that `decide` and `may_serve_on_error` are held to say of every list of held responses, request
-//! and moment.
+//! What the definitions that `decide`, `may_serve_on_error` and `may_serve_while_revalidating` are held to say of every
+//! list of held responses, request and moment.
 ghost use Rattle.hx_reuse.specs.ChosenAndNamed.{PreferredIsChosen, ChosenHasAVaryWhereOneHas, ChosenByDate};
 ghost use Rattle.hx_reuse.specs.ChosenAndNamed.{OneIsChosenWhereOneCan, NoOtherIsChosen};
 ghost use Rattle.hx_reuse.specs.ChosenAndNamed.{WhatMayBeSentIsSent, NothingElseIsSent, SentResponseIsHeld};
@@ -9,8 +9,8 @@ ghost use Rattle.hx_reuse.specs.ChosenAndNamed.{WordsOfReuseRulesDiffer, WordsOf
 ghost use Rattle.hx_reuse.specs.Conditions.{ConditionsOfACacheableGetStay, NoOtherConditionsStay};
 ghost use Rattle.hx_reuse.specs.Conditions.{PlainLineKeepsNoConditions};
 ghost use Rattle.hx_reuse.specs.Reusable.{WhatMayBeReusedIsReused, NothingElseIsReused};
-ghost use Rattle.hx_reuse.specs.OnError.{WhatMayBeSentOnErrorIsSent, NothingElseIsSentOnError, LeastErrorRuleIsNamed};
-ghost use Rattle.hx_reuse.specs.OnError.{NamedErrorRuleApplies};
+ghost use Rattle.hx_reuse.specs.OnError.{WhatMayBeSentOnErrorIsSent, NothingElseIsSentOnError, NamedErrorRuleIsLeast};
+ghost use Rattle.hx_reuse.specs.OnError.{LeastErrorRuleIsNamed};
 ghost use Rattle.std.specs.Prelude.{◌≡◌, Some, None, codes};
 ghost use Rattle.hx_reuse.specs.declared.rule.ReuseRule.TheVariants as rule;
 ghost use Rattle.hx_reuse.specs.declared.rule.ErrorRule.TheVariants as on_error;
@@ -30,12 +30,26 @@ ghost use Rattle.hx_reuse.specs.Promises.{NoVariantOfAnotherRequestIsSent, NoOth
 ghost use Rattle.hx_reuse.specs.Promises.{NeverSentStaleWhereForbidden};
 ghost use Rattle.hx_reuse.specs.Promises.{NeverOutlastsItsStatedLifetime, NeverSentUnvalidatedWithNoCache};
 ghost use Rattle.hx_reuse.specs.Promises.{NeverSentOnErrorWhereForbidden};
+ghost use Rattle.hx_reuse.specs.WhileRevalidating.{WhatMayBeIsSentWhileRevalidating};
+ghost use Rattle.hx_reuse.specs.WhileRevalidating.{NothingElseIsSentWhileRevalidating};
+ghost use Rattle.hx_reuse.specs.WhileRevalidating.{NeverSentWhileRevalidatingWhereForbidden};
+ghost use Rattle.hx_reuse.specs.WhileRevalidating.{NothingIsSentWithoutALimit};
+ghost use Rattle.hx_reuse.specs.WhileRevalidating.{PlainLineSendsNothingWhileRevalidating, StatedLimitIsUnchanged};
 ghost use Rattle.hx_reuse.specs.RuleTables.{ReuseRulesAreInOrder, EachReuseRuleIsListed, ReuseRulesAreInGroups};
 ghost use Rattle.hx_reuse.specs.RuleTables.{RulesOnChosenNameTheResponse, RulesOnChosenApplyToIt};
 ghost use Rattle.hx_reuse.specs.RuleTables.{OtherRulesHaveNoCondition};
 ghost use Rattle.hx_reuse.specs.RuleTables.{ErrorRulesAreInOrder, EachErrorRuleIsListed};
 
-use hx_vary::kept_is_enough;
+pub use crate::worked_cases::{
+    a_variant_comes_before_the_default, age_equal_to_lifetime_is_stale, bypass_rules_in_order,
+    least_error_rule, least_reuse_rule, line_without_cache, minute_after_an_error, minute_at_most,
+    minute_from_the_line, moment_goes_backwards, no_lifetime_is_only_validated,
+    of_two_alike_the_later_comes_first, reload_is_ignored, request_max_age_and_only_if_cached,
+    seconds_of_errors, stale_if_error_of_request, stale_if_error_of_response,
+    stale_while_revalidate_of_line, stale_while_revalidate_of_response, vary_values_are_compared,
+    whose_condition_stays,
+};
+use hx_vary::laws::kept_is_enough;
 
 /// The chosen response is held, has the request's key and nominated values, and none that has is
 /// preferred to it: it has a Vary where one of them has, and of those that are like it in this none
@@ -86,8 +100,8 @@ pub fn sent_on_error_where_it_may_be()
 
 /// The rule that is named after an error stands, and none of a smaller number does.
 pub fn the_least_error_rule_is_named()
-    ensures least { LeastErrorRuleIsNamed }
-    ensures every { NamedErrorRuleApplies }
+    ensures least { NamedErrorRuleIsLeast }
+    ensures every { LeastErrorRuleIsNamed }
 {}
 
 /// A response that is sent without the origin was asked for with the values that the request has of
@@ -106,12 +120,13 @@ pub fn no_other_requests_variant_is_sent()
 
 /// Whatever a request and the operator's line say, a response with must-revalidate,
 /// proxy-revalidate or s-maxage is never sent stale, and one with no-cache never unvalidated; after
-/// an error neither is sent.
+/// an error, or while one asks the origin about it, neither is sent.
 pub fn what_has_to_be_validated_is()
     ensures stale { NeverSentStaleWhereForbidden }
     ensures stated { NeverOutlastsItsStatedLifetime }
     ensures no_cache { NeverSentUnvalidatedWithNoCache }
     ensures error { NeverSentOnErrorWhereForbidden }
+    ensures while_revalidating { NeverSentWhileRevalidatingWhereForbidden }
 {}
 
 /// With a line that has no words nothing is asked but what the standards' conditions say, and a
@@ -122,6 +137,7 @@ pub fn default_policy_changes_nothing()
     ensures decision { PlainLineDecidesTheSame }
     ensures error_rules { PlainLineAsksTheSameOnError }
     ensures leave { PlainLinePermitsTheSameOnError }
+    ensures while_revalidating { PlainLineSendsNothingWhileRevalidating }
     ensures conditions { PlainLineKeepsNoConditions }
 {}
 
@@ -168,6 +184,20 @@ pub fn the_operators_stale_if_error_counts()
     ensures within { OperatorsStaleLimitAllows }
     ensures past { OperatorsStaleLimitEnds }
     ensures stated { StatedStaleLimitIsUnchanged }
+{}
+
+/// While one asks the origin about it a stale response is sent exactly where RFC 5861, section 3 lets it be, over a
+/// line that says so, it doesn't forbid that and the request takes it.
+pub fn sent_while_revalidating_where_it_may_be()
+    ensures every { WhatMayBeIsSentWhileRevalidating }
+    ensures only { NothingElseIsSentWhileRevalidating }
+{}
+
+/// The staleness that a line allows meanwhile counts where the response doesn't have stale-while-revalidate, and
+/// changes nothing where it has; where neither says one nothing is sent.
+pub fn the_operators_stale_while_revalidate_counts()
+    ensures without { NothingIsSentWithoutALimit }
+    ensures stated { StatedLimitIsUnchanged }
 {}
 
 /// Each rule is listed once, in the order of the numbers. Those on the chosen response are named with it, and each of

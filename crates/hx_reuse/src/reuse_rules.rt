@@ -48,7 +48,7 @@ pub(crate) fn asks_to_validate(policy: Policy, request: &Directives) -> bool
 }
 
 /// Whether an age is above a request's max-age, where the operator's line heeds it.
-fn is_above_max_age(policy: Policy, age: u32, request: &Directives) -> bool
+pub(crate) fn is_above_max_age(policy: Policy, age: u32, request: &Directives) -> bool
     ensures { result
         ≡ (policy.heeds_requests && is_some_and (λ most. nat_lt most age) (first_valid request.now MaxAge)) }
 {
@@ -82,13 +82,13 @@ fn is_below_min_fresh_of(lifetime: Lifetime, age: u32, request: &Directives) -> 
 }
 
 /// Whether a request has min-fresh, where the operator's line heeds it.
-fn asks_for_freshness(policy: Policy, request: &Directives) -> bool
+pub(crate) fn asks_for_freshness(policy: Policy, request: &Directives) -> bool
     ensures { result ≡ (policy.heeds_requests && is_some (first_valid request.now MinFresh)) }
 {
     policy.heeds_requests && request.first_valid(Directive::MinFresh).is_some()
 }
 
-fn is_past_limit(lifetime: Lifetime, age: u32, request: &Directives) -> bool
+pub(crate) fn is_past_limit(lifetime: Lifetime, age: u32, request: &Directives) -> bool
     ensures { result ≡ is_past_max_stale (staleness_of lifetime age) (max_stale request.now) }
 {
     match request.max_stale() {

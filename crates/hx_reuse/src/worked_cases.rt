@@ -1,6 +1,6 @@
 //! What the rules give on worked cases, computed from the definitions: each function's contract is the cases, and its
 //! body is empty.
-#![tactic(auto, unfolding(crate::specs::Rules::reuse_rule_of, crate::specs::Rules::decision_of, crate::specs::ErrorRules::error_rule_on))]
+#![tactic(auto, unfolding(crate::specs::Rules::reuse_rule_of, crate::specs::Rules::decision_of, crate::specs::ErrorRules::error_rule_on, crate::specs::WhileRevalidating::may_be_sent_while_revalidating))]
 
 ghost use Rattle.std.specs.Prelude.{◌≡◌, ◌∷◌, [], Some, None, Ok, Err, true, false, codes};
 ghost use Rattle.hx_fields.specs.Examples.{line};
@@ -10,6 +10,8 @@ ghost use Rattle.hx_policy.specs.Policies.{plain};
 ghost use Rattle.hx_reuse.specs.Conditions.{keeps_conditions, forwards_condition};
 ghost use Rattle.hx_reuse.specs.Rules.{decision_of, reuse_rule_of};
 ghost use Rattle.hx_reuse.specs.ErrorRules.{permission_on_error, error_rule_of};
+ghost use Rattle.hx_reuse.specs.WhileRevalidating.{may_be_sent_while_revalidating};
+ghost use Rattle.hx_reuse.specs.Cases.{revalidating_policy, stale_while_revalidate_policy};
 ghost use Rattle.hx_reuse.specs.Cases.{cache_control_fields, accept_language, get_a_with, get_b, get_a_with_content};
 ghost use Rattle.hx_reuse.specs.Cases.{stored_at, stored_with_cache_control, one_held_with_cache_control};
 ghost use Rattle.hx_reuse.specs.Cases.{one_held_in_german, one_held_with_etag, request_directives, lifetime_policy};
@@ -329,6 +331,87 @@ pub fn minute_after_an_error()
     ensures with_a_lifetime { permission_on_error (record (stale_if_error_policy 60) { lifetime = Some 10 })
         (stored_with_status 200 []) [] 70
         ≡ Ok tt }
+{}
+
+/// Of ten minutes and thirty seconds more, the example of RFC 5861, section 3, while a GET is at the origin for it:
+/// fresh, stale by 0, by 30 and by 31; with what forbids it, and to requests that don't take it.
+pub fn stale_while_revalidate_of_response()
+    ensures fresh { may_be_sent_while_revalidating revalidating_policy
+        (stored_with_cache_control (codes "max-age=600, stale-while-revalidate=30")) [] 599 ≡ false }
+    ensures just_stale { may_be_sent_while_revalidating revalidating_policy
+        (stored_with_cache_control (codes "max-age=600, stale-while-revalidate=30")) [] 600 ≡ true }
+    ensures within { may_be_sent_while_revalidating revalidating_policy
+        (stored_with_cache_control (codes "max-age=600, stale-while-revalidate=30")) [] 630 ≡ true }
+    ensures past { may_be_sent_while_revalidating revalidating_policy
+        (stored_with_cache_control (codes "max-age=600, stale-while-revalidate=30")) [] 631 ≡ false }
+    ensures without { may_be_sent_while_revalidating revalidating_policy
+        (stored_with_cache_control (codes "max-age=600")) [] 600 ≡ false }
+    ensures over_a_plain_line { may_be_sent_while_revalidating (plain true)
+        (stored_with_cache_control (codes "max-age=600, stale-while-revalidate=30")) [] 630 ≡ false }
+    ensures twice { may_be_sent_while_revalidating revalidating_policy
+        (stored_with_cache_control (codes "max-age=600, stale-while-revalidate=30, stale-while-revalidate=30")) [] 630
+        ≡ false }
+    ensures without_seconds { may_be_sent_while_revalidating revalidating_policy
+        (stored_with_cache_control (codes "max-age=600, stale-while-revalidate")) [] 600 ≡ false }
+    ensures no_cache { may_be_sent_while_revalidating revalidating_policy
+        (stored_with_cache_control (codes "max-age=600, stale-while-revalidate=30, no-cache")) [] 630 ≡ false }
+    ensures must_revalidate { may_be_sent_while_revalidating revalidating_policy
+        (stored_with_cache_control (codes "max-age=600, stale-while-revalidate=30, must-revalidate")) [] 630 ≡ false }
+    ensures proxy_revalidate { may_be_sent_while_revalidating revalidating_policy
+        (stored_with_cache_control (codes "max-age=600, stale-while-revalidate=30, proxy-revalidate")) [] 630 ≡ false }
+    ensures s_maxage { may_be_sent_while_revalidating revalidating_policy
+        (stored_with_cache_control (codes "s-maxage=600, stale-while-revalidate=30")) [] 630 ≡ false }
+    ensures no_lifetime { may_be_sent_while_revalidating revalidating_policy
+        (stored_with_cache_control (codes "stale-while-revalidate=30")) [] 1 ≡ false }
+    ensures to_no_cache { may_be_sent_while_revalidating revalidating_policy
+        (stored_with_cache_control (codes "max-age=600, stale-while-revalidate=30")) (request_directives (codes "no-cache"))
+        630 ≡ false }
+    ensures to_max_age { may_be_sent_while_revalidating revalidating_policy
+        (stored_with_cache_control (codes "max-age=600, stale-while-revalidate=30"))
+        (request_directives (codes "max-age=629")) 630 ≡ false }
+    ensures to_a_longer_max_age { may_be_sent_while_revalidating revalidating_policy
+        (stored_with_cache_control (codes "max-age=600, stale-while-revalidate=30"))
+        (request_directives (codes "max-age=630")) 630 ≡ true }
+    ensures to_min_fresh { may_be_sent_while_revalidating revalidating_policy
+        (stored_with_cache_control (codes "max-age=600, stale-while-revalidate=30"))
+        (request_directives (codes "min-fresh=0")) 630 ≡ false }
+    ensures to_max_stale { may_be_sent_while_revalidating revalidating_policy
+        (stored_with_cache_control (codes "max-age=600, stale-while-revalidate=30"))
+        (request_directives (codes "max-stale=29")) 630 ≡ false }
+    ensures to_a_longer_max_stale { may_be_sent_while_revalidating revalidating_policy
+        (stored_with_cache_control (codes "max-age=600, stale-while-revalidate=30"))
+        (request_directives (codes "max-stale=31")) 631 ≡ false }
+    ensures not_heeded { may_be_sent_while_revalidating (record revalidating_policy { heeds_requests = false })
+        (stored_with_cache_control (codes "max-age=600, stale-while-revalidate=30"))
+        (request_directives (codes "no-cache, max-age=0, min-fresh=1")) 630 ≡ true }
+{}
+
+/// Under a line that allows a minute, of ten seconds: stale by 60 and by 61, with a limit of its own, and one that
+/// can't be read; without a lifetime but the line's; and over one that doesn't send so.
+pub fn stale_while_revalidate_of_line()
+    ensures within { may_be_sent_while_revalidating (stale_while_revalidate_policy 60)
+        (stored_with_cache_control (codes "max-age=10")) [] 70 ≡ true }
+    ensures past { may_be_sent_while_revalidating (stale_while_revalidate_policy 60)
+        (stored_with_cache_control (codes "max-age=10")) [] 71 ≡ false }
+    ensures its_own { may_be_sent_while_revalidating (stale_while_revalidate_policy 60)
+        (stored_with_cache_control (codes "max-age=10, stale-while-revalidate=5")) [] 16 ≡ false }
+    ensures its_own_is_longer { may_be_sent_while_revalidating (stale_while_revalidate_policy 60)
+        (stored_with_cache_control (codes "max-age=10, stale-while-revalidate=90")) [] 100 ≡ true }
+    ensures unreadable { may_be_sent_while_revalidating (stale_while_revalidate_policy 60)
+        (stored_with_cache_control (codes "max-age=10, stale-while-revalidate=x")) [] 20 ≡ false }
+    ensures must_revalidate { may_be_sent_while_revalidating (stale_while_revalidate_policy 60)
+        (stored_with_cache_control (codes "max-age=10, must-revalidate")) [] 20 ≡ false }
+    ensures of_the_lines_lifetime { may_be_sent_while_revalidating
+        (record (stale_while_revalidate_policy 60) { lifetime = Some 10 }) (stored_with_status 200 []) [] 70 ≡ true }
+    ensures no_second { may_be_sent_while_revalidating (stale_while_revalidate_policy 0)
+        (stored_with_cache_control (codes "max-age=10")) [] 10 ≡ true }
+    ensures past_no_second { may_be_sent_while_revalidating (stale_while_revalidate_policy 0)
+        (stored_with_cache_control (codes "max-age=10")) [] 11 ≡ false }
+    ensures another_word { may_be_sent_while_revalidating (record revalidating_policy { stale_if_error = Some 60 })
+        (stored_with_cache_control (codes "max-age=10, stale-if-error=60")) [] 20 ≡ false }
+    ensures over_a_line_that_does_not { may_be_sent_while_revalidating
+        (record (stale_while_revalidate_policy 60) { sends_while_revalidating = false })
+        (stored_with_cache_control (codes "max-age=10")) [] 20 ≡ false }
 {}
 
 /// Conditions of clients over a line that keeps those of a GET that a stored response could answer: which stay, and

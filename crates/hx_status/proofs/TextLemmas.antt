@@ -11,15 +11,15 @@ use Rattle.hx_target.specs.declared.target_fault.TargetFault.{TargetFault}
 use Rattle.hx_target.specs.declared.target_fault.TargetFault.TheVariants as target
 use Rattle.hx_status.specs.declared.cause.FailKind.{FailKind}
 use Rattle.hx_status.specs.declared.cause.FailKind.TheVariants as kind
-use Rattle.hx_status.specs.Refusals.{CauseIsOfTheTable, frame_word, fail_kind_word, reuse_rule_text, refusal_status, target_word}
+use Rattle.hx_status.specs.Refusals.{CauseIsOfTheTable, frame_word, fail_kind_word, fwd_parameters_of_rule, refusal_status, target_word}
 use Rattle.hx_status.specs.declared.cause.Cause.{Cause}
 use Rattle.hx_status.specs.declared.cause.Cause.TheVariants.{Denied, NoLine, Looped, OnlyIfCached, Origin, Frame, Target}
 
 -- the rule that has this text
 named_by : List ℕ → Option ReuseRule
-named_by text = find (λ r. bytes_eq (reuse_rule_text r) text) reuse_rules
+named_by text = find (λ r. bytes_eq (fwd_parameters_of_rule r) text) reuse_rules
 
-named : (r : ReuseRule) → named_by (reuse_rule_text r) ≡ Some r
+named : (r : ReuseRule) → named_by (fwd_parameters_of_rule r) ≡ Some r
 unfolding named_by
 named Operator = refl
 named Method = refl
@@ -43,7 +43,7 @@ named StaleMinFresh = refl
 same_rule : (r q : ReuseRule) → ◌≡◌ {A = Option ReuseRule} (Some r) (Some q) → r ≡ q
 same_rule r q h = cc
 
-pub texts_differ : (r q : ReuseRule) → reuse_rule_text r ≡ reuse_rule_text q → r ≡ q
+pub texts_differ : (r q : ReuseRule) → fwd_parameters_of_rule r ≡ fwd_parameters_of_rule q → r ≡ q
 texts_differ r q h = same_rule r q (sym (named r) ∙ ap named_by h ∙ named q)
 
 every_frame : List FrameFault

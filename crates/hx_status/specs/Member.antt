@@ -12,6 +12,7 @@ use Rattle.hx_status.specs.declared.status.How.{How}
 use Rattle.hx_status.specs.declared.status.How.TheVariants.{Hit, Fwd}
 use Rattle.hx_status.specs.declared.status.Detail.{Detail}
 use Rattle.hx_status.specs.declared.status.Detail.TheVariants.{StaleIfError, ReuseAfterError, ReuseAfter304}
+use Rattle.hx_status.specs.declared.status.Detail.TheVariants.{SessionCookie, StaleWhileRevalidate}
 use Rattle.hx_status.specs.declared.status.Status.{Status}
 
 -- a stored response that no rule forbade, or the reason for going forward (RFC 9211, sections 2.1 and 2.2)
@@ -34,11 +35,14 @@ abbrev pub flag_text : Bool → List ℕ → List ℕ
 flag_text true text = text
 flag_text false text = []
 
--- the words of steps that sent a stored response after all
+-- the words of steps that sent a stored response after all, or while it is validated, and of a request that its cookie
+-- kept from the store
 abbrev pub detail_word : Detail → List ℕ
 detail_word StaleIfError = codes "stale-if-error"
 detail_word ReuseAfterError = codes "reuse-after-error"
 detail_word ReuseAfter304 = codes "reuse-after-304"
+detail_word StaleWhileRevalidate = codes "stale-while-revalidate"
+detail_word SessionCookie = codes "cookie"
 
 abbrev pub detail_of_rule : How → Option (List ℕ)
 detail_of_rule Hit = None

@@ -21,8 +21,8 @@ use Rattle.hx_status.specs.declared.cause.Cause.TheVariants.{Denied, NoLine, Loo
 use Rattle.hx_status.specs.declared.cause.Cause.TheVariants.{Target}
 
 -- reason and detail of a reuse rule, as in Cache-Status
-abbrev pub reuse_rule_text : ReuseRule → List ℕ
-reuse_rule_text rule = codes ";fwd=" ++ reuse_rule_reason rule ++ detail_word_text (reuse_rule_detail rule)
+abbrev pub fwd_parameters_of_rule : ReuseRule → List ℕ
+fwd_parameters_of_rule rule = codes ";fwd=" ++ reuse_rule_reason rule ++ detail_word_text (reuse_rule_detail rule)
 
 abbrev pub fail_kind_word : FailKind → List ℕ
 fail_kind_word Refused = codes "refused"
@@ -37,7 +37,7 @@ error_rule_text (Some rule) = codes ";stale-if-error=" ++ error_rule_word rule
 
 -- how the origin failed, and the rules against a stored response
 abbrev pub origin_text : FailKind → ReuseRule → Option ErrorRule → List ℕ
-origin_text kind rule error = codes "origin " ++ fail_kind_word kind ++ reuse_rule_text rule ++ error_rule_text error
+origin_text kind rule error = codes "origin " ++ fail_kind_word kind ++ fwd_parameters_of_rule rule ++ error_rule_text error
 
 -- 502 Bad Gateway, 504 Gateway Timeout (RFC 9110, sections 15.6.3 and 15.6.5)
 abbrev pub origin_status : FailKind → ℕ
@@ -110,14 +110,15 @@ abbrev pub refusal_text : Cause → List ℕ
 refusal_text (Denied line) = codes "denied by line " ++ decimal line
 refusal_text NoLine = codes "no line allows it"
 refusal_text (Looped line) = codes "loop refused by line " ++ decimal line
-refusal_text (OnlyIfCached rule) = codes "only-if-cached" ++ reuse_rule_text rule
+refusal_text (OnlyIfCached rule) = codes "only-if-cached" ++ fwd_parameters_of_rule rule
 refusal_text (Origin kind rule error) = origin_text kind rule error
 refusal_text (Frame fault) = codes "refused: " ++ frame_word fault
 refusal_text (Target fault) = codes "refused: " ++ target_word fault
 
 -- no two reuse rules are named by the same text, in a refusal as in Cache-Status
 abbrev pub TextsOfRulesDiffer : Type 0
-TextsOfRulesDiffer = (rule other : ReuseRule) → reuse_rule_text rule ≡ reuse_rule_text other → rule ≡ other
+TextsOfRulesDiffer =
+    (rule other : ReuseRule) → fwd_parameters_of_rule rule ≡ fwd_parameters_of_rule other → rule ≡ other
 
 -- no two faults of messages have one word, nor two faults of targets, nor two ways in which an origin fails
 abbrev pub FrameWordsDiffer : Type 0

@@ -70,6 +70,8 @@ fn word(detail: Detail) -> &'static str
         Detail::StaleIfError => "stale-if-error",
         Detail::ReuseAfterError => "reuse-after-error",
         Detail::ReuseAfter304 => "reuse-after-304",
+        Detail::StaleWhileRevalidate => "stale-while-revalidate",
+        Detail::SessionCookie => "cookie",
     }
 }
 

@@ -3,6 +3,14 @@ ghost use Rattle.hx_status.specs.Member.{NotStoredNamesTheRule};
 ghost use Rattle.hx_status.specs.Refusals.{FrameWordsDiffer, FailKindWordsDiffer, OnlyTheTableForbids, OnlyALoopHas508};
 ghost use Rattle.hx_status.specs.Refusals.{TargetWordsDiffer, TextsOfRulesDiffer, TheTableForbids};
 
+pub use crate::worked_cases::{
+    bypass_rules_in_order, failed_origins, least_reuse_rule, line_without_cache,
+    no_lifetime_is_only_validated, refused_messages, refused_targets, second_request_waits,
+    stale_if_error_of_request, stale_if_error_of_response, stale_while_revalidate,
+    statuses_of_refused_messages, statuses_of_refused_targets, stored_comes_before_collapsed,
+    storing_rules_are_named, worked_texts,
+};
+
 /// No two reuse rules are named by the same text, in a refusal as in Cache-Status.
 pub fn texts_name_the_rule()
     ensures { TextsOfRulesDiffer }

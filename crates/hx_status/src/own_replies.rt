@@ -1,6 +1,6 @@
 //! The proxy's own answers.
 ghost use Rattle.std.specs.Prelude.{◌≡◌, ◌++◌, IfOk, OnOk};
-ghost use Rattle.hx_status.specs.Refusals.{refusal_status, refusal_text, reuse_rule_text, error_rule_text};
+ghost use Rattle.hx_status.specs.Refusals.{refusal_status, refusal_text, fwd_parameters_of_rule, error_rule_text};
 ghost use Rattle.hx_status.specs.Refusals.{fail_kind_word, origin_text};
 ghost use Rattle.hx_status.specs.Refusals.{origin_status, frame_word, frame_status, target_word, target_status};
 
@@ -93,7 +93,7 @@ fn refusal_status(cause: Cause) -> u16
 }
 
 fn push_rule(out: &mut Vec<u8>, rule: ReuseRule) -> Result<(), AllocError>
-    ensures { OnOk result (out.new.items ≡ out.old.items ++ reuse_rule_text rule) }
+    ensures { OnOk result (out.new.items ≡ out.old.items ++ fwd_parameters_of_rule rule) }
 {
     out.extend_from_slice(b";fwd=")?;
     out.extend_from_slice(rule.reason().as_bytes())?;

@@ -11,7 +11,8 @@ pub enum How {
     Fwd(ReuseRule),
 }
 
-/// Why a stored response was sent though the request had gone forward.
+/// What is told in place of the rule's detail: why a stored response was sent though the request had gone forward, or
+/// though it was stale; or why the operator keeps the request from the store.
 #[derive(Clone, Copy, Debug, PartialEq, Eq)]
 pub enum Detail {
     /// The origin failed, and stale-if-error allows it (RFC 5861, section 4).
@@ -20,6 +21,10 @@ pub enum Detail {
     ReuseAfterError,
     /// A 304 validated nothing that is held, and no reuse rule stands any more.
     ReuseAfter304,
+    /// A GET is at the origin for it, and stale-while-revalidate allows it (RFC 5861, section 3).
+    StaleWhileRevalidate,
+    /// The request has a cookie with which its line lets it go past the store.
+    SessionCookie,
 }
 
 /// How a request was handled (RFC 9211, section 2).
@@ -33,7 +38,7 @@ pub struct Status {
     pub ttl: Option<i64>,
     pub stored: bool,
     pub collapsed: bool,
-    /// Named in place of the detail of the rule. A hit has none: it would be told all the same.
+    /// Named in place of the detail of the rule. A hit has none but `StaleWhileRevalidate`.
     pub detail: Option<Detail>,
     /// The first storing rule against an answer that is passed on and isn't stored, where it is to
     /// be told. It is named where no other detail is.

@@ -7,6 +7,7 @@ ghost use Rattle.hx_reuse.specs.declared.rule.ReuseRule.TheVariants as rule;
 ghost use Rattle.hx_reuse.specs.declared.rule.ErrorRule.TheVariants as on_error;
 ghost use Rattle.hx_status.specs.declared.status.How.TheVariants.{Hit, Fwd};
 ghost use Rattle.hx_status.specs.declared.status.Detail.TheVariants.{StaleIfError, ReuseAfterError, ReuseAfter304};
+ghost use Rattle.hx_status.specs.declared.status.Detail.TheVariants.{SessionCookie, StaleWhileRevalidate};
 ghost use Rattle.hx_status.specs.declared.cause.Cause.TheVariants.{Denied, NoLine, Looped, OnlyIfCached, Origin, Frame};
 ghost use Rattle.hx_status.specs.declared.cause.Cause.TheVariants.{Target};
 ghost use Rattle.hx_status.specs.declared.cause.FailKind.TheVariants.{Refused, TimedOut, Closed, BadAnswer, TooLarge};
@@ -38,6 +39,19 @@ pub fn worked_texts()
     ensures status_of_a_loop { refusal_status (Looped 12) ≡ 508 }
 {}
 
+/// Stale by five seconds, while a GET is at the origin for it.
+pub fn stale_while_revalidate()
+    ensures { member_text (codes "edge") (record {
+      how = Hit;
+      fwd_status = None;
+      ttl = Some (negsuc 4);
+      stored = false;
+      collapsed = false;
+      detail = Some StaleWhileRevalidate;
+      not_stored = None;
+    }) ≡ codes "edge;hit;ttl=-5;detail=stale-while-revalidate" }
+{}
+
 /// Content, a range, a precondition.
 pub fn bypass_rules_in_order()
     ensures content { member_text (codes "edge") (answer_passed_on rule.Content) ≡ codes "edge;fwd=bypass;detail=content" }
@@ -48,6 +62,8 @@ pub fn bypass_rules_in_order()
 /// On a line without cache: passed on, what only the origin could answer, and a failure.
 pub fn line_without_cache()
     ensures passed_on { member_text (codes "edge") (answer_passed_on rule.Operator) ≡ codes "edge;fwd=bypass;detail=operator" }
+    ensures for_a_cookie { member_text (codes "edge")
+        (record (answer_passed_on rule.Operator) { detail = Some SessionCookie }) ≡ codes "edge;fwd=bypass;detail=cookie" }
     ensures only_if_cached { refusal_text (OnlyIfCached rule.Operator) ≡ codes "only-if-cached;fwd=bypass;detail=operator" }
     ensures refused { refusal_text (Origin Refused rule.Operator None) ≡ codes "origin refused;fwd=bypass;detail=operator" }
 {}

@@ -137,12 +137,12 @@ abbrev pub WhatMayBeStoredIsStored : Type 0
 WhatMayBeStoredIsStored = (asked : Asked) (answered : Answered) (facts : StoringFacts) →
     ResponseMayBeStored asked answered facts → ResponseIsStored asked answered facts
 
-abbrev pub LeastStoringRuleIsNamed : Type 0
-LeastStoringRuleIsNamed = (asked : Asked) (answered : Answered) (facts : StoringFacts) (least : StoreRule) →
+abbrev pub NamedStoringRuleIsLeast : Type 0
+NamedStoringRuleIsLeast = (asked : Asked) (answered : Answered) (facts : StoringFacts) (least : StoreRule) →
     storage_rule_of asked answered facts ≡ Some least → IsLeastStoringRule asked answered facts least
 
-abbrev pub NamedStoringRuleApplies : Type 0
-NamedStoringRuleApplies = (asked : Asked) (answered : Answered) (facts : StoringFacts) (least : StoreRule) →
+abbrev pub LeastStoringRuleIsNamed : Type 0
+LeastStoringRuleIsNamed = (asked : Asked) (answered : Answered) (facts : StoringFacts) (least : StoreRule) →
     IsLeastStoringRule asked answered facts least → storage_rule_of asked answered facts ≡ Some least
 
 abbrev pub StoredWhereNoRuleApplies : Type 0

@@ -6,8 +6,8 @@ ghost use Rattle.hx_storable.specs.StoringRuleTables.{StoringRulesAreInOrder, Ea
 ghost use Rattle.hx_storable.specs.StoringRuleTables.{RulesOfWordsComeLast};
 ghost use Rattle.hx_storable.specs.StoringRuleNames.{WordsOfStoringRulesDiffer};
 ghost use Rattle.hx_storable.specs.Rules.{storage_rule_of};
-ghost use Rattle.hx_storable.specs.Storable.{NothingElseIsStorable, WhatMayBeStoredIsStored, LeastStoringRuleIsNamed};
-ghost use Rattle.hx_storable.specs.Storable.{NamedStoringRuleApplies, StoredWhereNoRuleApplies, NoStoreForbidsStoring};
+ghost use Rattle.hx_storable.specs.Storable.{NothingElseIsStorable, WhatMayBeStoredIsStored, NamedStoringRuleIsLeast};
+ghost use Rattle.hx_storable.specs.Storable.{LeastStoringRuleIsNamed, StoredWhereNoRuleApplies, NoStoreForbidsStoring};
 ghost use Rattle.hx_storable.specs.Storable.{NoStoreForbidsUnlessUnderstood, RequestNoStoreForbidsStoring};
 ghost use Rattle.hx_storable.specs.Storable.{PrivateForbidsStoring};
 ghost use Rattle.hx_storable.specs.Storable.{AuthorizationForbidsStoring, PartsAreNeverStored, OnlyGetIsStored};
@@ -34,8 +34,8 @@ pub fn stored_where_it_may_be_stored()
 
 /// The rule that is named stands, and none of a smaller number does; where none is named none stands.
 pub fn the_least_storage_rule_is_named()
-    ensures least { LeastStoringRuleIsNamed }
-    ensures every { NamedStoringRuleApplies }
+    ensures least { NamedStoringRuleIsLeast }
+    ensures every { LeastStoringRuleIsNamed }
     ensures none { StoredWhereNoRuleApplies }
 {}
 

@@ -13,6 +13,14 @@ ghost use Rattle.hx_store.specs.Found.{FindsSerialsOfTheKey, FoundSerialsAscend,
 ghost use Rattle.hx_store.specs.Found.{MatchingSerialsAscend};
 ghost use Rattle.hx_store.specs.Cases.{key_of_path, first, second, third, fourth};
 
+pub use crate::weight_laws::{
+    an_entry_weighs_what_it_keeps, entries_are_cut_to_their_bounds, entries_are_shed,
+    entries_are_weighed, only_storing_and_freshening_break_a_bound,
+    serials_are_cut_with_their_entries, shedding_leaves_what_stays_within_the_bounds,
+    the_list_within_its_bounds_is_what_is_held, the_longest_front_within_its_bounds_stays,
+    what_is_held_within_its_bounds, without_a_bound_of_bytes_numbers_decide,
+};
+
 /// A store of two entries, 2 and 1: entry 3 replaces 2, entry 4 turns 1 out, and 3 is used.
 pub fn shelf_calls()
     ensures replaced { take 2 (third ∷ without_serials (2 ∷ []) (second ∷ first ∷ [])) ≡ third ∷ first ∷ [] }

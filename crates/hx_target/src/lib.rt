@@ -10,7 +10,7 @@ mod hosts;
 mod key_hash;
 mod key_order;
 mod keys;
-mod laws;
+pub mod laws;
 mod limits;
 mod paths;
 mod sharing;
@@ -21,12 +21,6 @@ mod targets;
 pub use escapes::{has_bad_escape, table_path};
 pub use hosts::{is_host, short_number};
 pub use keys::Key;
-pub use laws::{
-    a_table_path_is_normal, a_target_is_judged_in_one_way, case_names_nothing, equal_keys_are_one,
-    lengths_are_limited, no_dot_segment_passes, normalising_twice_is_once, worked_bytes_of_targets,
-    worked_forms_are_judged, worked_hosts, worked_paths_are_normalised, worked_ports,
-    worked_segments_and_escapes, worked_targets_are_judged,
-};
 pub use paths::{has_dot_segment, names_a_dot_segment};
 pub use target_fault::TargetFault;
 pub use target_reading::read_target;

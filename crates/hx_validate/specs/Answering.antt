@@ -7,7 +7,7 @@ use Rattle.std.specs.Prelude.{codes, Option, Some, None}
 use Rattle.hx_fields.specs.declared.field_line.Field.{Field}
 use Rattle.hx_fields.specs.FieldLines.{has_field, is_named, only_value}
 use Rattle.hx_age.specs.declared.moments.Times.{Times}
-use Rattle.hx_vary.specs.Vary.{is_same_value, nominated_of}
+use Rattle.hx_vary.specs.Vary.{is_same_value, nominated_with}
 use Rattle.hx_vary.specs.declared.nominated_values.NominatedValue.{NominatedValue}
 use Rattle.hx_vary.specs.declared.nominations.Nomination.{Nomination}
 use Rattle.hx_vary.specs.declared.nominations.Nomination.TheVariants.{Star, Names}
@@ -74,14 +74,15 @@ abbrev pub nominated_or_none : Nomination → List NominatedValue
 nominated_or_none Star = []
 nominated_or_none (Names values) = values
 
--- the stored response as a 304 to this request leaves it, with the moments of the 304
-unfoldable pub freshened_of : Stored → Answered → Asked → Times → Stored
-freshened_of entry answered asked times =
+-- the stored response as a 304 to this request leaves it, with the moments of the 304, where further names count as if
+-- its Vary had them
+unfoldable pub freshened_of : List (List ℕ) → Stored → Answered → Asked → Times → Stored
+freshened_of further entry answered asked times =
     let fields = freshened_fields entry.fields answered.fields in
     record {
       serial = entry.serial;
       key = entry.key;
-      nominated = nominated_or_none (nominated_of fields asked.fields);
+      nominated = nominated_or_none (nominated_with further fields asked.fields);
       status = entry.status;
       fields = fields;
       content = entry.content;

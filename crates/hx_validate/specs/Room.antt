@@ -13,7 +13,7 @@ use Rattle.hx_framing.specs.Text.{field_lines_text}
 abbrev pub most_lines_added : ℕ
 most_lines_added = 4
 
--- the status line, these four and the empty line are at most 226 bytes, with some to spare
+-- the status line, these four and the empty line are at most 231 bytes, with some to spare
 abbrev pub most_bytes_added : ℕ
 most_bytes_added = 256
 

@@ -8,7 +8,7 @@ use Rattle.hx_hop.specs.declared.response_view.Answered.{Answered}
 use Rattle.hx_store.specs.Stored.{Stored}
 use Rattle.hx_age.specs.declared.moments.Times.{Times}
 use Rattle.hx_hop.specs.declared.request_view.Asked.{Asked}
-use Rattle.hx_vary.specs.Vary.{is_star, kept_values}
+use Rattle.hx_vary.specs.Vary.{is_star, kept_values_with}
 use Rattle.hx_validate.specs.Answering.{answers304, freshened_fields, freshened_of}
 use Rattle.hx_validate.specs.EntityTags.{EntityTagParts, is_tag_byte, strong_eq, entity_tag_of, weak_eq}
 use Rattle.hx_validate.specs.Validators.{conditions_of, tag_value}
@@ -67,19 +67,22 @@ SameTagAnswers = (entry : Stored) (answered : Answered) (value : List ℕ) → t
 -- what a 304 leaves: serial, key, status and content are the stored ones, the moments those of the
 -- 304 (RFC 9111, section 4.3.4)
 abbrev pub TheRestStays : Type 0
-TheRestStays = (entry : Stored) (answered : Answered) (asked : Asked) (times : Times) →
-    let now = freshened_of entry answered asked times in
+TheRestStays = (further : List (List ℕ)) (entry : Stored) (answered : Answered) (asked : Asked)
+    (times : Times) →
+    let now = freshened_of further entry answered asked times in
     (now.serial ≡ entry.serial) × (now.key ≡ entry.key) × (now.status ≡ entry.status) × (now.content ≡ entry.content)
     × (now.times ≡ times)
 
--- and the request that it answered is told by the new lines (RFC 9111, section 4.1)
+-- and the request that it answered is told by the new lines (RFC 9111, section 4.1), and by the further names
 abbrev pub NominatedByTheNewLines : Type 0
-NominatedByTheNewLines = (entry : Stored) (answered : Answered) (asked : Asked) (times : Times) →
-    let now = freshened_of entry answered asked times in
-    is_star now.fields ≡ false → now.nominated ≡ kept_values now.fields asked.fields
+NominatedByTheNewLines = (further : List (List ℕ)) (entry : Stored) (answered : Answered) (asked : Asked)
+    (times : Times) →
+    let now = freshened_of further entry answered asked times in
+    is_star now.fields ≡ false → now.nominated ≡ kept_values_with further now.fields asked.fields
 
 -- own: of a request whose answer nominates everything nothing is kept ("What a star nominates is not kept")
 abbrev pub StarNominatesNothing : Type 0
-StarNominatesNothing = (entry : Stored) (answered : Answered) (asked : Asked) (times : Times) →
-    let now = freshened_of entry answered asked times in
+StarNominatesNothing = (further : List (List ℕ)) (entry : Stored) (answered : Answered) (asked : Asked)
+    (times : Times) →
+    let now = freshened_of further entry answered asked times in
     is_star now.fields ≡ true → now.nominated ≡ []

@@ -2,7 +2,7 @@
 //!
 //! The definition is in `specs/Answering.antt`.
 ghost use Rattle.std.specs.Prelude.{◌≡◌, ◌++◌, [], filter, not, IfOk, OnOk};
-ghost use Rattle.hx_vary.specs.Vary.{nominated_of};
+ghost use Rattle.hx_vary.specs.Vary.{nominated_with};
 ghost use Rattle.hx_validate.specs.LineNames.{HasEachName};
 ghost use Rattle.hx_validate.specs.Answering.{freshened_fields, freshened_of, is_line_of_304, is_replaced_by_304};
 ghost use Rattle.hx_validate.specs.Answering.{nominated_or_none};
@@ -12,7 +12,7 @@ use hx_directives::Directives;
 use hx_fields::{Field, Fields, FoldedName, is_same_name};
 use hx_hop::{Answered, Asked};
 use hx_store::Entry;
-use hx_vary::{Nominated, Nomination};
+use hx_vary::{FieldNames, Nominated, Nomination};
 use std::alloc::{AllocError, Global};
 use std::collections::BTreeSet;
 
@@ -130,38 +130,42 @@ fn no_names(alloc: Global) -> Result<Nominated, AllocError>
     }
 }
 
-/// What the new lines nominate of the request, which is nothing where they nominate everything.
+/// What the new lines and the further names nominate of the request, which is nothing where the lines nominate
+/// everything.
 fn nominated_or_none(
     alloc: Global,
+    further: &FieldNames,
     fields: &Fields,
     request: &Fields,
 ) -> Result<Nominated, AllocError>
-    ensures { IfOk result (λ nominated. nominated ≡ nominated_or_none (nominated_of fields.now request.now)) }
+    ensures { IfOk result (λ nominated. nominated
+        ≡ nominated_or_none (nominated_with further.now fields.now request.now)) }
 {
-    match Nominated::of(alloc, fields, request)? {
+    match Nominated::with(alloc, further, fields, request)? {
         Nomination::Names(nominated) => Ok(nominated),
         Nomination::Star => no_names(alloc),
     }
 }
 
 /// The stored response as a 304 to this request leaves it: the 304's lines take the place of stored ones of their
-/// names, except Content-Length and Age, and the request becomes this one. `times` are those of the 304. Its only
-/// error is out of memory.
+/// names, except Content-Length and Age, and the request becomes this one. `times` are those of the 304, and further
+/// names count as if its Vary had them. Its only error is out of memory.
 #[tactic(auto, unfolding(crate::specs::Answering::freshened_of))]
 pub fn freshened(
     alloc: Global,
+    further: &FieldNames,
     entry: &Entry,
     answered: &Answered,
     asked: &Asked,
     times: Times,
 ) -> Result<Entry, AllocError>
-    ensures { IfOk result (λ freshened. freshened ≡ freshened_of entry.now answered.now asked.now times) }
+    ensures { IfOk result (λ freshened. freshened ≡ freshened_of further.now entry.now answered.now asked.now times) }
 {
     let fields = freshened_fields(alloc, &entry.fields, &answered.fields)?;
     Ok(Entry {
         serial: entry.serial,
         key: entry.key.copy(alloc)?,
-        nominated: nominated_or_none(alloc, &fields, &asked.fields)?,
+        nominated: nominated_or_none(alloc, further, &fields, &asked.fields)?,
         status: entry.status,
         directives: Directives::of(alloc, &fields)?,
         fields,

@@ -124,8 +124,9 @@ pub fn lines_are_replaced_by_name()
 #[tactic(auto, unfolding(httpdate::proofs::OnLiterals::httpdate_on_literals, crate::specs::Answering::freshened_of))]
 pub fn client_304_after_validation()
     ensures answered { is_answered_by_304 first_stored_fields first_304_fields ≡ true }
-    ensures freshened { (freshened_of (stored_with first_stored_fields) (answered_with first_304_fields) (asked_with [])
-        (record { date = 160; age_value = 0; request_time = 160; response_time = 160 })).fields ≡ first_304_fields }
+    ensures freshened { (freshened_of [] (stored_with first_stored_fields) (answered_with first_304_fields)
+        (asked_with []) (record { date = 160; age_value = 0; request_time = 160; response_time = 160 })).fields
+        ≡ first_304_fields }
     ensures wanted { gets_304 (asked_with (line (codes "If-None-Match") (codes "\"v1\"") ∷ [])) (stored_with first_304_fields) ≡ true }
     ensures sent { fields_of_304 first_304_fields ≡ first_304_fields }
     ensures no_modified { fields_of_304 (last_modified_line (codes "x") ∷ etag_line (codes "e")

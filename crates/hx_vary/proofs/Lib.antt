@@ -1,3 +1,4 @@
+pub mod FurtherLemmas
 pub mod MarkLemmas
 pub mod OnceLemmas
 pub mod ValueLemmas

@@ -1,13 +1,15 @@
 -- What a response's Vary says of the requests that it may answer (RFC 9111, section 4.1; RFC 9110, section 12.5.5).
 --
 -- nominated_of: what is kept of the earlier request         nominates_a_field: it isn't nothing
+-- nominated_with: the same where further names count as if its Vary had them
 -- vary_matches: a later request's values are those that were kept
 -- both_select_alike: the same question, asked of the whole earlier request
-use Rattle.std.specs.Prelude.{◌≡◌, ℕ, Bool, true, false, if◌then◌else◌, ◌||◌, not, List, [], ◌∷◌, map, filter, codes}
+use Rattle.std.specs.Prelude.{◌≡◌, ℕ, Bool, true, false, if◌then◌else◌, ◌||◌, ◌&&◌, not, List, [], ◌∷◌, ◌++◌, map}
+use Rattle.std.specs.Prelude.{filter, codes}
 use Rattle.std.specs.Prelude.{bytes_eq, length, ◌==◌, Option, Some, None}
 use Rattle.std.specs.List.{list_all, list_any}
 use Rattle.hx_fields.specs.FieldLines.{combined_of, members_of}
-use Rattle.hx_fields.specs.Names.{is_same_name}
+use Rattle.hx_fields.specs.Names.{is_same_name, members_of_value}
 use Rattle.hx_fields.specs.Tokens.{is_token}
 use Rattle.hx_fields.specs.declared.field_line.Field.{Field}
 use Rattle.hx_vary.specs.declared.nominated_values.NominatedValue.{NominatedValue}
@@ -51,6 +53,19 @@ kept_values response request = map (kept_value request) (each_once (vary_names r
 abbrev pub nominated_of : List Field → List Field → Nomination
 nominated_of response request = if is_star response then Star else Names (kept_values response request)
 
+-- what nominates where further names count as if the response's Vary had them
+-- own: names that an operator gives, which no origin says ("A line varies its answers")
+abbrev pub nominating_names : List (List ℕ) → List Field → List (List ℕ)
+nominating_names further response = vary_names response ++ further
+
+abbrev pub kept_values_with : List (List ℕ) → List Field → List Field → List NominatedValue
+kept_values_with further response request = map (kept_value request) (each_once (nominating_names further response))
+
+-- a star stays one
+abbrev pub nominated_with : List (List ℕ) → List Field → List Field → Nomination
+nominated_with further response request =
+    if is_star response then Star else Names (kept_values_with further response request)
+
 -- a field is nominated
 abbrev pub nominates_a_field : List NominatedValue → Bool
 nominates_a_field kept = not (length kept == 0)
@@ -63,6 +78,11 @@ vary_matches kept request = list_all (λ k. is_same_value k.value (combined_of r
 abbrev pub both_select_alike : List Field → List Field → List Field → Bool
 both_select_alike response earlier later =
     list_all (λ name. is_same_value (combined_of earlier name) (combined_of later name)) (vary_names response)
+
+-- both requests have the same value of each of these names
+abbrev pub both_have_same : List (List ℕ) → List Field → List Field → Bool
+both_have_same names earlier later =
+    list_all (λ name. is_same_value (combined_of earlier name) (combined_of later name)) names
 
 -- what is kept of a request decides just as the whole request would
 abbrev pub KeptValuesAreEnough : Type 0
@@ -87,3 +107,20 @@ EachNominatedNameIsKept = (response request : List Field) → is_star response �
 abbrev pub AMemberOfVaryNominates : Type 0
 AMemberOfVaryNominates = (response request : List Field) →
     nominates_a_field (kept_values response request) ≡ not (length (vary_names response) == 0)
+
+-- Further names that are no star count as if the response had one more line of Vary with them.
+abbrev pub FurtherNamesCountAsVary : Type 0
+FurtherNamesCountAsVary = (response request : List Field) (value : List ℕ) →
+    list_any is_star_member (members_of_value value) ≡ false →
+    nominated_with (members_of_value value) response request
+    ≡ nominated_of (response ++ record { name = codes "Vary"; value = value } ∷ []) request
+
+-- a later request matches exactly where it has the same values of what Vary names, and of the further names
+abbrev pub FurtherNamesAreCompared : Type 0
+FurtherNamesAreCompared = (further : List (List ℕ)) (response earlier later : List Field) →
+    vary_matches (kept_values_with further response earlier) later
+    ≡ (both_select_alike response earlier later && both_have_same further earlier later)
+
+abbrev pub WithoutFurtherNamesVaryDecides : Type 0
+WithoutFurtherNamesVaryDecides = (response request : List Field) →
+    nominated_with [] response request ≡ nominated_of response request

@@ -1,9 +1,11 @@
 //! What the definitions say of the standard's cases and of worked ones.
 
-ghost use Rattle.std.specs.Prelude.{◌≡◌, true, false, [], ◌∷◌, codes};
+ghost use Rattle.std.specs.Prelude.{◌≡◌, true, false, [], ◌∷◌, codes, Some, None};
 ghost use Rattle.hx_vary.specs.Vary.{EachNominatedNameIsKept, NothingIsKeptForAStar, KeptValuesAreEnough};
 ghost use Rattle.hx_vary.specs.Vary.{RequestMatchesItself, AMemberOfVaryNominates, each_once, nominates_a_field};
-ghost use Rattle.hx_vary.specs.Vary.{is_star, kept_values, nominated_of, vary_matches};
+ghost use Rattle.hx_vary.specs.Vary.{is_star, kept_values, nominated_of, vary_matches, kept_values_with};
+ghost use Rattle.hx_vary.specs.Vary.{nominated_with};
+ghost use Rattle.hx_vary.specs.Vary.{FurtherNamesCountAsVary, FurtherNamesAreCompared, WithoutFurtherNamesVaryDecides};
 ghost use Rattle.hx_vary.specs.Marks.{MarksMissNoMatch, NoValueIsUnmarked};
 ghost use Rattle.hx_vary.specs.Cases.{values_kept_for, accept_language, vary_fields};
 
@@ -42,6 +44,25 @@ pub fn a_member_of_vary_nominates()
     ensures a_name { nominates_a_field (values_kept_for []) ≡ true }
     ensures no_member { nominates_a_field (kept_values (vary_fields (codes ", ,")) []) ≡ false }
     ensures no_vary { nominates_a_field (kept_values [] []) ≡ false }
+{}
+
+/// Further names count as if the response's Vary had them: what is kept is the same as by one more line of Vary, and a
+/// later request has to have the same values of all of them (RFC 9111, section 4.1). A star stays one.
+
+pub fn further_names_count_as_vary()
+    ensures as_vary { FurtherNamesCountAsVary }
+    ensures compared { FurtherNamesAreCompared }
+    ensures without { WithoutFurtherNamesVaryDecides }
+    ensures star { nominated_with (codes "Accept-Language" ∷ []) (vary_fields (codes "*")) [] ≡ Nomination.Star }
+    ensures kept { kept_values_with (codes "X-Forwarded-Proto" ∷ codes "ACCEPT-LANGUAGE" ∷ []) (vary_fields (codes "accept-language"))
+        (accept_language (codes "de") ∷ []) ≡ record { name = codes "accept-language"; value = Some (codes "de") }
+        ∷ record { name = codes "X-Forwarded-Proto"; value = None } ∷ [] }
+    ensures other { vary_matches (kept_values_with (codes "Accept-Language" ∷ []) [] (accept_language (codes "de") ∷ []))
+        (accept_language (codes "en") ∷ []) ≡ false }
+    ensures same { vary_matches (kept_values_with (codes "Accept-Language" ∷ []) [] (accept_language (codes "de") ∷ []))
+        (accept_language (codes "de") ∷ []) ≡ true }
+    ensures absent { vary_matches (kept_values_with (codes "Accept-Language" ∷ []) [] (accept_language (codes "de") ∷ [])) []
+        ≡ false }
 {}
 
 /// Stored for a request in German: the same value, none, an empty one, two lines, and a response without Vary.

@@ -5,16 +5,14 @@
 //! request would. Values compare as bytes: nothing here knows what a nominated field means.
 #![tactic(auto)]
 
-mod laws;
+mod field_names;
+pub mod laws;
 mod marks;
 mod nominated_values;
 mod nominations;
 mod request_values;
 
-pub use laws::{
-    a_member_of_vary_nominates, a_request_matches_itself, a_star_is_kept_as_one, kept_is_enough,
-    marks_miss_nothing, no_value_is_unmarked, star_nominates_everything, vary_values_are_compared,
-};
+pub use field_names::FieldNames;
 pub use marks::Mark;
 pub use nominated_values::NominatedValue;
 pub use nominations::{Nominated, Nomination, matches};

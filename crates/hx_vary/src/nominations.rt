@@ -1,10 +1,11 @@
 //! What a response's Vary nominates.
 
-ghost use Rattle.std.specs.Prelude.{◌≡◌, map, IfOk};
+ghost use Rattle.std.specs.Prelude.{◌≡◌, ◌++◌, map, IfOk};
 ghost use Rattle.std.specs.List.{list_any};
 ghost use Rattle.hx_vary.specs.Vary.{each_once, is_star_member, kept_value, nominates_a_field, vary_matches};
 ghost use Rattle.hx_vary.specs.Marks.{mark_of_values};
 
+use crate::field_names::FieldNames;
 use crate::marks::{Mark, value_tag_at};
 use crate::nominated_values::NominatedValue;
 use crate::request_values::RequestValues;
@@ -41,7 +42,7 @@ pub enum Nomination {
 }
 
 impl Nominated {
-    ghost use Rattle.hx_vary.specs.Vary.{nominated_of};
+    ghost use Rattle.hx_vary.specs.Vary.{nominated_of, nominated_with};
 
     /// What a response nominates of the request that it answers. Fails only where memory runs out.
     pub fn of(alloc: Global, response: &Fields, request: &Fields) -> Result<Nomination, AllocError>
@@ -51,6 +52,25 @@ impl Nominated {
         if has_star(names.as_slice()) {
             return Ok(Nomination::Star);
         }
+        Ok(Nomination::Names(Nominated {
+            values: kept_values(alloc, names.as_slice(), request)?,
+        }))
+    }
+
+    /// The same where further names count as if the response's Vary had them. Fails only where memory runs out.
+    pub fn with(
+        alloc: Global,
+        further: &FieldNames,
+        response: &Fields,
+        request: &Fields,
+    ) -> Result<Nomination, AllocError>
+        ensures { IfOk result (λ nomination. nomination ≡ nominated_with further.now response.now request.now) }
+    {
+        let names = response.members(alloc, b"Vary")?;
+        if has_star(names.as_slice()) {
+            return Ok(Nomination::Star);
+        }
+        let names = followed_by(alloc, names.as_slice(), further.as_slice())?;
         Ok(Nomination::Names(Nominated {
             values: kept_values(alloc, names.as_slice(), request)?,
         }))
@@ -100,6 +120,20 @@ impl Nominated {
     {
         self.values.as_slice()
     }
+}
+
+/// These names and then those.
+fn followed_by(alloc: Global, names: &[Bytes], further: &[Bytes]) -> Result<Vec<Bytes>, AllocError>
+    ensures { IfOk result (λ all. all.items ≡ names.now ++ further.now) }
+{
+    let mut all = Vec::with_capacity(alloc, names.len())?;
+    for name in names {
+        all.push(name.copy(alloc)?)?;
+    }
+    for other in further {
+        all.push(other.copy(alloc)?)?;
+    }
+    Ok(all)
 }
 
 /// Each name once, with what a request has of it. Fails only where memory runs out.

@@ -17,3 +17,19 @@ returns-clause-lifetime_most c line = refl
 pub returns-clause-error_lifetime : goal.returns-clause-error_lifetime
 unfolding digits
 returns-clause-error_lifetime c line = refl
+
+pub returns-clause-stale_while_revalidate : goal.returns-clause-stale_while_revalidate
+unfolding digits
+returns-clause-stale_while_revalidate c line = refl
+
+pub returns-clause-vary : goal.returns-clause-vary
+unfolding digits
+returns-clause-vary c line = refl
+
+pub returns-clause-origin_timeout : goal.returns-clause-origin_timeout
+unfolding digits
+returns-clause-origin_timeout c line = refl
+
+pub returns-clause-session_cookies : goal.returns-clause-session_cookies
+unfolding digits
+returns-clause-session_cookies c line = refl

@@ -11,6 +11,7 @@ is_read directive.SMaxage = refl
 is_read directive.MaxStale = refl
 is_read directive.MinFresh = refl
 is_read directive.StaleIfError = refl
+is_read directive.StaleWhileRevalidate = refl
 is_read directive.NoCache = refl
 is_read directive.NoStore = refl
 is_read directive.OnlyIfCached = refl

@@ -5,7 +5,7 @@ use Rattle.hx_validate.proofs.laws.the_rest_of_it_stays.Goals as goal
 pub returns : goal.returns
 unfolding freshened_of
 returns c = record {
-  rest = λ entry answered asked times. (refl, refl, refl, refl, refl);
-  nominated = λ entry answered asked times h. rw h refl;
-  star = λ entry answered asked times h. rw h refl;
+  rest = λ further entry answered asked times. (refl, refl, refl, refl, refl);
+  nominated = λ further entry answered asked times h. rw h refl;
+  star = λ further entry answered asked times h. rw h refl;
 }

@@ -1,0 +1,126 @@
+//! Whether a stale response may be sent while a GET is at the origin for it (RFC 5861, section 3).
+//!
+//! What keeps it back stands in `specs/WhileRevalidating.antt`. That such a GET is there, and that the request could
+//! wait for it, is the caller's matter.
+ghost use Rattle.std.specs.Prelude.{◌≡◌, nat_le, if◌then◌else◌, find, false};
+ghost use Rattle.hx_directives.specs.Answers.{directive_occurs, seconds_of_directive};
+ghost use Rattle.hx_directives.specs.declared.names.Directive.TheVariants.{StaleWhileRevalidate};
+ghost use Rattle.hx_age.specs.Age.{is_fresh_of};
+ghost use Rattle.hx_reuse.specs.Rules.{is_some_and, rule_condition, situation_at};
+ghost use Rattle.hx_reuse.specs.ErrorRules.{seconds_stated_once};
+ghost use Rattle.hx_reuse.specs.WhileRevalidating.{rules_while_revalidating, may_be_sent_in};
+ghost use Rattle.hx_reuse.specs.WhileRevalidating.{may_be_sent_while_revalidating};
+
+use crate::lifetimes::lifetime_under;
+use crate::reuse_rules::{
+    asks_for_freshness, asks_to_validate, is_above_max_age, is_past_limit, may_not_be_sent_stale,
+};
+use crate::rule::ReuseRule;
+use hx_age::{Lifetime, current_age, is_fresh, staleness};
+use hx_directives::{Directive, Directives, Seconds};
+use hx_policy::Policy;
+use hx_store::Entry;
+
+/// The staleness that a response states, in seconds.
+fn stated_limit(response: &Directives) -> Option<u32>
+    ensures { result ≡ seconds_stated_once (seconds_of_directive response.now StaleWhileRevalidate) }
+{
+    match response.seconds(Directive::StaleWhileRevalidate) {
+        Seconds::Value(most) => Some(most),
+        Seconds::Absent | Seconds::Bad | Seconds::Repeated => None,
+    }
+}
+
+/// The staleness that a response states, or where it doesn't have the directive the operator's line, in seconds.
+fn limit_while_revalidating(policy: Policy, response: &Directives) -> Option<u32>
+    ensures { result ≡ (if directive_occurs response.now StaleWhileRevalidate
+        then seconds_stated_once (seconds_of_directive response.now StaleWhileRevalidate)
+        else policy.stale_while_revalidate) }
+{
+    if response.has(Directive::StaleWhileRevalidate) {
+        stated_limit(response)
+    } else {
+        policy.stale_while_revalidate
+    }
+}
+
+fn is_within(stale_by: u32, limit: Option<u32>) -> bool
+    ensures { result ≡ is_some_and (λ most. nat_le stale_by most) limit }
+{
+    match limit {
+        Some(most) => stale_by <= most,
+        None => false,
+    }
+}
+
+/// The first rule that keeps a stale response back all the same.
+fn rule_while_revalidating(
+    policy: Policy,
+    lifetime: Lifetime,
+    age: u32,
+    response: &Directives,
+    request: &Directives,
+) -> Option<ReuseRule>
+    requires stale { is_fresh_of lifetime age ≡ false }
+    ensures { result ≡ find
+        (λ r. rule_condition r (situation_at policy lifetime age response.now request.now)) rules_while_revalidating }
+{
+    if response.has(Directive::NoCache) {
+        return Some(ReuseRule::ResponseNoCache);
+    }
+    if may_not_be_sent_stale(response) {
+        return Some(ReuseRule::MustRevalidate);
+    }
+    if !lifetime.explicit {
+        return Some(ReuseRule::NoLifetime);
+    }
+    if asks_to_validate(policy, request) {
+        return Some(ReuseRule::StaleNoCache);
+    }
+    if is_past_limit(lifetime, age, request) {
+        return Some(ReuseRule::PastMaxStale);
+    }
+    if is_above_max_age(policy, age, request) {
+        return Some(ReuseRule::StaleMaxAge);
+    }
+    if asks_for_freshness(policy, request) {
+        return Some(ReuseRule::StaleMinFresh);
+    }
+    None
+}
+
+/// Whether a response may be sent, by its lifetime and age and by the directives of both.
+fn may_be_sent_in(
+    policy: Policy,
+    lifetime: Lifetime,
+    age: u32,
+    response: &Directives,
+    request: &Directives,
+) -> bool
+    ensures { result ≡ may_be_sent_in (situation_at policy lifetime age response.now request.now) }
+{
+    if !policy.sends_while_revalidating || is_fresh(lifetime, age) {
+        return false;
+    }
+    rule_while_revalidating(policy, lifetime, age, response, request).is_none()
+        && is_within(
+            staleness(lifetime, age),
+            limit_while_revalidating(policy, response),
+        )
+}
+
+/// Whether a stale response may be sent while a GET is at the origin for it, at a moment in Unix seconds and under what
+/// the request's line says of caching. The request's directives are handed in. No memory is taken.
+#[tactic(auto, unfolding(crate::specs::WhileRevalidating::may_be_sent_while_revalidating))]
+pub fn may_serve_while_revalidating(
+    asked_directives: &Directives,
+    entry: &Entry,
+    now: u64,
+    policy: Policy,
+) -> bool
+    ensures { result ≡ may_be_sent_while_revalidating policy entry.now asked_directives.now now }
+{
+    let lifetime = lifetime_under(policy, entry.status, &entry.fields, &entry.directives);
+    let age = current_age(&entry.times, now);
+    may_be_sent_in(policy, lifetime, age, &entry.directives, asked_directives)
+}
